@@ -4,9 +4,9 @@ use Rattle.std.specs.Option.{option_map}
 use Rattle.saved_site.specs.declared.files.SiteFiles.{SiteFiles}
 use Rattle.saved_site.specs.declared.site.Entry.{Entry}
 use Rattle.saved_site.specs.declared.site.Source.{Source}
-use Rattle.saved_site.specs.declared.site.Source.TheVariants.{File, Moved}
+use Rattle.saved_site.specs.declared.site.Source.TheVariants.{File, Index, Moved}
 
--- a page's URL, and the index of its file among the names; a page that a server sends on has no file
+-- a page's URL, and the index of its file among the names; a redirect has no file
 pub record PageFile : Type 0 where
   pub url : List ℕ
   pub file : Option ℕ
@@ -16,6 +16,7 @@ page_file url file = record { url = url; file = file }
 
 abbrev pub file_in : Source → Option ℕ
 file_in (File index) = Some index
+file_in (Index index) = Some index
 file_in (Moved url) = None
 
 abbrev pub page_of : Entry → PageFile

@@ -1,3 +1,4 @@
+pub mod Aliases
 pub mod Below
 pub mod Errors
 pub mod Files

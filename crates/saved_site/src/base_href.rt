@@ -1,51 +1,55 @@
-//! What the links of a page mean whose base is given.
+//! The meaning of links on a page with a `base`.
 ghost use Rattle.std.specs.Prelude.{◌≡◌, IfOk};
 
 use crate::cleaning::{is_web, scheme_of, trimmed, without_breaks};
 use crawl_keys::{Base, CanonUrl, KeyError};
 use std::alloc::{AllocError, Global};
 
-/// The base that a page gives its links.
+/// The base of the links of a page, by its `base`.
 #[derive(Drop)]
-pub(crate) enum Given {
+pub(crate) enum PageBase {
     /// A URL.
     Url(Base),
-    /// Another scheme, with its colon, which goes before links without one.
+    /// Another scheme, with its colon, which is put before links without one.
     Scheme(Vec<u8>),
-    /// None.
+    /// No base.
     None,
 }
 
-/// What a link means without the base.
+/// The meaning of a link.
 #[derive(Drop)]
-pub(crate) enum Meant {
+pub(crate) enum LinkMeaning {
     Same,
     Url(CanonUrl),
     Text(Vec<u8>),
 }
 
-/// The base that the `href` of a page's `base` gives.
-pub(crate) fn given_of(alloc: Global, href: &[u8], url: &CanonUrl) -> Result<Given, AllocError> {
+/// The base by the `href` of a page's `base`.
+pub(crate) fn page_base(
+    alloc: Global,
+    href: &[u8],
+    url: &CanonUrl,
+) -> Result<PageBase, AllocError> {
     let text = without_breaks(alloc, trimmed(href))?;
     match target_of(alloc, text.as_slice(), url)? {
-        Some(target) => Ok(Given::Url(base_of(alloc, &target)?)),
-        None => given_scheme(alloc, text.as_slice()),
+        Some(target) => Ok(PageBase::Url(base_of(alloc, &target)?)),
+        None => scheme_base(alloc, text.as_slice()),
     }
 }
 
-/// The canonical URL of a link of the page at a URL, where it has one.
+/// The canonical URL of a link of the page at a URL, if it has one.
 fn target_of(alloc: Global, text: &[u8], url: &CanonUrl) -> Result<Option<CanonUrl>, AllocError> {
     let page = base_of(alloc, url)?;
     resolved(alloc, &page, text)
 }
 
-/// The base of another scheme that a text without breaks gives.
-fn given_scheme(alloc: Global, text: &[u8]) -> Result<Given, AllocError> {
+/// The base by a text without line breaks that begins with another scheme.
+fn scheme_base(alloc: Global, text: &[u8]) -> Result<PageBase, AllocError> {
     match scheme_of(text) {
         Some(scheme) if !is_web(Some(scheme)) && !is_no_base(scheme) => {
-            Ok(Given::Scheme(front_of(alloc, scheme)?))
+            Ok(PageBase::Scheme(front_of(alloc, scheme)?))
         }
-        _ => Ok(Given::None),
+        _ => Ok(PageBase::None),
     }
 }
 
@@ -57,24 +61,28 @@ fn front_of(alloc: Global, scheme: &[u8]) -> Result<Vec<u8>, AllocError> {
     Ok(front)
 }
 
-/// Whether a base with this scheme is none.
+/// Whether a base with this scheme is ignored.
 fn is_no_base(scheme: &[u8]) -> bool {
     scheme.eq_ignore_ascii_case(b"data") || scheme.eq_ignore_ascii_case(b"javascript")
 }
 
-/// What a link means against a base.
-pub(crate) fn meaning_of(alloc: Global, given: &Given, text: &[u8]) -> Result<Meant, AllocError> {
-    match given {
-        Given::Url(base) => Ok(match resolved(alloc, base, text)? {
-            Some(url) => Meant::Url(url),
-            None => Meant::Same,
+/// The meaning of a link with this base.
+pub(crate) fn meaning_of(
+    alloc: Global,
+    base: &PageBase,
+    text: &[u8],
+) -> Result<LinkMeaning, AllocError> {
+    match base {
+        PageBase::Url(url) => Ok(match resolved(alloc, url, text)? {
+            Some(url) => LinkMeaning::Url(url),
+            None => LinkMeaning::Same,
         }),
-        Given::Scheme(front) if scheme_of(text).is_none() => {
+        PageBase::Scheme(front) if scheme_of(text).is_none() => {
             let mut link = front.as_slice().to_vec(alloc)?;
             link.extend_from_slice(text)?;
-            Ok(Meant::Text(link))
+            Ok(LinkMeaning::Text(link))
         }
-        _ => Ok(Meant::Same),
+        _ => Ok(LinkMeaning::Same),
     }
 }
 
@@ -88,7 +96,7 @@ pub(crate) fn base_of(alloc: Global, url: &CanonUrl) -> Result<Base, AllocError>
     }
 }
 
-/// The canonical URL of a link, where it has one.
+/// The canonical URL of a link, if it has one.
 pub(crate) fn resolved(
     alloc: Global,
     base: &Base,

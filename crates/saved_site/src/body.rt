@@ -3,7 +3,7 @@ use std::alloc::{AllocError, Global};
 use std::io;
 use std::io::Read;
 
-/// The most room that is kept for the next file.
+/// The number of bytes of room that are kept for the next file, at most.
 const ROOM: usize = 1 << 23;
 
 /// The number of bytes by which the room grows, so that little more memory is touched than is used.
@@ -51,48 +51,42 @@ impl Body {
         Ok(())
     }
 
-    /// Reads to the end. Unlike `read_to_end`, it does not clear the room first.
-    pub(crate) fn read<I: Read>(&mut self, input: &mut I) -> io::Result<()> {
+    /// Reads to the end, or until there are more than `most` bytes, which it returns. Unlike `read_to_end`, it does not clear the room
+    /// first.
+    pub(crate) fn read<I: Read>(&mut self, input: &mut I, most: usize) -> io::Result<bool> {
+        let limit = most.saturating_add(1);
         for _ in 0..u64::MAX {
-            let room = self
-                .room
-                .as_mut_slice()
-                .get_mut(self.used..)
-                .unwrap_or(&mut []);
-            if room.is_empty() {
-                self.grow()?;
-                continue;
-            }
-            let count = input.read(room)?;
-            if count == 0 {
+            if self.used >= limit || !self.read_some(input, limit)? {
                 break;
             }
-            self.used = self.used.saturating_add(count);
         }
-        Ok(())
+        Ok(self.used > most)
     }
 
     /// Reads the first `length` bytes of a file, or all if there are fewer, into an empty body.
     pub(crate) fn read_start<I: Read>(&mut self, input: &mut I, length: usize) -> io::Result<()> {
-        if self.room.len() < length {
-            self.grow()?;
-        }
         for _ in 0..length {
-            let room = self
-                .room
-                .as_mut_slice()
-                .get_mut(self.used..length)
-                .unwrap_or(&mut []);
-            if room.is_empty() {
+            if self.used >= length || !self.read_some(input, length)? {
                 break;
             }
-            let count = input.read(room)?;
-            if count == 0 {
-                break;
-            }
-            self.used = self.used.saturating_add(count);
         }
         Ok(())
+    }
+
+    /// Reads at least one byte, up to `limit` bytes in all, and returns whether there was one.
+    fn read_some<I: Read>(&mut self, input: &mut I, limit: usize) -> io::Result<bool> {
+        if self.room.len() <= self.used {
+            self.grow()?;
+        }
+        let end = self.room.len().min(limit);
+        let room = self
+            .room
+            .as_mut_slice()
+            .get_mut(self.used..end)
+            .unwrap_or(&mut []);
+        let count = input.read(room)?;
+        self.used = self.used.saturating_add(count);
+        Ok(count != 0)
     }
 
     fn grow(&mut self) -> Result<(), AllocError> {

@@ -1,18 +1,18 @@
-//! Where the bytes of a site's files come from.
+//! Where the contents of a site's files come from.
 use crate::body::Body;
-use crate::make::{Given, Task};
+use crate::make::{SiteInput, Task};
 use crate::notes::Note;
 use std::alloc::AllocError;
 
-/// Where the bytes of files come from. Several threads ask at once.
+/// Reads files, for several threads at the same time.
 pub(crate) trait Contents {
-    /// Reads the file of a task into a body without bytes, where the task has one; gives what is told where it cannot be read.
+    /// Reads the file of a task, if it has one, into an empty body. Returns a note if the file cannot be read.
     ///
     /// # Errors
-    /// Where a growth was refused.
+    /// Out of memory.
     fn read(
         &self,
-        given: Given<'_>,
+        input: SiteInput<'_>,
         task: &Task,
         body: &mut Body,
     ) -> Result<Option<Note>, AllocError>;
@@ -27,11 +27,11 @@ pub(crate) struct InMemory<'a> {
 impl Contents for InMemory<'_> {
     fn read(
         &self,
-        given: Given<'_>,
+        input: SiteInput<'_>,
         task: &Task,
         body: &mut Body,
     ) -> Result<Option<Note>, AllocError> {
-        if let Some(index) = given.file_of(task)
+        if let Some(index) = input.file_of(task)
             && let Some(bytes) = self.bodies.get(index)
         {
             body.push(bytes.as_slice())?;

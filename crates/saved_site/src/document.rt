@@ -7,7 +7,7 @@ use crate::charset::{Charset, charset_of, declared, from_utf16, from_windows};
 use crate::found_links::Found;
 use crate::kinds::start_of;
 use crate::link_lines::LinkLines;
-use crate::make::Given;
+use crate::make::SiteInput;
 use crate::texts::{LinkCounts, Read, links_at};
 use crate::unknown::ascii_text;
 use crawl_keys::CanonUrl;
@@ -18,14 +18,12 @@ use std::alloc::{AllocError, Global};
 pub(crate) struct Document {
     pub(crate) links: LinkLines,
     pub(crate) counts: LinkCounts,
-    /// Its anchors, where they are wanted and known.
+    /// Its anchors, if the rules ask for them and they are known.
     pub(crate) anchors: Option<Anchors>,
-    /// Where its links stand, where that is wanted.
+    /// The positions of its links, if the rules ask for them.
     pub(crate) indices: Vec<u32>,
-    /// The name of its encoding, where that is not known here.
+    /// The name of its encoding, if that is not a known one.
     pub(crate) encoding: Option<String>,
-    /// Whether it gives its links a base, so that their lines may depend on its URL.
-    pub(crate) has_base: bool,
 }
 
 impl Document {
@@ -37,20 +35,19 @@ impl Document {
             anchors: None,
             indices: Vec::new(alloc),
             encoding: None,
-            has_base: false,
         }
     }
 }
 
-/// The lines of the links of a document at a URL, and its anchors and where links stand where the rules want them.
+/// Reads a document at a URL: the lines of its links, and their positions and its anchors if the rules ask for them.
 ///
 /// # Errors
-/// Where a growth was refused.
+/// Out of memory.
 pub(crate) fn document_at(
     alloc: Global,
     body: &[u8],
     url: &CanonUrl,
-    given: Given<'_>,
+    input: SiteInput<'_>,
     found: &mut Found,
 ) -> Result<Document, AllocError> {
     let charset = charset_of(body);
@@ -59,10 +56,9 @@ pub(crate) fn document_at(
         counts,
         anchors,
         indices,
-        has_base,
     } = match made_text(alloc, body, charset)? {
-        Some(text) => links_at(alloc, text.as_slice(), charset, url, given, found)?,
-        None => links_at(alloc, without_mark(body), charset, url, given, found)?,
+        Some(text) => links_at(alloc, text.as_slice(), charset, url, input, found)?,
+        None => links_at(alloc, without_mark(body), charset, url, input, found)?,
     };
     let encoding = match charset {
         Charset::Other => {
@@ -77,11 +73,10 @@ pub(crate) fn document_at(
         anchors,
         indices,
         encoding,
-        has_base,
     })
 }
 
-/// The text of a document in UTF-8, where it is made; none where the document is that text itself, behind its mark.
+/// The text of a document in UTF-8, or `None` if it is the document itself without its byte order mark.
 pub(crate) fn made_text(
     alloc: Global,
     body: &[u8],
@@ -104,13 +99,13 @@ pub(crate) fn made_text(
     }
 }
 
-/// The text of a document in UTF-16 behind its mark.
+/// The text of a document in UTF-16, without its byte order mark.
 fn wide_text(alloc: Global, body: &[u8], is_little: bool) -> Result<Option<Vec<u8>>, AllocError> {
     let text = from_utf16(alloc, body.get(2..).unwrap_or(&[]), is_little)?;
     Ok(Some(text))
 }
 
-/// The bytes with U+FFFD for what is not UTF-8; none where all is.
+/// The bytes with U+FFFD in place of what is not UTF-8, or `None` if all is UTF-8.
 fn mended(alloc: Global, bytes: &[u8]) -> Result<Option<Vec<u8>>, AllocError>
     ensures { IsAscii bytes.now → IfOk result (λ made. IfSome made (λ text. text.items ≡ bytes.now)) }
 {
@@ -121,7 +116,7 @@ fn mended(alloc: Global, bytes: &[u8]) -> Result<Option<Vec<u8>>, AllocError>
     Ok(Some(text.into_bytes()))
 }
 
-/// The document without the mark of UTF-8.
+/// The document without the byte order mark of UTF-8.
 pub(crate) fn without_mark(body: &[u8]) -> &[u8]
     ensures { IsAscii body.now → result.now ≡ body.now }
 {

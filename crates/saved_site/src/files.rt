@@ -6,10 +6,9 @@ ghost use Rattle.saved_site.specs.Errors.{IsOfFiles};
 ghost use Rattle.saved_site.specs.Files.{name_at, page_file, page_of, pages_of};
 
 use crate::error::SiteError;
-use crate::make::Given;
+use crate::make::SiteInput;
 use crate::notes::Note;
 use crate::site::{Entry, Rules, Site, Source};
-use crate::spellings::plain_of;
 use crate::web::SiteNames;
 use std::alloc::{AllocError, Global};
 
@@ -49,10 +48,10 @@ impl<'a> SiteFiles<'a> {
     }
 
     /// The inputs for making the pages; `is_linked` says whether their links are looked up.
-    pub(crate) fn given(&self, is_linked: bool) -> Given<'_>
+    pub(crate) fn input(&self, is_linked: bool) -> SiteInput<'_>
         ensures { result.top.now ≡ string_bytes self.now.site.top }
     {
-        Given {
+        SiteInput {
             site: &self.site,
             top: self.site.top(),
             names: self.names,
@@ -61,8 +60,8 @@ impl<'a> SiteFiles<'a> {
         }
     }
 
-    /// Adds notes about the files without a page.
-    pub(crate) fn tell_doubles(&self, notes: &mut Vec<Note>) -> Result<(), AllocError> {
+    /// Adds the notes about the files without a page.
+    pub(crate) fn copy_doubles(&self, notes: &mut Vec<Note>) -> Result<(), AllocError> {
         for note in &self.doubles {
             notes.push(note.copy()?)?;
         }
@@ -76,7 +75,7 @@ impl<'a> SiteFiles<'a> {
         self.site.top()
     }
 
-    /// The number of pages, without other spellings.
+    /// The number of pages, without other spellings and queries.
     pub fn page_count(&self) -> usize
         ensures { result ≡ length (pages_of self.now) }
     {
@@ -109,29 +108,10 @@ impl<'a> SiteFiles<'a> {
         }
     }
 
-    /// The index of the file of the page at a URL, or `None`. The URL can be another spelling of the page's URL.
-    ///
-    /// # Errors
-    /// Out of memory.
-    pub fn file_of(&self, alloc: Global, url: &str) -> Result<Option<usize>, AllocError> {
-        let number = match self.site.find(url) {
-            Some(number) => number,
-            None => match self.spelled(alloc, url)? {
-                Some(number) => number,
-                None => return Ok(None),
-            },
-        };
-        match self.page(number) {
-            Some((_, file)) => Ok(file),
-            None => Ok(None),
-        }
-    }
-
-    fn spelled(&self, alloc: Global, url: &str) -> Result<Option<usize>, AllocError> {
-        match plain_of(alloc, &self.site, self.rules, url)? {
-            Some(plain) => Ok(self.site.find(plain.as_str())),
-            None => Ok(None),
-        }
+    /// The index of the file of the page at a URL, or `None`. Pages at other spellings or with a query are not found.
+    pub fn file_of(&self, url: &str) -> Option<usize> {
+        let (_, file) = self.page(self.site.find(url)?)?;
+        file
     }
 
     /// The number of threads that make the pages.
@@ -145,6 +125,7 @@ fn page_of(entry: &Entry) -> (&str, Option<usize>)
 {
     match &entry.source {
         Source::File(index) => (entry.url.as_str(), Some(*index)),
+        Source::Index(index) => (entry.url.as_str(), Some(*index)),
         Source::Moved(_) => (entry.url.as_str(), None),
     }
 }

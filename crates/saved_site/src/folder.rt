@@ -1,25 +1,26 @@
-//! What is in a folder.
+//! The contents of a folder.
 ghost use Rattle.std.specs.Prelude.{◌≡◌, alloc_error};
 ghost use Rattle.std.specs.IoError.{error_kind};
 
 use crate::notes::{Left, Note};
 use std::alloc::{AllocError, Global};
 use std::io::{ErrorKind, Read};
+use std::path::Path;
 use std::rt::Files;
 use std::{fs, io};
 
 /// A folder that is entered.
 #[derive(Drop)]
 pub(crate) struct Entered {
-    /// Its name below the top, with a slash at its end; nothing for the top.
+    /// Its name below the top, with a slash at the end; empty for the top.
     pub(crate) name: String,
-    /// Its own path, without links.
+    /// Its path without symbolic links.
     pub(crate) real: String,
-    /// The one that it was entered from, by its index.
+    /// The index of the folder from which it was entered.
     pub(crate) from: Option<usize>,
 }
 
-/// One of the folders that were entered, by its index.
+/// One of the entered folders, by its index.
 #[derive(Clone, Copy)]
 pub(crate) struct Above<'a> {
     pub(crate) entered: &'a [Entered],
@@ -41,7 +42,7 @@ impl Above<'_> {
         }
     }
 
-    /// Whether the folder with this path of its own is this one or one of those that it was entered through.
+    /// Whether the folder with this path without symbolic links is this one, or one from which it was entered.
     fn leads_up(&self, real: &str) -> bool {
         let mut above = Some(self.index);
         for _ in 0..=self.entered.len() {
@@ -62,24 +63,24 @@ impl Above<'_> {
 pub(crate) struct Named {
     /// Its name below the top; a folder's name ends in a slash.
     pub(crate) name: String,
-    /// Which of the folders to be entered it is, where it is one.
+    /// Its index among the folders to be entered, if it is one.
     pub(crate) folder: Option<usize>,
 }
 
-/// What is in a folder.
+/// The contents of a folder.
 #[derive(Drop)]
 pub(crate) struct Inside {
-    /// Which of those that were entered it is.
+    /// The index of the folder among the entered ones.
     pub(crate) index: usize,
-    /// Files and folders in the order of their names, the last one first.
+    /// Files and folders in descending order of their names.
     pub(crate) names: Vec<Named>,
-    /// The folders that are to be entered, as they are listed.
+    /// The folders that are to be entered, in the order of the listing.
     pub(crate) folders: Vec<Entered>,
     pub(crate) notes: Vec<Note>,
 }
 
 impl Inside {
-    /// Nothing yet.
+    /// No contents.
     pub(crate) fn new(alloc: Global, index: usize) -> Inside {
         Inside {
             index,
@@ -89,33 +90,28 @@ impl Inside {
         }
     }
 
-    fn tell(&mut self, left: Left, place: String) -> Result<(), AllocError> {
+    fn note(&mut self, left: Left, place: String) -> Result<(), AllocError> {
         self.notes.push(Note { left, place })?;
         Ok(())
     }
 
-    /// Tells what the system did not give, unless a growth was refused for it.
-    fn tell_unread(
-        &mut self,
-        error: &io::Error,
-        left: Left,
-        place: String,
-    ) -> Result<(), AllocError>
+    /// Adds a note about an error of the system, unless it is out of memory.
+    fn note_error(&mut self, error: &io::Error, left: Left, place: String) -> Result<(), AllocError>
         ensures { error_kind error.now ≡ ErrorKind.OutOfMemory → result ≡ Err alloc_error }
     {
         match error.kind() {
             ErrorKind::OutOfMemory => Err(AllocError),
-            _ => self.tell(left, place),
+            _ => self.note(left, place),
         }
     }
 
-    /// Adds what is not to be entered.
+    /// Adds a file, or a folder that is not to be entered.
     fn push(&mut self, name: String) -> Result<(), AllocError> {
         self.names.push(Named { name, folder: None })?;
         Ok(())
     }
 
-    /// Adds a folder with this path of its own, which is entered unless it leads back up.
+    /// Adds a folder with this path without symbolic links. It is to be entered unless it leads back up.
     fn push_folder(
         &mut self,
         above: Above<'_>,
@@ -124,7 +120,7 @@ impl Inside {
     ) -> Result<(), AllocError> {
         if above.leads_up(real) {
             self.push(name.clone()?)?;
-            return self.tell(Left::LeadsUp, name);
+            return self.note(Left::LeadsUp, name);
         }
         let real = String::from_str(*self.names.allocator(), real)?;
         let from = Some(above.index);
@@ -142,21 +138,25 @@ impl Inside {
     }
 }
 
-/// Where folders are read. Several threads ask at once.
+/// Reads folders, for several threads at the same time.
 pub(crate) trait Folders {
-    /// What is in a folder; `room` is for the names that one call of the system gives.
+    /// The contents of a folder. `room` is for the names that one call of the system returns.
     ///
     /// # Errors
-    /// Where a growth was refused.
+    /// Out of memory.
     fn inside(&self, above: Above<'_>, room: &mut [u8]) -> Result<Inside, AllocError>;
 }
 
-/// The folders below one on disk. Symbolic links are followed, but not back up.
+/// The folders below one on disk. Symbolic links are followed, but not back up, and out of the top only if that is asked for.
 #[derive(Drop)]
 pub(crate) struct DiskFolders<'a, R> {
     pub(crate) rt: &'a R,
     pub(crate) alloc: Global,
     pub(crate) top: &'a str,
+    /// The path of the top without symbolic links.
+    pub(crate) real: String,
+    /// Whether symbolic links out of the top are followed.
+    pub(crate) follow: bool,
 }
 
 impl<R: Files> Folders for DiskFolders<'_, R> {
@@ -166,7 +166,7 @@ impl<R: Files> Folders for DiskFolders<'_, R> {
             Err(error) => {
                 let mut inside = Inside::new(self.alloc, above.index);
                 let name = String::from_str(self.alloc, above.name())?;
-                inside.tell_unread(&error, Left::FolderUnread, name)?;
+                inside.note_error(&error, Left::FolderUnread, name)?;
                 Ok(inside)
             }
         }
@@ -189,7 +189,7 @@ impl<R: Files> DiskFolders<'_, R> {
         Ok(names)
     }
 
-    /// What is in a folder that lists these names.
+    /// The contents of a folder that lists these names.
     pub(crate) fn listed(&self, above: Above<'_>, names: &[u8]) -> Result<Inside, AllocError> {
         let mut inside = Inside::new(self.alloc, above.index);
         for own in names.split(|byte| *byte == 0) {
@@ -199,7 +199,7 @@ impl<R: Files> DiskFolders<'_, R> {
         Ok(inside)
     }
 
-    /// Adds what a folder lists, but itself and the one above.
+    /// Adds what a folder lists, except itself and the one above.
     fn add_listed(
         &self,
         above: Above<'_>,
@@ -214,12 +214,12 @@ impl<R: Files> DiskFolders<'_, R> {
             Err(_) => {
                 let text = String::from_utf8_lossy(self.alloc, own)?;
                 let name = format!(in self.alloc; "{}{text}", above.name())?;
-                inside.tell(Left::NotUtf8, name)
+                inside.note(Left::NotUtf8, name)
             }
         }
     }
 
-    /// Adds a file or a folder, and nothing else.
+    /// Adds a file or a folder. FIFOs, sockets and devices are left out.
     fn add(&self, above: Above<'_>, own: &str, inside: &mut Inside) -> Result<(), AllocError> {
         let name = format!(in self.alloc; "{}{own}", above.name())?;
         let path = format!(in self.alloc; "{}/{name}", self.top)?;
@@ -227,12 +227,12 @@ impl<R: Files> DiskFolders<'_, R> {
             Ok(found) if found.is_dir() => add_folder(above, own, name, inside),
             Ok(found) if found.is_file() => inside.push(name),
             Ok(found) if found.is_symlink() => self.add_linked(above, path.as_str(), name, inside),
-            Ok(_) => inside.tell(Left::NoFile, name),
-            Err(error) => inside.tell_unread(&error, left_by(&error), name),
+            Ok(_) => inside.note(Left::NoFile, name),
+            Err(error) => inside.note_error(&error, left_by(&error), name),
         }
     }
 
-    /// Adds what a link leads to, where that is a file or a folder.
+    /// Adds the file or folder to which a symbolic link leads.
     fn add_linked(
         &self,
         above: Above<'_>,
@@ -241,15 +241,33 @@ impl<R: Files> DiskFolders<'_, R> {
         inside: &mut Inside,
     ) -> Result<(), AllocError> {
         match fs::metadata(self.rt, path) {
-            Ok(found) if found.is_dir() => {
-                self.add_linked_folder(above, path, with_slash(name)?, inside)
-            }
-            Ok(found) if found.is_file() => inside.push(name),
-            Ok(_) => inside.tell(Left::NoFile, name),
-            Err(error) => inside.tell_unread(&error, left_by(&error), name),
+            Ok(found) if found.is_dir() => self.add_linked_folder(above, path, name, inside),
+            Ok(found) if found.is_file() => self.add_linked_file(path, name, inside),
+            Ok(_) => inside.note(Left::NoFile, name),
+            Err(error) => inside.note_error(&error, left_by(&error), name),
         }
     }
 
+    /// Adds a file to which a symbolic link leads, unless it is outside.
+    fn add_linked_file(
+        &self,
+        path: &str,
+        name: String,
+        inside: &mut Inside,
+    ) -> Result<(), AllocError> {
+        match self.rt.canonicalize(self.alloc, path) {
+            Ok(real) => {
+                if self.is_followed(real.as_path()) {
+                    inside.push(name)
+                } else {
+                    inside.note(Left::LeadsOut, name)
+                }
+            }
+            Err(error) => inside.note_error(&error, Left::Unread, name),
+        }
+    }
+
+    /// Adds a folder to which a symbolic link leads, unless it is outside.
     fn add_linked_folder(
         &self,
         above: Above<'_>,
@@ -257,20 +275,30 @@ impl<R: Files> DiskFolders<'_, R> {
         name: String,
         inside: &mut Inside,
     ) -> Result<(), AllocError> {
+        let name = with_slash(name)?;
         match self.rt.canonicalize(self.alloc, path) {
             Ok(real) => {
                 let real = real.as_path();
-                inside.push_folder(above, name, real.to_string_lossy())
+                if self.is_followed(real) {
+                    inside.push_folder(above, name, real.as_str())
+                } else {
+                    inside.note(Left::LeadsOut, name)
+                }
             }
             Err(error) => {
                 inside.push(name.clone()?)?;
-                inside.tell_unread(&error, Left::FolderUnread, name)
+                inside.note_error(&error, Left::FolderUnread, name)
             }
         }
     }
+
+    /// Whether a symbolic link to this path is followed: the path is that of the top or below it, or all links are followed.
+    fn is_followed(&self, real: Path<'_>) -> bool {
+        self.follow || real.starts_with(self.real.as_str())
+    }
 }
 
-/// Adds a folder that is no link, so that its own path is that of the one above and its own name.
+/// Adds a folder that is not a symbolic link, so that its path is that of the folder above and its own name.
 fn add_folder(
     above: Above<'_>,
     own: &str,
@@ -282,13 +310,13 @@ fn add_folder(
     inside.push_folder(above, name, real.as_str())
 }
 
-/// The path of what has this name in the folder with this path. That of the root alone ends in a slash.
+/// The path of this name in the folder with this path. Only the path of the root ends in a slash.
 fn path_in(alloc: Global, folder: &str, own: &str) -> Result<String, AllocError> {
     let front = folder.strip_suffix("/").unwrap_or(folder);
     format!(in alloc; "{front}/{own}")
 }
 
-/// Why a name is left out of which the system does not tell what it is.
+/// Why a name is left out if the system does not say what it is.
 fn left_by(error: &io::Error) -> Left {
     match error.kind() {
         ErrorKind::PermissionDenied => Left::Unread,

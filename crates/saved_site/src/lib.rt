@@ -17,7 +17,6 @@ mod folder;
 mod found_links;
 mod in_query;
 mod indices;
-mod kept;
 mod kinds;
 mod link_lines;
 mod linked;
@@ -26,6 +25,7 @@ mod maker;
 mod making;
 mod notes;
 mod on_disk;
+mod output;
 mod page;
 mod places;
 mod print;
@@ -60,5 +60,6 @@ pub use targets::Target;
 pub use text::LineText;
 pub use texts::LinkCounts;
 pub use web::{
-    LinkPlaces, LinkedSite, PageAnchors, SiteNames, Summary, Web, files_pages, files_web, site_web,
+    Alias, LinkPlaces, LinkedSite, PageAnchors, SiteNames, Summary, Web, files_pages, files_web,
+    site_web,
 };

@@ -1,4 +1,4 @@
-//! Pages made of the bytes of their files.
+//! Makes the pages of a site from the contents of its files.
 use crate::anchors::Anchors;
 use crate::document::{Document, document_at};
 use crate::found_links::Found;
@@ -7,161 +7,150 @@ use crate::link_lines::LinkLines;
 use crate::notes::{Left, Note};
 use crate::page::{SitePage, Under};
 use crate::site::{Rules, Site, Source, split_name};
-use crate::spellings::{Page, Spelling, spellings};
-use crate::text::LineText;
+use crate::spellings::{Spelling, spellings};
+use crate::text::{LINK_FRONT, LineText, fits};
 use crate::texts::LinkCounts;
 use crawl_keys::CanonUrl;
 use std::alloc::{AllocError, Global};
 
-/// A page that is to be made: its URL, and which page of the site it is.
+/// A page that is to be made: its URL, and the number of the site's page that a server returns for it.
 #[derive(Drop)]
 pub(crate) struct Task {
     pub(crate) url: CanonUrl,
     pub(crate) entry: usize,
-    /// Whether the URL is the page's own, and no other spelling.
-    pub(crate) is_plain: bool,
 }
 
-/// What all pages of a site are made by.
+/// The inputs for making the pages of a site.
 #[derive(Clone, Copy)]
-pub(crate) struct Given<'a> {
+pub(crate) struct SiteInput<'a> {
     pub(crate) site: &'a Site,
     /// The URL of the site's top.
     pub(crate) top: &'a str,
     pub(crate) names: &'a [String],
     pub(crate) rules: &'a Rules,
-    /// Whether the links of its pages are looked up, and no web is printed of them.
+    /// Whether the links of its pages are looked up, and no saved web is printed of them.
     pub(crate) is_linked: bool,
 }
 
-impl Given<'_> {
-    /// The index of a task's file, where it has one.
+impl SiteInput<'_> {
+    /// The index of the file whose links the page of a task has.
     pub(crate) fn file_of(&self, task: &Task) -> Option<usize> {
-        self.file_at(task.entry)
-    }
-
-    /// The index of the file of the site's page with this number, where it has one.
-    fn file_at(&self, entry: usize) -> Option<usize> {
-        match self.site.entries.get(entry).map(|entry| &entry.source) {
-            Some(Source::File(index)) => Some(*index),
+        let entry = self.site.entries.get(task.entry)?;
+        match &entry.source {
+            Source::File(index) if entry.url == task.url => Some(*index),
             _ => None,
         }
     }
 
-    /// The name of a task's file, where it has one.
+    /// The name of that file.
     pub(crate) fn name_of(&self, task: &Task) -> Option<&str> {
         let index = self.file_of(task)?;
         Some(self.names.get(index)?.as_str())
     }
+
+    /// The URL to which the page of a task is moved, without a query, if the page is a redirect.
+    fn target_of(&self, task: &Task) -> Option<&str> {
+        match self.site.entries.get(task.entry).map(|entry| &entry.source) {
+            Some(Source::Moved(target)) => Some(target.as_str()),
+            _ => None,
+        }
+    }
 }
 
-/// A page that is made.
+/// A page that was made, and what is known of it.
 #[derive(Drop)]
-pub(crate) struct Made {
+pub(crate) struct NewPage {
     /// The number of its task.
     pub(crate) number: usize,
-    /// Which page of the site it is.
-    pub(crate) entry: usize,
-    /// How many bytes stand under every other spelling of that page too, at least.
-    pub(crate) repeated: usize,
     pub(crate) url: CanonUrl,
-    /// The page, unless its URL is too long or its links are looked up.
+    /// The page, unless its URL is too long or its links were looked up.
     pub(crate) page: Option<SitePage>,
-    /// How many bytes the page has in a web, at least.
+    /// The number of bytes of the page in a saved web, at least.
     pub(crate) byte_count: usize,
     pub(crate) spellings: Vec<Spelling>,
     pub(crate) counts: LinkCounts,
-    /// Its anchors, where they are wanted and known and the page is a document.
+    /// The own URL of the file, if the page is an alias.
+    pub(crate) own: Option<CanonUrl>,
+    /// Its anchors, if the rules ask for them, the page is a document, and they are known.
     pub(crate) anchors: Option<Anchors>,
-    /// Where its links stand, where that is wanted.
+    /// The positions of its links, if the rules ask for them.
     pub(crate) indices: Vec<u32>,
     pub(crate) notes: Vec<Note>,
 }
 
-/// Makes a page, of the bytes of its file where it has one.
+/// Makes the page of a task. `body` has the contents of its file, if it has one that could be read.
 pub(crate) fn page_of(
     alloc: Global,
-    given: Given<'_>,
+    input: SiteInput<'_>,
     task: &Task,
-    body: &[u8],
+    body: Option<&[u8]>,
     found: &mut Found,
-) -> Result<Made, AllocError> {
-    match given
-        .site
-        .entries
-        .get(task.entry)
-        .map(|entry| &entry.source)
-    {
-        Some(Source::Moved(target)) => moved_page(alloc, given, task, target.as_str()),
-        Some(Source::File(index)) => {
-            let document = file_document(alloc, given, *index, task, body, found)?;
-            linked_page(alloc, given, task, document)
-        }
-        None => linked_page(alloc, given, task, Document::empty(alloc)),
+) -> Result<NewPage, AllocError> {
+    if let Some(name) = input.name_of(task) {
+        let document = file_document(alloc, input, name, task, body, found)?;
+        return document_page(alloc, input, task, document);
     }
+    if let Some(target) = input.target_of(task) {
+        return moved_page(alloc, input, task, target);
+    }
+    alias_page(alloc, input, task)
 }
 
-/// The links of a file, where it is a document.
+/// The links of the file with this name, if it is a document.
 fn file_document(
     alloc: Global,
-    given: Given<'_>,
-    index: usize,
+    input: SiteInput<'_>,
+    name: &str,
     task: &Task,
-    body: &[u8],
+    body: Option<&[u8]>,
     found: &mut Found,
 ) -> Result<Document, AllocError> {
-    let name = match given.names.get(index) {
-        Some(name) => name.as_str(),
-        None => "",
-    };
-    let (path, _) = split_name(name, given.rules.queries);
-    if is_document(kind_of(path), body) {
-        document_at(alloc, body, &task.url, given, found)
-    } else {
-        Ok(Document::empty(alloc))
+    let (path, _) = split_name(name, input.rules.queries);
+    match body {
+        Some(body) if is_document(kind_of(path), body) => {
+            document_at(alloc, body, &task.url, input, found)
+        }
+        _ => Ok(Document::empty(alloc)),
     }
 }
 
-/// A page with its links.
-fn linked_page(
+/// A page with the links of its file.
+fn document_page(
     alloc: Global,
-    given: Given<'_>,
+    input: SiteInput<'_>,
     task: &Task,
     document: Document,
-) -> Result<Made, AllocError> {
+) -> Result<NewPage, AllocError> {
     let Document {
         links,
         counts,
         anchors,
         indices,
         encoding,
-        has_base,
     } = document;
-    let notes = document_notes(alloc, given, task, counts, encoding)?;
-    let found = if differs_in_query(given, task) {
-        Vec::new(alloc)
-    } else {
-        found_spellings(alloc, given, task, links.as_bytes())?
-    };
-    let length = links.as_bytes().len();
-    let mut made = Made::new(task, Under::Links(links), found, counts, notes)?;
-    made.repeated = if has_base { 0 } else { length };
+    let notes = document_notes(alloc, task, counts, encoding)?;
+    let spellings = found_spellings(alloc, input, task, links.as_bytes())?;
+    let mut made = NewPage::new(task, Under::Links(links), notes)?;
+    made.spellings = spellings;
+    made.counts = counts;
     made.anchors = anchors;
     made.indices = indices;
     Ok(made)
 }
 
-/// What is told of a document, whose encoding has this name where it is not known here.
+/// The notes about a document. `encoding` is the name of its encoding, if that is not known here.
 fn document_notes(
     alloc: Global,
-    given: Given<'_>,
     task: &Task,
     counts: LinkCounts,
     encoding: Option<String>,
 ) -> Result<Vec<Note>, AllocError> {
     let mut notes = Vec::new(alloc);
     if let Some(name) = encoding {
-        tell_encoding(alloc, given, task, name.as_str(), &mut notes)?;
+        notes.push(Note {
+            left: Left::Encoding,
+            place: format!(in alloc; "{} ({name})", task.url.as_str())?,
+        })?;
     }
     if counts.left_out > 0 {
         notes.push(Note::at(alloc, Left::LongLinks, &task.url)?)?;
@@ -169,77 +158,57 @@ fn document_notes(
     Ok(notes)
 }
 
-/// Tells that the encoding of a document is not known here, on the first page of its file.
-fn tell_encoding(
+fn found_spellings(
     alloc: Global,
-    given: Given<'_>,
+    input: SiteInput<'_>,
     task: &Task,
-    name: &str,
-    notes: &mut Vec<Note>,
-) -> Result<(), AllocError> {
-    if is_first(given, task)? {
-        let place = format!(in alloc; "{} ({name})", task.url.as_str())?;
-        let left = Left::Encoding;
-        notes.push(Note { left, place })?;
+    lines: &[u8],
+) -> Result<Vec<Spelling>, AllocError> {
+    spellings(alloc, input.site, input.rules, &task.url, lines)
+}
+
+/// The page of an alias, whose only link is the own URL of its file.
+fn alias_page(alloc: Global, input: SiteInput<'_>, task: &Task) -> Result<NewPage, AllocError> {
+    let mut links = LinkLines::new(alloc);
+    let own = input.site.own_url(task.entry);
+    if let Some(own) = own {
+        push_own(input, own, &mut links)?;
+    }
+    let mut made = NewPage::new(task, Under::Links(links), Vec::new(alloc))?;
+    made.counts.links = 1;
+    if let Some(own) = own
+        && made.page.is_some()
+    {
+        made.own = Some(own.clone()?);
+    }
+    Ok(made)
+}
+
+/// Appends a link to a URL of the site, if it fits in a line.
+fn push_own(input: SiteInput<'_>, own: &CanonUrl, links: &mut LinkLines) -> Result<(), AllocError> {
+    let text = without_origin(own.as_str(), input.site.origin.as_str()).as_bytes();
+    if fits(LINK_FRONT, text) {
+        links.push(text)?;
     }
     Ok(())
 }
 
-/// Whether a page is the first of its file: that of an index file comes behind that of its folder, and other spellings come last.
-fn is_first(given: Given<'_>, task: &Task) -> Result<bool, AllocError> {
-    let Some(name) = given.name_of(task) else {
-        return Ok(true);
-    };
-    if !task.is_plain {
-        return Ok(false);
-    }
-    match given.site.folder_page(name, given.rules)? {
-        Some(page) => Ok(page == task.entry || given.file_at(page) != given.file_of(task)),
-        None => Ok(true),
-    }
-}
-
-/// Whether a URL differs from that of the site's page in its query alone: links of both lead to the same pages, whose spellings
-/// are found by that page.
-fn differs_in_query(given: Given<'_>, task: &Task) -> bool {
-    match given.site.entries.get(task.entry) {
-        Some(entry) => !task.is_plain
-            && before_query(entry.url.as_str()) == before_query(task.url.as_str()),
-        None => false,
-    }
-}
-
-fn before_query(url: &str) -> &str {
-    match url.split_once('?') {
-        Some((front, _)) => front,
-        None => url,
-    }
-}
-
-fn found_spellings(
-    alloc: Global,
-    given: Given<'_>,
-    task: &Task,
-    lines: &[u8],
-) -> Result<Vec<Spelling>, AllocError> {
-    spellings(alloc, given.site, given.rules, task.page(), lines)
-}
-
-/// A folder without its slash, which a server sends on to the folder with it, with the query that it was asked with.
+/// A folder without its slash, which is moved to the folder with it and with the same query.
 fn moved_page(
     alloc: Global,
-    given: Given<'_>,
+    input: SiteInput<'_>,
     task: &Task,
     target: &str,
-) -> Result<Made, AllocError> {
+) -> Result<NewPage, AllocError> {
     let target = with_query(alloc, target, task.url.as_str())?;
-    let text = without_origin(target.as_str(), given.site.origin.as_str());
+    let text = without_origin(target.as_str(), input.site.origin.as_str());
     let line = format!(in alloc; "moved {text}")?;
-    let found = found_spellings(alloc, given, task, line.as_bytes())?;
-    moved_to(alloc, task, text, found)
+    let mut made = moved_to(alloc, task, text)?;
+    made.spellings = found_spellings(alloc, input, task, line.as_bytes())?;
+    Ok(made)
 }
 
-/// The target with the query of a URL, where that has one.
+/// The target with the query of a URL, if that has one.
 fn with_query(alloc: Global, target: &str, url: &str) -> Result<String, AllocError> {
     let mut target = String::from_str(alloc, target)?;
     if let Some((_, query)) = url.split_once('?') {
@@ -249,13 +218,8 @@ fn with_query(alloc: Global, target: &str, url: &str) -> Result<String, AllocErr
     Ok(target)
 }
 
-/// A page that moved to what this text leads to; without a target, where that does not stand in a line.
-fn moved_to(
-    alloc: Global,
-    task: &Task,
-    text: &str,
-    found: Vec<Spelling>,
-) -> Result<Made, AllocError> {
+/// A redirect to this text. If it does not fit in a line, the page has no target.
+fn moved_to(alloc: Global, task: &Task, text: &str) -> Result<NewPage, AllocError> {
     let mut notes = Vec::new(alloc);
     let under = match LineText::new(alloc, text.as_bytes())? {
         Some(text) => Under::Moved(text),
@@ -264,7 +228,7 @@ fn moved_to(
             Under::Links(LinkLines::new(alloc))
         }
     };
-    Made::new(task, under, found, LinkCounts::default(), notes)
+    NewPage::new(task, under, notes)
 }
 
 /// The URL without its scheme and authority, unless two slashes come first, which would begin a host.
@@ -275,38 +239,22 @@ fn without_origin<'a>(url: &'a str, origin: &str) -> &'a str {
     }
 }
 
-impl Task {
-    fn page(&self) -> Page<'_> {
-        Page {
-            url: &self.url,
-            is_plain: self.is_plain,
-        }
-    }
-}
-
-impl Made {
-    fn new(
-        task: &Task,
-        under: Under,
-        spellings: Vec<Spelling>,
-        counts: LinkCounts,
-        notes: Vec<Note>,
-    ) -> Result<Made, AllocError> {
+impl NewPage {
+    fn new(task: &Task, under: Under, notes: Vec<Note>) -> Result<NewPage, AllocError> {
         let page = SitePage::new(task.url.clone()?, under);
         let mut notes = notes;
         let alloc = *notes.allocator();
         if page.is_none() {
             notes.push(Note::at(alloc, Left::LongUrl, &task.url)?)?;
         }
-        Ok(Made {
+        Ok(NewPage {
             number: 0,
-            entry: task.entry,
-            repeated: 0,
             url: task.url.clone()?,
             byte_count: byte_count_of(&page),
             page,
-            spellings,
-            counts,
+            spellings: Vec::new(alloc),
+            counts: LinkCounts::default(),
+            own: None,
             anchors: None,
             indices: Vec::new(alloc),
             notes,

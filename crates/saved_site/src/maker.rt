@@ -1,9 +1,9 @@
-//! Pages that are made by threads, each of which reads the files of those that it makes.
+//! Makes pages in threads, each of which reads the files of its pages.
 use crate::body::Body;
 use crate::contents::Contents;
 use crate::found_links::Found;
 use crate::linked::Linker;
-use crate::make::{Given, Made, Task, page_of};
+use crate::make::{NewPage, SiteInput, Task, page_of};
 use crate::notes::Note;
 use crate::page::SitePage;
 use crate::web::Summary;
@@ -12,27 +12,27 @@ use std::sync::atomic::{AtomicUsize, Ordering};
 use std::thread;
 use std::thread::Threads;
 
-/// About how many bytes of documents and of lines are in a batch.
+/// The number of bytes of documents and of lines in a batch, about.
 const BATCH_LENGTH: usize = 1 << 24;
 
-/// The same where links are looked up, of which no lines are kept: threads seldom wait for the last of them.
+/// The same if links are looked up, so that no lines are kept: threads seldom wait for the last of them.
 const LINKED_LENGTH: usize = 1 << 26;
 
-/// So many tasks are taken at once, whose pages mostly lie in one folder.
+/// The number of tasks that a thread takes together. Their pages are mostly in one folder.
 const BLOCK: usize = 4;
 
-/// Which tasks of a batch are taken by threads: the first of them, in their order.
+/// The tasks of a batch that threads have taken: the first ones, in order.
 #[derive(Drop)]
 struct Taken {
     count: AtomicUsize,
-    /// How many bytes were read and made for them.
+    /// The number of bytes that were read and made for them.
     byte_count: AtomicUsize,
-    /// With more bytes the batch has enough.
+    /// The number of bytes after which no more tasks are taken.
     limit: usize,
 }
 
 impl Taken {
-    /// None yet.
+    /// No tasks.
     fn new(limit: usize) -> Taken {
         Taken {
             count: AtomicUsize::new(0),
@@ -41,7 +41,7 @@ impl Taken {
         }
     }
 
-    /// The number of the first of the next ones, unless the batch has enough.
+    /// The number of the first of the next tasks, unless the batch has enough.
     fn next(&self) -> Option<usize> {
         if self.byte_count.load(Ordering::SeqCst) > self.limit {
             return None;
@@ -55,30 +55,30 @@ impl Taken {
     }
 }
 
-/// What is told of the file of the task with this number, which cannot be read.
+/// The note about the file of the task with this number, which cannot be read.
 #[derive(Drop)]
 struct Unread {
     number: usize,
     note: Note,
 }
 
-/// The pages that one of several threads makes, and its room for a file and for what is found in it.
+/// The pages that a thread has made, and its room for a file and the links in it.
 #[derive(Drop)]
 pub(crate) struct Maker {
     alloc: Global,
     body: Body,
     found: Found,
-    made: Vec<Made>,
+    made: Vec<NewPage>,
     unread: Vec<Unread>,
-    /// Its pages so far and what they have, where their links are looked up.
+    /// The pages so far and their counts, if links are looked up.
     linker: Option<Linker>,
     summary: Summary,
 }
 
 impl Maker {
-    fn new(alloc: Global, given: Given<'_>) -> Result<Maker, AllocError> {
-        let linker = if given.is_linked {
-            Some(Linker::new(alloc, given.top)?)
+    fn new(alloc: Global, input: SiteInput<'_>) -> Result<Maker, AllocError> {
+        let linker = if input.is_linked {
+            Some(Linker::new(alloc, input.top)?)
         } else {
             None
         };
@@ -93,7 +93,7 @@ impl Maker {
         })
     }
 
-    /// What it has looked up.
+    /// The pages whose links it has looked up, and their counts.
     pub(crate) fn into_linked(self) -> (Option<Linker>, Summary) {
         let Maker {
             linker,
@@ -103,10 +103,10 @@ impl Maker {
         (linker, summary)
     }
 
-    /// Makes the pages of the tasks that it takes, until there is none or the batch has enough. A long file keeps one thread alone.
+    /// Takes tasks and makes their pages, until no task is left or the batch has enough. A long file occupies only one thread.
     fn run<C: Contents>(
         self,
-        given: Given<'_>,
+        input: SiteInput<'_>,
         contents: &C,
         tasks: &[Task],
         taken: &Taken,
@@ -119,15 +119,15 @@ impl Maker {
             if first >= tasks.len() {
                 break;
             }
-            maker.make_block(given, contents, tasks, first, taken)?;
+            maker.make_block(input, contents, tasks, first, taken)?;
         }
         Ok(maker)
     }
 
-    /// Makes the pages of the tasks of a block, whose first has this number.
+    /// Makes the pages of the block of tasks that begins with this number.
     fn make_block<C: Contents>(
         &mut self,
-        given: Given<'_>,
+        input: SiteInput<'_>,
         contents: &C,
         tasks: &[Task],
         first: usize,
@@ -137,32 +137,41 @@ impl Maker {
             let Some(task) = tasks.get(number) else {
                 break;
             };
-            self.read(given, contents, number, task)?;
+            let is_read = self.read(input, contents, number, task)?;
             taken.add(self.body.as_slice().len());
-            taken.add(self.make(given, number, task)?);
+            taken.add(self.make(input, number, task, is_read)?);
         }
         Ok(())
     }
 
-    /// Reads the file of the task with this number.
+    /// Reads the file of the task with this number, and returns whether it can be read.
     fn read<C: Contents>(
         &mut self,
-        given: Given<'_>,
+        input: SiteInput<'_>,
         contents: &C,
         number: usize,
         task: &Task,
-    ) -> Result<(), AllocError> {
+    ) -> Result<bool, AllocError> {
         self.body.clear();
-        if let Some(note) = contents.read(given, task, &mut self.body)? {
-            self.body.clear();
-            self.unread.push(Unread { number, note })?;
+        match contents.read(input, task, &mut self.body)? {
+            Some(note) => {
+                self.body.clear();
+                self.unread.push(Unread { number, note })?;
+                Ok(false)
+            }
+            None => Ok(true),
         }
-        Ok(())
     }
 
-    /// Makes the page of the task with this number from what was read, and gives how many bytes it has in a web, at least.
-    fn make(&mut self, given: Given<'_>, number: usize, task: &Task) -> Result<usize, AllocError> {
-        let mut page = self.page_of(given, task)?;
+    /// Makes the page of the task with this number, and returns the number of its bytes in a saved web, at least.
+    fn make(
+        &mut self,
+        input: SiteInput<'_>,
+        number: usize,
+        task: &Task,
+        is_read: bool,
+    ) -> Result<usize, AllocError> {
+        let mut page = self.page_of(input, task, is_read)?;
         page.number = number;
         let byte_count = page.byte_count;
         self.link(&mut page)?;
@@ -170,19 +179,19 @@ impl Maker {
         Ok(byte_count)
     }
 
-    /// Makes the page of a task from what was read.
-    fn page_of(&mut self, given: Given<'_>, task: &Task) -> Result<Made, AllocError> {
-        page_of(
-            self.alloc,
-            given,
-            task,
-            self.body.as_slice(),
-            &mut self.found,
-        )
+    /// Makes the page of a task from the contents of its file, if they were read.
+    fn page_of(
+        &mut self,
+        input: SiteInput<'_>,
+        task: &Task,
+        is_read: bool,
+    ) -> Result<NewPage, AllocError> {
+        let body = contents_of(&self.body, is_read);
+        page_of(self.alloc, input, task, body, &mut self.found)
     }
 
-    /// Looks up where a page leads, where that is wanted. The page is taken then, and counted.
-    fn link(&mut self, made: &mut Made) -> Result<(), AllocError> {
+    /// Looks up the links of a page, if the maker does so. The page is then taken and counted.
+    fn link(&mut self, made: &mut NewPage) -> Result<(), AllocError> {
         if self.linker.is_none() {
             return Ok(());
         }
@@ -196,7 +205,12 @@ impl Maker {
     }
 }
 
-/// The same with a page more, where there is one.
+/// The contents of a file, if they were read.
+fn contents_of(body: &Body, is_read: bool) -> Option<&[u8]> {
+    if is_read { Some(body.as_slice()) } else { None }
+}
+
+/// The same with one more page, if there is a linker.
 fn with_page(linker: Option<Linker>, page: &SitePage) -> Result<Option<Linker>, AllocError> {
     match linker {
         Some(linker) => Ok(Some(linker.with_page(page)?)),
@@ -204,25 +218,25 @@ fn with_page(linker: Option<Linker>, page: &SitePage) -> Result<Option<Linker>, 
     }
 }
 
-/// Pages that were made together, in the order of their tasks, and what is told of files that cannot be read.
+/// Pages that were made together, in the order of their tasks, and the notes about files that cannot be read.
 #[derive(Drop)]
 pub(crate) struct Batch {
-    pub(crate) made: Vec<Made>,
+    pub(crate) made: Vec<NewPage>,
     pub(crate) notes: Vec<Note>,
-    /// Those who made the pages, whose room is used again.
+    /// The makers of the pages, whose room is reused.
     pub(crate) makers: Vec<Maker>,
 }
 
 impl Batch {
-    /// One without pages, before so many threads make the first.
+    /// A batch without pages, with a maker for each of `threads` threads.
     pub(crate) fn before(
         alloc: Global,
-        given: Given<'_>,
+        input: SiteInput<'_>,
         threads: usize,
     ) -> Result<Batch, AllocError> {
         let mut batch = Batch::new(alloc);
         for _ in 0..threads {
-            batch.makers.push(Maker::new(alloc, given)?)?;
+            batch.makers.push(Maker::new(alloc, input)?)?;
         }
         Ok(batch)
     }
@@ -235,7 +249,7 @@ impl Batch {
         }
     }
 
-    /// What threads made.
+    /// The pages that threads made.
     fn of(alloc: Global, parts: Vec<Result<Maker, AllocError>>) -> Result<Batch, AllocError> {
         let mut batch = Batch::new(alloc);
         let mut unread: Vec<Unread> = Vec::new(alloc);
@@ -244,11 +258,11 @@ impl Batch {
         }
         batch.sort()?;
         unread.sort_by(|a: &Unread, b: &Unread| a.number.cmp(&b.number))?;
-        batch.tell(unread)?;
+        batch.add_notes(unread)?;
         Ok(batch)
     }
 
-    /// Adds what one of them made.
+    /// Adds a maker and its pages.
     fn add(&mut self, maker: Maker, unread: &mut Vec<Unread>) -> Result<(), AllocError> {
         let mut maker = maker;
         self.take_made(&mut maker, unread)?;
@@ -256,7 +270,7 @@ impl Batch {
         Ok(())
     }
 
-    /// Takes the pages that one of them made.
+    /// Takes the pages of a maker.
     fn take_made(&mut self, maker: &mut Maker, unread: &mut Vec<Unread>) -> Result<(), AllocError> {
         self.made.append(&mut maker.made)?;
         unread.append(&mut maker.unread)
@@ -264,10 +278,10 @@ impl Batch {
 
     fn sort(&mut self) -> Result<(), AllocError> {
         self.made
-            .sort_by(|a: &Made, b: &Made| a.number.cmp(&b.number))
+            .sort_by(|a: &NewPage, b: &NewPage| a.number.cmp(&b.number))
     }
 
-    fn tell(&mut self, unread: Vec<Unread>) -> Result<(), AllocError> {
+    fn add_notes(&mut self, unread: Vec<Unread>) -> Result<(), AllocError> {
         for one in unread {
             let Unread { note, .. } = one;
             self.notes.push(note)?;
@@ -276,30 +290,30 @@ impl Batch {
     }
 }
 
-/// About how many bytes are in a batch.
-fn length_of(given: Given<'_>) -> usize {
-    if given.is_linked {
+/// The number of bytes in a batch, about.
+fn length_of(input: SiteInput<'_>) -> usize {
+    if input.is_linked {
         LINKED_LENGTH
     } else {
         BATCH_LENGTH
     }
 }
 
-/// The pages of the first of these tasks, at least of one where there is a maker, each of which has a thread of its own.
+/// Makes the pages of the first of these tasks, at least one if there is a maker. Each maker has its own thread.
 pub(crate) fn next_batch<R: Threads + Sync, C: Contents + Sync>(
     rt: &R,
-    given: Given<'_>,
+    input: SiteInput<'_>,
     contents: &C,
     tasks: &[Task],
     makers: Vec<Maker>,
 ) -> Result<Batch, AllocError> {
     let alloc = *makers.allocator();
-    let taken = Taken::new(length_of(given));
+    let taken = Taken::new(length_of(input));
     let taken = &taken;
     let parts = thread::map_vec(
         rt,
         makers,
-        &|maker: Maker| { maker.run(given, contents, tasks, taken) },
+        &|maker: Maker| { maker.run(input, contents, tasks, taken) },
     )?;
     Batch::of(alloc, parts)
 }

@@ -1,76 +1,66 @@
-//! What is to be made of a site yet, and how much is made.
+//! The pages that are still to be made, and the number of bytes of those that were.
 ghost use Rattle.std.specs.Prelude.{IfErr};
 ghost use Rattle.saved_site.specs.Errors.{IsOfWeb};
 
 use crate::error::SiteError;
-use crate::make::{Given, Made, Task};
-use crate::tasks::{NewTasks, first_tasks};
+use crate::make::{NewPage, SiteInput, Task};
+use crate::tasks::{SpelledTasks, site_tasks};
 use crate::web::WEB_LIMIT;
 use std::alloc::{AllocError, Global};
 
-/// What is to be made yet, and how much is made.
+/// The state of making the pages of a site.
 #[derive(Drop)]
 pub(crate) struct Making {
-    /// The pages that are to be made yet.
-    ahead: NewTasks,
-    /// How many bytes the pages that are made have in the web.
+    ahead: SpelledTasks,
+    /// The number of bytes that the pages so far have in the saved web.
     pub(crate) byte_count: usize,
-    /// How many pages are other spellings.
-    pub(crate) spellings: u64,
 }
 
 impl Making {
-    /// Nothing is made yet. Seeds spell pages too.
+    /// No page was made. Seeds can spell pages, too.
     pub(crate) fn new(
         alloc: Global,
-        given: Given<'_>,
+        input: SiteInput<'_>,
         seeds: &[String],
     ) -> Result<Making, AllocError> {
-        let mut ahead = NewTasks::new(alloc, given)?;
-        ahead.add_seeds(given, seeds)?;
+        let mut ahead = SpelledTasks::new(alloc);
+        ahead.add_seeds(input, seeds)?;
         Ok(Making {
             ahead,
             byte_count: 0,
-            spellings: 0,
         })
     }
 
-    /// Counts pages that are made, and takes which others they spell. Once the web is too large no more are made.
-    pub(crate) fn count(&mut self, made: &mut [Made]) -> Result<(), SiteError>
+    /// Counts new pages, and takes the spellings in their links.
+    ///
+    /// # Errors
+    /// `TooLarge`, `NoMemory`.
+    pub(crate) fn count(&mut self, pages: &mut [NewPage]) -> Result<(), SiteError>
         ensures { IfErr result IsOfWeb }
     {
-        for one in made.iter() {
-            self.byte_count = self.byte_count.saturating_add(one.byte_count);
+        for page in pages.iter() {
+            self.byte_count = self.byte_count.saturating_add(page.byte_count);
         }
         if self.byte_count > WEB_LIMIT {
             return Err(SiteError::TooLarge);
         }
-        Ok(self.ahead.add_made(made)?)
+        Ok(self.ahead.add_spelled(pages)?)
     }
 
-    /// The pages of the site, and those that seeds spell otherwise.
+    /// The pages of the site, and those that seeds spell.
     pub(crate) fn first_tasks(
         &mut self,
         alloc: Global,
-        given: Given<'_>,
-    ) -> Result<Vec<Task>, SiteError>
-        ensures { IfErr result IsOfWeb }
-    {
-        let mut tasks = first_tasks(alloc, given)?;
-        let mut more = self.next_tasks()?;
+        input: SiteInput<'_>,
+    ) -> Result<Vec<Task>, AllocError> {
+        let mut tasks = site_tasks(alloc, input)?;
+        let mut more = self.next_tasks();
         tasks.append(&mut more)?;
         Ok(tasks)
     }
 
-    /// Takes the pages that are to be made, unless the web is too large with them: then none is made.
-    pub(crate) fn next_tasks(&mut self) -> Result<Vec<Task>, SiteError>
-        ensures { IfErr result IsOfWeb }
-    {
-        if self.byte_count.saturating_add(self.ahead.byte_count()) > WEB_LIMIT {
-            return Err(SiteError::TooLarge);
-        }
-        let tasks = self.ahead.take();
-        self.spellings = self.spellings.saturating_add(tasks.len() as u64);
-        Ok(tasks)
+    /// Takes the pages that links of the last round spell.
+    pub(crate) fn next_tasks(&mut self) -> Vec<Task> {
+        self.ahead.take()
     }
 }

@@ -14,10 +14,16 @@ pub enum Left {
     Unread,
     /// The folder is a symbolic link back to a folder above it.
     LeadsUp,
+    /// It is a symbolic link that leads out of the folder.
+    LeadsOut,
     /// The folder cannot be read.
     FolderUnread,
     /// The file cannot be read, so its links are skipped.
     FileUnread,
+    /// The file has more than 1 GiB, so its links are skipped.
+    LongFile,
+    /// The file grew while it was read, so its links are skipped.
+    FileChanged,
     /// Another file has the same URL.
     SameUrl,
     /// The URL of the page is too long for a line.
@@ -37,8 +43,13 @@ impl fmt::Display for Left {
             Left::NoFile => "skipped, neither a file nor a folder",
             Left::Unread => "skipped, it cannot be read",
             Left::LeadsUp => "folder skipped, it leads back to a folder above it",
+            Left::LeadsOut => {
+                "skipped, a symbolic link that leads out of the folder (--follow follows it)"
+            }
             Left::FolderUnread => "folder skipped, it cannot be read",
             Left::FileUnread => "links skipped, the file cannot be read",
+            Left::LongFile => "links skipped, the file has more than 1 GiB",
+            Left::FileChanged => "links skipped, the file changed while it was read",
             Left::SameUrl => "file skipped, another file has the same URL",
             Left::LongUrl => "page skipped, its URL is too long",
             Left::LongTarget => "target of the redirect skipped, it is too long",

@@ -1,6 +1,7 @@
 //! Makes the saved web of a folder. The threads that make the pages read the files.
 ghost use Rattle.std.specs.IoError.{error_kind};
 ghost use Rattle.std.specs.Prelude.{◌≡◌, IfErr, IfOk, alloc_error, string_bytes};
+ghost use Rattle.saved_site.specs.Aliases.{AreAliases};
 ghost use Rattle.saved_site.specs.Below.{IsWebAt, IsWebBelow};
 ghost use Rattle.saved_site.specs.Errors.{IsOfFiles, IsOfWeb};
 ghost use Rattle.saved_site.specs.Linked.{IsSiteSource};
@@ -11,13 +12,13 @@ use crate::contents::Contents;
 use crate::error::SiteError;
 use crate::files::SiteFiles;
 use crate::kinds::{Kind, START_LENGTH, is_document_start, kind_of};
-use crate::make::{Given, Task};
+use crate::make::{SiteInput, Task};
 use crate::notes::{Left, Note};
 use crate::site::{Rules, split_name};
 use crate::walk::entries_below;
 use crate::web::{LinkedSite, SiteNames, Web, pages_of, web_of};
 use std::alloc::{AllocError, Global};
-use std::io::ErrorKind;
+use std::io::{ErrorKind, Read};
 use std::rt::Files;
 use std::thread::Threads;
 use std::{fs, io};
@@ -31,7 +32,8 @@ pub struct FolderNames {
     pub notes: Vec<Note>,
 }
 
-/// Lists the files and folders in a folder and its subfolders. Symbolic links are followed, except to a folder above.
+/// Lists the files and folders in a folder and its subfolders. Symbolic links are followed, except to a folder above, and to anything
+/// outside the folder unless the rules say so. FIFOs, sockets and devices are left out.
 ///
 /// # Errors
 /// `Io` if the folder cannot be read; `NoMemory`.
@@ -39,12 +41,14 @@ pub fn folder_names<R: Files<File: Send, Dir: Send> + Threads + Sync>(
     rt: &R,
     alloc: Global,
     folder: &str,
+    rules: &Rules,
 ) -> Result<FolderNames, SiteError> {
-    let (names, notes) = entries_below(rt, alloc, folder)?;
+    let (names, notes) = entries_below(rt, alloc, folder, rules.follow)?;
     Ok(FolderNames { names, notes })
 }
 
 /// Makes the saved web of a folder whose top has the URL `base`. If a file cannot be read, its page has no links, and there is a note.
+/// This includes files of more than 2^30 bytes and files that grow while they are read.
 ///
 /// # Errors
 /// Those of `site_web`, and `Io` if the folder cannot be read.
@@ -58,7 +62,7 @@ pub fn folder_web<R: Files<File: Send, Dir: Send> + Threads + Sync>(
     ensures web { IfOk result (λ web. IsSiteWeb web.bytes.items) }
     ensures below { IfOk result (λ web. IsWebAt base.now web.bytes.items) }
 {
-    let FolderNames { names, notes } = folder_names(rt, alloc, folder)?;
+    let FolderNames { names, notes } = folder_names(rt, alloc, folder, rules)?;
     let input = SiteNames {
         names: names.as_slice(),
         base,
@@ -123,6 +127,7 @@ pub fn folder_files_pages<R: Files<File: Send, Dir: Send> + Threads + Sync>(
     told: Vec<Note>,
 ) -> Result<LinkedSite, SiteError>
     ensures source { IfOk result (λ site. IsSiteSource (string_bytes files.now.site.top) site.pages) }
+    ensures aliases { IfOk result (λ site. AreAliases site.pages site.aliases.items) }
     ensures error { IfErr result IsOfWeb }
 {
     let contents = OnDisk { rt, alloc, folder };
@@ -132,7 +137,7 @@ pub fn folder_files_pages<R: Files<File: Send, Dir: Send> + Threads + Sync>(
 /// Reads a file in a folder into an empty body.
 ///
 /// # Errors
-/// The file cannot be read, or out of memory.
+/// The file cannot be read, has more than 2^30 bytes, or grew while it was read; out of memory.
 pub fn folder_body<R: Files>(
     rt: &R,
     alloc: Global,
@@ -141,7 +146,10 @@ pub fn folder_body<R: Files>(
     body: &mut Body,
 ) -> io::Result<()> {
     let path = format!(in alloc; "{folder}/{name}")?;
-    body.read(&mut fs::open(rt, path.as_str())?)
+    match read_path(rt, path.as_str(), Kind::Document, body)? {
+        Some(_) => Err(io::Error::from(ErrorKind::FileTooLarge)),
+        None => Ok(()),
+    }
 }
 
 /// The files in a folder, of which documents are read.
@@ -155,46 +163,71 @@ struct OnDisk<'a, R> {
 impl<R: Files> Contents for OnDisk<'_, R> {
     fn read(
         &self,
-        given: Given<'_>,
+        input: SiteInput<'_>,
         task: &Task,
         body: &mut Body,
     ) -> Result<Option<Note>, AllocError> {
-        let Some(name) = given.name_of(task) else {
+        let Some(name) = input.name_of(task) else {
             return Ok(None);
         };
-        match self.read_named(given.rules, name, body) {
-            Ok(()) => Ok(None),
-            Err(error) => {
-                let left = left_by(&error)?;
-                let place = String::from_str(self.alloc, name)?;
-                Ok(Some(Note { left, place }))
+        let left = match self.read_named(input.rules, name, body) {
+            Ok(None) => return Ok(None),
+            Ok(Some(left)) => left,
+            Err(error) => left_by(&error)?,
+        };
+        let place = String::from_str(self.alloc, name)?;
+        Ok(Some(Note { left, place }))
+    }
+}
+
+impl<R: Files> OnDisk<'_, R> {
+    /// Reads a file if it can be a document. Returns why its links are skipped, if they are.
+    fn read_named(&self, rules: &Rules, name: &str, body: &mut Body) -> io::Result<Option<Left>> {
+        let (path, _) = split_name(name, rules.queries);
+        match kind_of(path) {
+            Kind::Other => Ok(None),
+            kind => {
+                let path = format!(in self.alloc; "{}/{name}", self.folder)?;
+                read_path(self.rt, path.as_str(), kind, body)
             }
         }
     }
 }
 
-impl<R: Files> OnDisk<'_, R> {
-    /// Reads a file if it may be a document.
-    fn read_named(&self, rules: &Rules, name: &str, body: &mut Body) -> io::Result<()> {
-        let (path, _) = split_name(name, rules.queries);
-        match kind_of(path) {
-            Kind::Other => Ok(()),
-            kind => self.read_file(name, kind, body),
-        }
-    }
+/// The number of bytes of a file that is read, at most.
+const FILE_LIMIT: u64 = 1 << 30;
 
-    fn read_file(&self, name: &str, kind: Kind, body: &mut Body) -> io::Result<()> {
-        let path = format!(in self.alloc; "{}/{name}", self.folder)?;
-        let mut file = fs::open(self.rt, path.as_str())?;
-        if kind == Kind::Unknown {
-            body.read_start(&mut file, START_LENGTH)?;
-            if !is_document_start(body.as_slice()) {
-                body.clear();
-                return Ok(());
-            }
-        }
-        body.read(&mut file)
+/// Reads the file with this path into an empty body if it can be a document. Returns why its links are skipped, if they are. A file of
+/// no bytes is not opened, because some of the system's own files have this size and never end.
+fn read_path<R: Files>(
+    rt: &R,
+    path: &str,
+    kind: Kind,
+    body: &mut Body,
+) -> io::Result<Option<Left>> {
+    let length = fs::metadata(rt, path)?.len();
+    if length == 0 {
+        return Ok(None);
     }
+    let mut file = fs::open(rt, path)?;
+    if kind == Kind::Unknown && !starts_document(&mut file, body)? {
+        return Ok(None);
+    }
+    if length > FILE_LIMIT {
+        return Ok(Some(Left::LongFile));
+    }
+    let is_longer = body.read(&mut file, length as usize)?;
+    Ok(is_longer.then_some(Left::FileChanged))
+}
+
+/// Reads the first bytes of a file into an empty body, and returns whether they are those of a document. If not, the body stays empty.
+fn starts_document<I: Read>(file: &mut I, body: &mut Body) -> io::Result<bool> {
+    body.read_start(file, START_LENGTH)?;
+    let is_start = is_document_start(body.as_slice());
+    if !is_start {
+        body.clear();
+    }
+    Ok(is_start)
 }
 
 /// The reason for a note about a file that cannot be read, or out of memory.

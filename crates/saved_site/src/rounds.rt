@@ -1,120 +1,119 @@
-//! The pages of a site, made round by round.
+//! Makes the pages of a site, round by round.
 ghost use Rattle.std.specs.Prelude.{IfErr, IfOk};
 ghost use Rattle.saved_site.specs.Errors.{IsOfWeb};
 ghost use Rattle.saved_site.specs.Printed.{HasPrinted};
 
 use crate::contents::Contents;
 use crate::error::SiteError;
-use crate::kept::Kept;
-use crate::make::{Given, Task};
+use crate::make::{SiteInput, Task};
 use crate::maker::{Batch, next_batch};
 use crate::making::Making;
+use crate::output::SiteOutput;
 use std::alloc::AllocError;
 use std::thread;
 use std::thread::Threads;
 
-/// Makes all pages and those that seeds spell otherwise, and then those that are other spellings of them, until no page links to
-/// a new one.
+/// Makes all pages. The first round makes the pages of the site and those that seeds spell, the second those that links spell, and
+/// the third the targets of redirects among these. Links of aliases spell nothing, so no round follows unless a name contains `//`.
 pub(crate) fn make_all<R: Threads + Sync, C: Contents + Sync>(
     rt: &R,
-    given: Given<'_>,
+    input: SiteInput<'_>,
     contents: &C,
     making: Making,
-    before: Kept,
-) -> Result<Kept, SiteError>
-    requires { HasPrinted given.top.now before.web }
-    ensures web { IfOk result (λ kept. HasPrinted given.entry.top.now kept.web) }
+    before: SiteOutput,
+) -> Result<SiteOutput, SiteError>
+    requires { HasPrinted input.top.now before.web }
+    ensures web { IfOk result (λ output. HasPrinted input.entry.top.now output.web) }
     ensures error { IfErr result IsOfWeb }
 {
     let mut making = making;
-    let mut kept = before;
-    let alloc = *kept.beside.notes.allocator();
-    let mut tasks = making.first_tasks(alloc, given)?;
+    let mut output = before;
+    let alloc = *output.data.notes.allocator();
+    let mut tasks = making.first_tasks(alloc, input)?;
     'rounds: for _ in 0..u64::MAX {
         if tasks.is_empty() {
             break;
         }
-        kept = make_round(rt, given, contents, tasks.as_slice(), &mut making, kept)?;
-        tasks = making.next_tasks()?;
+        output = make_round(rt, input, contents, tasks.as_slice(), &mut making, output)?;
+        tasks = making.next_tasks();
     }
-    kept.beside.summary.spellings = making.spellings;
-    kept.beside.byte_count = making.byte_count;
-    Ok(kept)
+    output.data.byte_count = making.byte_count;
+    Ok(output)
 }
 
 /// Makes the page of each task.
 fn make_round<R: Threads + Sync, C: Contents + Sync>(
     rt: &R,
-    given: Given<'_>,
+    input: SiteInput<'_>,
     contents: &C,
     tasks: &[Task],
     making: &mut Making,
-    before: Kept,
-) -> Result<Kept, SiteError>
-    requires { HasPrinted given.top.now before.web }
-    ensures web { IfOk result (λ kept. HasPrinted given.entry.top.now kept.web) }
+    before: SiteOutput,
+) -> Result<SiteOutput, SiteError>
+    requires { HasPrinted input.top.now before.web }
+    ensures web { IfOk result (λ output. HasPrinted input.entry.top.now output.web) }
     ensures error { IfErr result IsOfWeb }
 {
-    let (last, kept) = make_batches(rt, given, contents, tasks, making, before)?;
+    let (last, output) = make_batches(rt, input, contents, tasks, making, before)?;
     let Batch { made, makers, .. } = last;
-    let mut kept = kept.push_all(given.top, made)?;
-    kept.beside.add_makers(makers)?;
-    kept.beside.end_round()?;
-    Ok(kept)
+    let mut output = output.push_all(input.top, made)?;
+    output.data.add_makers(makers)?;
+    output.data.end_round()?;
+    Ok(output)
 }
 
-/// Makes the page of each task, batch by batch. Each batch is counted before the next is made, and kept while that is made; the
-/// last one is still to be kept.
+/// Makes the page of each task, batch by batch. Each batch is counted before the next is made, and added to the output while that is
+/// made. The last one is not added yet.
 fn make_batches<R: Threads + Sync, C: Contents + Sync>(
     rt: &R,
-    given: Given<'_>,
+    input: SiteInput<'_>,
     contents: &C,
     tasks: &[Task],
     making: &mut Making,
-    before: Kept,
-) -> Result<(Batch, Kept), SiteError>
-    requires { HasPrinted given.top.now before.web }
-    ensures web { IfOk result (λ both. HasPrinted given.entry.top.now both.1.web) }
+    before: SiteOutput,
+) -> Result<(Batch, SiteOutput), SiteError>
+    requires { HasPrinted input.top.now before.web }
+    ensures web { IfOk result (λ both. HasPrinted input.entry.top.now both.1.web) }
     ensures error { IfErr result IsOfWeb }
 {
-    let mut kept = before;
-    let alloc = *kept.beside.notes.allocator();
-    let mut batch = Batch::before(alloc, given, given.rules.threads.min(tasks.len()).max(1))?;
+    let mut output = before;
+    let alloc = *output.data.notes.allocator();
+    let mut batch = Batch::before(alloc, input, input.rules.threads.min(tasks.len()).max(1))?;
     let mut rest = tasks;
     'batches: for _ in 0..tasks.len() {
         if rest.is_empty() {
             break;
         }
-        let (next, more) = make_batch(rt, given, contents, rest, batch, kept)?;
+        let (next, more) = make_batch(rt, input, contents, rest, batch, output)?;
         batch = next;
-        kept = more;
-        kept.beside.notes.append(&mut batch.notes)?;
+        output = more;
+        output.data.notes.append(&mut batch.notes)?;
         making.count(batch.made.as_mut_slice())?;
         rest = rest.get(batch.made.len()..).unwrap_or(&[]);
     }
-    Ok((batch, kept))
+    Ok((batch, output))
 }
 
-/// Makes the pages of the first of the tasks by threads. Meanwhile those of the batch before are kept.
+/// Makes the pages of the first of the tasks in threads. Meanwhile those of the batch before are added to the output.
 fn make_batch<R: Threads + Sync, C: Contents + Sync>(
     rt: &R,
-    given: Given<'_>,
+    input: SiteInput<'_>,
     contents: &C,
     tasks: &[Task],
     batch: Batch,
-    before: Kept,
-) -> Result<(Batch, Kept), AllocError>
-    requires { HasPrinted given.top.now before.web }
-    ensures { IfOk result (λ both. HasPrinted given.entry.top.now both.1.web) }
+    before: SiteOutput,
+) -> Result<(Batch, SiteOutput), AllocError>
+    requires { HasPrinted input.top.now before.web }
+    ensures { IfOk result (λ both. HasPrinted input.entry.top.now both.1.web) }
 {
     let Batch { made, makers, .. } = batch;
-    let top = given.top;
-    let (next, kept) = thread::join(
+    let top = input.top;
+    let (next, output) = thread::join(
         rt,
-        move || next_batch(rt, given, contents, tasks, makers),
+        move || next_batch(rt, input, contents, tasks, makers),
         move || before.push_all(top, made),
     );
     let next = next?;
-    let kept = kept?;
-    Ok((next, kept))
+    let output = output?;
+    Ok((next, output))
 }

@@ -27,6 +27,8 @@ pub struct Rules {
     pub anchors: bool,
     /// Whether the positions of links are kept.
     pub places: bool,
+    /// Whether symbolic links that lead out of the folder are followed.
+    pub follow: bool,
     /// The number of threads that make pages; 0 means 1.
     pub threads: usize,
 }
@@ -42,12 +44,14 @@ pub(crate) fn split_name(name: &str, queries: bool) -> (&str, Option<&str>) {
     }
 }
 
-/// Where what is under a page comes from.
+/// What a server returns for a URL.
 #[derive(Drop)]
 pub(crate) enum Source {
-    /// The file with this index among the names.
+    /// The file with this index among the names. The URL is the file's own, at which its links are followed.
     File(usize),
-    /// A server sends the page on to this URL.
+    /// The index file with this index among the names, if the URL is that of its name. Its own URL is that of its folder.
+    Index(usize),
+    /// A redirect to this URL.
     Moved(String),
 }
 
@@ -68,6 +72,8 @@ pub(crate) struct Site {
     /// The same as that of a page.
     top_url: CanonUrl,
     pub(crate) entries: Vec<Entry>,
+    /// The number of the page at the own URL of each file, by the index of the file.
+    own: Vec<Option<usize>>,
 }
 
 impl Site {
@@ -87,6 +93,8 @@ impl Site {
         }
         let site = Site::at(alloc, base)?;
         let entries = site.entries_of(names, rules)?;
+        let mut entries = without_doubles(entries, names, notes)?;
+        let own = own_numbers(alloc, entries.as_mut_slice(), names.len())?;
         let Site {
             origin,
             top,
@@ -97,7 +105,8 @@ impl Site {
             origin,
             top,
             top_url,
-            entries: without_doubles(entries, names, notes)?,
+            entries,
+            own,
         })
     }
 
@@ -119,6 +128,7 @@ impl Site {
             top,
             top_url,
             entries: Vec::new(alloc),
+            own: Vec::new(alloc),
         })
     }
 
@@ -135,7 +145,7 @@ impl Site {
         Ok(entries)
     }
 
-    /// Adds the page of each file.
+    /// Adds the page at the URL of each file's name.
     fn push_files(
         &self,
         names: &[String],
@@ -146,13 +156,13 @@ impl Site {
     {
         for (index, name) in names.iter().enumerate() {
             if let Some((path, query)) = file_path(name.as_str(), rules) {
-                self.push(path, query, index, entries)?;
+                self.push(path, query, name_source(path, index, rules), entries)?;
             }
         }
         Ok(())
     }
 
-    /// Adds the page of each folder's index file that is the folder's.
+    /// Adds the page at the URL of the folder of each index file.
     fn push_indices(
         &self,
         names: &[String],
@@ -165,7 +175,7 @@ impl Site {
             if let Some((path, query)) = file_path(name.as_str(), rules)
                 && let Some(folder) = folder_of(path, rules)
             {
-                self.push(folder, query, index, entries)?;
+                self.push(folder, query, Source::File(index), entries)?;
             }
         }
         Ok(())
@@ -181,18 +191,18 @@ impl Site {
         Ok(())
     }
 
-    /// Adds the page at a path, which is made of the file with this index.
+    /// Adds the page at a path.
     fn push(
         &self,
         path: &str,
         query: Option<&str>,
-        index: usize,
+        source: Source,
         entries: &mut Vec<Entry>,
     ) -> Result<(), SiteError>
         ensures { IfErr result IsOfFiles }
     {
         let url = self.url_of(path, query)?;
-        add(url.as_str(), Source::File(index), entries)
+        add(url.as_str(), source, entries)
     }
 
     /// Adds the page of a folder without its slash, which is moved to the folder with it.
@@ -230,18 +240,20 @@ impl Site {
         self.top.as_str()
     }
 
-    /// The page of the folder whose index file has this name, by its index.
-    pub(crate) fn folder_page(
-        &self,
-        name: &str,
-        rules: &Rules,
-    ) -> Result<Option<usize>, AllocError> {
-        let (path, query) = split_name(name, rules.queries);
-        let Some(folder) = folder_of(path, rules) else {
-            return Ok(None);
-        };
-        let url = self.url_of(folder, query)?;
-        Ok(self.find(url.as_str()))
+    /// The own URL of the file of the page with this number, or `None` for a redirect.
+    pub(crate) fn own_url(&self, number: usize) -> Option<&CanonUrl> {
+        let entry = self.entries.get(number)?;
+        match &entry.source {
+            Source::File(_) => Some(&entry.url),
+            Source::Index(index) => self.own_url_of(*index),
+            Source::Moved(_) => None,
+        }
+    }
+
+    /// The own URL of the file with this index.
+    fn own_url_of(&self, index: usize) -> Option<&CanonUrl> {
+        let number = self.own.get(index).copied()??;
+        Some(&self.entries.get(number)?.url)
     }
 
     /// The page with this URL, by its index.
@@ -250,6 +262,54 @@ impl Site {
             .as_slice()
             .binary_search_by(|entry| entry.url.as_str().cmp(url))
             .ok()
+    }
+}
+
+/// What a server returns for the URL of a file's name, if the file has this index and path.
+fn name_source(path: &str, index: usize, rules: &Rules) -> Source {
+    match folder_of(path, rules) {
+        Some(_) => Source::Index(index),
+        None => Source::File(index),
+    }
+}
+
+/// The number of the page at the own URL of each of `count` files. If another file has the URL of its folder, the own URL of an index
+/// file is that of its name.
+fn own_numbers(
+    alloc: Global,
+    entries: &mut [Entry],
+    count: usize,
+) -> Result<Vec<Option<usize>>, AllocError> {
+    let mut own = vec![in alloc; None; count]?;
+    for (number, entry) in entries.iter().enumerate() {
+        if let Source::File(index) = &entry.source {
+            set_own(own.as_mut_slice(), *index, number);
+        }
+    }
+    set_own_names(entries, own.as_mut_slice());
+    Ok(own)
+}
+
+/// Gives each index file without an own URL that of its name.
+fn set_own_names(entries: &mut [Entry], own: &mut [Option<usize>]) {
+    for (number, entry) in entries.iter_mut().enumerate() {
+        if let Source::Index(index) = &entry.source {
+            let index = *index;
+            if set_own(own, index, number) {
+                entry.source = Source::File(index);
+            }
+        }
+    }
+}
+
+/// Keeps the number of the page at a file's own URL, if none is known, and returns whether it did.
+fn set_own(own: &mut [Option<usize>], index: usize, number: usize) -> bool {
+    match own.get_mut(index) {
+        Some(known) if known.is_none() => {
+            *known = Some(number);
+            true
+        }
+        _ => false,
     }
 }
 
@@ -304,7 +364,7 @@ fn order_of(a: &Entry, b: &Entry) -> Ordering {
 
 fn rank_of(entry: &Entry) -> usize {
     match &entry.source {
-        Source::File(index) => *index,
+        Source::File(index) | Source::Index(index) => *index,
         Source::Moved(_) => usize::MAX,
     }
 }
@@ -369,7 +429,7 @@ fn is_double(kept: &[Entry], entry: &Entry) -> bool {
 }
 
 fn tell_double(entry: &Entry, names: &[String], notes: &mut Vec<Note>) -> Result<(), AllocError> {
-    if let Source::File(index) = &entry.source
+    if let Source::File(index) | Source::Index(index) = &entry.source
         && let Some(name) = names.get(*index)
     {
         notes.push(Note {

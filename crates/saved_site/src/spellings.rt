@@ -1,45 +1,38 @@
-//! Links that spell a page in another way which a server takes for the same.
+//! Links with another spelling or query, for which a server returns a page of the site.
 ghost use Rattle.std.specs.Prelude.{◌≡◌, bytes_eq};
 
 use crate::base_href::{base_of, resolved};
 use crate::escapes::{push_query, push_respelled};
 use crate::site::{Rules, Site};
+use crate::text::{LINK_FRONT, fits};
 use crawl_keys::{Base, CanonUrl};
 use memchr::{memchr, memchr2, memrchr};
 use std::alloc::{AllocError, Global};
 
-/// A URL, and the page that a server takes it for, by its index.
+/// A URL, and the number of the page that a server returns for it.
 #[derive(Drop)]
 pub(crate) struct Spelling {
     pub(crate) url: CanonUrl,
     pub(crate) entry: usize,
 }
 
-/// A page whose links are looked at.
-#[derive(Clone, Copy)]
-pub(crate) struct Page<'a> {
-    pub(crate) url: &'a CanonUrl,
-    /// Whether its URL is a page's own, and no other spelling.
-    pub(crate) is_plain: bool,
-}
-
-/// The other spellings of pages among the links of a page: those with escapes or a query, and all where the page is one itself.
+/// The other spellings of pages, or pages with a query, among the links in the lines of the page at a URL.
 pub(crate) fn spellings(
     alloc: Global,
     site: &Site,
     rules: &Rules,
-    page: Page<'_>,
+    url: &CanonUrl,
     lines: &[u8],
 ) -> Result<Vec<Spelling>, AllocError> {
     let mut found = Vec::new(alloc);
-    if rules.exact || page.is_plain && memchr2(b'?', b'%', lines).is_none() {
+    if rules.exact || memchr2(b'?', b'%', lines).is_none() {
         return Ok(found);
     }
-    let base = base_of(alloc, page.url)?;
+    let base = base_of(alloc, url)?;
     let mut last = Last { line: &[] };
     let mut rest = lines;
     for _ in 0..lines.len() {
-        let Some((line, behind)) = next_line(page.is_plain, rest) else {
+        let Some((line, behind)) = next_line(rest) else {
             break;
         };
         rest = behind;
@@ -71,16 +64,9 @@ impl<'a> Last<'a> {
     }
 }
 
-/// The first line, or the first that has an escape or a query, and the lines behind it.
-fn next_line(is_marked: bool, lines: &[u8]) -> Option<(&[u8], &[u8])> {
-    if lines.is_empty() {
-        return None;
-    }
-    let mark = if is_marked {
-        memchr2(b'?', b'%', lines)?
-    } else {
-        0
-    };
+/// The first line with an escape or a query, and the lines after it. Only the URLs of such links can be other spellings.
+fn next_line(lines: &[u8]) -> Option<(&[u8], &[u8])> {
+    let mark = memchr2(b'?', b'%', lines)?;
     let (front, marked) = lines.split_at(mark.min(lines.len()));
     let begin = match memrchr(b'\n', front) {
         Some(end) => end.saturating_add(1),
@@ -93,7 +79,7 @@ fn next_line(is_marked: bool, lines: &[u8]) -> Option<(&[u8], &[u8])> {
     ))
 }
 
-/// The other spellings of pages among links of the top.
+/// The same among links on the top.
 pub(crate) fn seed_spellings(
     alloc: Global,
     site: &Site,
@@ -122,7 +108,7 @@ fn text_of(line: &[u8]) -> Option<&[u8]> {
     }
 }
 
-/// The page that a server takes a link for, where it is no page itself.
+/// The spelling that a link has, if its URL is not that of a page. A page whose URL does not fit in a line has no other spellings.
 fn spelling_at(
     alloc: Global,
     site: &Site,
@@ -137,13 +123,21 @@ fn spelling_at(
         return Ok(None);
     };
     match site.find(plain.as_str()) {
-        Some(entry) => Ok(Some(Spelling { url, entry })),
-        None => Ok(None),
+        Some(entry) if has_line(site, entry) => Ok(Some(Spelling { url, entry })),
+        _ => Ok(None),
     }
 }
 
-/// A canonical URL of the site as a file's page is spelled, where it is no page itself.
-pub(crate) fn plain_of(
+/// Whether the page with this number is a redirect, or the own URL of its file fits in a line.
+fn has_line(site: &Site, entry: usize) -> bool {
+    match site.own_url(entry) {
+        Some(own) => fits(LINK_FRONT, own.as_str().as_bytes()),
+        None => true,
+    }
+}
+
+/// A canonical URL of the site in the spelling of files' URLs, if it is not that of a page.
+fn plain_of(
     alloc: Global,
     site: &Site,
     rules: &Rules,

@@ -1,9 +1,9 @@
-//! The links of a document: their lines, and where they stand.
+//! The links of a document: their lines and positions.
 ghost use Rattle.std.specs.Prelude.{◌≡◌, true};
 ghost use Rattle.saved_site.specs.Texts.{fits};
 
 use crate::anchors::{Anchors, anchors_of};
-use crate::base_href::{Given, Meant, given_of, meaning_of};
+use crate::base_href::{LinkMeaning, PageBase, meaning_of, page_base};
 use crate::charset::Charset;
 use crate::cleaning::{
     before_fragment, cut, has_breaks, is_over_lines, is_web, scheme_of, trimmed, without_breaks,
@@ -12,7 +12,7 @@ use crate::found_links::{Found, FoundIds};
 use crate::in_query::push_with_query;
 use crate::indices::Indices;
 use crate::link_lines::LinkLines;
-use crate::make;
+use crate::make::SiteInput;
 use crate::site::Rules;
 use crate::text::{LINK_FRONT, TEXT_LIMIT, fits, fits_plainly};
 use crate::unknown::{has_unknown, keep_known};
@@ -52,27 +52,27 @@ impl LinkCounts {
 pub(crate) struct Texts {
     alloc: Global,
     charset: Charset,
-    given: Given,
+    base: PageBase,
     links: LinkLines,
     counts: LinkCounts,
-    /// Where they stand, where that is wanted.
+    /// Their positions, if the rules ask for them.
     indices: Option<Indices>,
 }
 
-/// What is known of a document in UTF-8 at a URL: the lines of its links, and its anchors and where links stand where the rules
-/// want them; `charset` is the encoding that it had. In `found` is room for what is found.
+/// Reads a document in UTF-8 at a URL: the lines of its links, and their positions and its anchors if the rules ask for them. `charset`
+/// is its original encoding, and `found` has room for its links.
 ///
 /// # Errors
-/// Where a growth was refused.
+/// Out of memory.
 pub(crate) fn links_at(
     alloc: Global,
     text: &[u8],
     charset: Charset,
     url: &CanonUrl,
-    given: make::Given<'_>,
+    input: SiteInput<'_>,
     found: &mut Found,
 ) -> Result<Read, AllocError> {
-    let rules = given.rules;
+    let rules = input.rules;
     let mut ids = FoundIds::new(alloc);
     found.clear();
     let base = known_in(alloc, text, charset, rules, found, &mut ids)?;
@@ -80,10 +80,9 @@ pub(crate) fn links_at(
     let lines = texts.take_lines();
     let indices = texts.take_indices();
     let counts = texts.counts;
-    let has_base = !matches!(texts.given, Given::None);
-    // Where an id is not known, no link to a part can be told to lead to none.
+    // If an id is not known, no link to an anchor is known to be broken.
     let anchors = if rules.anchors && !ids.has_unknown {
-        Some(anchors_of(alloc, &ids.ids, found, given.site, texts, url)?)
+        Some(anchors_of(alloc, &ids.ids, found, input.site, texts, url)?)
     } else {
         None
     };
@@ -92,12 +91,11 @@ pub(crate) fn links_at(
         counts,
         anchors,
         indices,
-        has_base,
     })
 }
 
-/// The lines of the links that were found in a page with this base at a URL, and where they stand if that is wanted. The base also
-/// holds for the links before it, so all are found first.
+/// The lines of the links in a page with this base at a URL, and their positions if the rules ask for them. The base also applies to the
+/// links before it, so all are found first.
 fn texts_of(
     alloc: Global,
     charset: Charset,
@@ -111,8 +109,8 @@ fn texts_of(
     Ok(texts)
 }
 
-/// With more bytes of lines under a page at this URL the web is too large. Where the URL is too long the page is not in the web,
-/// and its links spell others all the same.
+/// The number of bytes of a page's lines above which the saved web is too large. A page whose URL is too long is not in it, but its
+/// links can still spell others.
 fn byte_limit(url: &CanonUrl) -> usize {
     if fits(LINK_FRONT, url.as_str().as_bytes()) {
         WEB_LIMIT
@@ -121,7 +119,7 @@ fn byte_limit(url: &CanonUrl) -> usize {
     }
 }
 
-/// About how many bytes the lines of these links have: each its text, five bytes before it and a line break.
+/// The number of bytes of the lines of these links, about: each has five bytes, its text and a line break.
 fn room_of(found: &Found) -> usize {
     let around = LINK_FRONT.saturating_add(1);
     found
@@ -130,7 +128,7 @@ fn room_of(found: &Found) -> usize {
         .saturating_add(found.pieces.len().saturating_mul(around))
 }
 
-/// Finds what is known of the links of a document, and of its ids where its anchors are wanted.
+/// Finds the known links of a document, and its known ids if the rules ask for anchors.
 fn known_in(
     alloc: Global,
     text: &[u8],
@@ -149,7 +147,7 @@ fn known_in(
     }
 }
 
-/// Finds the links of a document, and its ids where its anchors are wanted.
+/// Finds the links of a document, and its ids if the rules ask for anchors.
 fn found_in(
     alloc: Global,
     text: &[u8],
@@ -166,32 +164,31 @@ fn found_in(
     }
 }
 
-/// What is read of a document.
+/// The links and anchors of a document.
 #[derive(Drop)]
 pub(crate) struct Read {
     pub(crate) lines: LinkLines,
     pub(crate) counts: LinkCounts,
     pub(crate) anchors: Option<Anchors>,
     pub(crate) indices: Vec<u32>,
-    pub(crate) has_base: bool,
 }
 
 impl Texts {
-    /// No lines yet, of a page with this base at a URL.
+    /// No lines, of a page with this base at a URL.
     pub(crate) fn under(
         alloc: Global,
         charset: Charset,
         base: Base,
         url: &CanonUrl,
     ) -> Result<Texts, AllocError> {
-        let given = match base {
-            Some(base) => given_of(alloc, base.as_slice(), url)?,
-            None => Given::None,
+        let base = match base {
+            Some(base) => page_base(alloc, base.as_slice(), url)?,
+            None => PageBase::None,
         };
-        Ok(Texts::new(alloc, charset, given))
+        Ok(Texts::new(alloc, charset, base))
     }
 
-    /// The lines of these links of the page at a URL, and where they stand if that is wanted.
+    /// Appends the lines of these links of the page at a URL, and their positions if they are asked for.
     fn read(&mut self, url: &CanonUrl, found: &Found, places: bool) -> Result<(), AllocError> {
         self.links = LinkLines::with_room(self.alloc, room_of(found))?;
         if places {
@@ -200,7 +197,7 @@ impl Texts {
         self.push_all(found, byte_limit(url))
     }
 
-    /// The lines of these links, up to that with which they have more bytes than this.
+    /// Appends the lines of these links, up to the one with which they have more than `limit` bytes.
     fn push_all(&mut self, found: &Found, limit: usize) -> Result<(), AllocError> {
         for piece in &found.pieces {
             if self.links.as_bytes().len() > limit {
@@ -214,7 +211,7 @@ impl Texts {
         Ok(())
     }
 
-    /// Where the links stand whose lines were pushed. No more are kept from then on.
+    /// Takes the positions of the links whose lines were pushed. No more are kept after that.
     fn take_indices(&mut self) -> Vec<u32> {
         match self.indices.take() {
             Some(indices) => indices.into_list(),
@@ -222,25 +219,25 @@ impl Texts {
         }
     }
 
-    /// The lines that were pushed. None are left.
+    /// Takes the lines that were pushed.
     fn take_lines(&mut self) -> LinkLines {
         mem::replace(&mut self.links, LinkLines::new(self.alloc))
     }
 
-    /// The line of this link's text alone, if it has one.
+    /// The line of a link with this text, if it has one.
     pub(crate) fn line_of(&mut self, text: &[u8]) -> Result<LinkLines, AllocError> {
         self.push(text)?;
         Ok(self.take_lines())
     }
 
-    /// Whether a link's text is in its line as it stands, without a scheme.
+    /// Whether the line of a link has its text unchanged, and the text has no scheme.
     pub(crate) fn keeps(&self, text: &[u8]) -> bool {
-        matches!(self.given, Given::None) && fits_plainly(text)
+        matches!(self.base, PageBase::None) && fits_plainly(text)
     }
 
-    /// The next link's text.
+    /// Appends the next link.
     fn push(&mut self, text: &[u8]) -> Result<(), AllocError> {
-        if matches!(self.given, Given::None) && fits_plainly(text) {
+        if matches!(self.base, PageBase::None) && fits_plainly(text) {
             return self.push_plain(text);
         }
         let text = trimmed(text);
@@ -254,11 +251,11 @@ impl Texts {
         self.push_clean(clean.as_slice())
     }
 
-    fn new(alloc: Global, charset: Charset, given: Given) -> Texts {
+    fn new(alloc: Global, charset: Charset, base: PageBase) -> Texts {
         Texts {
             alloc,
             charset,
-            given,
+            base,
             links: LinkLines::new(alloc),
             counts: LinkCounts::default(),
             indices: None,
@@ -275,16 +272,16 @@ impl Texts {
         self.push_meant(link.as_slice())
     }
 
-    /// Appends what a link means against the base that is given.
+    /// Appends the meaning of a link with the page's base.
     fn push_meant(&mut self, text: &[u8]) -> Result<(), AllocError> {
-        match meaning_of(self.alloc, &self.given, text)? {
-            Meant::Same => self.push_short(text),
-            Meant::Url(url) => self.push_short(url.as_str().as_bytes()),
-            Meant::Text(other) => self.push_short(other.as_slice()),
+        match meaning_of(self.alloc, &self.base, text)? {
+            LinkMeaning::Same => self.push_short(text),
+            LinkMeaning::Url(url) => self.push_short(url.as_str().as_bytes()),
+            LinkMeaning::Text(other) => self.push_short(other.as_slice()),
         }
     }
 
-    /// Appends a link; where its line would be too long, a shorter one that the reader takes for the same.
+    /// Appends a link. If its line would be too long, appends a shorter one with the same meaning.
     fn push_short(&mut self, text: &[u8]) -> Result<(), AllocError> {
         if fits(LINK_FRONT, text) {
             return self.push_line(text);
@@ -297,7 +294,7 @@ impl Texts {
         self.push_cut(text)
     }
 
-    /// Appends the front of a long link of another scheme, which the reader skips all the same.
+    /// Appends the start of a long link with another scheme, which a crawl skips.
     fn push_cut(&mut self, text: &[u8]) -> Result<(), AllocError> {
         let front = cut(text, TEXT_LIMIT);
         if !is_web(scheme_of(text)) && fits(LINK_FRONT, front) {

@@ -9,45 +9,48 @@ use std::sync::atomic::{AtomicUsize, Ordering};
 use std::thread::Threads;
 use std::{fs, io, thread};
 
-/// How many threads read folders.
+/// The number of threads that read folders.
 const THREADS: usize = 4;
 
-/// How much room is given for the names in a folder: a call of the system fails where a name has none.
+/// The number of bytes of room for the names in a folder. A call of the system fails if a name does not fit.
 const NAMES_ROOM: usize = 1 << 16;
 
-/// The files and folders below a folder in the order of their names' bytes, and what was left out. Symbolic links are followed,
-/// but not back up.
+/// The files and folders below a folder in the order of their names' bytes, and notes about what was left out. Symbolic links are
+/// followed, but not back up, and out of the folder only if `follow` is set.
 pub(crate) fn entries_below<R: Files<File: Send, Dir: Send> + Threads + Sync>(
     rt: &R,
     alloc: Global,
     top: &str,
+    follow: bool,
 ) -> Result<(Vec<String>, Vec<Note>), SiteError> {
-    let real = rt.canonicalize(alloc, top)?;
+    let real = rt.canonicalize(alloc, top)?.into_string();
     if !fs::metadata(rt, top)?.is_dir() {
         return Err(SiteError::Io(io::Error::from(ErrorKind::InvalidInput)));
     }
-    let folders = DiskFolders { rt, alloc, top };
-    let begun = begun(alloc, &folders, real.as_path().to_string_lossy())?;
+    let folders = DiskFolders {
+        rt,
+        alloc,
+        top,
+        real,
+        follow,
+    };
+    let begun = begun(alloc, &folders)?;
     let walk = walked(rt, alloc, &folders, begun)?;
     let found = taken(walk)?;
     Ok(found)
 }
 
-/// The walk, once the top is read, whose own path this is.
-fn begun<R: Files>(
-    alloc: Global,
-    folders: &DiskFolders<'_, R>,
-    real: &str,
-) -> Result<Walk, SiteError> {
+/// The walk after the top was read.
+fn begun<R: Files>(alloc: Global, folders: &DiskFolders<'_, R>) -> Result<Walk, SiteError> {
     let mut room = vec![in alloc; 0u8; NAMES_ROOM]?;
     let listed = folders.names_in("", room.as_mut_slice())?;
-    let mut walk = Walk::from(alloc, real)?;
+    let mut walk = Walk::from(alloc, folders.real.as_str())?;
     let inside = folders.listed(walk.first(), listed.as_slice())?;
     walk.push(inside)?;
     Ok(walk)
 }
 
-/// What the walk has found.
+/// The names and notes of a walk.
 fn taken(walk: Walk) -> Result<(Vec<String>, Vec<Note>), AllocError> {
     let mut walk = walk;
     let notes = walk.take_notes()?;
@@ -56,7 +59,7 @@ fn taken(walk: Walk) -> Result<(Vec<String>, Vec<Note>), AllocError> {
     Ok((names, notes))
 }
 
-/// The walk, once all folders are read: each time those that were entered from the ones before.
+/// The walk after all folders were read, level by level.
 fn walked<R: Threads + Sync, F: Folders + Sync>(
     rt: &R,
     alloc: Global,
@@ -74,7 +77,7 @@ fn walked<R: Threads + Sync, F: Folders + Sync>(
     Ok(walk)
 }
 
-/// What is in each of the folders from this one on, by threads.
+/// Reads the folders from this one on in threads.
 fn level_of<R: Threads + Sync, F: Folders + Sync>(
     rt: &R,
     alloc: Global,
@@ -100,7 +103,7 @@ fn level_of<R: Threads + Sync, F: Folders + Sync>(
     Ok(level)
 }
 
-/// What is in those of the folders that one of several threads takes, each the next.
+/// Reads the folders that one of several threads takes. Each takes the next.
 fn part_of<F: Folders>(
     alloc: Global,
     folders: &F,
@@ -123,25 +126,25 @@ fn part_of<F: Folders>(
 /// A folder that was read.
 #[derive(Drop)]
 struct ReadFolder {
-    /// What is in it and was not taken yet, in the order of names, the last one first.
+    /// Its names that were not taken yet, in descending order.
     names: Vec<Named>,
-    /// The folders in it are those that were entered from one index on, up to another.
+    /// The range of the indices of its folders among the entered ones.
     begin: usize,
     end: usize,
     notes: Vec<Note>,
 }
 
-/// What a walk has.
+/// The state of a walk.
 #[derive(Drop)]
 struct Walk {
     alloc: Global,
     entered: Vec<Entered>,
-    /// Those of them that were read: the first ones.
+    /// The folders that were read: the first of the entered ones.
     read: Vec<ReadFolder>,
 }
 
 impl Walk {
-    /// One that begins with the top, whose own path this is.
+    /// A walk from the top, which has this path without symbolic links.
     fn from(alloc: Global, real: &str) -> Result<Walk, AllocError> {
         let top = Entered {
             name: String::new(alloc),
@@ -164,7 +167,7 @@ impl Walk {
         }
     }
 
-    /// Adds what is in the next folders.
+    /// Adds the contents of the next folders.
     fn push_all(&mut self, level: Vec<Inside>) -> Result<(), AllocError> {
         for inside in level {
             self.push(inside)?;
@@ -191,7 +194,7 @@ impl Walk {
         Ok(())
     }
 
-    /// Takes what was told of each folder, before that of those in it, of which the last comes first.
+    /// Takes the notes about each folder, before those about its folders, of which the last comes first.
     fn take_notes(&mut self) -> Result<Vec<Note>, AllocError> {
         let mut notes = Vec::new(self.alloc);
         let mut waiting: Vec<usize> = Vec::new(self.alloc);
@@ -209,7 +212,7 @@ impl Walk {
         Ok(notes)
     }
 
-    /// Takes all names, in order: those in a folder come behind its own.
+    /// Takes all names in order. The names in a folder come after its own.
     fn take_names(&mut self) -> Result<Vec<String>, AllocError> {
         let mut names: Vec<String> = Vec::new(self.alloc);
         let mut open: Vec<usize> = Vec::new(self.alloc);
@@ -230,7 +233,7 @@ impl Walk {
         Ok(names)
     }
 
-    /// Takes the next name in a folder; that of a folder has its index among all that were entered.
+    /// Takes the next name in a folder. The name of a folder has its index among all entered ones.
     fn take_name(&mut self, index: usize) -> Option<Named> {
         let Some(above) = self.read.get_mut(index) else {
             return None;

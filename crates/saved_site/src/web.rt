@@ -1,5 +1,6 @@
 //! Makes the saved web of a site.
 ghost use Rattle.std.specs.Prelude.{IfErr, IfOk, string_bytes};
+ghost use Rattle.saved_site.specs.Aliases.{AreAliases};
 ghost use Rattle.saved_site.specs.Below.{IsWebAt, IsWebBelow};
 ghost use Rattle.saved_site.specs.Errors.{IsOfFiles, IsOfWeb};
 ghost use Rattle.saved_site.specs.Linked.{IsSiteSource};
@@ -10,11 +11,11 @@ use crate::anchors::Anchors;
 use crate::contents::{Contents, InMemory};
 use crate::error::SiteError;
 use crate::files::SiteFiles;
-use crate::kept::{Beside, Kept};
 use crate::linked::LinkedPages;
-use crate::make::Given;
+use crate::make::SiteInput;
 use crate::making::Making;
 use crate::notes::Note;
+use crate::output::{SiteData, SiteOutput};
 use crate::page::SitePage;
 use crate::print::HEADER_LENGTH;
 use crate::printer::Printer;
@@ -37,6 +38,8 @@ pub struct Web {
     pub summary: Summary,
     /// Notes about what was skipped or changed, in the order of names and then of URLs.
     pub notes: Vec<Note>,
+    /// The aliases, in the order of their URLs.
+    pub aliases: Vec<Alias>,
     /// The anchors of its documents, in the order of their URLs, if the rules ask for them and they are known.
     pub anchors: Vec<PageAnchors>,
     /// The positions of the links in its documents, in the order of their URLs, if the rules ask for them.
@@ -51,8 +54,18 @@ pub struct LinkedSite {
     /// As in `Web`, like the fields that follow.
     pub summary: Summary,
     pub notes: Vec<Note>,
+    pub aliases: Vec<Alias>,
     pub anchors: Vec<PageAnchors>,
     pub places: Vec<LinkPlaces>,
+}
+
+/// Another URL for which a server returns a file: it has another spelling or query, or the name of an index file. The only link of its
+/// page is the file's own URL.
+#[derive(Drop)]
+pub struct Alias {
+    pub url: CanonUrl,
+    /// The file's own URL, whose page has the links of the file. For an index file it is that of the folder.
+    pub own: CanonUrl,
 }
 
 /// The positions of the links in the document at a URL.
@@ -73,10 +86,10 @@ pub struct PageAnchors {
 /// The counts of a saved web.
 #[derive(Clone, Copy, Debug, PartialEq, Eq, Default)]
 pub struct Summary {
-    /// The pages, and how many of them are redirects or other spellings.
+    /// The pages, and how many of them are redirects or aliases.
     pub pages: u64,
     pub moved: u64,
-    pub spellings: u64,
+    pub aliases: u64,
     /// The links.
     pub links: LinkCounts,
 }
@@ -87,7 +100,7 @@ pub struct SiteNames<'a> {
     pub names: &'a [String],
     pub base: &'a str,
     pub rules: &'a Rules,
-    /// Links on the top at which a crawl starts. Like links in documents, they can spell a page in another way.
+    /// Links on the top at which a crawl starts. Like links in documents, they can have another spelling or a query.
     pub seeds: &'a [String],
 }
 
@@ -143,6 +156,7 @@ pub fn files_pages<R: Threads + Sync>(
     bodies: &[Vec<u8>],
 ) -> Result<LinkedSite, SiteError>
     ensures source { IfOk result (λ site. IsSiteSource (string_bytes files.now.site.top) site.pages) }
+    ensures aliases { IfOk result (λ site. AreAliases site.pages site.aliases.items) }
     ensures error { IfErr result IsOfWeb }
 {
     let contents = InMemory { bodies };
@@ -161,9 +175,9 @@ pub(crate) fn web_of<R: Threads + Sync, C: Contents + Sync>(
     ensures below { IfOk result (λ web. IsWebBelow (string_bytes files.now.site.top) web.bytes.items) }
     ensures error { IfErr result IsOfWeb }
 {
-    let given = files.given(false);
-    let kept = all_kept(rt, given, files, seeds, told, contents)?;
-    finish(given.top, kept)
+    let input = files.input(false);
+    let output = output_of(rt, input, files, seeds, told, contents)?;
+    finish(input.top, output)
 }
 
 /// Makes the pages of that saved web.
@@ -175,83 +189,91 @@ pub(crate) fn pages_of<R: Threads + Sync, C: Contents + Sync>(
     contents: &C,
 ) -> Result<LinkedSite, SiteError>
     ensures source { IfOk result (λ site. IsSiteSource (string_bytes files.now.site.top) site.pages) }
+    ensures aliases { IfOk result (λ site. AreAliases site.pages site.aliases.items) }
     ensures error { IfErr result IsOfWeb }
 {
-    let given = files.given(true);
-    let kept = all_kept(rt, given, files, seeds, told, contents)?;
-    finish_linked(given.top, kept)
+    let input = files.input(true);
+    let output = output_of(rt, input, files, seeds, told, contents)?;
+    finish_linked(input.top, output)
 }
 
 /// Makes all pages of a site.
-fn all_kept<R: Threads + Sync, C: Contents + Sync>(
+fn output_of<R: Threads + Sync, C: Contents + Sync>(
     rt: &R,
-    given: Given<'_>,
+    input: SiteInput<'_>,
     files: &SiteFiles<'_>,
     seeds: &[String],
     told: Vec<Note>,
     contents: &C,
-) -> Result<Kept, SiteError>
-    ensures web { IfOk result (λ kept. HasPrinted given.entry.top.now kept.web) }
+) -> Result<SiteOutput, SiteError>
+    ensures web { IfOk result (λ output. HasPrinted input.entry.top.now output.web) }
     ensures error { IfErr result IsOfWeb }
 {
     let alloc = *told.allocator();
-    let mut beside = Beside::new(alloc, told);
-    files.tell_doubles(&mut beside.notes)?;
-    let making = Making::new(alloc, given, seeds)?;
+    let mut data = SiteData::new(alloc, told);
+    files.copy_doubles(&mut data.notes)?;
+    let making = Making::new(alloc, input, seeds)?;
     let web = Printer::new(alloc)?;
-    let none = Kept { web, beside };
-    make_all(rt, given, contents, making, none)
+    let none = SiteOutput { web, data };
+    make_all(rt, input, contents, making, none)
 }
 
-fn finish(top: &str, kept: Kept) -> Result<Web, SiteError>
-    requires { HasPrinted top.now kept.web }
+fn finish(top: &str, output: SiteOutput) -> Result<Web, SiteError>
+    requires { HasPrinted top.now output.web }
     ensures web { IfOk result (λ web. IsSiteWeb web.bytes.items) }
     ensures below { IfOk result (λ web. IsWebBelow top.now web.bytes.items) }
     ensures error { IfErr result IsOfWeb }
 {
-    let Kept { web, mut beside } = kept;
-    beside.sort()?;
-    let Beside {
+    let SiteOutput { web, mut data } = output;
+    data.sort()?;
+    let SiteData {
         late,
         summary,
         notes,
+        aliases,
         anchors,
         places,
         ..
-    } = beside;
+    } = data;
     let bytes = web.into_web(top, late.as_slice())?;
     check_length(bytes.len())?;
     Ok(Web {
         bytes,
-        summary,
+        summary: summary.with_aliases(aliases.as_slice()),
         notes,
+        aliases,
         anchors,
         places,
     })
 }
 
 /// The same without the bytes of the saved web, whose number must still be within the limit.
-fn finish_linked(top: &str, kept: Kept) -> Result<LinkedSite, SiteError>
+fn finish_linked(top: &str, output: SiteOutput) -> Result<LinkedSite, SiteError>
     ensures source { IfOk result (λ site. IsSiteSource top.now site.pages) }
+    ensures aliases { IfOk result (λ site. AreAliases site.pages site.aliases.items) }
     ensures error { IfErr result IsOfWeb }
 {
-    let Kept { mut beside, .. } = kept;
-    beside.sort()?;
-    let Beside {
+    let SiteOutput { mut data, .. } = output;
+    data.sort()?;
+    let SiteData {
         summary,
         notes,
+        aliases,
         anchors,
         places,
         linkers,
         byte_count,
         ..
-    } = beside;
+    } = data;
     check_length(byte_count.saturating_add(HEADER_LENGTH))?;
-    let pages = LinkedPages::new(*notes.allocator(), top, linkers)?;
+    let alloc = *notes.allocator();
+    let pages = LinkedPages::new(alloc, top, linkers)?;
+    let aliases = pages.aliases_among(alloc, aliases)?;
     Ok(LinkedSite {
         pages,
-        summary,
+        summary: summary.with_aliases(aliases.as_slice()),
         notes,
+        aliases,
         anchors,
         places,
     })
@@ -268,6 +290,13 @@ fn check_length(byte_count: usize) -> Result<(), SiteError>
 }
 
 impl Summary {
+    fn with_aliases(self, aliases: &[Alias]) -> Summary {
+        Summary {
+            aliases: aliases.len() as u64,
+            ..self
+        }
+    }
+
     pub(crate) fn add(&mut self, page: &SitePage, counts: LinkCounts) {
         self.pages = self.pages.saturating_add(1);
         self.moved = self.moved.saturating_add(u64::from(page.is_moved()));

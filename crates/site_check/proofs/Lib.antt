@@ -1,3 +1,4 @@
+pub mod AliasSets
 pub mod AllRows
 pub mod Counting
 pub mod Fronts

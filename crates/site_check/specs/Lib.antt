@@ -1,3 +1,4 @@
+pub mod Aliases
 pub mod Broken
 pub mod Ignored
 pub mod Leads

@@ -1,4 +1,4 @@
-//! Links to parts of pages that are there, where the page has no such part.
+//! Links to anchors that documents do not have.
 ghost use Rattle.std.specs.Prelude.{◌≡◌, ◌∷◌, ◌++◌, ℕ, List, [], IfOk, OnOk, map, string_bytes};
 ghost use Rattle.saved_site.specs.declared.files.SiteFiles.{SiteFiles};
 ghost use Rattle.site_check.specs.Ignored.{not_ignored, parts_in};
@@ -11,21 +11,23 @@ use crate::lacked::{Lacked, LackedPart, Part, sort_by_part};
 use crate::located::take_places;
 use crate::shown::shown;
 use check_report::{Broken, Kind, Place};
+use crawl_keys::CanonUrl;
 use crawl_web::{NoMemory, Page, PageResult};
 use page_anchors::is_indicated;
-use saved_site::{AnchorLink, AnchorLinks, Anchors, PageAnchors, SiteFiles, Target};
+use saved_site::{Alias, AnchorLink, AnchorLinks, Anchors, PageAnchors, SiteFiles, Target};
 use std::alloc::Global;
 
-/// The results of a crawl, and the anchors of the site's documents, both ascending by URL.
+/// The results of a crawl, the anchors of the site's documents, and the aliases of the site, in the order of their URLs.
 #[derive(Clone, Copy)]
 pub(crate) struct Pages<'a> {
     pub(crate) results: &'a [PageResult],
     pub(crate) anchors: &'a [PageAnchors],
-    /// Of each page of the site which of these documents it is; none where it is no document.
+    pub(crate) aliases: &'a [Alias],
+    /// For each page of the site, the number of the document with the same URL, if there is one.
     pub(crate) documents: &'a [Option<usize>],
 }
 
-/// Of each page of a site which of the documents it is. Both ascend by URL, and are gone through once.
+/// For each page of a site, the number of the document with the same URL. Both are in the order of their URLs, and are read once.
 pub(crate) fn documents_of(
     alloc: Global,
     files: &SiteFiles<'_>,
@@ -44,7 +46,7 @@ pub(crate) fn documents_of(
     Ok(all)
 }
 
-/// The number of the first document from this one on whose URL does not come before this one.
+/// The number of the first document from this one on whose URL is not before this one.
 fn next_document(anchors: &[PageAnchors], from: usize, url: &str) -> usize {
     let (_, behind) = anchors.split_at(from.min(anchors.len()));
     let passed = behind
@@ -54,7 +56,7 @@ fn next_document(anchors: &[PageAnchors], from: usize, url: &str) -> usize {
     from.saturating_add(passed)
 }
 
-/// The number of this document, where it is that of the URL.
+/// The number of this document, if it has this URL.
 fn document_at(anchors: &[PageAnchors], number: usize, url: &str) -> Option<usize> {
     match anchors.get(number) {
         Some(page) if page.url.as_str() == url => Some(number),
@@ -62,22 +64,30 @@ fn document_at(anchors: &[PageAnchors], number: usize, url: &str) -> Option<usiz
     }
 }
 
+/// A document by one of its URLs: its own, or an alias.
+#[derive(Clone, Copy)]
+struct DocumentUrl<'a> {
+    url: &'a CanonUrl,
+    /// The number of the document.
+    number: usize,
+}
+
 impl<'a> Pages<'a> {
-    /// The number of the document that a link leads to, by one redirect at most.
-    fn find_target(&self, files: &SiteFiles<'_>, target: &Target) -> Option<usize> {
+    /// The document that a link leads to, directly or by one redirect.
+    fn find_target(&self, files: &SiteFiles<'_>, target: &Target) -> Option<DocumentUrl<'a>> {
         match target {
             Target::Page(number) => match self.documents.get(*number) {
-                Some(Some(document)) => Some(*document),
+                Some(Some(document)) => self.document(*document),
                 _ => self.find(files.page(*number)?.0),
             },
             Target::Other(url) => self.find(url.as_str()),
         }
     }
 
-    /// The number of the document that a URL leads to, by one redirect at most.
-    fn find(&self, url: &str) -> Option<usize> {
-        if let Some(page) = self.find_document(url) {
-            return Some(page);
+    /// The document that a URL leads to, directly or by one redirect.
+    fn find(&self, url: &str) -> Option<DocumentUrl<'a>> {
+        if let Some(found) = self.find_document(url) {
+            return Some(found);
         }
         let results = self.results;
         let number = results
@@ -89,27 +99,54 @@ impl<'a> Pages<'a> {
         }
     }
 
-    fn find_document(&self, url: &str) -> Option<usize> {
+    /// The document with this URL or this alias.
+    fn find_document(&self, url: &str) -> Option<DocumentUrl<'a>> {
+        if let Some(number) = self.find_own(url) {
+            return self.document(number);
+        }
+        let aliases = self.aliases;
+        let number = aliases
+            .binary_search_by(|alias| alias.url.as_str().cmp(url))
+            .ok()?;
+        let alias = aliases.get(number)?;
+        Some(DocumentUrl {
+            url: &alias.url,
+            number: self.find_own(alias.own.as_str())?,
+        })
+    }
+
+    /// The number of the document with this URL.
+    fn find_own(&self, url: &str) -> Option<usize> {
         let anchors = self.anchors;
         anchors
             .binary_search_by(|page| page.url.as_str().cmp(url))
             .ok()
     }
 
-    /// The anchors of a result's page, where it was found and is a document.
+    /// The document with this number, by its own URL.
+    fn document(&self, number: usize) -> Option<DocumentUrl<'a>> {
+        let anchors = self.anchors;
+        let page = anchors.get(number)?;
+        Some(DocumentUrl {
+            url: &page.url,
+            number,
+        })
+    }
+
+    /// The anchors of a result's page, if it was found and is a document.
     fn anchors_of(&self, one: &PageResult) -> Option<&'a Anchors> {
         let anchors = self.anchors;
         if !is_found(&one.page) {
             return None;
         }
-        let page = anchors.get(self.find_document(one.url.as_str())?)?;
+        let page = anchors.get(self.find_own(one.url.as_str())?)?;
         Some(&page.anchors)
     }
 
-    /// Whether a document has the part that a text behind a `#` indicates; it does where there is no such document.
-    fn has_part(&self, alloc: Global, part: Part<'_>) -> Result<bool, NoMemory> {
-        match self.anchors.get(part.page) {
-            Some(page) => is_indicated(alloc, &page.anchors.ids, part.fragment),
+    /// Whether a document has the anchor that a fragment names, or there is no such document.
+    fn has_part(&self, alloc: Global, number: usize, fragment: &[u8]) -> Result<bool, NoMemory> {
+        match self.anchors.get(number) {
+            Some(page) => is_indicated(alloc, &page.anchors.ids, fragment),
             None => Ok(true),
         }
     }
@@ -119,16 +156,16 @@ fn is_found(page: &Page) -> bool {
     matches!(page, Page::Found { .. })
 }
 
-/// Links of a result to parts of a document, by the numbers of both.
+/// Links of the result with this number to anchors of a document.
 #[derive(Clone, Copy)]
 struct LinksTo<'a> {
-    page: usize,
+    document: DocumentUrl<'a>,
     source: usize,
     anchors: &'a Anchors,
     to: &'a AnchorLinks,
 }
 
-/// The links to parts of documents, of each result whose number leaves this rest by `of`.
+/// The links to anchors of documents in each result whose number has the remainder `rest` by `of`.
 fn every_links<'a>(
     alloc: Global,
     pages: Pages<'a>,
@@ -147,7 +184,7 @@ fn every_links<'a>(
     Ok(all)
 }
 
-/// Appends a result's links to parts of documents.
+/// Appends a result's links to anchors of documents.
 fn push_links<'a>(
     pages: Pages<'a>,
     files: &SiteFiles<'_>,
@@ -156,9 +193,9 @@ fn push_links<'a>(
     all: &mut Vec<LinksTo<'a>>,
 ) -> Result<(), NoMemory> {
     for to in &anchors.groups {
-        if let Some(page) = pages.find_target(files, &to.to) {
+        if let Some(document) = pages.find_target(files, &to.to) {
             all.push(LinksTo {
-                page,
+                document,
                 source,
                 anchors,
                 to,
@@ -168,8 +205,8 @@ fn push_links<'a>(
     Ok(())
 }
 
-/// Those of these links that lead to parts that documents lack, part by part. They are looked up document by document, so that the
-/// ids of one are near.
+/// The links in these results to anchors that documents lack, sorted by the anchors. They are looked up document by document, so that
+/// the ids of a document stay in the processor's cache.
 pub(crate) fn every_lacked<'a>(
     alloc: Global,
     pages: Pages<'a>,
@@ -178,7 +215,7 @@ pub(crate) fn every_lacked<'a>(
     of: usize,
 ) -> Result<Vec<Lacked<'a>>, NoMemory> {
     let mut links = every_links(alloc, pages, files, rest, of)?;
-    links.sort_by(|a: &LinksTo<'_>, b: &LinksTo<'_>| a.page.cmp(&b.page))?;
+    links.sort_by(|a: &LinksTo<'_>, b: &LinksTo<'_>| a.document.number.cmp(&b.document.number))?;
     let mut all = Vec::new(alloc);
     for own in &links {
         push_lacked(alloc, pages, *own, &mut all)?;
@@ -187,7 +224,7 @@ pub(crate) fn every_lacked<'a>(
     Ok(all)
 }
 
-/// Appends the links to parts that the document lacks.
+/// Appends the links to anchors that the document lacks.
 fn push_lacked<'a>(
     alloc: Global,
     pages: Pages<'a>,
@@ -203,7 +240,7 @@ fn push_lacked<'a>(
     Ok(())
 }
 
-/// Appends a link, where it leads to a part that the document lacks.
+/// Appends a link, if it leads to an anchor that the document lacks.
 fn push_link<'a>(
     alloc: Global,
     pages: Pages<'a>,
@@ -211,13 +248,11 @@ fn push_link<'a>(
     link: AnchorLink<'a>,
     all: &mut Vec<Lacked<'a>>,
 ) -> Result<(), NoMemory> {
-    let part = Part {
-        page: links.page,
-        fragment: link.fragment,
-    };
-    if !pages.has_part(alloc, part)? {
+    let DocumentUrl { url, number } = links.document;
+    let fragment = link.fragment;
+    if !pages.has_part(alloc, number, fragment)? {
         all.push(Lacked {
-            part,
+            part: Part { url, fragment },
             source: links.source,
             index: link.index,
         })?;
@@ -225,27 +260,26 @@ fn push_link<'a>(
     Ok(())
 }
 
-/// A part that a page lacks, as it is told.
+/// An anchor that a document lacks, as it is printed.
 #[derive(Drop)]
 pub(crate) struct ToldPart {
     pub(crate) text: String,
-    /// How many pages link to it.
+    /// The number of pages that link to it.
     pages: u64,
-    /// Its number among all parts.
+    /// Its number among all anchors that documents lack.
     number: usize,
 }
 
-/// The parts that pages lack, in order.
+/// The anchors that documents lack, in order.
 pub(crate) fn told_parts(
     alloc: Global,
     front: &str,
-    pages: Pages<'_>,
     lacking: &[LackedPart<'_>],
 ) -> Result<Vec<ToldPart>, NoMemory> {
     let mut parts = Vec::new(alloc);
     for (number, lacked) in lacking.iter().enumerate() {
         parts.push(ToldPart {
-            text: part_text(alloc, front, pages, lacked.part)?,
+            text: part_text(alloc, front, lacked.part)?,
             pages: lacked.pages,
             number,
         })?;
@@ -253,25 +287,17 @@ pub(crate) fn told_parts(
     Ok(parts)
 }
 
-/// The text of a part: its page, `#`, and the fragment.
-fn part_text(
-    alloc: Global,
-    front: &str,
-    pages: Pages<'_>,
-    part: Part<'_>,
-) -> Result<String, NoMemory> {
-    let url = match pages.anchors.get(part.page) {
-        Some(page) => shown(front, page.url.as_str()),
-        None => "",
-    };
-    let mut text = String::from_str(alloc, url)?;
+/// The text of an anchor: the URL of its document, `#`, and the fragment.
+fn part_text(alloc: Global, front: &str, part: Part<'_>) -> Result<String, NoMemory> {
+    let mut text = String::from_str(alloc, shown(front, part.url.as_str()))?;
     text.push('#')?;
     let fragment = String::from_utf8_lossy(alloc, part.fragment)?;
     text.push_str(fragment.as_str())?;
     Ok(text)
 }
 
-/// The rows of parts, in order, but those that are known; `found` has where links to each stand, behind those to so many pages.
+/// The rows of these anchors, in order, without those that an entry matches. `found` has the locations of the links to each, after those
+/// of the links to each of `pages` pages.
 pub(crate) fn part_rows(
     alloc: Global,
     ignores: &[String],
@@ -291,7 +317,7 @@ pub(crate) fn part_rows(
     Ok(all)
 }
 
-/// A row of a part, unless that is known.
+/// Appends the row of an anchor, unless an entry matches it.
 fn push_part(
     ignores: &[String],
     part: &ToldPart,

@@ -14,7 +14,7 @@ ghost use Rattle.site_check.specs.Totals.{totals_of};
 
 use crate::anchors::{Pages, ToldPart, documents_of, part_rows, told_parts};
 use crate::ignored::unused;
-use crate::lacked::{LackedParts, lacking, merge_documents};
+use crate::lacked::{LackedParts, lacking, sort_by_part};
 use crate::leads::{Lead, Maps, link_indices, targets};
 use crate::linked::{Linked, is_missing, linked_results};
 use crate::located::{PlaceOf, by_number};
@@ -27,7 +27,7 @@ use crate::unreached::unreached;
 use crate::worst::worst;
 use check_report::{Broken, FileCount, Findings, Redirect, Totals};
 use crawl_web::{NoMemory, PageResult};
-use saved_site::{Body, LinkPlaces, PageAnchors, SiteFiles};
+use saved_site::{Alias, Body, LinkPlaces, PageAnchors, SiteFiles};
 use std::alloc::Global;
 use std::thread::{Threads, join};
 
@@ -47,6 +47,8 @@ pub struct Asked<'a> {
     pub front: &'a str,
     /// The ignore list: each entry matches the targets that begin with it.
     pub ignores: &'a [String],
+    /// The aliases of the site, in the order of their URLs.
+    pub aliases: &'a [Alias],
     /// The anchors of the site's documents, in the order of their URLs. If there are none, no missing anchor is reported.
     pub anchors: &'a [PageAnchors],
     /// The positions of the links in the site's documents, in the order of their URLs. If there are none, links to missing pages are
@@ -120,8 +122,8 @@ pub fn check_site<'f, R: Threads + Sync, B: Bodies + Sync>(
     ensures names { IfOk result (λ checked. AreNamed asked.entry.front.now files.now checked.broken.items) }
     // The unused entries are those that match no missing page and no missing anchor.
     ensures ignores { IfOk result (λ checked. AreUnused asked.entry.front.now (map string_bytes asked.entry.ignores.now) results.now (parts_in checked.broken.items) (map string_bytes checked.unused_ignores.items)) }
-    // The totals count the results' pages and links, and the rows.
-    ensures totals { IfOk result (λ checked. checked.totals ≡ totals_of results.now checked.broken.items checked.redirects.items) }
+    // The totals count the pages at files' own URLs, their links, the pages at aliases, and the rows.
+    ensures totals { IfOk result (λ checked. checked.totals ≡ totals_of asked.entry.aliases.now results.now checked.broken.items checked.redirects.items) }
 {
     let documents = documents_of(alloc, files, asked.anchors)?;
     let site = site_of(results, files, asked, documents.as_slice());
@@ -152,6 +154,7 @@ fn site_of<'p, 'f>(
         pages: Pages {
             results,
             anchors: asked.anchors,
+            aliases: asked.aliases,
             documents,
         },
         files,
@@ -181,7 +184,7 @@ fn sought_by<'p, R: Threads + Sync>(
     );
     let mut leads = leads?;
     let mut lacked = lacked?;
-    merge_documents(alloc, site, &mut lacked)?;
+    sort_by_part(&mut lacked)?;
     let lacking = lacking(alloc, lacked, linked.len(), &mut leads)?;
     leads.sort_by(|a: &Lead, b: &Lead| (a.source, a.index).cmp(&(b.source, b.index)))?;
     Ok(Sought { lacking, leads })
@@ -219,15 +222,21 @@ fn told(
     ensures redirects { IfOk result (λ checked. map way_of checked.redirects.items ≡ flat_map (ways_with asked.entry.front.now) (map linked_at linked.now)) }
     ensures names { IfOk result (λ checked. AreNamed asked.entry.front.now site.entry.files.now checked.broken.items) }
     ensures ignores { IfOk result (λ checked. (results : List PageResult) → missing_texts asked.entry.front.now results ≡ flat_map (text_at asked.entry.front.now) (map result_at linked.now) → AreUnused asked.entry.front.now (map string_bytes asked.entry.ignores.now) results (parts_in checked.broken.items) (map string_bytes checked.unused_ignores.items)) }
-    ensures totals { IfOk result (λ checked. checked.totals ≡ totals_of site.entry.pages.results.now checked.broken.items checked.redirects.items) }
+    ensures totals { IfOk result (λ checked. checked.totals ≡ totals_of asked.entry.aliases.now site.entry.pages.results.now checked.broken.items checked.redirects.items) }
 {
     let results = site.pages.results;
-    let parts = told_parts(alloc, asked.front, site.pages, &sought.lacking)?;
+    let parts = told_parts(alloc, asked.front, &sought.lacking)?;
     let broken = broken_all(alloc, asked, site, linked, parts.as_slice(), places)?;
     let redirects = redirect_rows(alloc, asked.front, linked)?;
     let unused_ignores = unused_entries(alloc, asked, linked, parts.as_slice())?;
     let unreached = unreached_asked(alloc, asked, site)?;
-    let totals = totals_of(results, broken.as_slice(), redirects.as_slice());
+    let totals = totals_of(
+        alloc,
+        asked.aliases,
+        results,
+        broken.as_slice(),
+        redirects.as_slice(),
+    )?;
     let worst = worst(alloc, broken.as_slice())?;
     Ok(Checked {
         totals,

@@ -1,6 +1,7 @@
 //! Finds the broken links of a site in the results of a crawl of its saved web, and their locations.
 #![tactic(auto)]
 
+mod aliases;
 mod anchors;
 mod check;
 mod ignored;

@@ -1,4 +1,4 @@
-//! Where broken links stand: the pages that have one are read again, and no others.
+//! The locations of broken links. Only files that have one are read again.
 use crate::check::{Bodies, Site};
 use crate::leads::Lead;
 use check_report::Place;
@@ -8,7 +8,7 @@ use std::alloc::Global;
 use std::mem;
 use std::sync::atomic::{AtomicUsize, Ordering};
 
-/// Takes the places of what has this number.
+/// Takes the locations of the links to the target with this number.
 pub(crate) fn take_places(alloc: Global, found: &mut [Vec<Place>], number: usize) -> Vec<Place> {
     match found.get_mut(number) {
         Some(places) => mem::replace(places, Vec::new(alloc)),
@@ -16,7 +16,7 @@ pub(crate) fn take_places(alloc: Global, found: &mut [Vec<Place>], number: usize
     }
 }
 
-/// These places by the numbers of what the links there lead to, each in order. There are so many numbers.
+/// The locations of the links to each of `count` targets, in order.
 pub(crate) fn by_number(
     alloc: Global,
     places: Vec<PlaceOf>,
@@ -31,7 +31,7 @@ pub(crate) fn by_number(
     Ok(found)
 }
 
-/// How many of the places have each number.
+/// The number of links to each target.
 fn place_counts(alloc: Global, places: &[PlaceOf], count: usize) -> Result<Vec<usize>, NoMemory> {
     let mut counts = vec![in alloc; 0usize; count]?;
     for one in places {
@@ -42,7 +42,7 @@ fn place_counts(alloc: Global, places: &[PlaceOf], count: usize) -> Result<Vec<u
     Ok(counts)
 }
 
-/// A list with room for each of so many places, and no more.
+/// A list for each target, with exactly the room for the locations of the links to it.
 fn with_room(alloc: Global, counts: &[usize]) -> Result<Vec<Vec<Place>>, NoMemory> {
     let mut found = Vec::with_capacity(alloc, counts.len())?;
     for count in counts {
@@ -51,14 +51,14 @@ fn with_room(alloc: Global, counts: &[usize]) -> Result<Vec<Vec<Place>>, NoMemor
     Ok(found)
 }
 
-/// Where a link stands, and the number of what it leads to.
+/// The location of a link, and the number of its target.
 #[derive(Drop)]
 pub(crate) struct PlaceOf {
     number: usize,
     place: Place,
 }
 
-/// The links of each page, of links that stand together by their pages.
+/// The links of each page. The links of a page are consecutive.
 pub(crate) fn by_page(alloc: Global, leads: &[Lead]) -> Result<Vec<&[Lead]>, NoMemory> {
     let mut pages = Vec::new(alloc);
     let mut rest = leads;
@@ -85,8 +85,8 @@ fn split_page(leads: &[Lead]) -> (&[Lead], &[Lead]) {
     leads.split_at(count.min(leads.len()))
 }
 
-/// Where the links of the pages stand that one of several threads takes. Each takes the next until there is none, and reads it again
-/// where it is made of a file that can be read.
+/// The locations of the links of the pages that one of several threads takes. Each takes the next until there is none, and reads its
+/// file again, if that can be read.
 pub(crate) fn every_place<B: Bodies>(
     alloc: Global,
     site: Site<'_, '_>,
@@ -100,7 +100,7 @@ pub(crate) fn every_place<B: Bodies>(
         let Some(leads) = pages.get(next.fetch_add(1, Ordering::SeqCst)) else {
             break;
         };
-        if let Some(name) = name_of(alloc, site, *leads)? {
+        if let Some(name) = name_of(site, *leads) {
             body.clear();
             if bodies.read(name, &mut body)? {
                 push_places(alloc, *leads, name, body.as_slice(), &mut all)?;
@@ -111,21 +111,10 @@ pub(crate) fn every_place<B: Bodies>(
 }
 
 /// The name of the file of the page that has these links.
-fn name_of<'f>(
-    alloc: Global,
-    site: Site<'_, 'f>,
-    leads: &[Lead],
-) -> Result<Option<&'f str>, NoMemory> {
-    let Some(one) = leads
-        .first()
-        .and_then(|lead| site.pages.results.get(lead.source))
-    else {
-        return Ok(None);
-    };
-    match site.files.file_of(alloc, one.url.as_str())? {
-        Some(file) => Ok(site.files.name(file)),
-        None => Ok(None),
-    }
+fn name_of<'f>(site: Site<'_, 'f>, leads: &[Lead]) -> Option<&'f str> {
+    let one = site.pages.results.get(leads.first()?.source)?;
+    let file = site.files.file_of(one.url.as_str())?;
+    site.files.name(file)
 }
 
 fn push_places(
@@ -149,7 +138,7 @@ fn indices_of(alloc: Global, leads: &[Lead]) -> Result<Vec<usize>, NoMemory> {
     leads.iter().map(|lead| lead.index).collect(alloc)
 }
 
-/// A place in the file with this name.
+/// A location in the file with this name.
 fn place_in(alloc: Global, name: &str, place: TextPlace) -> Result<Place, NoMemory> {
     Ok(Place {
         file: String::from_str(alloc, name)?,
@@ -158,7 +147,7 @@ fn place_in(alloc: Global, name: &str, place: TextPlace) -> Result<Place, NoMemo
     })
 }
 
-/// Adds these places to what is found.
+/// Adds these locations to those of their targets.
 fn add_places(places: Vec<PlaceOf>, found: &mut [Vec<Place>]) -> Result<(), NoMemory> {
     for one in places {
         let PlaceOf { number, place } = one;
@@ -169,7 +158,7 @@ fn add_places(places: Vec<PlaceOf>, found: &mut [Vec<Place>]) -> Result<(), NoMe
     Ok(())
 }
 
-/// The places by file, line and column, each once.
+/// Sorts the locations by file, line and column, and leaves each once.
 fn in_order(places: &mut Vec<Place>) -> Result<(), NoMemory> {
     places.sort_by(|a: &Place, b: &Place| {
         (a.file.as_str(), a.line, a.column).cmp(&(b.file.as_str(), b.line, b.column))

@@ -1,18 +1,42 @@
-//! What is counted of a check.
-ghost use Rattle.std.specs.Prelude.{◌≡◌, count_by};
+//! The totals of a check.
+ghost use Rattle.std.specs.Prelude.{◌≡◌, IfOk, count_by};
 ghost use Rattle.crawl_web.specs.ReportText.{is_found};
-ghost use Rattle.site_check.specs.Totals.{capped, is_part, link_count, links_in, part_count, place_count, totals_of, url_count};
+ghost use Rattle.site_check.specs.Aliases.{is_alias_page, is_in, is_own_page};
+ghost use Rattle.site_check.specs.Totals.{capped, is_part, link_count, links_in, own_links, part_count, place_count, totals_by, totals_of, url_count};
 
+use crate::aliases::{AliasUrls, alias_urls};
 use check_report::{Broken, Kind, Redirect, Totals};
-use crawl_web::{Page, PageResult};
+use crawl_web::{NoMemory, Page, PageResult};
+use saved_site::Alias;
+use std::alloc::Global;
 
-/// What is counted of a crawl's results and of these rows.
-pub(crate) fn totals_of(results: &[PageResult], broken: &[Broken], redirects: &[Redirect]) -> Totals
-    ensures { result ≡ totals_of results.now broken.now redirects.now }
+/// The totals of a crawl's results, of a site with these aliases, and of these rows.
+pub(crate) fn totals_of<'a>(
+    alloc: Global,
+    aliases: &'a [Alias],
+    results: &'a [PageResult],
+    broken: &[Broken],
+    redirects: &[Redirect],
+) -> Result<Totals, NoMemory>
+    ensures { IfOk result (λ totals. totals ≡ totals_of aliases.now results.now broken.now redirects.now) }
+{
+    let urls = alias_urls(alloc, aliases)?;
+    let totals = totals_by(&urls, results, broken, redirects);
+    Ok(totals)
+}
+
+fn totals_by<'a>(
+    urls: &AliasUrls<'a>,
+    results: &'a [PageResult],
+    broken: &[Broken],
+    redirects: &[Redirect],
+) -> Totals
+    ensures { result ≡ totals_by (is_in urls.now) results.now broken.now redirects.now }
 {
     Totals {
-        pages: page_count(results),
-        links: link_count(results),
+        pages: page_count(urls, results),
+        aliases: alias_count(urls, results),
+        links: link_count(urls, results),
         broken_links: place_count(broken),
         broken_urls: url_count(broken),
         broken_anchors: part_count(broken),
@@ -20,17 +44,42 @@ pub(crate) fn totals_of(results: &[PageResult], broken: &[Broken], redirects: &[
     }
 }
 
-/// How many pages were found.
-fn page_count(results: &[PageResult]) -> u64
-    ensures { result ≡ count_by (λ r. is_found r.page) results.now }
+/// The number of pages that were found at the own URLs of files.
+fn page_count<'a>(urls: &AliasUrls<'a>, results: &'a [PageResult]) -> u64
+    ensures { result ≡ count_by (is_own_page (is_in urls.now)) results.now }
 {
     let mut count: u64 = 0;
     for one in results {
-        if is_found(&one.page) {
+        if is_own_page(urls, one) {
             count += 1;
         }
     }
     count
+}
+
+/// The number of pages that were found at aliases.
+fn alias_count<'a>(urls: &AliasUrls<'a>, results: &'a [PageResult]) -> u64
+    ensures { result ≡ count_by (is_alias_page (is_in urls.now)) results.now }
+{
+    let mut count: u64 = 0;
+    for one in results {
+        if is_alias_page(urls, one) {
+            count += 1;
+        }
+    }
+    count
+}
+
+fn is_own_page<'a>(urls: &AliasUrls<'a>, one: &'a PageResult) -> bool
+    ensures { result ≡ is_own_page (is_in urls.now) one.now }
+{
+    is_found(&one.page) && !urls.contains(&one.url.hashed())
+}
+
+fn is_alias_page<'a>(urls: &AliasUrls<'a>, one: &'a PageResult) -> bool
+    ensures { result ≡ is_alias_page (is_in urls.now) one.now }
+{
+    is_found(&one.page) && urls.contains(&one.url.hashed())
 }
 
 fn is_found(page: &Page) -> bool
@@ -43,15 +92,25 @@ fn is_found(page: &Page) -> bool
     }
 }
 
-/// How many links stand in the pages that were found.
-fn link_count(results: &[PageResult]) -> u64
-    ensures { result ≡ link_count results.now }
+/// The number of links in the pages that were found at the own URLs of files.
+fn link_count<'a>(urls: &AliasUrls<'a>, results: &'a [PageResult]) -> u64
+    ensures { result ≡ link_count (is_in urls.now) results.now }
 {
     let mut count: u64 = 0;
     for one in results {
-        count = count.saturating_add(links_in(&one.page));
+        count = count.saturating_add(own_links(urls, one));
     }
     count
+}
+
+fn own_links<'a>(urls: &AliasUrls<'a>, one: &'a PageResult) -> u64
+    ensures { result ≡ capped (own_links (is_in urls.now) one.now) }
+{
+    if is_own_page(urls, one) {
+        links_in(&one.page)
+    } else {
+        0
+    }
 }
 
 fn links_in(page: &Page) -> u64
@@ -66,7 +125,7 @@ fn links_in(page: &Page) -> u64
     }
 }
 
-/// How many places the links of these have.
+/// The number of locations of the links to these.
 pub(crate) fn place_count(broken: &[Broken]) -> u64
     ensures { result ≡ place_count broken.now }
 {
@@ -77,7 +136,7 @@ pub(crate) fn place_count(broken: &[Broken]) -> u64
     count
 }
 
-/// How many of the rows are those of pages.
+/// The number of rows of missing pages.
 fn url_count(broken: &[Broken]) -> u64
     ensures { result ≡ url_count broken.now }
 {
@@ -90,7 +149,7 @@ fn url_count(broken: &[Broken]) -> u64
     count
 }
 
-/// How many of the rows are those of parts.
+/// The number of rows of missing anchors.
 fn part_count(broken: &[Broken]) -> u64
     ensures { result ≡ part_count broken.now }
 {

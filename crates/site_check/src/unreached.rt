@@ -4,7 +4,7 @@ use crawl_web::{NoMemory, Page, PageResult};
 use saved_site::SiteFiles;
 use std::alloc::Global;
 
-/// The pages of files of which no page was found, one for each file.
+/// The URLs of the files of which no page was found, one for each file.
 pub(crate) fn unreached(
     alloc: Global,
     front: &str,
@@ -25,7 +25,7 @@ pub(crate) fn unreached(
     Ok(all)
 }
 
-/// Of each file whether a page of it was found.
+/// Whether a page of each file was found. The own URL of a file is among the results if one of its aliases is.
 fn reached_files(
     alloc: Global,
     results: &[PageResult],
@@ -34,7 +34,7 @@ fn reached_files(
     let mut reached = vec![in alloc; false; files.name_count()]?;
     for result in results {
         if result.page != Page::Missing
-            && let Some(index) = files.file_of(alloc, result.url.as_str())?
+            && let Some(index) = files.file_of(result.url.as_str())
             && let Some(is_reached) = reached.get_mut(index)
         {
             *is_reached = true;

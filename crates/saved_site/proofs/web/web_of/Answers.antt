@@ -5,4 +5,4 @@ use Rattle.saved_site.proofs.web.web_of.Goals as goal
 pub returns-clause-below : goal.returns-clause-below
 returns-clause-below g c =
     let P : List ℕ → Type 0 = λ top. IfOk c.finish.result (λ web. IsWebBelow top web.bytes.items) in
-    subst P c.given-given.ensures c.finish.ensures.below
+    subst P c.input-input.ensures c.finish.ensures.below

@@ -38,4 +38,4 @@ returns-clause-ignores g c =
 pub returns-clause-totals : goal.returns-clause-totals
 returns-clause-totals g c =
     IfOk-weaker c.told.result _ _ (λ (checked : Checked) own.
-    own ∙ ap (λ results. totals_of results checked.broken.items checked.redirects.items) c.site_of-site.ensures.results) c.told.ensures.totals
+    own ∙ ap (λ results. totals_of c.args.asked.aliases.now results checked.broken.items checked.redirects.items) c.site_of-site.ensures.results) c.told.ensures.totals

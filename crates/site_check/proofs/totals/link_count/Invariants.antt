@@ -1,6 +1,7 @@
 use Rattle.std.proofs.Common.{◌≡◌, sum_by, take}
-use Rattle.site_check.specs.Totals.{capped, links_in}
+use Rattle.site_check.specs.Aliases.{is_in}
+use Rattle.site_check.specs.Totals.{capped, own_links}
 use Rattle.site_check.proofs.totals.link_count.Given as goal
 
 abbrev pub invariant-loop-one : goal.invariant-loop-one
-invariant-loop-one l = l.count ≡ capped (sum_by (λ r. links_in r.page) (take l.one-index l.results))
+invariant-loop-one l = l.count ≡ capped (sum_by (own_links (is_in l.urls)) (take l.one-index l.results))

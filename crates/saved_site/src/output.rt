@@ -1,79 +1,91 @@
-//! What is kept of the pages that are made: the web that is printed of them, and what stands beside it.
+//! The output of making a site's pages: the saved web that is printed of them, and what is known of the pages.
 ghost use Rattle.std.specs.Prelude.{IfOk};
 ghost use Rattle.saved_site.specs.Printed.{HasPrinted};
 
 use crate::linked::Linker;
-use crate::make::Made;
+use crate::make::NewPage;
 use crate::maker::Maker;
 use crate::notes::Note;
 use crate::page::SitePage;
 use crate::printer::Printer;
-use crate::web::{LinkPlaces, PageAnchors, Summary};
+use crate::web::{Alias, LinkPlaces, PageAnchors, Summary};
 use crawl_keys::CanonUrl;
 use std::alloc::{AllocError, Global};
 use std::mem;
 
-/// What is told of the page at a URL.
+/// The notes about the page at a URL.
 #[derive(Drop)]
-struct Told {
+struct PageNotes {
     url: CanonUrl,
     notes: Vec<Note>,
 }
 
-/// What is kept beside the web.
+/// What is known of the pages.
 #[derive(Drop)]
-pub(crate) struct Beside {
+pub(crate) struct SiteData {
     /// The pages that did not come in the order of their URLs.
     pub(crate) late: Vec<SitePage>,
     pub(crate) summary: Summary,
     pub(crate) notes: Vec<Note>,
+    pub(crate) aliases: Vec<Alias>,
     pub(crate) anchors: Vec<PageAnchors>,
     pub(crate) places: Vec<LinkPlaces>,
     /// The pages whose links are looked up.
     pub(crate) linkers: Vec<Linker>,
-    /// How many bytes the web of all pages has, but for its header.
+    /// The number of bytes of all pages in the saved web.
     pub(crate) byte_count: usize,
-    /// What is told of pages of a round that has not ended.
-    told: Vec<Told>,
+    /// The notes about the pages of a round that has not ended.
+    page_notes: Vec<PageNotes>,
     /// Room for the lines of a page.
     room: Vec<u8>,
 }
 
-impl Beside {
-    /// Nothing yet but what was told before.
-    pub(crate) fn new(alloc: Global, notes: Vec<Note>) -> Beside {
-        Beside {
+impl SiteData {
+    /// No pages, and these notes.
+    pub(crate) fn new(alloc: Global, notes: Vec<Note>) -> SiteData {
+        SiteData {
             late: Vec::new(alloc),
             summary: Summary::default(),
             notes,
+            aliases: Vec::new(alloc),
             anchors: Vec::new(alloc),
             places: Vec::new(alloc),
             linkers: Vec::new(alloc),
             byte_count: 0,
-            told: Vec::new(alloc),
+            page_notes: Vec::new(alloc),
             room: Vec::new(alloc),
         }
     }
 
-    /// Adds what a page has, and the page itself where it is not printed.
-    fn push(&mut self, made: Made) -> Result<(), AllocError> {
-        let Made {
+    /// Adds what is known of a page, and the page itself if it is not printed yet.
+    fn push(&mut self, page: NewPage) -> Result<(), AllocError> {
+        let NewPage {
             url,
             page,
             counts,
+            own,
             anchors,
             indices,
             notes,
             ..
-        } = made;
+        } = page;
         if let Some(page) = page {
             self.summary.add(&page, counts);
             self.late.push(page)?;
         }
+        self.push_alias(&url, own)?;
         self.push_places(&url, indices)?;
         self.push_notes(&url, notes)?;
         if let Some(anchors) = anchors {
             self.anchors.push(PageAnchors { url, anchors })?;
+        }
+        Ok(())
+    }
+
+    fn push_alias(&mut self, url: &CanonUrl, own: Option<CanonUrl>) -> Result<(), AllocError> {
+        if let Some(own) = own {
+            let url = url.clone()?;
+            self.aliases.push(Alias { url, own })?;
         }
         Ok(())
     }
@@ -89,12 +101,12 @@ impl Beside {
     fn push_notes(&mut self, url: &CanonUrl, notes: Vec<Note>) -> Result<(), AllocError> {
         if !notes.is_empty() {
             let url = url.clone()?;
-            self.told.push(Told { url, notes })?;
+            self.page_notes.push(PageNotes { url, notes })?;
         }
         Ok(())
     }
 
-    /// Adds what the makers of a round have looked up.
+    /// Adds the pages that the makers of a round have looked up.
     pub(crate) fn add_makers(&mut self, makers: Vec<Maker>) -> Result<(), AllocError> {
         for maker in makers {
             let (linker, summary) = maker.into_linked();
@@ -106,8 +118,10 @@ impl Beside {
         Ok(())
     }
 
-    /// Sorts what stands beside the pages by their URLs, and the pages that did not come in order.
+    /// Sorts the lists by the URLs of the pages.
     pub(crate) fn sort(&mut self) -> Result<(), AllocError> {
+        let aliases = &mut self.aliases;
+        aliases.sort_by(|a: &Alias, b: &Alias| a.url.as_str().cmp(b.url.as_str()))?;
         let places = &mut self.places;
         places.sort_by(|a: &LinkPlaces, b: &LinkPlaces| a.url.as_str().cmp(b.url.as_str()))?;
         let anchors = &mut self.anchors;
@@ -116,62 +130,59 @@ impl Beside {
         late.sort_by(|a: &SitePage, b: &SitePage| a.url().as_str().cmp(b.url().as_str()))
     }
 
-    /// Notes what is told of the pages of a round, in the order of their URLs.
+    /// Moves the notes about the pages of a round to the others, in the order of the pages' URLs.
     pub(crate) fn end_round(&mut self) -> Result<(), AllocError> {
         let alloc = *self.notes.allocator();
-        let mut told = mem::replace(&mut self.told, Vec::new(alloc));
-        told.sort_by(|a: &Told, b: &Told| a.url.as_str().cmp(b.url.as_str()))?;
-        for one in told {
-            let Told { mut notes, .. } = one;
+        let mut page_notes = mem::replace(&mut self.page_notes, Vec::new(alloc));
+        page_notes.sort_by(|a: &PageNotes, b: &PageNotes| a.url.as_str().cmp(b.url.as_str()))?;
+        for one in page_notes {
+            let PageNotes { mut notes, .. } = one;
             self.notes.append(&mut notes)?;
         }
         Ok(())
     }
 }
 
-/// The web of the pages that came in the order of their URLs, and what is kept beside it.
+/// The saved web of the pages that came in the order of their URLs, and what is known of all pages.
 #[derive(Drop)]
-pub(crate) struct Kept {
+pub(crate) struct SiteOutput {
     pub(crate) web: Printer,
-    pub(crate) beside: Beside,
+    pub(crate) data: SiteData,
 }
 
-impl Kept {
-    /// The same with these pages: those whose URLs are behind all before are printed.
-    pub(crate) fn push_all(self, top: &str, pages: Vec<Made>) -> Result<Kept, AllocError>
+impl SiteOutput {
+    /// The output with these pages. Pages whose URLs come after all before are printed.
+    pub(crate) fn push_all(self, top: &str, pages: Vec<NewPage>) -> Result<SiteOutput, AllocError>
         requires { HasPrinted top.now self.web }
-        ensures { IfOk result (λ kept. HasPrinted top.now kept.web) }
+        ensures { IfOk result (λ output. HasPrinted top.now output.web) }
     {
-        let Kept {
-            mut web,
-            mut beside,
-        } = self;
+        let SiteOutput { mut web, mut data } = self;
         'pages: for page in pages {
             let mut page = page;
-            web = printed_one(web, top, &mut page, &mut beside)?;
-            beside.push(page)?;
+            web = print_next(web, top, &mut page, &mut data)?;
+            data.push(page)?;
         }
-        Ok(Kept { web, beside })
+        Ok(SiteOutput { web, data })
     }
 }
 
-/// The web with a page whose URL is behind all before. The page is taken then, and counted.
-fn printed_one(
+/// The saved web with a page, if its URL comes after all before. The page is then taken and counted.
+fn print_next(
     web: Printer,
     top: &str,
-    one: &mut Made,
-    beside: &mut Beside,
+    page: &mut NewPage,
+    data: &mut SiteData,
 ) -> Result<Printer, AllocError>
     requires { HasPrinted top.now web }
     ensures { IfOk result (HasPrinted top.now) }
 {
-    if !web.takes(&one.url) {
+    if !web.takes(&page.url) {
         return Ok(web);
     }
-    match one.page.take() {
-        Some(page) => {
-            beside.summary.add(&page, one.counts);
-            web.push(top, &page, &mut beside.room)
+    match page.page.take() {
+        Some(own) => {
+            data.summary.add(&own, page.counts);
+            web.push(top, &own, &mut data.room)
         }
         None => Ok(web),
     }

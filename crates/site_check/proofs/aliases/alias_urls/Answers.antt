@@ -1,0 +1,18 @@
+use Rattle.std.proofs.Common.{◌||◌, [], ◌∷◌, ◌++◌, take, sym, ap, ◌∙◌}
+use Rattle.std.proofs.lemmas.List.{take_more}
+use Rattle.std.specs.Str.{bytes_eq}
+use Rattle.crawl_sources.proofs.Counts.{any_push}
+use Rattle.saved_site.specs.declared.web.Alias.{Alias}
+use Rattle.site_check.proofs.AliasSets.{set_put}
+use Rattle.site_check.specs.Aliases.{is_alias}
+use Rattle.site_check.proofs.aliases.alias_urls.Goals as goal
+
+pub loop-alias-preserved : goal.loop-alias-preserved
+loop-alias-preserved c = λ url.
+    let i = c.loop-alias.alias-index in
+    let all = c.args.aliases.now in
+    set_put c.loop-alias.set c.insert.new.self c.hashed.result c.in_ok-insert.ensures.updates url
+    ∙ ap (λ b. b || bytes_eq c.hashed.result url) (c.loop-alias.invariant url)
+    ∙ ap (λ t. is_alias (take i all) url || bytes_eq t url) c.hashed.ensures
+    ∙ sym (any_push (λ (a : Alias). bytes_eq a.url url) (take i all) c.alias-item.result)
+    ∙ ap (λ xs. is_alias xs url) (ap (λ x. take i all ++ x ∷ []) c.alias-item.is ∙ sym (take_more all i c.alias-item.result c.loop-alias-test.true))

@@ -1,0 +1,6 @@
+use Rattle.std.proofs.Common.{◌≡◌, ℕ, List, take}
+use Rattle.site_check.specs.Aliases.{is_alias, is_in}
+use Rattle.site_check.proofs.aliases.alias_urls.Given as goal
+
+abbrev pub invariant-loop-alias : goal.invariant-loop-alias
+invariant-loop-alias l = (url : List ℕ) → is_in l.set url ≡ is_alias (take l.alias-index l.aliases) url

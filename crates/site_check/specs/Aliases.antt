@@ -1,0 +1,27 @@
+-- Aliases of a site: other URLs of its files, whose links are followed at the file's own URL.
+use Rattle.std.specs.Prelude.{ℕ, Bool, ◌&&◌, not, List}
+use Rattle.std.specs.BTreeSet.{BTreeSet, contains}
+use Rattle.std.specs.List.{list_any}
+use Rattle.std.specs.Str.{bytes_eq}
+use Rattle.crawl_web.specs.ReportText.{is_found}
+use Rattle.crawl_web.specs.declared.page.PageResult.{PageResult}
+use Rattle.hash_order.specs.HashOrder.{by_hash}
+use Rattle.saved_site.specs.declared.web.Alias.{Alias}
+
+-- the URL is that of an alias
+abbrev pub is_alias : List Alias → List ℕ → Bool
+is_alias aliases url = list_any (λ a. bytes_eq a.url url) aliases
+
+-- a page was found at a URL that is no alias, by this test: at the own URL of a file
+abbrev pub is_own_page : (List ℕ → Bool) → PageResult → Bool
+is_own_page is_other r = is_found r.page && not (is_other r.url)
+
+-- a page was found at an alias
+abbrev pub is_alias_page : (List ℕ → Bool) → PageResult → Bool
+is_alias_page is_other r = is_found r.page && is_other r.url
+
+-- ---- the set that is searched
+
+-- the URL is in the set
+abbrev pub is_in : BTreeSet (List ℕ) → List ℕ → Bool
+is_in urls url = contains by_hash urls url
