@@ -24,7 +24,7 @@ pub fn site_command<'a>(alloc: Global) -> Result<Command<'a>, AllocError> {
 }
 
 fn push_site_args<'a>(alloc: Global, args: &mut Vec<Arg<'a>>) -> Result<(), AllocError> {
-    push_flags(alloc, args, SPELLING_FLAGS)?;
+    push_flags(alloc, args, FOLDER_FLAGS)?;
     push(args, folder(alloc, "Folder to read"))?;
     let base = base(alloc, "URL of the folder, http or https");
     push(args, base.required(true))
@@ -54,7 +54,7 @@ fn push_check_args<'a>(alloc: Global, args: &mut Vec<Arg<'a>>) -> Result<(), All
     push_flags(alloc, args, CHECK_FLAGS)?;
     push_options(alloc, args, KNOWN_OPTIONS)?;
     push(args, seed(alloc))?;
-    push_flags(alloc, args, SPELLING_FLAGS)?;
+    push_flags(alloc, args, FOLDER_FLAGS)?;
     push(args, folder(alloc, "Folder to check"))?;
     let help = "URL of the folder, http or https; without it the report shows paths";
     push(args, base(alloc, help))
@@ -99,8 +99,8 @@ const KNOWN_OPTIONS: &[Valued] = &[Valued {
     help: "Ignore every target that equals or begins with a line of the file LIST",
 }];
 
-/// How file names and URLs correspond.
-const SPELLING_FLAGS: &[Flag] = &[
+/// How the folder is read, and how file names and URLs correspond.
+const FOLDER_FLAGS: &[Flag] = &[
     Flag {
         name: "exact",
         help: "Accept only the exact spelling of a page's URL",
@@ -108,6 +108,10 @@ const SPELLING_FLAGS: &[Flag] = &[
     Flag {
         name: "queries",
         help: "Read a ? in a file name as the start of a query",
+    },
+    Flag {
+        name: "follow",
+        help: "Follow symbolic links that lead out of FOLDER, which are otherwise listed and skipped",
     },
 ];
 
