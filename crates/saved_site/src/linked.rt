@@ -95,10 +95,16 @@ fn is_alias_page(page: &Page, own: &CanonUrl) -> bool
 fn is_only(links: &[CanonUrl], own: &CanonUrl) -> bool
     ensures { result ≡ true → links.now ≡ own.now ∷ [] }
 {
-    match links.split_first() {
-        Some((first, more)) => more.is_empty() && first.as_str() == own.as_str(),
-        None => false,
+    match links {
+        [one] => is_same(one, own),
+        _ => false,
     }
+}
+
+fn is_same(one: &CanonUrl, other: &CanonUrl) -> bool
+    ensures { result ≡ true → one.now ≡ other.now }
+{
+    one.as_str() == other.as_str()
 }
 
 /// The pages that threads have made. Those of another site are left out.
