@@ -14,7 +14,7 @@ use std::rt::Env;
 use std::{env, io};
 
 fn main(rt: HostRuntime) -> ExitCode {
-    let _held = (held(&rt), held(&rt), held(&rt));
+    let _placeholders = (placeholder(&rt), placeholder(&rt), placeholder(&rt));
     let words = match words(&rt) {
         Ok(words) => words,
         Err(error) => return ExitCode::from(without_words(&mut rt.stderr(), &error)),
@@ -32,7 +32,7 @@ fn main(rt: HostRuntime) -> ExitCode {
     }
     let progress = Progress::new(&rt);
     ExitCode::from(run_words_with(
-        &watched(&rt, &progress),
+        &platform_of(&rt, &progress),
         rt.alloc(),
         &words,
         &mut rt.reader(),
@@ -44,12 +44,12 @@ fn main(rt: HostRuntime) -> ExitCode {
 /// Opens a descriptor that takes the place of a standard one that was closed when the program started. Without it, a log that is
 /// opened later could become standard output. It is that of a folder, so that reads and writes there fail; `None` if it cannot
 /// be opened.
-fn held<R: Files>(rt: &R) -> Option<R::File> {
+fn placeholder<R: Files>(rt: &R) -> Option<R::File> {
     fs::open(rt, "/").ok()
 }
 
 /// Returns the platform of a runtime, with this observer.
-fn watched<'p, R, V>(rt: &'p R, observer: &'p V) -> Platform<'p, R, R, V> {
+fn platform_of<'p, R, V>(rt: &'p R, observer: &'p V) -> Platform<'p, R, R, V> {
     Platform {
         rt,
         locks: rt,

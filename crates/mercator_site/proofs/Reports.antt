@@ -6,11 +6,12 @@ use Rattle.mercator_site.specs.Checks.{IsCheck, IsNamedCheck}
 use Rattle.mercator_site.specs.Faults.{status_of}
 use Rattle.mercator_site.specs.declared.check.CheckReport.{CheckReport}
 use Rattle.mercator_site.specs.declared.fault.SiteFault.{SiteFault}
+use Rattle.saved_site.specs.declared.web.Alias.{Alias}
 
 -- the name may be left out
-pub unnamed : (answer : Result CheckReport SiteFault) (name top web : List ℕ) (asks : Asks) → IfOk answer (λ report. IsNamedCheck name top web asks report.is_broken report.text.items) → IfOk answer (λ report. IsCheck top web asks report.is_broken report.text.items)
-unnamed (Ok report) name top web asks is = is.check
-unnamed (Err fault) name top web asks is = tt
+pub unnamed : (answer : Result CheckReport SiteFault) (name top web : List ℕ) (aliases : List Alias) (asks : Asks) → IfOk answer (λ report. IsNamedCheck name top web aliases asks report.is_broken report.text.items) → IfOk answer (λ report. IsCheck top web aliases asks report.is_broken report.text.items)
+unnamed (Ok report) name top web aliases asks is = is.check
+unnamed (Err fault) name top web aliases asks is = tt
 
 -- a fault of status 1 is no incomplete crawl
 pub not_incomplete : (P : Type 0) (answer : Result CheckReport SiteFault) → IfErr answer (λ fault. status_of fault ≡ 1) → IfErr answer (λ fault. status_of fault ≡ 2 → P)

@@ -1,7 +1,7 @@
 -- A crawl of a source that has the pages of a saved web.
 use Rattle.std.specs.Prelude.{◌≡◌, ℕ, List, [], ◌∷◌, map, Result, Ok, Err}
 use Rattle.std.specs.Str.Lines.{lines}
-use Rattle.std.proofs.Common.{refl, sym, ap, ◌∙◌}
+use Rattle.std.proofs.Common.{get_or, refl, sym, ap, ◌∙◌}
 use Rattle.crawl_certificate.specs.Certificate.{IsCrawl}
 use Rattle.crawl_keys.specs.CanonicalText.{canonical, resolve}
 use Rattle.crawl_keys.specs.HostFilter.{allows}
@@ -20,15 +20,21 @@ use Rattle.mercator.specs.WebCrawl.{AreAllSeeds, AreSeeds, IsCrawlable, IsRefuse
 use Rattle.mercator.specs.declared.crawling.error.CrawlError.{CrawlError}
 use Rattle.mercator.specs.declared.crawling.error.CrawlError.TheVariants as crawl
 use Rattle.mercator_site.proofs.Statuses.{crawl_status}
-use Rattle.mercator_site.specs.Checks.{IsTopCrawl, starts}
+use Rattle.mercator_site.specs.Checks.{AreAliasesIn, IsTopCrawl, starts}
 use Rattle.mercator_site.specs.Faults.{IsTopIncomplete, of_crawl, status_of}
 use Rattle.mercator_site.specs.Own.{AreOwn}
 use Rattle.mercator_site.specs.Sources.{IsSourceOf}
+use Rattle.saved_site.specs.Aliases.{AreAliases}
 use Rattle.saved_site.specs.Linked.{IsSiteSource, PageFound, page_at}
+use Rattle.saved_site.specs.declared.web.Alias.{Alias}
 
 -- the pages of a site stand for its saved web
 pub source_of : (top : List ℕ) (pages : List PageFound) (source : IsSiteSource top pages) → IsSourceOf (page_at pages) source.bytes
 source_of top pages source = record { sound = source.web.sound; same = source.same }
+
+-- aliases among the pages of a source are aliases in its saved web
+pub aliases_in : (pages : List PageFound) (web : List ℕ) (aliases : List Alias) → IsSourceOf (page_at pages) web → AreAliases pages aliases → AreAliasesIn web aliases
+aliases_in pages web aliases source are = λ k d below. sym (source.same (get_or aliases k d).url) ∙ are k d below
 
 url_in : Result (List ℕ) KeyError → List ℕ
 url_in (Ok url) = url

@@ -1,7 +1,7 @@
 -- The settings of a check.
 use Rattle.std.specs.Prelude.{ℕ, Bool, List, map, string_bytes}
-use Rattle.mercator_site.specs.declared.asked.CheckAsked.{CheckAsked}
-use Rattle.mercator_site.specs.declared.asked.CheckForm.{CheckForm}
+use Rattle.mercator_site.specs.declared.options.CheckOptions.{CheckOptions}
+use Rattle.mercator_site.specs.declared.options.CheckForm.{CheckForm}
 use Rattle.mercator_site.specs.declared.check.CheckSettings.{CheckSettings}
 
 pub record Asks : Type 0 where
@@ -34,14 +34,14 @@ asks_in s = record {
 }
 
 -- the settings of a command line, with this prefix and the entries of a file
-abbrev pub asks_of : CheckAsked → List ℕ → List (List ℕ) → Asks
-asks_of asked front entries = record {
-  form = asked.form;
-  all = asked.all;
-  folder = string_bytes asked.site.folder;
-  unreached = asked.unreached;
-  external = asked.external;
-  seeds = map string_bytes asked.seeds.items;
+abbrev pub asks_of : CheckOptions → List ℕ → List (List ℕ) → Asks
+asks_of options front entries = record {
+  form = options.form;
+  all = options.all;
+  folder = string_bytes options.site.folder;
+  unreached = options.unreached;
+  external = options.external;
+  seeds = map string_bytes options.seeds.items;
   front = front;
   entries = entries;
 }

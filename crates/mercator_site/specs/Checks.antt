@@ -1,22 +1,27 @@
 -- The report of a check of a folder's links.
 use Rattle.std.specs.Prelude.{◌≡◌, ◌==◌, ℕ, Bool, true, false, not, List, [], ◌∷◌, length, map, string_bytes, Ok, Option, Some, None, ⊤}
+use Rattle.std.specs.List.{All}
 use Rattle.std.specs.Option.{option_map}
+use Rattle.std.specs.Str.Lines.{lines}
 use Rattle.check_report.specs.Printing.{printed_text, printed_json, printed_annotations, printed_page}
 use Rattle.check_report.specs.declared.value.Findings.{Findings}
-use Rattle.check_report.specs.declared.value.Told.{Told}
+use Rattle.check_report.specs.declared.value.Contents.{Contents}
 use Rattle.crawl_keys.specs.CanonicalText.{canonical, resolve}
 use Rattle.crawl_keys.specs.HostKey.{host_key}
+use Rattle.crawl_web.specs.SavedWeb.{page_of}
 use Rattle.crawl_web.specs.declared.page.PageResult.{PageResult}
 use Rattle.mercator.specs.WebCrawl.{IsSiteCrawl}
 use Rattle.mercator_site.specs.Asks.{Asks}
 use Rattle.mercator_site.specs.External.{AreExternal, Row, row_of}
 use Rattle.mercator_site.specs.Own.{AreOwn, own_of}
-use Rattle.mercator_site.specs.declared.asked.CheckForm.{CheckForm}
-use Rattle.mercator_site.specs.declared.asked.CheckForm.TheVariants as form
+use Rattle.mercator_site.specs.declared.options.CheckForm.{CheckForm}
+use Rattle.mercator_site.specs.declared.options.CheckForm.TheVariants as form
+use Rattle.saved_site.specs.Aliases.{alias_page}
 use Rattle.saved_site.specs.Below.{IsTop, IsWebBelow}
 use Rattle.saved_site.specs.Meaning.{IsSiteWeb}
 use Rattle.site_check.specs.Broken.{broken_of, redirects_of}
 use Rattle.saved_site.specs.declared.files.SiteFiles.{SiteFiles}
+use Rattle.saved_site.specs.declared.web.Alias.{Alias}
 use Rattle.site_check.specs.Ignored.{AreUnused, parts_in}
 use Rattle.site_check.specs.Names.{AreNamed}
 use Rattle.site_check.specs.Told.{rows_in, way_of}
@@ -24,11 +29,11 @@ use Rattle.site_check.specs.Totals.{totals_of}
 use Rattle.site_check.specs.declared.check.Checked.{Checked}
 
 -- the results in a form, with the optional lists
-abbrev pub printed_check : CheckForm → Bool → Told → Findings → List ℕ
-printed_check (form.Text colour) all told f = printed_text all colour told f
-printed_check form.Json all told f = printed_json told f
-printed_check form.Annotations all told f = printed_annotations told f
-printed_check form.Page all told f = printed_page told f
+abbrev pub printed_check : CheckForm → Bool → Contents → Findings → List ℕ
+printed_check (form.Text colour) all contents f = printed_text all colour contents f
+printed_check form.Json all contents f = printed_json contents f
+printed_check form.Annotations all contents f = printed_annotations contents f
+printed_check form.Page all contents f = printed_page contents f
 
 -- without links the crawl starts at the empty link, which leads to the top itself
 abbrev pub starts : List (List ℕ) → List (List ℕ)
@@ -45,15 +50,15 @@ pub record IsTopCrawl (top web : List ℕ) (links : List (List ℕ)) (pages : Li
   pub crawl : IsSiteCrawl web [] begun (host_key url ∷ []) pages
 
 -- these are the rows of the pages' external links, if they are listed
-abbrev pub AreOthersAsked : Bool → List ℕ → List PageResult → Option (List Row) → Type 0
-AreOthersAsked true top pages (Some rows) = AreExternal top pages rows
-AreOthersAsked true top pages None = ⊥
-AreOthersAsked false top pages (Some rows) = ⊥
-AreOthersAsked false top pages None = ⊤
+abbrev pub AreOthersListed : Bool → List ℕ → List PageResult → Option (List Row) → Type 0
+AreOthersListed true top pages (Some rows) = AreExternal top pages rows
+AreOthersListed true top pages None = ⊥
+AreOthersListed false top pages (Some rows) = ⊥
+AreOthersListed false top pages None = ⊤
 
 -- the rows of external links in a report
-abbrev pub other_rows : Told → Option (List Row)
-other_rows told = option_map (λ urls. map row_of urls.now) told.external
+abbrev pub other_rows : Contents → Option (List Row)
+other_rows contents = option_map (λ urls. map row_of urls.now) contents.external
 
 -- the text reports the results of a check of a site with this name, these external links, and whether something is broken
 pub record IsReport (checked : Checked) (others : Option (List Row)) (name : List ℕ) (asks : Asks) (broken : Bool) (text : List ℕ) : Type 0 where
@@ -64,16 +69,16 @@ pub record IsReport (checked : Checked) (others : Option (List Row)) (name : Lis
   pub ways : found.redirects.now ≡ checked.redirects.items
   pub unused : found.unused_ignores.now ≡ checked.unused_ignores.items
   pub is_broken : broken ≡ not (length checked.broken.items == 0)
-  pub told : Told
-  pub unreached : told.unreached ≡ asks.unreached
-  pub folder : told.folder.now ≡ asks.folder
-  pub others_told : other_rows told ≡ others
-  pub written : text ≡ printed_check asks.form asks.all told found
+  pub contents : Contents
+  pub unreached : contents.unreached ≡ asks.unreached
+  pub folder : contents.folder.now ≡ asks.folder
+  pub others_listed : other_rows contents ≡ others
+  pub written : text ≡ printed_check asks.form asks.all contents found
 
 -- the text reports the missing pages and the redirects of such a crawl below the top, each with the number of pages that link
--- to it, and the entries that match nothing. Its totals count the pages, their links and the rows. Something is broken if there is
--- a row of a missing page or anchor
-pub record IsCheck (top web : List ℕ) (asks : Asks) (broken : Bool) (text : List ℕ) : Type 0 where
+-- to it, and the entries that match nothing. Its totals count the pages at the own URLs of files, their links, the pages at these
+-- aliases, and the rows. Something is broken if there is a row of a missing page or anchor
+pub record IsCheck (top web : List ℕ) (aliases : List Alias) (asks : Asks) (broken : Bool) (text : List ℕ) : Type 0 where
   pub pages : List PageResult
   pub crawled : IsTopCrawl top web asks.seeds pages
   pub own : List PageResult
@@ -81,30 +86,36 @@ pub record IsCheck (top web : List ℕ) (asks : Asks) (broken : Bool) (text : Li
   pub found : Findings
   pub rows : rows_in found.broken.now ≡ broken_of asks.front asks.entries own
   pub ways : map way_of found.redirects.now ≡ redirects_of asks.front own
-  pub totals : found.totals ≡ totals_of own found.broken.now found.redirects.now
+  pub totals : found.totals ≡ totals_of aliases own found.broken.now found.redirects.now
   -- the suggested pages are pages of a site with this top
   pub site : SiteFiles
   pub site_top : string_bytes site.site.top ≡ top
   pub names : AreNamed asks.front site found.broken.now
   pub unused : AreUnused asks.front asks.entries own (parts_in found.broken.now) (map string_bytes found.unused_ignores.now)
   pub is_broken : broken ≡ not (length found.broken.now == 0)
-  pub told : Told
-  pub unreached : told.unreached ≡ asks.unreached
-  pub folder : told.folder.now ≡ asks.folder
-  pub others : AreOthersAsked asks.external crawled.url own (other_rows told)
-  pub written : text ≡ printed_check asks.form asks.all told found
+  pub contents : Contents
+  pub unreached : contents.unreached ≡ asks.unreached
+  pub folder : contents.folder.now ≡ asks.folder
+  pub others : AreOthersListed asks.external crawled.url own (other_rows contents)
+  pub written : text ≡ printed_check asks.form asks.all contents found
 
 -- the same, and the site has this name in the text
-pub record IsNamedCheck (name top web : List ℕ) (asks : Asks) (broken : Bool) (text : List ℕ) : Type 0 where
-  pub check : IsCheck top web asks broken text
+pub record IsNamedCheck (name top web : List ℕ) (aliases : List Alias) (asks : Asks) (broken : Bool) (text : List ℕ) : Type 0 where
+  pub check : IsCheck top web aliases asks broken text
   pub base : check.found.base.now ≡ name
 
--- such a check, of the saved web of a site
+-- the page of each alias in the saved web has one link, to the own URL of the alias's file
+abbrev pub AreAliasesIn : List ℕ → List Alias → Type 0
+AreAliasesIn web aliases = All (λ alias. page_of (lines web) alias.url ≡ alias_page alias) aliases
+
+-- such a check, of the saved web of a site with these aliases
 pub record IsSiteCheck (asks : Asks) (broken : Bool) (text : List ℕ) : Type 0 where
   pub top : List ℕ
   pub web : List ℕ
   pub made : IsSiteWeb web
-  pub checked : IsCheck top web asks broken text
+  pub aliases : List Alias
+  pub are_aliases : AreAliasesIn web aliases
+  pub checked : IsCheck top web aliases asks broken text
 
 -- the same, and the site has this name in the text
 pub record IsNamedSiteCheck (name : List ℕ) (asks : Asks) (broken : Bool) (text : List ℕ) : Type 0 where

@@ -5,57 +5,57 @@ use Rattle.std.specs.Str.{bytes_eq}
 use Rattle.mercator_site.specs.Asks.{asks_of}
 use Rattle.mercator_site.specs.Checks.{IsSiteCheck}
 use Rattle.mercator_site.specs.Faults.{IsSiteIncomplete}
-use Rattle.mercator_site.specs.declared.asked.CheckAsked.{CheckAsked}
-use Rattle.mercator_site.specs.declared.asked.SitePlan.{SitePlan}
-use Rattle.mercator_site.specs.declared.asked.SitePlan.TheVariants as asks
+use Rattle.mercator_site.specs.declared.options.CheckOptions.{CheckOptions}
+use Rattle.mercator_site.specs.declared.options.SitePlan.{SitePlan}
+use Rattle.mercator_site.specs.declared.options.SitePlan.TheVariants as asks
 use Rattle.saved_site.specs.Below.{IsTop, IsWebAt, IsWebBelow}
 use Rattle.saved_site.specs.Meaning.{IsSiteWeb}
 
 -- the saved web of a folder, whose pages are below the top of BASE
 pub record GainsWeb (base : List ℕ) (old new : Option (List ℕ)) : Type 0 where
   pub text : List ℕ
-  pub told : IsSiteWeb text
+  pub made : IsSiteWeb text
   pub below : IsWebAt base text
   pub gained : Appends old new text
 
 -- the report of a check of a folder. It says nothing about which files the folder has, except that the pages are below the top of
 -- BASE. Without BASE the site has the name of the folder, and the top is removed from each URL; otherwise the top is the name. There
 -- are no entries if no ignore list is given
-pub record IsFolderCheck (asked : CheckAsked) (broken : Bool) (text : List ℕ) : Type 0 where
+pub record IsFolderCheck (options : CheckOptions) (broken : Bool) (text : List ℕ) : Type 0 where
   pub front : List ℕ
   pub entries : List (List ℕ)
-  pub told : IsSiteCheck (asks_of asked front entries) broken text
-  pub fronted : front ≡ (if asked.paths then told.top else [])
-  pub base : told.checked.found.base.now ≡ (if asked.paths then string_bytes asked.site.folder else told.top)
-  pub known : asked.known ≡ None → entries ≡ []
-  pub is_top : IsTop (string_bytes asked.site.base) told.top
-  pub below : IsWebBelow told.top told.web
+  pub site : IsSiteCheck (asks_of options front entries) broken text
+  pub fronted : front ≡ (if options.paths then site.top else [])
+  pub base : site.checked.found.base.now ≡ (if options.paths then string_bytes options.site.folder else site.top)
+  pub known : options.known ≡ None → entries ≡ []
+  pub is_top : IsTop (string_bytes options.site.base) site.top
+  pub below : IsWebBelow site.top site.web
 
 -- such a report, with whether something is broken
-pub record GainsCheck (asked : CheckAsked) (broken : Bool) (old new : Option (List ℕ)) : Type 0 where
+pub record GainsCheck (options : CheckOptions) (broken : Bool) (old new : Option (List ℕ)) : Type 0 where
   pub text : List ℕ
-  pub told : IsFolderCheck asked broken text
+  pub report : IsFolderCheck options broken text
   pub gained : Appends old new text
 
 abbrev pub GainsPlan : SitePlan → Bool → Option (List ℕ) → Option (List ℕ) → Type 0
-GainsPlan (asks.Site asked) broken old new = (broken ≡ false) × GainsWeb (string_bytes asked.base) old new
-GainsPlan (asks.Check asked) broken old new = GainsCheck asked broken old new
+GainsPlan (asks.Site options) broken old new = (broken ≡ false) × GainsWeb (string_bytes options.base) old new
+GainsPlan (asks.Check options) broken old new = GainsCheck options broken old new
 
 -- there is a report of such a check
-pub record HasReport (asked : CheckAsked) : Type 0 where
+pub record HasReport (options : CheckOptions) : Type 0 where
   pub broken : Bool
   pub text : List ℕ
-  pub told : IsFolderCheck asked broken text
+  pub report : IsFolderCheck options broken text
 
 -- there is a text that the command writes
 abbrev pub HasText : SitePlan → Type 0
-HasText (asks.Site asked) = (text : List ℕ) × IsSiteWeb text × IsWebAt (string_bytes asked.base) text
-HasText (asks.Check asked) = HasReport asked
+HasText (asks.Site options) = (text : List ℕ) × IsSiteWeb text × IsWebAt (string_bytes options.base) text
+HasText (asks.Check options) = HasReport options
 
 -- the command is a check, and its crawl is incomplete
 abbrev pub IsIncomplete : SitePlan → Type 0
-IsIncomplete (asks.Site asked) = ⊥
-IsIncomplete (asks.Check asked) = IsSiteIncomplete asked
+IsIncomplete (asks.Site options) = ⊥
+IsIncomplete (asks.Check options) = IsSiteIncomplete options
 
 -- ---- arguments
 

@@ -8,12 +8,13 @@ use Rattle.mercator.specs.declared.commands.fault.Fault.{Fault}
 use Rattle.mercator.specs.declared.commands.fault.Fault.TheVariants as ended
 use Rattle.mercator_site.specs.Checks.{starts}
 use Rattle.mercator_site.specs.Own.{AreOwn}
-use Rattle.mercator_site.specs.declared.asked.CheckAsked.{CheckAsked}
+use Rattle.mercator_site.specs.declared.options.CheckOptions.{CheckOptions}
 use Rattle.mercator_site.specs.declared.fault.SiteFault.{SiteFault}
 use Rattle.mercator_site.specs.declared.fault.SiteFault.TheVariants as wrong
 use Rattle.saved_site.specs.Meaning.{IsSiteWeb}
 use Rattle.saved_site.specs.declared.error.SiteError.{SiteError}
 use Rattle.saved_site.specs.declared.error.SiteError.TheVariants as unmade
+use Rattle.shown_text.specs.Shown.{shown}
 
 -- the error for each error of a part
 abbrev pub of_site : SiteError → SiteFault
@@ -32,19 +33,19 @@ abbrev pub status_of : SiteFault → ℕ
 status_of (wrong.Crawl why) = status_of_fault why
 status_of fault = 1
 
--- a message about this name
-abbrev pub name_line : List ℕ → List ℕ → List ℕ
-name_line name words = codes "mercator: " ++ name ++ codes ": " ++ words ++ 10 ∷ []
+-- a line about something with this name
+abbrev pub note_line : List ℕ → List ℕ → List ℕ
+note_line name words = codes "mercator: " ++ shown name ++ codes ": " ++ words ++ 10 ∷ []
 
 -- the message of an error about this name
 abbrev pub site_line : List ℕ → SiteFault → List ℕ
 site_line name wrong.CannotReadFolder = fault_line name ended.CannotRead
 site_line name wrong.CannotReadKnown = fault_line name ended.CannotRead
-site_line name wrong.BadBase = name_line (codes "BASE") (codes "must be an http or https URL without a query")
-site_line name wrong.BadHost = name_line (codes "BASE") (codes "the host may contain only letters, digits, - and .")
-site_line name wrong.NoFiles = name_line name (codes "no files")
-site_line name wrong.BadSeed = name_line (codes "--seed") (codes "not a URL below BASE")
-site_line name wrong.TooLarge = name_line name (codes "more than 1073741824 bytes of links")
+site_line name wrong.BadBase = note_line (codes "BASE") (codes "must be an http or https URL without a query")
+site_line name wrong.BadHost = note_line (codes "BASE") (codes "the host may contain only letters, digits, - and .")
+site_line name wrong.NoFiles = note_line name (codes "no files")
+site_line name wrong.BadSeed = note_line (codes "--seed") (codes "not a URL below BASE")
+site_line name wrong.TooLarge = note_line name (codes "more than 1073741824 bytes of links")
 site_line name (wrong.Crawl why) = fault_line name why
 site_line name wrong.CannotWrite = fault_line name ended.CannotWrite
 site_line name wrong.NoMemory = fault_line name ended.NoMemory
@@ -62,8 +63,8 @@ pub record IsTopIncomplete (top web : List ℕ) (links : List (List ℕ)) (worke
   pub refused : IsRefused workers max web [] begun why
 
 -- the crawl of a check is incomplete: that of the saved web of a site
-pub record IsSiteIncomplete (asked : CheckAsked) : Type 0 where
+pub record IsSiteIncomplete (options : CheckOptions) : Type 0 where
   pub top : List ℕ
   pub web : List ℕ
   pub made : IsSiteWeb web
-  pub crawl : IsTopIncomplete top web (map string_bytes asked.seeds.items) asked.workers
+  pub crawl : IsTopIncomplete top web (map string_bytes options.seeds.items) options.workers

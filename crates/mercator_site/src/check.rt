@@ -2,25 +2,25 @@
 ghost use Rattle.std.specs.Prelude.{◌≡◌, ℕ, List, IfErr, IfOk, map, string_bytes};
 ghost use Rattle.std.specs.Option.{option_map};
 ghost use Rattle.mercator_site.specs.Asks.{asks_in};
-ghost use Rattle.mercator_site.specs.Checks.{AreOthersAsked, IsCheck, IsNamedCheck, IsNamedSiteCheck, IsReport, IsSiteCheck, IsSiteCheckAt, IsTopCrawl};
+ghost use Rattle.mercator_site.specs.Checks.{AreOthersListed, IsCheck, IsNamedCheck, IsNamedSiteCheck, IsReport, IsSiteCheck, IsSiteCheckAt, IsTopCrawl};
 ghost use Rattle.mercator_site.specs.External.{row_of};
 ghost use Rattle.mercator_site.specs.Faults.{IsTopIncomplete, status_of};
 ghost use Rattle.mercator_site.specs.Sources.{IsSourceOf};
 ghost use Rattle.saved_site.specs.Linked.{page_at};
 
-use crate::asked::CheckForm;
 use crate::bodies::{Files, InMemory};
 use crate::crawl::{crawl_site, crawl_source, host_of};
 use crate::external::external_links;
 use crate::fault::SiteFault;
+use crate::options::CheckForm;
 use crate::own::own_results;
 use crate::print::print_check;
-use check_report::{External, Told};
+use check_report::{Contents, External};
 use crawl_keys::CanonUrl;
 use crawl_web::PageResult;
 use mercator::Crawled;
 use saved_site::{
-    LinkPlaces, LinkedSite, PageAnchors, Rules, SiteFiles, SiteNames, Web, files_pages,
+    Alias, LinkPlaces, LinkedSite, PageAnchors, Rules, SiteFiles, SiteNames, Web, files_pages,
 };
 use site_check::{Asked, Bodies, Checked, check_site};
 use std::alloc::{AllocError, Global};
@@ -60,10 +60,11 @@ pub struct CheckReport {
     pub is_broken: bool,
 }
 
-/// The crawl of a site, and the anchors and link locations of its documents.
+/// The crawl of a site, its aliases, and the anchors and link locations of its documents.
 #[derive(Drop)]
 struct FoundSite {
     crawled: Crawled,
+    aliases: Vec<Alias>,
     anchors: Vec<PageAnchors>,
     places: Vec<LinkPlaces>,
 }
@@ -109,12 +110,13 @@ pub fn report_of_site<R: Threads + Wait + Sync, B: Bodies + Sync>(
     bodies: &B,
     settings: CheckSettings<'_>,
 ) -> Result<CheckReport, SiteFault>
-    ensures done { IfOk result (λ report. IsCheck (string_bytes files.now.site.top) web.bytes.items (asks_in settings.entry) report.is_broken report.text.items) }
-    ensures named { IfOk result (λ report. IsNamedCheck settings.entry.name.now (string_bytes files.now.site.top) web.bytes.items (asks_in settings.entry) report.is_broken report.text.items) }
+    ensures done { IfOk result (λ report. IsCheck (string_bytes files.now.site.top) web.bytes.items web.aliases.items (asks_in settings.entry) report.is_broken report.text.items) }
+    ensures named { IfOk result (λ report. IsNamedCheck settings.entry.name.now (string_bytes files.now.site.top) web.bytes.items web.aliases.items (asks_in settings.entry) report.is_broken report.text.items) }
     ensures incomplete { IfErr result (λ fault. status_of fault ≡ 2 → IsTopIncomplete (string_bytes files.now.site.top) web.bytes.items (map string_bytes settings.entry.seeds.now) settings.entry.workers) }
 {
     let Web {
         bytes,
+        aliases,
         anchors,
         places,
         ..
@@ -130,6 +132,7 @@ pub fn report_of_site<R: Threads + Wait + Sync, B: Bodies + Sync>(
     drop(bytes);
     let found = FoundSite {
         crawled,
+        aliases,
         anchors,
         places,
     };
@@ -149,12 +152,13 @@ pub fn report_of_pages<R: Threads + Wait + Sync, B: Bodies + Sync>(
     bodies: &B,
     settings: CheckSettings<'_>,
 ) -> Result<CheckReport, SiteFault>
-    ensures done { (web : List ℕ) → IsSourceOf (page_at site.pages) web → IfOk result (λ report. IsCheck (string_bytes files.now.site.top) web (asks_in settings.entry) report.is_broken report.text.items) }
-    ensures named { (web : List ℕ) → IsSourceOf (page_at site.pages) web → IfOk result (λ report. IsNamedCheck settings.entry.name.now (string_bytes files.now.site.top) web (asks_in settings.entry) report.is_broken report.text.items) }
+    ensures done { (web : List ℕ) → IsSourceOf (page_at site.pages) web → IfOk result (λ report. IsCheck (string_bytes files.now.site.top) web site.aliases.items (asks_in settings.entry) report.is_broken report.text.items) }
+    ensures named { (web : List ℕ) → IsSourceOf (page_at site.pages) web → IfOk result (λ report. IsNamedCheck settings.entry.name.now (string_bytes files.now.site.top) web site.aliases.items (asks_in settings.entry) report.is_broken report.text.items) }
     ensures incomplete { (web : List ℕ) → IsSourceOf (page_at site.pages) web → IfErr result (λ fault. status_of fault ≡ 2 → IsTopIncomplete (string_bytes files.now.site.top) web (map string_bytes settings.entry.seeds.now) settings.entry.workers) }
 {
     let LinkedSite {
         pages,
+        aliases,
         anchors,
         places,
         ..
@@ -171,6 +175,7 @@ pub fn report_of_pages<R: Threads + Wait + Sync, B: Bodies + Sync>(
     forget(pages);
     let found = FoundSite {
         crawled,
+        aliases,
         anchors,
         places,
     };
@@ -186,40 +191,50 @@ fn report_of_found<R: Threads + Wait + Sync, B: Bodies + Sync>(
     bodies: &B,
     settings: CheckSettings<'_>,
 ) -> Result<CheckReport, SiteFault>
-    ensures named { (web : List ℕ) → IsTopCrawl (string_bytes files.now.site.top) web (map string_bytes settings.entry.seeds.now) found.crawled.result → IfOk result (λ report. IsNamedCheck settings.entry.name.now (string_bytes files.now.site.top) web (asks_in settings.entry) report.is_broken report.text.items) }
+    ensures named { (web : List ℕ) → IsTopCrawl (string_bytes files.now.site.top) web (map string_bytes settings.entry.seeds.now) found.crawled.result → IfOk result (λ report. IsNamedCheck settings.entry.name.now (string_bytes files.now.site.top) web found.aliases.items (asks_in settings.entry) report.is_broken report.text.items) }
     ensures plain { IfErr result (λ fault. status_of fault ≡ 1) }
 {
     let FoundSite {
         crawled,
+        aliases,
         anchors,
         places,
     } = found;
     let url = host_of(alloc, files.top())?;
     let pages = own_results(&url, crawled.result.pages());
-    let others = others_asked(alloc, settings.external, &url, pages)?;
-    let asked = asked_of(settings, anchors.as_slice(), places.as_slice());
-    let checked = check_site(rt, alloc, pages, files, bodies, asked)?;
+    let others = others_listed(alloc, settings.external, &url, pages)?;
+    let input = input_of(
+        settings,
+        aliases.as_slice(),
+        anchors.as_slice(),
+        places.as_slice(),
+    );
+    let checked = check_site(rt, alloc, pages, files, bodies, input)?;
     let report = report_of(alloc, &checked, &others, settings)?;
     // Not freed: the process exits soon, and the system frees everything faster.
     forget(crawled);
+    forget(aliases);
     forget(anchors);
     forget(places);
     forget(checked);
     Ok(report)
 }
 
-/// The settings of the check of the results, with what is known of the site's documents.
-fn asked_of<'a>(
+/// The settings of the check of the results, with what is known of the site.
+fn input_of<'a>(
     settings: CheckSettings<'a>,
+    aliases: &'a [Alias],
     anchors: &'a [PageAnchors],
     places: &'a [LinkPlaces],
 ) -> Asked<'a>
     ensures front { result.front.now ≡ settings.entry.front.now }
     ensures ignores { result.ignores.now ≡ settings.entry.ignores.now }
+    ensures aliases { result.aliases.now ≡ aliases.now }
 {
     Asked {
         front: settings.front,
         ignores: settings.ignores,
+        aliases,
         anchors,
         places,
         unreached: settings.unreached,
@@ -235,13 +250,13 @@ fn report_of(
 ) -> Result<CheckReport, AllocError>
     ensures { IfOk result (λ report. IsReport checked.now (option_map (λ urls. map row_of urls.items) others.now) settings.entry.name.now (asks_in settings.entry) report.is_broken report.text.items) }
 {
-    let told = Told {
+    let contents = Contents {
         unreached: settings.unreached,
         external: slice_of(others),
         folder: settings.folder,
     };
     let findings = checked.findings(settings.name);
-    let text = print_check(alloc, &findings, told, settings.form, settings.all)?;
+    let text = print_check(alloc, &findings, contents, settings.form, settings.all)?;
     Ok(CheckReport {
         text,
         is_broken: checked.is_broken(),
@@ -249,15 +264,15 @@ fn report_of(
 }
 
 /// The external links of the pages, if they are listed.
-fn others_asked(
+fn others_listed(
     alloc: Global,
-    asked: bool,
+    listed: bool,
     top: &CanonUrl,
     pages: &[PageResult],
 ) -> Result<Option<Vec<External>>, AllocError>
-    ensures { IfOk result (λ others. AreOthersAsked asked top.now pages.now (option_map (λ urls. map row_of urls.items) others)) }
+    ensures { IfOk result (λ others. AreOthersListed listed top.now pages.now (option_map (λ urls. map row_of urls.items) others)) }
 {
-    if !asked {
+    if !listed {
         return Ok(None);
     }
     Ok(Some(external_links(alloc, top, pages)?))

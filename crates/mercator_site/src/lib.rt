@@ -1,22 +1,22 @@
 //! The commands for a folder of HTML pages: `site` prints its saved web, `check` reports its broken links.
 #![tactic(auto)]
 
-mod asked;
 mod bodies;
 mod check;
 mod crawl;
 mod external;
 mod fault;
 mod folder;
+mod options;
 mod own;
 mod print;
 mod program;
 mod start;
 mod writing;
 
-pub use asked::{CheckAsked, CheckForm, SiteAsked, SitePlan, site_plan};
 pub use bodies::Files;
 pub use check::{CheckReport, CheckSettings, report_of_files, report_of_pages, report_of_site};
 pub use fault::SiteFault;
 pub use folder::{report_of_folder, web_of_folder};
+pub use options::{CheckForm, CheckOptions, SiteOptions, SitePlan, site_plan};
 pub use program::{BROKEN, run_site_plan, run_site_words};

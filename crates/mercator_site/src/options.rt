@@ -24,7 +24,7 @@ pub enum CheckForm {
 
 /// The settings of `site`, which prints a folder as a saved web.
 #[derive(Debug, Drop)]
-pub struct SiteAsked {
+pub struct SiteOptions {
     pub folder: String,
     /// The URL of the top of the folder.
     pub base: String,
@@ -32,12 +32,14 @@ pub struct SiteAsked {
     pub exact: bool,
     /// Whether a `?` in a file name is the start of a query.
     pub queries: bool,
+    /// Whether symbolic links that lead out of the folder are followed.
+    pub follow: bool,
 }
 
 /// The settings of `check`, which reports the broken links of a folder.
 #[derive(Debug, Drop)]
-pub struct CheckAsked {
-    pub site: SiteAsked,
+pub struct CheckOptions {
+    pub site: SiteOptions,
     /// Whether the report has paths instead of URLs.
     pub paths: bool,
     /// The number of workers, 1 to 512.
@@ -60,8 +62,8 @@ pub struct CheckAsked {
 /// A command for a folder.
 #[derive(Debug, Drop)]
 pub enum SitePlan {
-    Site(SiteAsked),
-    Check(CheckAsked),
+    Site(SiteOptions),
+    Check(CheckOptions),
 }
 
 /// The settings in a command line that `clap` has parsed, or nothing if it is another command. `colour` says whether a text report
@@ -84,18 +86,23 @@ pub fn site_plan(
     }
 }
 
-fn site_of(alloc: Global, found: &ArgMatches<'_>, base: &str) -> Result<SiteAsked, AllocError> {
-    Ok(SiteAsked {
+fn site_of(alloc: Global, found: &ArgMatches<'_>, base: &str) -> Result<SiteOptions, AllocError> {
+    Ok(SiteOptions {
         folder: String::from_str(alloc, found.get_str("folder").unwrap_or("."))?,
         base: String::from_str(alloc, base)?,
         exact: found.get_flag("exact"),
         queries: found.get_flag("queries"),
+        follow: found.get_flag("follow"),
     })
 }
 
-fn check_of(alloc: Global, found: &ArgMatches<'_>, colour: bool) -> Result<CheckAsked, AllocError> {
+fn check_of(
+    alloc: Global,
+    found: &ArgMatches<'_>,
+    colour: bool,
+) -> Result<CheckOptions, AllocError> {
     let base = found.get_str("base");
-    Ok(CheckAsked {
+    Ok(CheckOptions {
         site: site_of(alloc, found, base.unwrap_or(LOCAL))?,
         paths: base.is_none(),
         workers: workers_of(found),

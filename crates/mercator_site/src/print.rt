@@ -2,8 +2,8 @@
 ghost use Rattle.std.specs.Prelude.{◌≡◌, IfOk};
 ghost use Rattle.mercator_site.specs.Checks.{printed_check};
 
-use crate::asked::CheckForm;
-use check_report::{Findings, Told, print_annotations, print_json, print_page, print_text};
+use crate::options::CheckForm;
+use check_report::{Contents, Findings, print_annotations, print_json, print_page, print_text};
 use std::alloc::{AllocError, Global};
 
 /// Prints the results and the optional lists, with three locations of each target or with all.
@@ -13,16 +13,16 @@ use std::alloc::{AllocError, Global};
 pub(crate) fn print_check(
     alloc: Global,
     findings: &Findings<'_>,
-    told: Told<'_>,
+    contents: Contents<'_>,
     form: CheckForm,
     all: bool,
 ) -> Result<Vec<u8>, AllocError>
-    ensures { IfOk result (λ text. text.items ≡ printed_check form all told.entry findings.now) }
+    ensures { IfOk result (λ text. text.items ≡ printed_check form all contents.entry findings.now) }
 {
     match form {
-        CheckForm::Text { colour } => print_text(alloc, findings, told, all, colour),
-        CheckForm::Json => print_json(alloc, findings, told),
-        CheckForm::Annotations => print_annotations(alloc, findings, told),
-        CheckForm::Page => print_page(alloc, findings, told),
+        CheckForm::Text { colour } => print_text(alloc, findings, contents, all, colour),
+        CheckForm::Json => print_json(alloc, findings, contents),
+        CheckForm::Annotations => print_annotations(alloc, findings, contents),
+        CheckForm::Page => print_page(alloc, findings, contents),
     }
 }

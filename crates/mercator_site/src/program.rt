@@ -4,11 +4,12 @@ ghost use Rattle.std.specs.Io.KnownBytes.{Appends};
 ghost use Rattle.mercator_site.specs.Ends.{GainsCheck, GainsPlan, HasReport, HasText, IsHelped, IsIncomplete, IsRun, are_ours};
 ghost use Rattle.mercator_site.specs.Faults.{IsSiteIncomplete, status_of};
 
-use crate::asked::{CheckAsked, SitePlan, site_plan};
 use crate::fault::SiteFault;
 use crate::folder::{report_of_folder, web_of_folder};
-use crate::writing::{tell_fault, write_text};
+use crate::options::{CheckOptions, SitePlan, site_plan};
+use crate::writing::{print_fault, write_text};
 use mercator::{BAD_COMMAND_LINE, whole_command};
+use shown_text::shown_lines;
 use std::alloc::{AllocError, Global};
 use std::fs::Files;
 use std::io::Write;
@@ -18,11 +19,11 @@ use std::thread::Threads;
 /// The exit status of a check that found something broken.
 pub const BROKEN: u8 = 4;
 
-/// What the arguments of such a command ask for.
+/// What the arguments of such a command request.
 #[derive(Drop)]
-enum Asked {
+enum Request {
     /// A run of the command.
-    Plan(SitePlan),
+    Run(SitePlan),
     /// Its help.
     Help(String),
     /// A usage error, as `clap` prints it. It is empty if `clap` read another command than [`is_ours`] did.
@@ -57,10 +58,10 @@ pub fn run_site_words<R: Files<File: Send, Dir: Send> + Threads + Wait + Sync, O
     if !is_ours(words) {
         return None;
     }
-    match asked_of(alloc, words, colour) {
-        Ok(asked) => Some(run_asked(rt, alloc, asked, out, err)),
+    match request_of(alloc, words, colour) {
+        Ok(request) => Some(run_request(rt, alloc, request, out, err)),
         Err(_) => {
-            tell_fault(alloc, err, "", SiteFault::NoMemory);
+            print_fault(alloc, err, "", SiteFault::NoMemory);
             Some(1)
         }
     }
@@ -76,11 +77,11 @@ fn is_ours(words: &[String]) -> bool
     }
 }
 
-/// Runs what the arguments ask for, and returns the exit status.
-fn run_asked<R: Files<File: Send, Dir: Send> + Threads + Wait + Sync, O: Write, E: Write>(
+/// Runs what the arguments request, and returns the exit status.
+fn run_request<R: Files<File: Send, Dir: Send> + Threads + Wait + Sync, O: Write, E: Write>(
     rt: &R,
     alloc: Global,
-    asked: Asked,
+    request: Request,
     out: &mut O,
     err: &mut E,
 ) -> u8
@@ -90,10 +91,10 @@ fn run_asked<R: Files<File: Send, Dir: Send> + Threads + Wait + Sync, O: Write, 
     ensures incomplete { result ≡ 2 → out.new ≡ out.old }
     ensures bad_command { result ≡ 3 → out.new ≡ out.old }
 {
-    match asked {
-        Asked::Plan(plan) => run_site_plan(rt, alloc, &plan, out, err),
-        Asked::Help(text) => show_help(alloc, text.as_bytes(), out, err),
-        Asked::Wrong(text) => {
+    match request {
+        Request::Run(plan) => run_site_plan(rt, alloc, &plan, out, err),
+        Request::Help(text) => show_help(alloc, text.as_bytes(), out, err),
+        Request::Wrong(text) => {
             let _ = err.write_all(text.as_bytes());
             BAD_COMMAND_LINE
         }
@@ -108,14 +109,14 @@ fn show_help<O: Write, E: Write>(alloc: Global, text: &[u8], out: &mut O, err: &
     match write_text(out, text) {
         Ok(()) => 0,
         Err(fault) => {
-            tell_fault(alloc, err, "", fault);
+            print_fault(alloc, err, "", fault);
             fault.status()
         }
     }
 }
 
-/// What the arguments ask for.
-fn asked_of(alloc: Global, words: &[String], colour: bool) -> Result<Asked, AllocError> {
+/// What the arguments request.
+fn request_of(alloc: Global, words: &[String], colour: bool) -> Result<Request, AllocError> {
     let mut named = Vec::new(alloc);
     named.push("mercator")?;
     for word in words {
@@ -123,20 +124,21 @@ fn asked_of(alloc: Global, words: &[String], colour: bool) -> Result<Asked, Allo
     }
     match whole_command(alloc)?.try_get_matches_from(named.as_slice()) {
         Ok(matches) => match site_plan(alloc, &matches, colour)? {
-            Some(plan) => Ok(Asked::Plan(plan)),
-            None => Ok(Asked::Wrong(String::new(alloc))),
+            Some(plan) => Ok(Request::Run(plan)),
+            None => Ok(Request::Wrong(String::new(alloc))),
         },
-        Err(error) => shown(alloc, &error),
+        Err(error) => text_of(alloc, &error),
     }
 }
 
-/// The text of a result of `clap` that is not a command: help, or a usage error.
-fn shown(alloc: Global, error: &clap::Error) -> Result<Asked, AllocError> {
+/// The text of a result of `clap` that is not a command: help, or a usage error. An error quotes the arguments, so their hidden
+/// characters are escaped.
+fn text_of(alloc: Global, error: &clap::Error) -> Result<Request, AllocError> {
     let text = format!(in alloc; "{error}")?;
     if error.use_stderr() {
-        Ok(Asked::Wrong(text))
+        Ok(Request::Wrong(shown_lines(alloc, text.as_str())?))
     } else {
-        Ok(Asked::Help(text))
+        Ok(Request::Help(text))
     }
 }
 
@@ -162,7 +164,7 @@ pub fn run_site_plan<R: Files<File: Send, Dir: Send> + Threads + Wait + Sync, O:
     match run(rt, alloc, plan, out, err) {
         Ok(is_broken) => if is_broken { BROKEN } else { 0 },
         Err(fault) => {
-            tell_fault(alloc, err, told_name(plan, fault), fault);
+            print_fault(alloc, err, subject_of(plan, fault), fault);
             fault.status()
         }
     }
@@ -180,39 +182,39 @@ fn run<R: Files<File: Send, Dir: Send> + Threads + Wait + Sync, O: Write, E: Wri
     ensures incomplete { IfErr result (λ fault. status_of fault ≡ 2 → IsIncomplete plan.now × (out.new ≡ out.old)) }
 {
     match plan {
-        SitePlan::Site(asked) => {
-            let text = web_of_folder(rt, alloc, asked, err)?;
+        SitePlan::Site(options) => {
+            let text = web_of_folder(rt, alloc, options, err)?;
             write_text(out, text.as_slice())?;
             Ok(false)
         }
-        SitePlan::Check(asked) => run_check(rt, alloc, asked, out, err),
+        SitePlan::Check(options) => run_check(rt, alloc, options, out, err),
     }
 }
 
 fn run_check<R: Files<File: Send, Dir: Send> + Threads + Wait + Sync, O: Write, E: Write>(
     rt: &R,
     alloc: Global,
-    asked: &CheckAsked,
+    options: &CheckOptions,
     out: &mut O,
     err: &mut E,
 ) -> Result<bool, SiteFault>
-    ensures done { IfOk result (λ broken. GainsCheck asked.now broken (O.contents out.old) (O.contents out.new)) }
-    ensures fault { IfErr result (λ _. (out.new ≡ out.old) ⊎ HasReport asked.now) }
-    ensures incomplete { IfErr result (λ fault. status_of fault ≡ 2 → IsSiteIncomplete asked.now × (out.new ≡ out.old)) }
+    ensures done { IfOk result (λ broken. GainsCheck options.now broken (O.contents out.old) (O.contents out.new)) }
+    ensures fault { IfErr result (λ _. (out.new ≡ out.old) ⊎ HasReport options.now) }
+    ensures incomplete { IfErr result (λ fault. status_of fault ≡ 2 → IsSiteIncomplete options.now × (out.new ≡ out.old)) }
 {
-    let report = report_of_folder(rt, alloc, asked, err)?;
+    let report = report_of_folder(rt, alloc, options, err)?;
     write_text(out, report.text.as_slice())?;
     Ok(report.is_broken)
 }
 
 /// The name that an error is about.
-fn told_name(plan: &SitePlan, fault: SiteFault) -> &str {
+fn subject_of(plan: &SitePlan, fault: SiteFault) -> &str {
     match (plan, fault) {
-        (SitePlan::Check(asked), SiteFault::CannotReadKnown) => match &asked.known {
+        (SitePlan::Check(options), SiteFault::CannotReadKnown) => match &options.known {
             Some(file) => file.as_str(),
             None => "",
         },
-        (SitePlan::Check(asked), _) => asked.site.folder.as_str(),
-        (SitePlan::Site(asked), _) => asked.folder.as_str(),
+        (SitePlan::Check(options), _) => options.site.folder.as_str(),
+        (SitePlan::Site(options), _) => options.folder.as_str(),
     }
 }

@@ -1,13 +1,12 @@
 //! Writes the output of a command, and messages to standard error.
 ghost use Rattle.std.specs.Prelude.{◌≡◌, IfErr, IfOk, OnOk, string_bytes};
 ghost use Rattle.std.specs.Io.KnownBytes.{Appends};
-ghost use Rattle.check_report.specs.Text.{shown};
-ghost use Rattle.mercator_site.specs.Faults.{name_line, site_line, status_of};
+ghost use Rattle.mercator_site.specs.Faults.{note_line, site_line, status_of};
 
 use crate::fault::SiteFault;
-use check_report::put_shown;
 use mercator::{Fault, fault_line};
 use saved_site::Note;
+use shown_text::shown;
 use std::alloc::{AllocError, Global};
 use std::io::Write;
 
@@ -27,7 +26,7 @@ pub(crate) fn write_text<O: Write>(out: &mut O, text: &[u8]) -> Result<(), SiteF
 
 /// Prints one line for each note. If the place of a note begins with `front`, that is removed. A line that cannot be written is
 /// dropped.
-pub(crate) fn tell_notes<E: Write>(
+pub(crate) fn print_notes<E: Write>(
     alloc: Global,
     err: &mut E,
     front: &str,
@@ -36,23 +35,23 @@ pub(crate) fn tell_notes<E: Write>(
     for note in notes {
         let left = note.left;
         let words = format!(in alloc; "{left}")?;
-        let place = told_place(alloc, front, note.place.as_str())?;
-        tell_note(alloc, err, place.as_str(), words.as_str())?;
+        let place = short_place(alloc, front, note.place.as_str())?;
+        print_note(alloc, err, place.as_str(), words.as_str())?;
     }
     Ok(())
 }
 
-/// A place without `front`, if it begins with that. The top itself is `./`.
-fn told_place(alloc: Global, front: &str, place: &str) -> Result<String, AllocError> {
+/// A place without `front`, if it begins with `front`. The top itself is `./`.
+fn short_place(alloc: Global, front: &str, place: &str) -> Result<String, AllocError> {
     match place.strip_prefix(front) {
-        Some(behind) if !front.is_empty() => format!(in alloc; "{}{behind}", top_before(behind)),
+        Some(rest) if !front.is_empty() => format!(in alloc; "{}{rest}", top_before(rest)),
         _ => String::from_str(alloc, place),
     }
 }
 
 /// `./` if nothing is left of a place, or only the name of its encoding.
-fn top_before(behind: &str) -> &str {
-    if behind.is_empty() || behind.starts_with(' ') {
+fn top_before(rest: &str) -> &str {
+    if rest.is_empty() || rest.starts_with(' ') {
         "./"
     } else {
         ""
@@ -60,32 +59,19 @@ fn top_before(behind: &str) -> &str {
 }
 
 /// Prints a line about a place. A line that cannot be written is dropped.
-pub(crate) fn tell_note<E: Write>(
+pub(crate) fn print_note<E: Write>(
     alloc: Global,
     err: &mut E,
     place: &str,
     words: &str,
 ) -> Result<(), AllocError> {
     let line = note_line(alloc, place, words)?;
-    let _ = err.write_all(line.as_slice());
+    let _ = err.write_all(line.as_bytes());
     Ok(())
 }
 
-/// The line of a note. A place is an untrusted name, so its control bytes are shown as symbols.
-fn note_line(alloc: Global, place: &str, words: &str) -> Result<Vec<u8>, AllocError>
-    ensures { IfOk result (λ line. line.items ≡ name_line (shown place.now) words.now) }
-{
-    let mut line = Vec::new(alloc);
-    line.extend_from_slice(b"mercator: ")?;
-    put_shown(&mut line, place)?;
-    line.extend_from_slice(b": ")?;
-    line.extend_from_slice(words.as_bytes())?;
-    line.extend_from_slice(b"\n")?;
-    Ok(line)
-}
-
 /// Prints the message of an error. A line that cannot be written, or for which there is no memory, is dropped.
-pub(crate) fn tell_fault<E: Write>(alloc: Global, err: &mut E, name: &str, fault: SiteFault) {
+pub(crate) fn print_fault<E: Write>(alloc: Global, err: &mut E, name: &str, fault: SiteFault) {
     if let Ok(line) = line_of(alloc, name, fault) {
         let _ = err.write_all(line.as_bytes());
     }
@@ -99,31 +85,32 @@ fn line_of(alloc: Global, name: &str, fault: SiteFault) -> Result<String, AllocE
         SiteFault::CannotReadFolder | SiteFault::CannotReadKnown => {
             fault_line(alloc, name, Fault::CannotRead)
         }
-        SiteFault::BadBase => name_line(
+        SiteFault::BadBase => note_line(
             alloc,
             "BASE",
             "must be an http or https URL without a query",
         ),
-        SiteFault::BadHost => name_line(
+        SiteFault::BadHost => note_line(
             alloc,
             "BASE",
             "the host may contain only letters, digits, - and .",
         ),
-        SiteFault::NoFiles => name_line(alloc, name, "no files"),
-        SiteFault::BadSeed => name_line(alloc, "--seed", "not a URL below BASE"),
-        SiteFault::TooLarge => name_line(alloc, name, "more than 1073741824 bytes of links"),
+        SiteFault::NoFiles => note_line(alloc, name, "no files"),
+        SiteFault::BadSeed => note_line(alloc, "--seed", "not a URL below BASE"),
+        SiteFault::TooLarge => note_line(alloc, name, "more than 1073741824 bytes of links"),
         SiteFault::Crawl(fault) => fault_line(alloc, name, fault),
         SiteFault::CannotWrite => fault_line(alloc, name, Fault::CannotWrite),
         SiteFault::NoMemory => fault_line(alloc, name, Fault::NoMemory),
     }
 }
 
-/// A message about this name.
-fn name_line(alloc: Global, name: &str, words: &str) -> Result<String, AllocError>
-    ensures { IfOk result (λ line. string_bytes line ≡ name_line name.now words.now) }
+/// A line about something with this name. A name may come from anywhere, so its hidden characters are escaped.
+fn note_line(alloc: Global, name: &str, words: &str) -> Result<String, AllocError>
+    ensures { IfOk result (λ line. string_bytes line ≡ note_line name.now words.now) }
 {
+    let name = shown(alloc, name)?;
     let mut line = String::from_str(alloc, "mercator: ")?;
-    line.push_str(name)?;
+    line.push_str(name.as_str())?;
     line.push_str(": ")?;
     line.push_str(words)?;
     line.push_str("\n")?;

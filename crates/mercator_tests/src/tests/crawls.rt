@@ -21,11 +21,11 @@ struct Row {
     seeds: &'static str,
     workers: u32,
     max_pending: u64,
-    told: Told,
+    expected: Expected,
 }
 
 /// The expected result.
-enum Told {
+enum Expected {
     /// The report, and the queues that have URLs, with how many.
     Report(&'static str, &'static [(usize, u64)]),
     Fault(Fault),
@@ -38,7 +38,7 @@ const ROWS: [Row; 11] = [
         seeds: "http://a.test/",
         workers: 1,
         max_pending: 1_000_000,
-        told: Told::Report(RING_REPORT, &[(0, 4)]),
+        expected: Expected::Report(RING_REPORT, &[(0, 4)]),
     },
     Row {
         name: "small_web",
@@ -46,7 +46,7 @@ const ROWS: [Row; 11] = [
         seeds: "http://a.test/",
         workers: 2,
         max_pending: 1_000_000,
-        told: Told::Report(RING_REPORT, &[(0, 1), (1, 3)]),
+        expected: Expected::Report(RING_REPORT, &[(0, 1), (1, 3)]),
     },
     Row {
         name: "small_web",
@@ -54,7 +54,7 @@ const ROWS: [Row; 11] = [
         seeds: "http://a.test/",
         workers: 3,
         max_pending: 1_000_000,
-        told: Told::Report(RING_REPORT, &[(0, 1), (1, 1), (2, 2)]),
+        expected: Expected::Report(RING_REPORT, &[(0, 1), (1, 1), (2, 2)]),
     },
     Row {
         name: "crawl_with_512_workers",
@@ -62,7 +62,7 @@ const ROWS: [Row; 11] = [
         seeds: "http://a.test/",
         workers: 512,
         max_pending: 1_000_000,
-        told: Told::Report(RING_REPORT, &[(158, 1), (317, 2), (511, 1)]),
+        expected: Expected::Report(RING_REPORT, &[(158, 1), (317, 2), (511, 1)]),
     },
     Row {
         name: "no_seeds",
@@ -70,7 +70,7 @@ const ROWS: [Row; 11] = [
         seeds: "",
         workers: 2,
         max_pending: 1,
-        told: Told::Report(NOTHING, &[]),
+        expected: Expected::Report(NOTHING, &[]),
     },
     Row {
         name: "full_gate_loses_link",
@@ -78,7 +78,7 @@ const ROWS: [Row; 11] = [
         seeds: "http://a.test/",
         workers: 1,
         max_pending: 2,
-        told: Told::Fault(Fault::Crawl(CrawlError::Cert(CertError::LinkMissing))),
+        expected: Expected::Fault(Fault::Crawl(CrawlError::Cert(CertError::LinkMissing))),
     },
     Row {
         name: "full_gate_loses_link",
@@ -86,7 +86,7 @@ const ROWS: [Row; 11] = [
         seeds: "http://a.test/",
         workers: 1,
         max_pending: 3,
-        told: Told::Report(TWO_LINKS_REPORT, &[(0, 3)]),
+        expected: Expected::Report(TWO_LINKS_REPORT, &[(0, 3)]),
     },
     Row {
         name: "numbers_past_their_limits",
@@ -94,7 +94,7 @@ const ROWS: [Row; 11] = [
         seeds: "http://a.test/",
         workers: 0,
         max_pending: 1,
-        told: Told::Fault(Fault::Crawl(CrawlError::Frontier(FrontierError::BadWorkers))),
+        expected: Expected::Fault(Fault::Crawl(CrawlError::Frontier(FrontierError::BadWorkers))),
     },
     Row {
         name: "numbers_past_their_limits",
@@ -102,7 +102,7 @@ const ROWS: [Row; 11] = [
         seeds: "http://a.test/",
         workers: 513,
         max_pending: 0,
-        told: Told::Fault(Fault::Crawl(CrawlError::Frontier(FrontierError::BadWorkers))),
+        expected: Expected::Fault(Fault::Crawl(CrawlError::Frontier(FrontierError::BadWorkers))),
     },
     Row {
         name: "numbers_past_their_limits",
@@ -110,7 +110,7 @@ const ROWS: [Row; 11] = [
         seeds: "http://a.test/",
         workers: 1,
         max_pending: 0,
-        told: Told::Fault(Fault::Crawl(CrawlError::Frontier(FrontierError::BadLimit))),
+        expected: Expected::Fault(Fault::Crawl(CrawlError::Frontier(FrontierError::BadLimit))),
     },
     Row {
         name: "numbers_past_their_limits",
@@ -118,7 +118,7 @@ const ROWS: [Row; 11] = [
         seeds: "http://a.test/",
         workers: 512,
         max_pending: (1 << 40) + 1,
-        told: Told::Fault(Fault::Crawl(CrawlError::Frontier(FrontierError::BadLimit))),
+        expected: Expected::Fault(Fault::Crawl(CrawlError::Frontier(FrontierError::BadLimit))),
     },
 ];
 
@@ -176,7 +176,7 @@ fn report_of<R: Threads + Wait + Sync>(
     }
 }
 
-fn is_told(row: &Row, found: &Report, text: &str, counts: &[(usize, u64)]) -> bool {
+fn is_expected(row: &Row, found: &Report, text: &str, counts: &[(usize, u64)]) -> bool {
     found.text.as_slice() == text.as_bytes()
         && found.counts.len() == row.workers as usize
         && are_counts(&found.counts, counts)
@@ -185,13 +185,13 @@ fn is_told(row: &Row, found: &Report, text: &str, counts: &[(usize, u64)]) -> bo
 /// Whether the result is the expected one.
 fn holds<R: Threads + Wait + Sync>(rt: &R, alloc: Global, row: &Row, mode: Mode) -> bool {
     match report_of(rt, alloc, row, mode) {
-        Ok(found) => match &row.told {
-            Told::Report(text, counts) => is_told(row, &found, text, counts),
-            Told::Fault(_) => false,
+        Ok(found) => match &row.expected {
+            Expected::Report(text, counts) => is_expected(row, &found, text, counts),
+            Expected::Fault(_) => false,
         },
-        Err(fault) => match &row.told {
-            Told::Report(..) => false,
-            Told::Fault(wanted) => fault == *wanted,
+        Err(fault) => match &row.expected {
+            Expected::Report(..) => false,
+            Expected::Fault(expected) => fault == *expected,
         },
     }
 }

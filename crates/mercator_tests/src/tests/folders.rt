@@ -30,6 +30,7 @@ impl OneFile {
             index: String::from_str(alloc, "index.html")?,
             queries: false,
             exact: false,
+            follow: false,
             anchors: true,
             places: true,
             threads: 2,
@@ -109,8 +110,8 @@ fn settings(none: &[String]) -> CheckSettings<'_> {
     }
 }
 
-fn tells_its_link(report: &CheckReport) -> bool {
-    let front = b"pages 1, links 1, redirects 0\nbroken links 1, missing pages 1,";
+fn lists_its_link(report: &CheckReport) -> bool {
+    let front = b"pages 1, links 1, redirects 0, aliases 0\nbroken links 1, missing pages 1,";
     report.is_broken && report.text.as_slice().starts_with(front)
 }
 
@@ -120,7 +121,7 @@ fn is_checked<R: Threads + Wait + Sync>(rt: &R, alloc: Global, site: &OneFile) -
         bodies: site.bodies.as_slice(),
     };
     let report = report_of_files(rt, alloc, files, BASE, &site.rules, settings(&[])).ok()?;
-    Some(tells_its_link(&report))
+    Some(lists_its_link(&report))
 }
 
 fn is_checked_by_its_web<R: Threads + Wait + Sync>(
@@ -131,7 +132,7 @@ fn is_checked_by_its_web<R: Threads + Wait + Sync>(
     let files = SiteFiles::new(alloc, site.input()).ok()?;
     let web = files_web(rt, alloc, &files, &[], site.bodies.as_slice()).ok()?;
     let report = report_of_site(rt, alloc, web, &files, site, settings(&[])).ok()?;
-    Some(tells_its_link(&report))
+    Some(lists_its_link(&report))
 }
 
 // The saved web and the pages in memory have the page at the top, and the check reports its link.

@@ -14,9 +14,9 @@ const NOT_FETCHED: CrawlError = CrawlError::Cert(CertError::NotFetched);
 
 /// The result of a crawl.
 #[derive(Clone, Copy, PartialEq, Eq)]
-enum Told {
+enum Outcome {
     /// The expected report and counts.
-    Asked,
+    Expected,
     /// Another report or other counts.
     Other,
     /// A page is missing.
@@ -27,7 +27,7 @@ enum Told {
 
 /// A report, and counts of queues, where these matter.
 #[derive(Clone, Copy)]
-struct Asked {
+struct Expected {
     report: &'static str,
     counts: &'static [u64],
 }
@@ -39,27 +39,27 @@ fn is_report(alloc: Global, found: &Crawled, report: &str) -> bool {
     }
 }
 
-fn told_of(alloc: Global, found: &Crawled, asked: Asked) -> Told {
-    let are_counts = asked.counts.is_empty() || found.counts.as_slice() == asked.counts;
-    if are_counts && is_report(alloc, found, asked.report) {
-        Told::Asked
+fn outcome_of(alloc: Global, found: &Crawled, expected: Expected) -> Outcome {
+    let are_counts = expected.counts.is_empty() || found.counts.as_slice() == expected.counts;
+    if are_counts && is_report(alloc, found, expected.report) {
+        Outcome::Expected
     } else {
-        Told::Other
+        Outcome::Other
     }
 }
 
-fn told_of_fault(error: CrawlError) -> Told {
+fn outcome_of_fault(error: CrawlError) -> Outcome {
     if error == NOT_FETCHED {
-        Told::Lacks
+        Outcome::Lacks
     } else {
-        Told::Fault
+        Outcome::Fault
     }
 }
 
-fn told_by(alloc: Global, found: Result<Crawled, CrawlError>, asked: Asked) -> Told {
+fn outcome_by(alloc: Global, found: Result<Crawled, CrawlError>, expected: Expected) -> Outcome {
     match found {
-        Ok(found) => told_of(alloc, &found, asked),
-        Err(error) => told_of_fault(error),
+        Ok(found) => outcome_of(alloc, &found, expected),
+        Err(error) => outcome_of_fault(error),
     }
 }
 
@@ -96,23 +96,23 @@ const ONE_IN_A_THREAD: Workers = Workers {
 };
 
 /// The result of a crawl from these seeds, with room for all URLs.
-fn told_from<F: Fetch + Sync, R: Threads + Wait + Sync>(
+fn outcome_from<F: Fetch + Sync, R: Threads + Wait + Sync>(
     rt: &R,
     alloc: Global,
     source: &F,
     hosts: &[&str],
     workers: Workers,
-    asked: Asked,
-) -> Told {
+    expected: Expected,
+) -> Outcome {
     let seeds = urls(alloc, hosts);
     let Workers { count, mode } = workers;
     match Filter::new(alloc, &[]) {
-        Ok(every) => told_by(
+        Ok(every) => outcome_by(
             alloc,
             crawl(rt, alloc, source, &every, &seeds, count, 1_000_000, mode),
-            asked,
+            expected,
         ),
-        Err(_) => Told::Fault,
+        Err(_) => Outcome::Fault,
     }
 }
 
@@ -122,14 +122,14 @@ fn one_link_to<R: Threads + Wait + Sync>(
     from: CanonUrl,
     to: CanonUrl,
     mode: Mode,
-) -> Told {
-    let asked = Asked {
+) -> Outcome {
+    let expected = Expected {
         report: "ok 1 0 http://a.test/\nmissing http://b.test/\ntotal 2 ok 1 missing 1\n",
         counts: &[1, 1, 0],
     };
     let workers = Workers { count: 3, mode };
     let source = OneLink { from, to };
-    told_from(rt, alloc, &source, &["http://a.test/"], workers, asked)
+    outcome_from(rt, alloc, &source, &["http://a.test/"], workers, expected)
 }
 
 fn one_link_from<R: Threads + Wait + Sync>(
@@ -137,29 +137,29 @@ fn one_link_from<R: Threads + Wait + Sync>(
     alloc: Global,
     from: CanonUrl,
     mode: Mode,
-) -> Told {
+) -> Outcome {
     match canonical(alloc, "http://b.test/") {
         Ok(to) => one_link_to(rt, alloc, from, to, mode),
-        Err(_) => Told::Fault,
+        Err(_) => Outcome::Fault,
     }
 }
 
 /// A crawl of a page with one link.
-fn one_link<R: Threads + Wait + Sync>(rt: &R, alloc: Global, mode: Mode) -> Told {
+fn one_link<R: Threads + Wait + Sync>(rt: &R, alloc: Global, mode: Mode) -> Outcome {
     match canonical(alloc, "http://a.test/") {
         Ok(from) => one_link_from(rt, alloc, from, mode),
-        Err(_) => Told::Fault,
+        Err(_) => Outcome::Fault,
     }
 }
 
 // Both pages are found, and counted.
 #[test]
 fn a_source_of_ones_own(rt: HostRuntime) {
-    assert!(rt; one_link(&rt, rt.alloc(), Mode::Turns) == Told::Asked);
-    assert!(rt; one_link(&rt, rt.alloc(), Mode::Threads) == Told::Asked);
+    assert!(rt; one_link(&rt, rt.alloc(), Mode::Turns) == Outcome::Expected);
+    assert!(rt; one_link(&rt, rt.alloc(), Mode::Threads) == Outcome::Expected);
 }
 
-const THE_RING: Asked = Asked {
+const THE_RING: Expected = Expected {
     report: RING_REPORT,
     counts: &[],
 };
@@ -170,13 +170,13 @@ fn without<R: Threads + Wait + Sync>(
     alloc: Global,
     host: &'static str,
     workers: Workers,
-) -> Told {
+) -> Outcome {
     match SavedWeb::read(alloc, RING.as_bytes()) {
         Ok(web) => {
             let source = WithoutHost { web, host };
-            told_from(rt, alloc, &source, &["http://a.test/"], workers, THE_RING)
+            outcome_from(rt, alloc, &source, &["http://a.test/"], workers, THE_RING)
         }
-        Err(_) => Told::Fault,
+        Err(_) => Outcome::Fault,
     }
 }
 
@@ -185,33 +185,33 @@ fn without<R: Threads + Wait + Sync>(
 fn failing_host(rt: HostRuntime) {
     for host in ["c.test", "a.test"] {
         assert!(rt;
-            without(&rt, rt.alloc(), host, ONE_IN_TURN) == Told::Lacks,
+            without(&rt, rt.alloc(), host, ONE_IN_TURN) == Outcome::Lacks,
             "{host}"
         );
         assert!(rt;
-            without(&rt, rt.alloc(), host, ONE_IN_A_THREAD) == Told::Lacks,
+            without(&rt, rt.alloc(), host, ONE_IN_A_THREAD) == Outcome::Lacks,
             "{host}"
         );
     }
 }
 
 /// A crawl of two pages in which the first fetch waits for another one. It succeeds only if two workers fetch at the same time.
-fn first_waits<R: Threads + Wait + Sync>(rt: &R, alloc: Global, mode: Mode) -> Told {
+fn first_waits<R: Threads + Wait + Sync>(rt: &R, alloc: Global, mode: Mode) -> Outcome {
     let source = FirstWaits {
         begun: AtomicU64::new(0),
     };
-    let asked = Asked {
+    let expected = Expected {
         report: "missing http://a.test/\nmissing http://b.test/\ntotal 2 ok 0 missing 2\n",
         counts: &[],
     };
     let hosts = ["http://a.test/", "http://b.test/"];
-    told_from(
+    outcome_from(
         rt,
         alloc,
         &source,
         &hosts,
         Workers { count: 2, mode },
-        asked,
+        expected,
     )
 }
 
@@ -219,21 +219,21 @@ fn first_waits<R: Threads + Wait + Sync>(rt: &R, alloc: Global, mode: Mode) -> T
 // URL in threads; `crawls_without_workers`, which walks the saved web itself, would lose none in turn.
 #[test]
 fn workers_run_together(rt: HostRuntime) {
-    assert!(rt; first_waits(&rt, rt.alloc(), Mode::Threads) == Told::Asked);
-    assert!(rt; first_waits(&rt, rt.alloc(), Mode::Turns) == Told::Lacks);
+    assert!(rt; first_waits(&rt, rt.alloc(), Mode::Threads) == Outcome::Expected);
+    assert!(rt; first_waits(&rt, rt.alloc(), Mode::Turns) == Outcome::Lacks);
 }
 
 /// A crawl of the ring, where every third fetch fails.
-fn third_fails<R: Threads + Wait + Sync>(rt: &R, alloc: Global, count: u32) -> Told {
+fn third_fails<R: Threads + Wait + Sync>(rt: &R, alloc: Global, count: u32) -> Outcome {
     let mode = Mode::Threads;
     match SavedWeb::read(alloc, RING.as_bytes()) {
         Ok(web) => {
             let fetched = AtomicU64::new(0);
             let source = ThirdFails { web, fetched };
             let workers = Workers { count, mode };
-            told_from(rt, alloc, &source, &["http://a.test/"], workers, THE_RING)
+            outcome_from(rt, alloc, &source, &["http://a.test/"], workers, THE_RING)
         }
-        Err(_) => Told::Fault,
+        Err(_) => Outcome::Fault,
     }
 }
 
@@ -242,8 +242,8 @@ fn third_fails<R: Threads + Wait + Sync>(rt: &R, alloc: Global, count: u32) -> T
 fn incomplete_or_the_one_report(rt: HostRuntime) {
     for workers in [1, 4, 64] {
         for _ in 0..100 {
-            let told = third_fails(&rt, rt.alloc(), workers);
-            assert!(rt; told == Told::Asked || told == Told::Lacks, "{workers}");
+            let outcome = third_fails(&rt, rt.alloc(), workers);
+            assert!(rt; outcome == Outcome::Expected || outcome == Outcome::Lacks, "{workers}");
         }
     }
 }

@@ -10,9 +10,9 @@ returns c = record {
   ways = c.findings-findings.ensures.redirects;
   unused = c.findings-findings.ensures.unused_ignores;
   is_broken = c.is_broken.ensures;
-  told = record { unreached = c.args.settings.unreached; external = c.slice_of.result; folder = c.args.settings.folder };
+  contents = record { unreached = c.args.settings.unreached; external = c.slice_of.result; folder = c.args.settings.folder };
   unreached = refl;
   folder = refl;
-  others_told = c.slice_of.ensures;
+  others_listed = c.slice_of.ensures;
   written = c.in_ok-text.ensures;
 }

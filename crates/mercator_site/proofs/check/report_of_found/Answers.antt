@@ -8,7 +8,7 @@ use Rattle.site_check.specs.Ignored.{AreUnused, parts_in}
 use Rattle.site_check.specs.Names.{AreNamed}
 use Rattle.site_check.specs.Told.{rows_in, way_of}
 use Rattle.site_check.specs.Totals.{totals_of}
-use Rattle.mercator_site.specs.Checks.{AreOthersAsked, IsTopCrawl}
+use Rattle.mercator_site.specs.Checks.{AreOthersListed, IsTopCrawl}
 use Rattle.mercator_site.specs.External.{row_of}
 use Rattle.mercator_site.specs.Own.{own_of}
 use Rattle.mercator_site.proofs.TopCrawls.{same_url}
@@ -25,43 +25,45 @@ returns-clause-named g c = λ web crawled.
     let crawl = subst C (sym c.pages.ensures) crawled in
     let same_top : c.in_ok-url.url ≡ crawl.url = same_url _ _ _ (ap canonical (sym c.top.ensures) ∙ c.in_ok-url.ensures.canon) crawl.canon in
     let others = option_map (λ (urls : Vec External Global). map row_of urls.items) c.in_ok-others.others in
-    let D : List ℕ → Type 0 = λ o. AreOthersAsked external o pages others in
+    let D : List ℕ → Type 0 = λ o. AreOthersListed external o pages others in
     let d = subst D same_top c.in_ok-others.ensures in
     let front = c.args.settings.front.now in
     let entries = map string_bytes c.args.settings.ignores.now in
-    let asked = c.asked_of-asked.result in
-    let same_front = c.asked_of-asked.ensures.front in
-    let same_entries = ap (map string_bytes) c.asked_of-asked.ensures.ignores in
+    let input = c.input_of-input.result in
+    let same_front = c.input_of-input.ensures.front in
+    let same_entries = ap (map string_bytes) c.input_of-input.ensures.ignores in
     let checked = c.in_ok-checked.checked in
-    let told = c.in_ok-report.ensures in
+    let report = c.in_ok-report.ensures in
+    let aliases = c.args.found.aliases.items in
+    let same_aliases = c.input_of-input.ensures.aliases ∙ c.as_slice.ensures.value in
     record {
       check = record {
         pages = all;
         crawled = crawl;
         own = pages;
         are_own = c.own_results-pages.ensures crawl.crawl.found.ascends ∙ ap (λ o. own_of o all) same_top;
-        found = told.found;
+        found = report.found;
         rows =
-            ap rows_in told.rows ∙ c.in_ok-checked.ensures.broken ∙ ap (λ f. broken_of f (map string_bytes asked.ignores.now) pages) same_front
+            ap rows_in report.rows ∙ c.in_ok-checked.ensures.broken ∙ ap (λ f. broken_of f (map string_bytes input.ignores.now) pages) same_front
             ∙ ap (λ es. broken_of front es pages) same_entries;
-        ways = ap (map way_of) told.ways ∙ c.in_ok-checked.ensures.redirects ∙ ap (λ f. redirects_of f pages) same_front;
+        ways = ap (map way_of) report.ways ∙ c.in_ok-checked.ensures.redirects ∙ ap (λ f. redirects_of f pages) same_front;
         totals =
-            told.totals ∙ c.in_ok-checked.ensures.totals ∙ ap (λ bs. totals_of pages bs checked.redirects.items) (sym told.rows)
-            ∙ ap (λ ws. totals_of pages told.found.broken.now ws) (sym told.ways);
+            report.totals ∙ c.in_ok-checked.ensures.totals ∙ ap (λ named. totals_of named pages checked.broken.items checked.redirects.items) same_aliases ∙ ap (λ bs. totals_of aliases pages bs checked.redirects.items) (sym report.rows)
+            ∙ ap (λ ws. totals_of aliases pages report.found.broken.now ws) (sym report.ways);
         site = c.args.files.now;
         site_top = refl;
-        names = subst (λ bs. AreNamed front c.args.files.now bs) (sym told.rows) (subst (λ f. AreNamed f c.args.files.now checked.broken.items) same_front c.in_ok-checked.ensures.names);
+        names = subst (λ bs. AreNamed front c.args.files.now bs) (sym report.rows) (subst (λ f. AreNamed f c.args.files.now checked.broken.items) same_front c.in_ok-checked.ensures.names);
         unused =
-            subst (λ us. AreUnused front entries pages (parts_in told.found.broken.now) (map string_bytes us)) (sym told.unused)
-            (subst (λ bs. AreUnused front entries pages (parts_in bs) (map string_bytes checked.unused_ignores.items)) (sym told.rows)
+            subst (λ us. AreUnused front entries pages (parts_in report.found.broken.now) (map string_bytes us)) (sym report.unused)
+            (subst (λ bs. AreUnused front entries pages (parts_in bs) (map string_bytes checked.unused_ignores.items)) (sym report.rows)
             (subst (λ es. AreUnused front es pages (parts_in checked.broken.items) (map string_bytes checked.unused_ignores.items)) same_entries
-            (subst (λ f. AreUnused f (map string_bytes asked.ignores.now) pages (parts_in checked.broken.items) (map string_bytes checked.unused_ignores.items)) same_front c.in_ok-checked.ensures.ignores)));
-        is_broken = told.is_broken ∙ ap (λ bs. not (length bs == 0)) (sym told.rows);
-        told = told.told;
-        unreached = told.unreached;
-        folder = told.folder;
-        others = subst (λ rows. AreOthersAsked external crawl.url pages rows) (sym told.others_told) d;
-        written = told.written;
+            (subst (λ f. AreUnused f (map string_bytes input.ignores.now) pages (parts_in checked.broken.items) (map string_bytes checked.unused_ignores.items)) same_front c.in_ok-checked.ensures.ignores)));
+        is_broken = report.is_broken ∙ ap (λ bs. not (length bs == 0)) (sym report.rows);
+        contents = report.contents;
+        unreached = report.unreached;
+        folder = report.folder;
+        others = subst (λ rows. AreOthersListed external crawl.url pages rows) (sym report.others_listed) d;
+        written = report.written;
       };
-      base = told.base;
+      base = report.base;
     }

@@ -13,7 +13,7 @@ returns-clause-named g c = λ web source.
 
 pub returns-clause-done : goal.returns-clause-done
 unfolding returns-clause-named
-returns-clause-done g c = λ web source. unnamed c.report_of_found.result _ _ _ _ (returns-clause-named g c web source)
+returns-clause-done g c = λ web source. unnamed c.report_of_found.result _ _ _ _ _ (returns-clause-named g c web source)
 
 pub returns-clause-incomplete : goal.returns-clause-incomplete
 returns-clause-incomplete g c = λ web source. not_incomplete _ c.report_of_found.result c.report_of_found.ensures.plain

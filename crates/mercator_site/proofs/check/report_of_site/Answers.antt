@@ -15,7 +15,7 @@ returns-clause-named g c =
 
 pub returns-clause-done : goal.returns-clause-done
 unfolding returns-clause-named
-returns-clause-done g c = unnamed c.report_of_found.result _ _ _ _ (returns-clause-named g c)
+returns-clause-done g c = unnamed c.report_of_found.result _ _ _ _ _ (returns-clause-named g c)
 
 pub returns-clause-incomplete : goal.returns-clause-incomplete
 returns-clause-incomplete g c = not_incomplete _ c.report_of_found.result c.report_of_found.ensures.plain

@@ -4,7 +4,7 @@ use Rattle.std.proofs.lemmas.Result.{err_from_is_err_and}
 use Rattle.mercator_site.specs.Asks.{Asks}
 use Rattle.mercator_site.specs.Checks.{IsCheck, IsNamedCheck}
 use Rattle.mercator_site.specs.Faults.{IsTopIncomplete}
-use Rattle.mercator_site.proofs.TopCrawls.{source_of}
+use Rattle.mercator_site.proofs.TopCrawls.{aliases_in, source_of}
 use Rattle.saved_site.specs.Below.{IsTop}
 use Rattle.mercator_site.proofs.folder.report_of_names.Goals as goal
 
@@ -21,7 +21,7 @@ returns-in_err-report-clause-incomplete g c =
       web = web;
       made = source.web;
       crawl =
-          subst (λ n. IsTopIncomplete top web (map string_bytes c.args.asked.now.seeds.items) n) c.settings_of-settings.ensures.workers
+          subst (λ n. IsTopIncomplete top web (map string_bytes c.args.options.now.seeds.items) n) c.settings_of-settings.ensures.workers
           (subst (λ links. IsTopIncomplete top web links c.settings_of-settings.result.workers) seeds (c.in_err-report.ensures.incomplete web (source_of _ _ source) two));
     })
 
@@ -37,7 +37,9 @@ returns-clause-done g c =
         top = top;
         web = source.bytes;
         made = source.web;
-        checked = subst (λ (a : Asks). IsCheck top source.bytes a report.is_broken report.text.items) c.settings_of-settings.ensures.asks check;
+        aliases = c.in_ok-site.site.aliases.items;
+        are_aliases = aliases_in _ _ _ (source_of _ _ source) c.in_ok-site.ensures.aliases;
+        checked = subst (λ (a : Asks). IsCheck top source.bytes c.in_ok-site.site.aliases.items a report.is_broken report.text.items) c.settings_of-settings.ensures.asks check;
       },
     )
 
@@ -47,19 +49,21 @@ returns-clause-folder g c = λ none_known based.
     let source = c.in_ok-site.ensures.source in
     let web = source.bytes in
     let report = c.in_ok-report.report in
-    let paths = c.args.asked.now.paths in
-    let folder = string_bytes c.args.asked.now.site.folder in
+    let paths = c.args.options.now.paths in
+    let folder = string_bytes c.args.options.now.site.folder in
     let name = c.settings_of-settings.result.name.now in
     let named =
-    subst (λ (a : Asks). IsNamedCheck name top web a report.is_broken report.text.items) c.settings_of-settings.ensures.asks
+    subst (λ (a : Asks). IsNamedCheck name top web c.in_ok-site.site.aliases.items a report.is_broken report.text.items) c.settings_of-settings.ensures.asks
     (c.in_ok-report.ensures.named web (source_of _ _ source)) in
     record {
       front = c.settings_of-settings.result.front.now;
       entries = map string_bytes c.args.known.now;
-      told = record {
+      site = record {
         top = top;
         web = web;
         made = source.web;
+        aliases = c.in_ok-site.site.aliases.items;
+        are_aliases = aliases_in _ _ _ (source_of _ _ source) c.in_ok-site.ensures.aliases;
         checked = named.check;
       };
       fronted = c.settings_of-settings.ensures.front ∙ ap (λ (t : List ℕ). if paths then t else []) c.top.ensures;

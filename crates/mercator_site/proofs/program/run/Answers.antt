@@ -1,7 +1,7 @@
 use Rattle.std.proofs.Common.{◌≡◌, IfErr, sym, subst}
 use Rattle.mercator_site.specs.Ends.{IsIncomplete}
 use Rattle.mercator_site.specs.Faults.{status_of}
-use Rattle.mercator_site.specs.declared.asked.SitePlan.{SitePlan}
+use Rattle.mercator_site.specs.declared.options.SitePlan.{SitePlan}
 use Rattle.mercator_site.proofs.program.run.Goals as goal
 
 pub returns-in-Check-clause-incomplete : goal.returns-in-Check-clause-incomplete

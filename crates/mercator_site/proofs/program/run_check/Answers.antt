@@ -11,7 +11,7 @@ returns-in_err-write_text-clause-fault g c =
     (record {
       broken = c.in_ok-report.report.is_broken;
       text = c.in_ok-report.report.text.items;
-      told = c.in_ok-report.ensures.folder;
+      report = c.in_ok-report.ensures.folder;
     }))
 
 pub returns-in_err-report-clause-incomplete : goal.returns-in_err-report-clause-incomplete
