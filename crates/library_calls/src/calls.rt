@@ -1,23 +1,23 @@
-//! Calls of a frontier as lines of text, and what each answers: a block a frontier, with an empty line between two.
+//! Calls of a frontier, one per line of text, and the outcome of each. A block of lines is one frontier, and an empty line ends it.
 //!
-//! The first line of a block is `frontier WORKERS MAX SUFFIX..`. The others are calls, of the hand at PLACE:
+//! The first line of a block is `frontier WORKERS MAX SUFFIX..`. Each other line is a call by the hand PLACE:
 //!
-//! - `another PLACE ID`: the seeder makes a sender (`made`);
-//! - `offer PLACE URL`: answered as the frontier does, `none` where the hand cannot offer;
-//! - `next PLACE`: the worker's turn (`taken HOPS URL`, `idle COUNT`, `closed`), the end of its URL (`done`), or of the seeds
-//!   (`ended`);
-//! - `admit PLACE OWN HOPS URL`: the URL is admitted to subqueue 0 by the pass of an idle worker (`admitted`, `too far`);
-//! - `leave PLACE`: the hand is dropped;
-//! - `leaves PLACE COUNT BUSY`: in the run, the worker leaves at this URL, with it in hand (1) or behind it (0);
-//! - `# TEXT`: told as it is;
-//! - `run PAGES SEEDS SENT UNTIL TURNS`: each hand in its thread (`Plan` of `running.rt` says what they do), with its notes.
+//! - `another PLACE ID`: the seeder makes a sender (`made`).
+//! - `offer PLACE URL`: prints the result of the offer, or `none` if the hand cannot offer.
+//! - `next PLACE`: the worker's turn (`taken HOPS URL`, `idle COUNT`, `closed`), or the end of its URL (`done`) or of the seeds
+//!   (`ended`).
+//! - `admit PLACE OWN HOPS URL`: the pass of an idle worker admits the URL to queue 0 (`admitted NUMBER INDEX`, `too far`).
+//! - `leave PLACE`: drops the hand.
+//! - `leaves PLACE COUNT BUSY`: in a run, the worker leaves at its URL number COUNT, before it is done (1) or after (0).
+//! - `# TEXT`: is printed as it is.
+//! - `run PAGES SEEDS SENT UNTIL TURNS`: runs each hand in a thread, as `Plan` of `running.rt` describes, and prints its notes.
 //!
-//! At the end of the block the frontier is finished: each entry of the account is told, or why there is none.
+//! At the end of a block the frontier is finished, and each entry of the account is printed, or the reason why there is none.
 ghost use Rattle.std.specs.Prelude.{◌≡◌};
 
 use crate::filters::filter_by;
 use crate::hands::{Hand, Part, admit_by, another, finish, go_on, leave, offer, open, push};
-use crate::notes::{Note, Said};
+use crate::notes::{Note, Outcome};
 use crate::running::{Plan, run_all};
 use crawl_frontier::{Account, Entry, FinishError, Frontier, FrontierError, Name, Setup, Turn};
 use crawl_keys::{CanonUrl, Filter, canonical};
@@ -26,12 +26,12 @@ use std::marker::Brand;
 use std::sync::Wait;
 use std::thread::Threads;
 
-// The first word of a text, and what stands behind it.
+// The first word of a text, and the text after it.
 fn word(text: &str) -> (&str, &str) {
     text.split_once(' ').unwrap_or((text, ""))
 }
 
-// The number that a text begins with, or 0, and what stands behind it.
+// The number that a text begins with, or 0, and the text after it.
 fn number(text: &str) -> (u64, &str) {
     let (digits, rest) = word(text);
     (digits.parse::<u64>().unwrap_or(0), rest)
@@ -57,41 +57,41 @@ fn plan_of(text: &str) -> Plan {
     }
 }
 
-fn tell<R: Print>(rt: &R, said: Said) {
-    let Said {
+fn print_outcome<R: Print>(rt: &R, outcome: Outcome) {
+    let Outcome {
         word,
         first,
         second,
-    } = said;
+    } = outcome;
     let _ = println!(rt; "{word} {first} {second}");
 }
 
-fn tell_taken<R: Print>(rt: &R, hops: u32, url: &CanonUrl) {
+fn print_taken<R: Print>(rt: &R, hops: u32, url: &CanonUrl) {
     let text = url.as_str();
     let _ = println!(rt; "taken {hops} {text}");
 }
 
-fn tell_idle<R: Print>(rt: &R, count: u64) {
+fn print_idle<R: Print>(rt: &R, count: u64) {
     let _ = println!(rt; "idle {count}");
 }
 
-fn tell_word<R: Print>(rt: &R, word: &str) {
+fn print_word<R: Print>(rt: &R, word: &str) {
     let _ = println!(rt; "{word}");
 }
 
-// Tells what the hand does now.
-fn tell_part<K: Name, R: Print>(rt: &R, part: &Part<K>) {
+// Prints what the hand does now.
+fn print_part<K: Name, R: Print>(rt: &R, part: &Part<K>) {
     match part {
-        Part::Worker(Turn::Busy(worker)) => tell_taken(rt, worker.hops(), worker.url()),
-        Part::Worker(Turn::Idle(_, 0)) => tell_word(rt, "done"),
-        Part::Worker(Turn::Idle(_, count)) => tell_idle(rt, *count),
-        Part::Worker(Turn::Closed(_)) => tell_word(rt, "closed"),
-        Part::Sender(_) => tell_word(rt, "ended"),
-        _ => tell_word(rt, "gone"),
+        Part::Worker(Turn::Busy(worker)) => print_taken(rt, worker.hops(), worker.url()),
+        Part::Worker(Turn::Idle(_, 0)) => print_word(rt, "done"),
+        Part::Worker(Turn::Idle(_, count)) => print_idle(rt, *count),
+        Part::Worker(Turn::Closed(_)) => print_word(rt, "closed"),
+        Part::Sender(_) => print_word(rt, "ended"),
+        _ => print_word(rt, "gone"),
     }
 }
 
-fn tell_offer<K: Name, R: Print + Wait>(
+fn print_offer<K: Name, R: Print + Wait>(
     rt: &R,
     alloc: Global,
     frontier: &Frontier<K>,
@@ -99,12 +99,12 @@ fn tell_offer<K: Name, R: Print + Wait>(
     text: &str,
 ) {
     match canonical(alloc, text) {
-        Ok(url) => tell(rt, offer(rt, frontier, part, &url)),
-        Err(_) => tell(rt, Said::word("no URL")),
+        Ok(url) => print_outcome(rt, offer(rt, frontier, part, &url)),
+        Err(_) => print_outcome(rt, Outcome::word("no URL")),
     }
 }
 
-fn tell_admit<K: Name, R: Print + Wait>(
+fn print_admit<K: Name, R: Print + Wait>(
     rt: &R,
     alloc: Global,
     frontier: &Frontier<K>,
@@ -114,7 +114,7 @@ fn tell_admit<K: Name, R: Print + Wait>(
     let (own, text) = number(text);
     let (hops, text) = number(text);
     if let Ok(url) = canonical(alloc, text) {
-        tell_word(rt, admit_by(rt, frontier, part, &url, own, hops));
+        print_outcome(rt, admit_by(rt, frontier, part, &url, own, hops));
     }
 }
 
@@ -128,35 +128,35 @@ fn call_of<K: Name, R: Print + Wait>(
     text: &str,
 ) {
     match verb {
-        "offer" => tell_offer(rt, alloc, frontier, &mut hand.part, text),
+        "offer" => print_offer(rt, alloc, frontier, &mut hand.part, text),
         "next" => {
             go_on(rt, frontier, &mut hand.part);
-            tell_part(rt, &hand.part);
+            print_part(rt, &hand.part);
         }
-        "admit" => tell_admit(rt, alloc, frontier, &mut hand.part, text),
+        "admit" => print_admit(rt, alloc, frontier, &mut hand.part, text),
         "leave" => leave(&mut hand.part),
         "leaves" => {
             let (count, busy) = number(text);
             hand.notes.leaves_at = count;
             hand.notes.leaves_busy = busy == "1";
         }
-        _ => tell(rt, Said::word("no such call")),
+        _ => print_outcome(rt, Outcome::word("no such call")),
     }
 }
 
-fn tell_note<R: Print>(rt: &R, place: usize, note: &Note) {
-    let Said {
+fn print_note<R: Print>(rt: &R, place: usize, note: &Note) {
+    let Outcome {
         word,
         first,
         second,
-    } = note.said;
+    } = note.outcome;
     let (page, late) = (note.page, note.late);
     let _ = println!(rt; "{place} {word} {page} {first} {second} {late}");
 }
 
-fn tell_notes<R: Print>(rt: &R, place: usize, notes: &[Note]) {
+fn print_notes<R: Print>(rt: &R, place: usize, notes: &[Note]) {
     for note in notes {
-        tell_note(rt, place, note);
+        print_note(rt, place, note);
     }
 }
 
@@ -169,11 +169,11 @@ fn run<K: Name + Send + Sync, R: Print + Threads + Wait + Sync>(
 ) {
     run_all(rt, alloc, frontier, hands, plan);
     for (place, hand) in hands.iter().enumerate() {
-        tell_notes(rt, place, hand.notes.list.as_slice());
+        print_notes(rt, place, hand.notes.list.as_slice());
     }
 }
 
-// Whether the seeder at this place made one more sender, behind the others.
+// Whether the seeder at this place made one more sender, at the end of the list.
 fn made<K: Name>(
     alloc: Global,
     frontier: &Frontier<K>,
@@ -188,7 +188,7 @@ fn made<K: Name>(
     push(alloc, hands, sender)
 }
 
-fn tell_made<K: Name, R: Print>(
+fn print_made<K: Name, R: Print>(
     rt: &R,
     alloc: Global,
     frontier: &Frontier<K>,
@@ -198,10 +198,10 @@ fn tell_made<K: Name, R: Print>(
     let (place, text) = size(text);
     let (id, _) = number(text);
     let is_made = made(alloc, frontier, hands, place, id);
-    tell_word(rt, if is_made { "made" } else { "not made" });
+    print_word(rt, if is_made { "made" } else { "not made" });
 }
 
-// A call of the hand whose place the text begins with, if it is there.
+// A call of the hand whose place the text begins with, if there is such a hand.
 fn call_at<K: Name, R: Print + Wait>(
     rt: &R,
     alloc: Global,
@@ -225,37 +225,37 @@ fn call<K: Name + Send + Sync, R: Print + Threads + Wait + Sync>(
 ) {
     let (verb, text) = word(line);
     match verb {
-        "#" => tell_word(rt, line),
+        "#" => print_word(rt, line),
         "run" => run(rt, alloc, frontier, hands.as_mut_slice(), plan_of(text)),
-        "another" => tell_made(rt, alloc, frontier, hands, text),
+        "another" => print_made(rt, alloc, frontier, hands, text),
         _ => call_at(rt, alloc, frontier, hands.as_mut_slice(), verb, text),
     }
 }
 
-fn tell_entry<R: Print>(rt: &R, queue: u32, entry: &Entry) {
+fn print_entry<R: Print>(rt: &R, queue: u32, entry: &Entry) {
     let (url, sender, number, hops) = (entry.url.as_str(), entry.sender, entry.number, entry.hops);
     let _ = println!(rt; "entry {queue} {sender} {number} {hops} {url}");
 }
 
-fn tell_account<R: Print>(rt: &R, account: &Account) {
+fn print_account<R: Print>(rt: &R, account: &Account) {
     for queue in 0..account.workers() {
         for entry in account.queue(queue) {
-            tell_entry(rt, queue, entry);
+            print_entry(rt, queue, entry);
         }
     }
 }
 
-fn tell_end<R: Print>(rt: &R, end: Result<Account, FinishError>) {
+fn print_end<R: Print>(rt: &R, end: Result<Account, FinishError>) {
     match end {
         Ok(account) => {
-            tell(rt, Said::word("account"));
-            tell_account(rt, &account);
+            print_outcome(rt, Outcome::word("account"));
+            print_account(rt, &account);
         }
-        Err(fault) => tell(rt, Said::of_end(fault)),
+        Err(fault) => print_outcome(rt, Outcome::of_end(fault)),
     }
 }
 
-// The lines of a block behind its first.
+// The lines of a block after its first.
 #[derive(Drop)]
 struct Lines {
     text: String,
@@ -280,7 +280,7 @@ where
     for line in lines.text.lines() {
         call(rt, alloc, &frontier, &mut hands, line);
     }
-    tell_end(rt, finish(alloc, frontier, hands));
+    print_end(rt, finish(alloc, frontier, hands));
 }
 
 fn run_lines<R: Print + Threads + Wait + Sync>(
@@ -294,15 +294,15 @@ fn run_lines<R: Print + Threads + Wait + Sync>(
     let workers = u32::try_from(workers).unwrap_or(u32::MAX);
     match Setup::new(alloc, workers, max_pending) {
         Ok(setup) => calls::<Brand, R>(rt, alloc, setup, filter, lines),
-        Err(fault) => tell_fault(rt, fault),
+        Err(fault) => print_fault(rt, fault),
     }
 }
 
-fn tell_fault<R: Print>(rt: &R, fault: FrontierError) {
+fn print_fault<R: Print>(rt: &R, fault: FrontierError) {
     let _ = println!(rt; "{fault}");
 }
 
-// The lines by a filter of these suffixes.
+// The lines of a frontier with these suffixes.
 fn run_within<R: Print + Threads + Wait + Sync>(
     rt: &R,
     alloc: Global,
@@ -326,13 +326,13 @@ fn run_block<R: Print + Threads + Wait + Sync>(rt: &R, alloc: Global, block: &st
     }
 }
 
-/// Makes the calls of each block, and tells what each answers; behind each block an empty line.
+/// Makes the calls of each block and prints their outcomes, with an empty line after each block.
 pub fn run_blocks<R: Print + Threads + Wait + Sync>(rt: &R, alloc: Global, text: &str) {
     let mut rest = text;
     for _ in 0..text.len() {
         let (block, more) = rest.split_once("\n\n").unwrap_or((rest, ""));
         run_block(rt, alloc, block);
-        tell_word(rt, "");
+        print_word(rt, "");
         if more.is_empty() {
             return;
         }

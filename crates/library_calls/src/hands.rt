@@ -1,8 +1,8 @@
-//! The hands of a frontier in one list, so that calls are data: the workers by place, behind them the seeder, and then the
-//! senders as it made them. Where a growth is refused a hand is lost, and its next call says so.
+//! The hands of a frontier in one list, so that calls are data: first the workers by queue, then the seeder, then the senders in
+//! the order in which it made them. If an allocation fails, a hand is lost, and its next call prints so.
 ghost use Rattle.std.specs.Prelude.{◌≡◌};
 
-use crate::notes::{Notes, Said};
+use crate::notes::{Notes, Outcome};
 use crawl_frontier::laws::Admit;
 use crawl_frontier::testing::admit;
 use crawl_frontier::{
@@ -13,7 +13,7 @@ use std::alloc::Global;
 use std::mem;
 use std::sync::Wait;
 
-/// Who calls.
+/// What makes calls.
 #[derive(Drop)]
 pub enum Part<K: Name> {
     Worker(Turn<K>),
@@ -22,14 +22,14 @@ pub enum Part<K: Name> {
     Gone,
 }
 
-/// Who calls, and what it notes in a thread of its own.
+/// A part, and its notes if it runs in a thread of its own.
 #[derive(Drop)]
 pub struct Hand<K: Name> {
     pub part: Part<K>,
     pub notes: Notes,
 }
 
-/// Puts the part behind the others.
+/// Adds the part at the end.
 pub fn push<K: Name>(alloc: Global, hands: &mut Vec<Hand<K>>, part: Part<K>) -> bool {
     let notes = Notes::new(alloc);
     match hands.push(Hand { part, notes }) {
@@ -83,18 +83,18 @@ pub fn another<K: Name>(
     }
 }
 
-/// What an offer answers.
+/// The outcome of an offer.
 pub fn offer<K: Name, R: Wait>(
     rt: &R,
     frontier: &Frontier<K>,
     part: &mut Part<K>,
     url: &CanonUrl,
-) -> Said {
+) -> Outcome {
     match part {
-        Part::Worker(Turn::Busy(worker)) => Said::of(worker.offer(rt, frontier, url)),
-        Part::Seeder(seeder) => Said::of(seeder.offer(rt, frontier, url)),
-        Part::Sender(sender) => Said::of(sender.offer(rt, frontier, url)),
-        _ => Said::word("none"),
+        Part::Worker(Turn::Busy(worker)) => Outcome::of(worker.offer(rt, frontier, url)),
+        Part::Seeder(seeder) => Outcome::of(seeder.offer(rt, frontier, url)),
+        Part::Sender(sender) => Outcome::of(sender.offer(rt, frontier, url)),
+        _ => Outcome::word("none"),
     }
 }
 
@@ -115,8 +115,8 @@ fn next_part<K: Name, R: Wait>(rt: &R, frontier: &Frontier<K>, part: Part<K>) ->
     }
 }
 
-/// The next turn of an idle worker, or the end of what a hand does: of a busy worker its URL, of the seeder the seeds. Any
-/// other hand is as it was.
+/// The next turn of an idle worker. A busy worker is done with its URL, and the seeder ends the seeds. Any other hand stays as it
+/// is.
 pub fn go_on<K: Name, R: Wait>(rt: &R, frontier: &Frontier<K>, part: &mut Part<K>) {
     let before = mem::replace(part, Part::Gone);
     drop(mem::replace(part, next_part(rt, frontier, before)));
@@ -134,14 +134,14 @@ fn admit_in<K: Name, R: Wait>(
     url: &CanonUrl,
     own: u64,
     hops: u64,
-) -> &'static str {
+) -> Outcome {
     match turn {
-        Turn::Idle(worker, _) => admitted(admit(rt, frontier, worker, url, own, hops)),
+        Turn::Idle(worker, _) => outcome_of(admit(rt, frontier, worker, url, own, hops)),
         other => gone(other),
     }
 }
 
-/// Admits the URL to subqueue 0 with this own number and these hops, by the pass of an idle worker, which is gone then.
+/// Admits the URL to queue 0 with this own number and these hops, by the pass of an idle worker, which is then gone.
 pub fn admit_by<K: Name, R: Wait>(
     rt: &R,
     frontier: &Frontier<K>,
@@ -149,31 +149,23 @@ pub fn admit_by<K: Name, R: Wait>(
     url: &CanonUrl,
     own: u64,
     hops: u64,
-) -> &'static str {
+) -> Outcome {
     match mem::replace(part, Part::Gone) {
         Part::Worker(turn) => admit_in(rt, frontier, turn, url, own, hops),
         other => gone(other),
     }
 }
 
-fn gone<T: Drop>(value: T) -> &'static str {
+fn outcome_of(admission: Option<Admit>) -> Outcome {
+    match admission {
+        Some(admit) => Outcome::of_admission(&admit),
+        None => Outcome::word("refused"),
+    }
+}
+
+fn gone<T: Drop>(value: T) -> Outcome {
     drop(value);
-    "gone"
-}
-
-fn word_of(admit: &Admit) -> &'static str {
-    match admit {
-        Admit::Admitted { .. } => "admitted",
-        Admit::TooFar { .. } => "too far",
-        _ => "refused",
-    }
-}
-
-fn admitted(answer: Option<Admit>) -> &'static str {
-    match answer {
-        Some(admit) => word_of(&admit),
-        None => "refused",
-    }
+    Outcome::word("gone")
 }
 
 fn put_worker<K: Name>(worker: ClosedWorker<K>, closed: &mut Vec<ClosedWorker<K>>) {
@@ -191,7 +183,7 @@ fn put_turn<K: Name>(turn: Turn<K>, closed: &mut Vec<ClosedWorker<K>>) {
     }
 }
 
-// Puts the part to those that end a run, if it is one of them.
+// Adds the part to those that end a run, if it is one of them.
 fn put<K: Name>(part: Part<K>, closed: &mut Vec<ClosedWorker<K>>, senders: &mut Vec<Sender<K>>) {
     match part {
         Part::Worker(turn) => put_turn(turn, closed),
@@ -200,7 +192,7 @@ fn put<K: Name>(part: Part<K>, closed: &mut Vec<ClosedWorker<K>>, senders: &mut 
     }
 }
 
-/// The end of the run, by those hands that are there for it.
+/// Finishes the run with the hands that are closed workers or senders.
 pub fn finish<K: Name>(
     alloc: Global,
     frontier: Frontier<K>,

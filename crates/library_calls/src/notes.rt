@@ -1,73 +1,87 @@
-//! What calls answer, and what a hand notes of its own calls.
+//! The outcomes of calls, and a hand's notes of its own calls.
+use crawl_frontier::laws::Admit;
 use crawl_frontier::{FinishError, Offer, OfferError};
 use std::alloc::Global;
 
-/// An answer: its word, and its numbers, if it has any.
+/// The outcome of a call: its word, and its numbers, if it has any.
 #[derive(Clone, Copy)]
-pub struct Said {
+pub struct Outcome {
     pub word: &'static str,
     pub first: u64,
     pub second: u64,
 }
 
-impl Said {
-    pub fn word(word: &'static str) -> Said {
-        Said {
+impl Outcome {
+    pub fn word(word: &'static str) -> Outcome {
+        Outcome {
             word,
             first: 0,
             second: 0,
         }
     }
 
-    pub fn number(word: &'static str, first: u64) -> Said {
-        Said {
+    pub fn number(word: &'static str, first: u64) -> Outcome {
+        Outcome {
             word,
             first,
             second: 0,
         }
     }
 
-    /// An accepted URL has its subqueue and number; one that crosses another sender's has both counts.
-    pub fn of(answer: Result<Offer, OfferError>) -> Said {
-        match answer {
-            Ok(Offer::Accepted { queue, number }) => Said {
+    /// If the offer was accepted, the numbers are its queue and number. If it crossed another sender, they are both counts.
+    pub fn of(offer: Result<Offer, OfferError>) -> Outcome {
+        match offer {
+            Ok(Offer::Accepted { queue, number }) => Outcome {
                 word: "accepted",
                 first: u64::from(queue),
                 second: number,
             },
-            Ok(Offer::Seen) => Said::word("seen"),
-            Err(OfferError::Filtered) => Said::word("filtered"),
-            Err(OfferError::Closed) => Said::word("closed"),
-            Err(OfferError::Full) => Said::word("full"),
-            Err(OfferError::Crossed { own, found }) => Said {
+            Ok(Offer::Seen) => Outcome::word("seen"),
+            Err(OfferError::Filtered) => Outcome::word("filtered"),
+            Err(OfferError::Closed) => Outcome::word("closed"),
+            Err(OfferError::Full) => Outcome::word("full"),
+            Err(OfferError::Crossed { own, found }) => Outcome {
                 word: "crossed",
                 first: own,
                 second: found,
             },
-            Err(_) => Said::word("refused"),
+            Err(_) => Outcome::word("refused"),
         }
     }
 
-    /// Why there is no account.
-    pub fn of_end(error: FinishError) -> Said {
+    /// If the URL was admitted, the numbers are its sender's number and its index in the queue.
+    pub fn of_admission(admit: &Admit) -> Outcome {
+        match admit {
+            Admit::Admitted { number, index } => Outcome {
+                word: "admitted",
+                first: *number,
+                second: u64::from(*index),
+            },
+            Admit::TooFar { .. } => Outcome::word("too far"),
+            _ => Outcome::word("refused"),
+        }
+    }
+
+    /// The reason why there is no account.
+    pub fn of_end(error: FinishError) -> Outcome {
         match error {
-            FinishError::MissingPart => Said::word("missing"),
-            FinishError::Disagree { queue } => Said::number("disagree", u64::from(queue)),
-            _ => Said::word("refused"),
+            FinishError::MissingPart => Outcome::word("missing"),
+            FinishError::Disagree { queue } => Outcome::number("disagree", u64::from(queue)),
+            _ => Outcome::word("refused"),
         }
     }
 }
 
-/// A call of a hand in a thread: the page, and what was answered; whether the answer came too late, since a worker had been
-/// told before that the gate is closed.
+/// A call of a hand in a thread: its page, its outcome, and whether it is late, that is, whether it did not find the gate closed
+/// although a worker had found it closed before.
 #[derive(Clone, Copy)]
 pub struct Note {
     pub page: usize,
-    pub said: Said,
+    pub outcome: Outcome,
     pub late: bool,
 }
 
-/// The notes of a hand, and how it leaves: with the page in hand or behind it, when it took so many; 0: never.
+/// The notes of a hand. It leaves when it has taken `leaves_at` pages (0: never), before the last one is done or after.
 #[derive(Drop)]
 pub struct Notes {
     pub list: Vec<Note>,
@@ -90,15 +104,19 @@ impl Notes {
         }
     }
 
-    /// Notes an answer, by a hand that knew, or did not, that the gate is closed.
-    pub fn push(&mut self, page: usize, said: Said, known: bool) {
-        let is_closed = said.word == "closed";
+    /// Notes an outcome. `known` says whether the hand knew that the gate is closed.
+    pub fn push(&mut self, page: usize, outcome: Outcome, known: bool) {
+        let is_closed = outcome.word == "closed";
         let late = known & !is_closed;
         self.closed = self.closed | is_closed;
-        let _ = self.list.push(Note { page, said, late });
+        let _ = self.list.push(Note {
+            page,
+            outcome,
+            late,
+        });
     }
 
-    /// Counts a page that was taken. Answers whether the worker leaves at it.
+    /// Counts a page that was taken, and returns whether the worker leaves at it.
     pub fn counts_page(&mut self) -> bool {
         self.idle = 0;
         self.taken = self.taken.saturating_add(1);

@@ -1,6 +1,6 @@
-//! Hands in threads of their own: workers that offer the links of what they take, beside senders that offer the same pages.
+//! Hands in threads of their own: workers that offer the links of the pages that they take, and senders that offer the same pages.
 use crate::hands::{Hand, Part, go_on, leave, offer};
-use crate::notes::{Notes, Said};
+use crate::notes::{Notes, Outcome};
 use crate::urls::canonical_of;
 use crawl_frontier::{Frontier, Name, Turn};
 use crawl_keys::CanonUrl;
@@ -10,36 +10,39 @@ use std::sync::atomic::{AtomicU64, Ordering};
 use std::thread::{self, Threads, yield_now};
 use std::time::Duration;
 
-// How many hosts the pages are spread over.
+// The number of hosts of the pages.
 const HOSTS: usize = 50;
 
-// Page n leads to the pages 2n + 1 to 2n + 4, so that two pages lead to nearly each.
+// Page n links to the pages 2n + 1 to 2n + 4, so that two pages link to nearly every page.
 const LINKS: usize = 4;
 
 // More threads than a run has hands.
 const THREADS: usize = 8;
 
-// In seconds, far more than a test is given: whoever rests and is not woken holds the run up.
+// In seconds, much more than the time limit of a test, so a resting worker that is not woken fails it.
 const HOUR: u64 = 3_600;
 
-/// How many pages there are, the first of which are seeds; how many of them a sender offers, one by one: once, or again and
-/// again until it is told that the gate is closed, and then once more; and after how many turns in a row that find nothing a
-/// worker gives up, where 0 is never: then it rests after each.
+/// What the hands of a run do.
 #[derive(Clone, Copy)]
 pub struct Plan {
+    /// The number of pages.
     pub pages: usize,
+    /// The number of pages, from the first on, that the seeder offers.
     pub seeds: usize,
+    /// The number of pages, from the first on, that a sender offers.
     pub sent: usize,
+    /// Whether a sender offers them until it finds the gate closed, and then once more. Otherwise it offers them once.
     pub until_closed: bool,
+    /// The number of turns in a row without a URL after which a worker leaves. If it is 0, a worker rests after each instead.
     pub idle_turns: u64,
 }
 
-// What all threads of a run have.
+// What all threads of a run share.
 #[derive(Drop)]
 struct Run<'a> {
     plan: Plan,
     urls: &'a [CanonUrl],
-    // How many workers were told that the gate is closed.
+    // The number of workers that found the gate closed.
     closed: AtomicU64,
 }
 
@@ -62,7 +65,7 @@ fn pages(alloc: Global, count: usize) -> Vec<CanonUrl> {
     urls
 }
 
-// The greatest number where the URL is no page's.
+// The number of the URL's page, or the greatest number if it is not one of the pages.
 fn number_of(url: &CanonUrl) -> usize {
     match url.as_str().rsplit_once('/') {
         Some((_, digits)) => digits.parse::<usize>().unwrap_or(usize::MAX),
@@ -86,20 +89,20 @@ fn offer_each<K: Name, R: Wait>(
 ) {
     for url in urls {
         let known = notes.closed | (closed.load(Ordering::SeqCst) > 0);
-        let said = offer(rt, frontier, part, url);
-        notes.push(number_of(url), said, known);
+        let outcome = offer(rt, frontier, part, url);
+        notes.push(number_of(url), outcome, known);
     }
 }
 
-// The page that the worker has in hand, by its number.
-fn page_in_hand<K: Name>(part: &Part<K>) -> usize {
+// The number of the page that the worker has taken.
+fn page_of<K: Name>(part: &Part<K>) -> usize {
     match part {
         Part::Worker(Turn::Busy(worker)) => number_of(worker.url()),
         _ => usize::MAX,
     }
 }
 
-// Offers the links of the page in hand.
+// Offers the links of the worker's page.
 fn offer_links<K: Name, R: Wait>(
     rt: &R,
     frontier: &Frontier<K>,
@@ -112,7 +115,7 @@ fn offer_links<K: Name, R: Wait>(
     offer_each(rt, frontier, &run.closed, part, notes, links);
 }
 
-// Is done with the page in hand.
+// Ends the worker's page.
 fn end_page<K: Name, R: Wait>(
     rt: &R,
     frontier: &Frontier<K>,
@@ -121,10 +124,10 @@ fn end_page<K: Name, R: Wait>(
     page: usize,
 ) {
     go_on(rt, frontier, part);
-    notes.push(page, Said::word("done"), false);
+    notes.push(page, Outcome::word("done"), false);
 }
 
-// Offers the links of the page in hand, and is done with it, or leaves. Answers whether the worker stays.
+// Offers the links of the worker's page, and ends the page or leaves. Returns whether the worker stays.
 fn work_on_page<K: Name, R: Wait>(
     rt: &R,
     frontier: &Frontier<K>,
@@ -132,8 +135,8 @@ fn work_on_page<K: Name, R: Wait>(
     part: &mut Part<K>,
     notes: &mut Notes,
 ) -> bool {
-    let page = page_in_hand(part);
-    notes.push(page, Said::word("took"), false);
+    let page = page_of(part);
+    notes.push(page, Outcome::word("took"), false);
     offer_links(rt, frontier, run, part, notes, page);
     let leaves = notes.counts_page();
     if !leaves | !notes.leaves_busy {
@@ -152,7 +155,7 @@ fn rest<K: Name, R: Wait>(rt: &R, frontier: &Frontier<K>, part: &Part<K>) {
     }
 }
 
-// Rests, or counts the turn. Of turns in a row that find nothing the first is noted. Answers whether the worker stays.
+// Rests, or counts the turn. Notes the first of several idle turns. Returns whether the worker stays.
 fn pause<K: Name, R: Wait>(
     rt: &R,
     frontier: &Frontier<K>,
@@ -161,7 +164,7 @@ fn pause<K: Name, R: Wait>(
     notes: &mut Notes,
 ) -> bool {
     if notes.idle == 0 {
-        notes.push(usize::MAX, Said::word("idle"), false);
+        notes.push(usize::MAX, Outcome::word("idle"), false);
     }
     notes.idle = notes.idle.saturating_add(1);
     if plan.idle_turns == 0 {
@@ -188,7 +191,7 @@ fn state_of<K: Name>(part: &Part<K>) -> State {
     }
 }
 
-// A turn of a worker. Answers whether there may be more.
+// A turn of a worker. Returns whether there may be more.
 fn turn<K: Name, R: Wait>(
     rt: &R,
     frontier: &Frontier<K>,
@@ -202,7 +205,7 @@ fn turn<K: Name, R: Wait>(
         State::Idle => pause(rt, frontier, run.plan, part, notes),
         State::Ended => {
             run.closed.fetch_add(1, Ordering::SeqCst);
-            notes.push(usize::MAX, Said::word("closed"), false);
+            notes.push(usize::MAX, Outcome::word("closed"), false);
             false
         }
     }
@@ -223,7 +226,7 @@ fn work<K: Name, R: Wait>(
     unreachable!()
 }
 
-// Offers its pages once more. Answers whether there may be more rounds.
+// Offers its pages once more. Returns whether there may be more rounds.
 fn send_round<K: Name, R: Wait>(
     rt: &R,
     frontier: &Frontier<K>,
@@ -253,7 +256,7 @@ fn send<K: Name, R: Wait>(
     unreachable!()
 }
 
-// Lets the others go on until they probably rest.
+// Waits until the others probably rest.
 fn wait_a_while() {
     for _ in 0..100u32 {
         yield_now();

@@ -10,6 +10,20 @@ use std::alloc::Global;
 use std::hint;
 use std::sync::atomic::{AtomicU64, Ordering};
 
+/// The saved web `examples/ring.web`.
+pub const RING: &str = "savedweb 1
+page http://a.test/
+link http://b.test/
+link #top
+link mailto:x@a.test
+page http://b.test/
+link //c.test
+link /
+page http://c.test/
+link http://A.test:80
+link gone
+";
+
 // One page that has moved, and nothing else.
 #[derive(Drop)]
 pub struct OneMoved {
@@ -41,7 +55,7 @@ pub enum Fails {
     Lonely,
 }
 
-// The pages of a saved web, with the fetches counted that have begun.
+// The pages of a saved web, and the number of fetches that have begun.
 #[derive(Drop)]
 pub struct Counting<'a> {
     pub web: SavedWeb<'a>,
@@ -67,10 +81,10 @@ impl Fetch for Counting<'_> {
     }
 }
 
-// How often a fetch looks whether another has begun, before it gives up.
+// The number of times that a fetch looks whether another has begun, before it gives up.
 const LOADS: u64 = 200_000_000;
 
-// Whether so many fetches have begun, now or within that many looks.
+// Whether this number of fetches have begun, now or within that number of looks.
 fn have_begun(begun: &AtomicU64, count: u64) -> bool {
     for _ in 0..LOADS {
         if begun.load(Ordering::SeqCst) >= count {

@@ -1,6 +1,6 @@
 //! Runs with few and many workers: that each URL is fetched once, and that all workers end whatever is lost.
 use crate::tests::runs::{Found, How, Run};
-use crate::tests::sources::{Counting, Fails};
+use crate::tests::sources::{Counting, Fails, RING};
 use crawl_web::SavedWeb;
 use std::alloc::Global;
 use std::sync::Wait;
@@ -8,7 +8,7 @@ use std::sync::atomic::{AtomicU64, Ordering};
 use std::test::Fail;
 use std::thread::Threads;
 
-// What a run with room for all finds from the seed, and how many fetches it makes.
+// What a run with room for all URLs finds from the seed, and the number of its fetches.
 fn fetches<R: Threads + Wait + Sync>(
     rt: &R,
     alloc: Global,
@@ -34,20 +34,8 @@ fn fetches<R: Threads + Wait + Sync>(
     Some((found, source.begun.load(Ordering::SeqCst)))
 }
 
-const RING: &str = "savedweb 1
-page http://a.test/
-link http://b.test/
-link #top
-link mailto:x@a.test
-page http://b.test/
-link //c.test
-link /
-page http://c.test/
-link http://A.test:80
-link gone
-";
-
-// The URLs of results differ, and the page of each is that of its URL: so four fetches for four results are one of each.
+// The URLs of results differ, and each has the page of its URL, so four fetches for four results are one for each. An offer that
+// returned `Accepted` and dropped the URL (`drops_accepted_url`) would fail here, since nothing would be fetched.
 #[test]
 fn each_url_of_the_ring_is_fetched_once(rt: HostRuntime) {
     for workers in [1, 2, 3, 64, 512] {
@@ -76,7 +64,7 @@ fn tree(alloc: Global) -> Result<String, Fail> {
     Ok(text)
 }
 
-// Whether a run on the tree, in which every third fetch fails, loses these fetches and nothing else.
+// Whether a run on the tree in which every third fetch fails loses these fetches, and nothing else.
 fn loses_each_third<R: Threads + Wait + Sync>(
     rt: &R,
     alloc: Global,
@@ -91,7 +79,7 @@ fn loses_each_third<R: Threads + Wait + Sync>(
     }
 }
 
-// A URL that is lost is done all the same, so all workers end; and what is not found is lost, each once.
+// A URL that is lost is done too, so all workers end. Each URL that is not found is lost once.
 #[test]
 fn workers_end_whatever_is_lost(rt: HostRuntime) -> Result<(), Fail> {
     let text = tree(rt.alloc())?;

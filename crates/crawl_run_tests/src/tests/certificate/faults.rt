@@ -1,7 +1,7 @@
-//! What is changed in the results of a run before they are certified, on one thread and by threads.
+//! Certificates of runs whose results were changed, on one thread and by threads.
 use crate::tests::certificate::accounts::{Run, run_of, urls_of};
 use crate::tests::certificate::tables::{
-    Case, Change, END, FAULTS_IN_EACH_CHUNK, FIRST, GROUPS, Group, LONG_WEB, Told,
+    Case, Change, END, Expected, FAULTS_IN_EACH_CHUNK, FIRST, GROUPS, Group, LONG_WEB,
 };
 use crawl_certificate::{CertError, CrawlResult, Culprit, certify, certify_in_threads};
 use crawl_keys::{CanonUrl, Filter, canonical};
@@ -11,7 +11,7 @@ use std::sync::Wait;
 use std::test::Fail;
 use std::thread::Threads;
 
-// The page that a change puts at the URL, if it does.
+// The page that the change puts at the URL, if it puts one there.
 fn new_page(alloc: Global, url: &str, change: Change) -> Option<Page> {
     match change {
         Change::Links(at, to) if at == url => {
@@ -26,7 +26,7 @@ fn new_page(alloc: Global, url: &str, change: Change) -> Option<Page> {
     }
 }
 
-// Whether the change takes the result of this URL away.
+// Whether the change removes the result of this URL.
 fn is_left_out(url: &str, change: Change) -> bool {
     match change {
         Change::Without(at) => at == url,
@@ -34,7 +34,7 @@ fn is_left_out(url: &str, change: Change) -> bool {
     }
 }
 
-// Copies of the results, but for the changed one.
+// Copies of the results, with the change.
 fn changed(alloc: Global, found: &[PageResult], change: Change) -> Vec<PageResult> {
     let mut results = Vec::new(alloc);
     for one in found {
@@ -51,7 +51,7 @@ fn changed(alloc: Global, found: &[PageResult], change: Change) -> Vec<PageResul
     results
 }
 
-// The result that a change puts at the end.
+// The result that the change adds at the end.
 fn one_more(alloc: Global, change: Change) -> Option<PageResult> {
     let Change::More(url) = change else {
         return None;
@@ -70,7 +70,7 @@ fn results_of(alloc: Global, found: &[PageResult], change: Change) -> Vec<PageRe
     results
 }
 
-// The pages have these URLs, in order.
+// Whether the pages have these URLs, in order.
 fn have_urls(pages: &[PageResult], urls: &[&str]) -> bool {
     for (page, url) in pages.iter().zip(urls) {
         if page.url.as_str() != *url {
@@ -80,18 +80,18 @@ fn have_urls(pages: &[PageResult], urls: &[&str]) -> bool {
     pages.len() == urls.len()
 }
 
-fn are_told(found: &CrawlResult, told: Told) -> bool {
-    match told {
-        Told::Pages(urls) => have_urls(found.pages(), urls),
-        Told::Count(count) => found.pages().len() == count,
-        Told::Fault(..) => false,
+fn are_pages(found: &CrawlResult, expected: Expected) -> bool {
+    match expected {
+        Expected::Pages(urls) => have_urls(found.pages(), urls),
+        Expected::Count(count) => found.pages().len() == count,
+        Expected::Fault(..) => false,
     }
 }
 
-fn is_told(found: &Result<CrawlResult, CertError>, told: Told) -> bool {
-    match (found, told) {
-        (Ok(found), told) => are_told(found, told),
-        (Err(fault), Told::Fault(expected, _)) => *fault == expected,
+fn is_expected(found: &Result<CrawlResult, CertError>, expected: Expected) -> bool {
+    match (found, expected) {
+        (Ok(found), expected) => are_pages(found, expected),
+        (Err(error), Expected::Fault(cause, _)) => *error == cause,
         _ => false,
     }
 }
@@ -103,35 +103,35 @@ fn is_url(named: &Option<CanonUrl>, url: &str) -> bool {
     }
 }
 
-fn is_named(found: &Result<CrawlResult, Culprit>, told: Told) -> bool {
-    match (found, told) {
-        (Ok(found), told) => are_told(found, told),
-        (Err(culprit), Told::Fault(expected, url)) => {
-            culprit.cause == expected && is_url(&culprit.url, url)
+fn is_named(found: &Result<CrawlResult, Culprit>, expected: Expected) -> bool {
+    match (found, expected) {
+        (Ok(found), expected) => are_pages(found, expected),
+        (Err(culprit), Expected::Fault(cause, url)) => {
+            culprit.cause == cause && is_url(&culprit.url, url)
         }
         _ => false,
     }
 }
 
-// The case is told on one thread, and with its culprit by threads.
-fn tells<R: Threads + Sync>(rt: &R, alloc: Global, run: &Run, case: &Case) -> Option<bool> {
-    let (within, seeds, change, told) = *case;
+// Whether the outcome is the expected one on one thread, and with its culprit by threads.
+fn holds<R: Threads + Sync>(rt: &R, alloc: Global, run: &Run, case: &Case) -> Option<bool> {
+    let (within, seeds, change, expected) = *case;
     let filter = Filter::new(alloc, within).ok()?;
     let urls = urls_of(alloc, seeds);
     let results = results_of(alloc, &run.results, change);
     let one = certify(alloc, &filter, &urls, &run.account, &results);
     let other = certify_in_threads(rt, alloc, &filter, &urls, &run.account, results);
-    Some(is_told(&one, told) && is_named(&other, told))
+    Some(is_expected(&one, expected) && is_named(&other, expected))
 }
 
-// The place of the first case of the group that does not hold, or how many there are.
+// The number of cases of the group that hold before one does not.
 fn holding<R: Threads + Wait + Sync>(rt: &R, alloc: Global, group: &Group, web: &str) -> usize {
     let Some(run) = run_of(rt, alloc, group, web) else {
         return 0;
     };
-    for (place, case) in group.cases.iter().enumerate() {
-        if tells(rt, alloc, &run, case) != Some(true) {
-            return place;
+    for (index, case) in group.cases.iter().enumerate() {
+        if holds(rt, alloc, &run, case) != Some(true) {
+            return index;
         }
     }
     group.cases.len()

@@ -1,8 +1,9 @@
-//! Runs that are certified, and changes of their results that are not.
+//! Runs, changes of their results, and what their certificate is expected to be.
+use crate::tests::sources::RING;
 use crawl_certificate::CertError;
 use crawl_certificate::CertError::{LinkMissing, NotFetched, SeedMissing, Twice, Unfounded};
 
-/// A run, and what is certified of it.
+/// A run, and cases with changes of its results.
 #[derive(Drop)]
 pub struct Group {
     pub name: &'static str,
@@ -15,8 +16,8 @@ pub struct Group {
 
 pub type Texts = &'static [&'static str];
 
-/// The filter and the seeds that are certified, what is changed in the results, and what is told.
-pub type Case = (Texts, Texts, Change, Told);
+/// The filter and the seeds that are given to the certificate, what is changed in the results, and the expected outcome.
+pub type Case = (Texts, Texts, Change, Expected);
 
 #[derive(Clone, Copy)]
 pub enum Change {
@@ -25,23 +26,24 @@ pub enum Change {
     Without(&'static str),
     /// The result of the first URL is a page with a link to the second.
     Links(&'static str, &'static str),
-    /// The page of the URL moved to this one, or to none.
+    /// The page of the first URL moved to the second, or to none.
     Moves(&'static str, Option<&'static str>),
     /// One more result: this URL is missing.
     More(&'static str),
 }
 
 #[derive(Clone, Copy)]
-pub enum Told {
+pub enum Expected {
+    /// The pages at these URLs.
     Pages(Texts),
-    /// So many pages.
+    /// This number of pages.
     Count(usize),
-    /// This fault, at this URL.
+    /// This error, at this URL.
     Fault(CertError, &'static str),
 }
 
 use Change::{Links, More, Moves, Nothing, Without};
-use Told::{Count, Fault, Pages};
+use Expected::{Count, Fault, Pages};
 
 const A: &str = "http://a.test/";
 
@@ -57,17 +59,17 @@ const GONE: &str = "http://c.test/gone";
 
 const NONE: Texts = &[];
 
-const WHOLE_RING: Texts = &[A, B, C, GONE];
+const ALL_FOUR: Texts = &[A, B, C, GONE];
 
 const WITHIN_A: Texts = &["a.test"];
 
 const WITHIN_A_AND_C: Texts = &["a.test", "c.test"];
 
-const RING: &str = "savedweb 1
+// Three pages that link to one another, and a missing one.
+const TRIANGLE: &str = "savedweb 1
 page http://a.test/
 link http://b.test/
 link //c.test/
-link mailto:x@a.test
 page http://b.test/
 link //c.test
 link //a.test/
@@ -93,34 +95,34 @@ link http://a.test/
 ";
 
 const CERTIFICATE_FAULTS: &[Case] = &[
-    (NONE, &[A], Nothing, Pages(WHOLE_RING)),
-    (NONE, &[A, A], Nothing, Pages(WHOLE_RING)),
+    (NONE, &[A], Nothing, Pages(ALL_FOUR)),
+    (NONE, &[A, A], Nothing, Pages(ALL_FOUR)),
     (NONE, &[A, D], Nothing, Fault(SeedMissing, D)),
     (NONE, &[A], Without(GONE), Fault(NotFetched, GONE)),
     (NONE, &[A], Links(GONE, D), Fault(LinkMissing, D)),
-    (NONE, &[A], Links(GONE, B), Pages(WHOLE_RING)),
+    (NONE, &[A], Links(GONE, B), Pages(ALL_FOUR)),
     (NONE, NONE, Nothing, Fault(Unfounded, A)),
     (NONE, &[B], Nothing, Fault(Unfounded, A)),
     (NONE, &[A], More(D), Fault(Unfounded, D)),
     (NONE, &[A], More(GONE), Fault(Twice, GONE)),
     (NONE, &[A], More(A), Fault(Twice, A)),
-    (NONE, &[A], Links(C, GONE), Pages(WHOLE_RING)),
-    // `gone` is linked by none, and then `c` only from `b`, which has as many hops.
+    (NONE, &[A], Links(C, GONE), Pages(ALL_FOUR)),
+    // No page links to `gone`, and then none to `c`.
     (NONE, &[A], Links(C, A), Fault(Unfounded, GONE)),
-    (NONE, &[A], Links(A, B), Fault(Unfounded, C)),
-    // Of several faults the first is told.
+    (NONE, &[A], Links(B, A), Fault(Unfounded, C)),
+    // If there are several errors, the first one is returned.
     (NONE, &[D], Without(GONE), Fault(SeedMissing, D)),
     (NONE, &[B], Without(GONE), Fault(NotFetched, GONE)),
     (NONE, &[B], Links(GONE, D), Fault(LinkMissing, D)),
     (NONE, &[B], More(GONE), Fault(Unfounded, A)),
-    // Of several URLs at fault the least is named.
+    // If several URLs have the error, the least one is named.
     (NONE, &[E, A, D], Nothing, Fault(SeedMissing, D)),
     (NONE, &[A], Moves(A, None), Fault(Unfounded, B)),
     (NONE, NONE, More(D), Fault(Unfounded, A)),
 ];
 
 /// Groups of small webs.
-pub static GROUPS: [Group; 9] = [
+pub static GROUPS: [Group; 10] = [
     Group {
         name: "certificate_faults, one worker",
         workers: 1,
@@ -144,12 +146,24 @@ pub static GROUPS: [Group; 9] = [
         seeds: &[A, C],
         web: MOVED,
         cases: &[
-            (NONE, &[A, C], Nothing, Pages(WHOLE_RING)),
+            (NONE, &[A, C], Nothing, Pages(ALL_FOUR)),
             (NONE, &[A, C], Without(B), Fault(NotFetched, B)),
             (NONE, &[A, C], Moves(B, Some(D)), Fault(LinkMissing, D)),
-            (NONE, &[A, C], Moves(B, Some(A)), Pages(WHOLE_RING)),
+            (NONE, &[A, C], Moves(B, Some(A)), Pages(ALL_FOUR)),
             (NONE, &[A, C], Moves(A, None), Fault(Unfounded, B)),
             (NONE, &[A, C], More(A), Fault(Twice, A)),
+        ],
+    },
+    // After the change only `b` links to `c`, and it has as many hops.
+    Group {
+        name: "linked_with_as_many_hops",
+        workers: 3,
+        within: NONE,
+        seeds: &[A],
+        web: TRIANGLE,
+        cases: &[
+            (NONE, &[A], Nothing, Pages(ALL_FOUR)),
+            (NONE, &[A], Links(A, B), Fault(Unfounded, C)),
         ],
     },
     // Two pages link to each other: without a seed among them they are not reached.
@@ -165,13 +179,13 @@ pub static GROUPS: [Group; 9] = [
             (NONE, &[C, B], Nothing, Fault(Unfounded, A)),
         ],
     },
-    // Neither a seed nor links to `b.test` are faults.
+    // Neither a seed nor links to `b.test` are errors.
     Group {
         name: "filtered_seeds_and_links",
         workers: 3,
         within: WITHIN_A_AND_C,
         seeds: &[A, B],
-        web: RING,
+        web: TRIANGLE,
         cases: &[
             (WITHIN_A_AND_C, &[A, B], Nothing, Pages(&[A, C, GONE])),
             (NONE, &[A, B], Nothing, Fault(SeedMissing, B)),
@@ -194,7 +208,7 @@ pub static GROUPS: [Group; 9] = [
         within: &["test"],
         seeds: &[A, B],
         web: RING,
-        cases: &[(&["test"], &[A, B], Nothing, Pages(WHOLE_RING))],
+        cases: &[(&["test"], &[A, B], Nothing, Pages(ALL_FOUR))],
     },
     Group {
         name: "within_suffix, without its dot",
@@ -214,7 +228,7 @@ pub static GROUPS: [Group; 9] = [
     },
 ];
 
-/// The pages that the first page of a long web links to: `p10000` and so on, up to this number.
+/// The first page of a long web links to `p10000` and so on, up to this number.
 pub const FIRST: u32 = 10_000;
 
 pub const END: u32 = 14_996;
@@ -246,8 +260,8 @@ const C3: &str = "http://a.test/c3";
 
 const C4: &str = "http://a.test/c4";
 
-/// A run with so many results that threads look at four chunks of them: what one chunk has, or lacks, is told of the whole. A
-/// page in each chunk links to no entry, or to itself; or it is fetched once more, at the end of the last chunk.
+/// A run with so many results that four threads look at a chunk each. An error in any chunk is an error of the run. A page in
+/// each chunk links to no entry, or to itself; or it is fetched once more, at the end of the last chunk.
 pub static FAULTS_IN_EACH_CHUNK: Group = Group {
     name: "faults_in_each_chunk",
     workers: 1,
@@ -291,13 +305,13 @@ pub static FAULTS_IN_EACH_CHUNK: Group = Group {
     ],
 };
 
-/// How many pages the web of many hosts has: so many that four threads walk over their results.
+/// The number of pages of the web of many hosts, which is enough for four threads to walk over the results.
 pub const PAGES: u32 = 5_000;
 
-/// How many workers crawl it.
+/// The numbers of workers that crawl it.
 pub const WORKERS: [u32; 6] = [1, 2, 3, 4, 8, 64];
 
-/// Runs over the web of many hosts, by so many workers.
+/// A run over the web of many hosts, by this number of workers.
 pub fn many_hosts(workers: u32) -> Group {
     Group {
         name: "many_hosts",
