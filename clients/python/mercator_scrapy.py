@@ -412,7 +412,7 @@ class MercatorScheduler(BaseScheduler):
                 urls = [list(_drained(frontier, queue)) for queue in range(self._workers)]
                 return urls, frontier.try_take(0) is Closed.CLOSED
         finally:
-            copy.unlink()
+            copy.unlink(missing_ok=True)
 
     def _resume(self, frontier: Frontier, store: _Store, urls: List[List[str]]) -> None:
         """Continue with the requests of the run before, whose unfinished URLs are `urls`."""
