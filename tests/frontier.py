@@ -181,7 +181,7 @@ class Model:
         if word == "taken":
             hops, _, url = rest.partition(" ")
             expect(int(hops) == self.hops.get(url, -1), f"{answer}: expected {self.hops.get(url)} hops")
-            self.events += [(f"take {place}", f"taken {url}")]
+            self.events += [(f"take {place}", f"taken {url}"), (f"look {place}", "word * open")]
             hand.kind, hand.hops = "busy", int(hops)
         elif word == "done":
             self.events += [(f"done {place}", "count *")]
@@ -404,7 +404,7 @@ def events_of(workers: int, steps: list[tuple[int, Note]], seed: int) -> list[tu
     events = offer(workers, 0, f"accepted {seed} 0") + [("endseeds", "count *")]
     for place, note in steps:
         if note.word == "took":
-            events += [(f"take {place}", f"taken {page(note.page)}")]
+            events += [(f"take {place}", f"taken {page(note.page)}"), (f"look {place}", "word * open")]
         elif note.word == "accepted":
             events += offer(place, note.page, f"accepted {note.first} {note.second}")
         elif note.word == "seen":

@@ -403,8 +403,8 @@ class MercatorScheduler(BaseScheduler):
     def _unfinished(self, log: Path, copy: Path) -> Tuple[List[List[str]], bool]:
         """Return the unfinished URLs of each queue in their order, and whether none can follow.
 
-        A frontier can only be asked for its next URL, so a frontier with a copy of the log is asked
-        for all of them.
+        A frontier only gives out its next URL. So a second frontier, with a copy of the log, gives
+        out all of them.
         """
         try:
             shutil.copyfile(log, copy)
