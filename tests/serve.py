@@ -26,14 +26,15 @@ import traceback
 from pathlib import Path
 from typing import Callable, Tuple
 
-from serving import clients, crawlers, crawls, logs, sessions
+from serving import clients, compactions, crawlers, crawls, logs, sessions
 from serving.trial import Differs, Skipped, Trial
 
 PARTS: Tuple[Callable[[Trial], None], ...] = (
     sessions.transcript, sessions.drawn_sessions, sessions.drawn_parts, sessions.all_at_once, sessions.byte_by_byte,
     sessions.stopped_between, sessions.dying_client, sessions.closed_output, sessions.memory,
     sessions.long_line,
-    logs.killed_sessions, logs.refused_logs, logs.full_disk, logs.compacted_logs, logs.logs_of_parts,
+    logs.killed_sessions, logs.refused_logs, logs.full_disk, logs.compacted_logs, compactions.stopped_compactions,
+    logs.logs_of_parts,
     clients.client_values, clients.long_base, clients.client_ends, clients.interrupted_call,
     clients.interrupted_close, clients.closing_handler, clients.forked_process, clients.client_small_pipes,
     clients.log_in_use, clients.log_that_cannot_be, clients.words_like_options,

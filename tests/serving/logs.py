@@ -7,9 +7,10 @@ import re
 import subprocess
 import threading
 import time
+from contextlib import contextmanager
 from pathlib import Path
 from random import Random
-from typing import Iterable, List, Sequence, Tuple
+from typing import Iterable, Iterator, List, Optional, Sequence, Tuple
 
 import drawn
 from mercator_frontier import Frontier, FrontierEnded, Refusal
@@ -136,15 +137,9 @@ def refuses(trial: Trial, words: Sequence[str], log: Path) -> None:
 def full_disk(trial: Trial) -> None:
     """A request that there is no room for in the log is not answered; with room, the crawl resumes."""
     trial.want_log()
-    disk = trial.folder / "disk"
-    disk.mkdir()
-    mounted = subprocess.run(
-        ["mount", "-t", "tmpfs", "-o", "size=64k", "none", str(disk)],
-        capture_output=True, check=False,
-    )
-    if mounted.returncode:
-        raise Skipped("this user cannot mount a file system")
-    try:
+    with small_disk(trial.folder / "disk") as disk:
+        if not disk:
+            raise Skipped("this user cannot mount a file system")
         log = disk / "log"
         accepted = fill(trial, log)
         subprocess.run(["mount", "-o", "remount,size=1m", str(disk)], check=True)
@@ -155,8 +150,21 @@ def full_disk(trial: Trial) -> None:
             for url in accepted:
                 expect(frontier.take(queue) == url, "another URL")
                 frontier.done(queue)
+
+
+@contextmanager
+def small_disk(folder: Path) -> Iterator[Optional[Path]]:
+    """Mount a file system of 64 kB at this new folder, or yield nothing if this user cannot."""
+    folder.mkdir()
+    mounted = subprocess.run(
+        ["mount", "-t", "tmpfs", "-o", "size=64k", "none", str(folder)],
+        capture_output=True, check=False,
+    )
+    try:
+        yield None if mounted.returncode else folder
     finally:
-        subprocess.run(["umount", str(disk)], check=False)
+        if not mounted.returncode:
+            subprocess.run(["umount", str(folder)], check=False)
 
 
 def fill(trial: Trial, log: Path) -> List[str]:

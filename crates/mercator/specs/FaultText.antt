@@ -21,6 +21,7 @@ use Rattle.mercator.specs.declared.crawling.error.CrawlError.{CrawlError}
 use Rattle.mercator.specs.declared.crawling.error.CrawlError.TheVariants as crawl
 use Rattle.crawl_replay.specs.declared.script.error.ScriptError.{ScriptError}
 use Rattle.crawl_replay.specs.declared.script.error.ScriptError.TheVariants as script
+use Rattle.shown_text.specs.Shown.{shown}
 
 -- what is wrong with a line
 abbrev pub line_text : ℕ → List ℕ → List ℕ
@@ -89,6 +90,7 @@ abbrev pub log_text : LogFault → List ℕ
 log_text unlogged.CannotOpen = codes "cannot open"
 log_text unlogged.InUse = codes "in use by another program"
 log_text unlogged.CannotRead = codes "cannot read"
+log_text unlogged.NotALog = codes "not a log"
 log_text unlogged.OtherSettings = codes "made with other options"
 log_text unlogged.CannotWrite = codes "cannot write"
 log_text unlogged.CannotMakeNew = codes "cannot create the new log, which must not exist"
@@ -110,13 +112,13 @@ fault_text file (wrong.Script fault) = codes "script: " ++ script_text fault
 fault_text file (wrong.Crawl error) = crawl_text error
 fault_text file (wrong.Log fault) = codes "log " ++ file ++ codes ": " ++ log_text fault
 
--- the line that reports it
+-- the line that reports it; hidden characters in the name of the file are escaped
 abbrev pub fault_line : List ℕ → Fault → List ℕ
-fault_line file fault = codes "mercator: " ++ fault_text file fault ++ 10 ∷ []
+fault_line file fault = codes "mercator: " ++ fault_text (shown file) fault ++ 10 ∷ []
 
 -- the line that reports an error at this URL
 abbrev pub culprit_line : List ℕ → Fault → List ℕ → List ℕ
-culprit_line file fault url = codes "mercator: " ++ fault_text file fault ++ codes ": " ++ url ++ 10 ∷ []
+culprit_line file fault url = codes "mercator: " ++ fault_text (shown file) fault ++ codes ": " ++ url ++ 10 ∷ []
 
 -- the line that reports the losses by cause
 abbrev pub losses_line : Losses → List ℕ
@@ -131,4 +133,4 @@ culprit_lines file fault (Some url) losses = culprit_line file fault url ++ loss
 
 -- the line that reports that the last line of this log had no end, and was removed
 abbrev pub torn_line : List ℕ → List ℕ
-torn_line file = (codes "mercator: log " ++ file ++ codes ": incomplete last line removed") ++ 10 ∷ []
+torn_line file = (codes "mercator: log " ++ shown file ++ codes ": incomplete last line removed") ++ 10 ∷ []

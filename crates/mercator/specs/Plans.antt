@@ -1,9 +1,11 @@
 -- What a command line asks for.
 use Rattle.std.specs.Prelude.{ℕ, ◌<◌, ◌≤◌, ◌*◌, ◌≡◌, ◌⊎◌, ◌&&◌, ◌||◌, Bool, true, false, not, List, [], ◌∷◌, codes, length, if◌then◌else◌, Option, Some, None, IsSome, String, string_bytes}
 use Rattle.std.specs.declared.alloc.Global.{Global}
-use Rattle.std.specs.Str.{bytes_eq}
+use Rattle.std.specs.List.{list_all}
+use Rattle.std.specs.Str.{bytes_eq, chars}
 use Rattle.crawl_limits.specs.Limits.{worker_limit, AreLimits}
 use Rattle.crawl_keys.specs.HostFilter.{is_good}
+use Rattle.shown_text.specs.Shown.{is_visible_or_lf}
 use Rattle.mercator.specs.declared.commands.fault.Fault.{Fault}
 use Rattle.mercator.specs.declared.commands.fault.Fault.TheVariants as fault
 use Rattle.mercator.specs.declared.commands.planned.Plan.{Plan}
@@ -12,16 +14,16 @@ use Rattle.mercator.specs.declared.commands.planned.Plan.TheVariants as asks
 use Rattle.mercator.specs.declared.commands.words.PlanError.{PlanError}
 use Rattle.mercator.specs.declared.commands.words.PlanError.TheVariants as wrong
 
--- the FILE stands for the input
+-- the FILE is the standard input
 abbrev pub is_input : List ℕ → Bool
 is_input file = bytes_eq file (codes "-")
 
--- a seeds file is named, and stands for the input
+-- there is a file of seeds, and it is the standard input
 abbrev pub lists_input : Option (String Global) → Bool
 lists_input None = false
 lists_input (Some file) = is_input (string_bytes file)
 
--- how many queues all parts have, of which each has so many
+-- the number of queues of all parts, if each part has this many
 abbrev pub all_queues : ℕ → Option (ℕ × ℕ) → ℕ
 all_queues workers None = workers
 all_queues workers (Some p) = workers * p.1
@@ -29,16 +31,17 @@ all_queues workers (Some p) = workers * p.1
 abbrev pub queues_of : SessionPlan → ℕ
 queues_of asked = all_queues asked.workers asked.part
 
--- the part is one of its crawl
+-- the number of the part is below the number of parts
 abbrev pub IsPartOf : Option (ℕ × ℕ) → Type 0
 IsPartOf None = Unit {0}
 IsPartOf (Some p) = p.0 < p.1
 
--- a frontier can be made with the numbers of a session
+-- the numbers of a session are within the limits of a frontier
 abbrev pub IsSessionPlan : SessionPlan → Type 0
 IsSessionPlan asked = (1 ≤ asked.workers) × (AreLimits (queues_of asked) asked.max × IsPartOf asked.part)
 
--- a frontier can be made with its numbers; a crawl has a seed or a file of seeds, and not both of its files are the input
+-- its numbers are within the limits of a frontier; a crawl has a seed or a file of seeds, and not both of its files are the
+-- standard input
 abbrev pub IsWithinLimits : Plan → Type 0
 IsWithinLimits (asks.Crawl workers max queues file seeds within options) =
     AreLimits workers max × (IsSome options.listed ⊎ (1 ≤ length seeds.items)) × ((is_input (string_bytes file) && lists_input options.listed) ≡ false)
@@ -48,21 +51,25 @@ IsWithinLimits (asks.Serve asked) = IsSessionPlan asked
 IsWithinLimits (asks.ServeLog asked) = IsSessionPlan asked.session
 IsWithinLimits (asks.Compact log new) = IsSessionPlan log.session
 
+-- a text of several lines has no hidden character, which could control a terminal
+abbrev pub IsVisible : List ℕ → Type 0
+IsVisible text = list_all is_visible_or_lf (chars text) ≡ true
+
 -- a text is shown with the status of help or with that of a bad command line
 abbrev pub IsShown : PlanError → Type 0
-IsShown (wrong.Shown text status) = (status ≡ 0) ⊎ (status ≡ 3)
+IsShown (wrong.Shown text status) = ((status ≡ 0) ⊎ (status ≡ 3)) × IsVisible (string_bytes text)
 IsShown wrong.NoMemory = Unit {0}
 
--- what is known of the bytes of a FILE: of the input as much as the input tells, of a file by name nothing
+-- what is known of the bytes of a FILE: what is known of the standard input; nothing of another file
 abbrev pub known_bytes : List ℕ → Option (List ℕ) → Option (List ℕ)
 known_bytes file input = if is_input file then input else None
 
--- what is known of the bytes of a file of seeds; where none is named there are none
+-- what is known of the bytes of a file of seeds; without one there are none
 abbrev pub known_seeds : Option (String Global) → Option (List ℕ) → Option (List ℕ)
 known_seeds None input = Some []
 known_seeds (Some file) input = known_bytes (string_bytes file) input
 
--- the FILE of a plan; a key and a compaction have none, and a session is of the input
+-- the FILE of a plan; a key and a compaction have none, and a session reads the standard input
 abbrev pub file_of : Plan → List ℕ
 file_of (asks.Crawl workers max queues file seeds within options) = string_bytes file
 file_of (asks.Key url workers) = []
@@ -71,13 +78,12 @@ file_of (asks.Serve asked) = codes "-"
 file_of (asks.ServeLog asked) = codes "-"
 file_of (asks.Compact log new) = []
 
--- the name of a file of seeds, where there is one, else FILE
+-- the name of the file of seeds if there is one, else FILE
 abbrev pub listed_or : Option (String Global) → List ℕ → List ℕ
 listed_or None file = file
 listed_or (Some listed) file = string_bytes listed
 
--- the file that a fault of a plan speaks of: that of the seeds where this one cannot be read, the log where this one is at fault,
--- else FILE
+-- the file that an error of a plan is about: the file of seeds if that cannot be read, the log if that cannot be used, else FILE
 abbrev pub told_file : Plan → Fault → List ℕ
 told_file (asks.Crawl workers max queues file seeds within options) fault.CannotReadSeeds = listed_or options.listed (string_bytes file)
 told_file (asks.ServeLog asked) (fault.Log why) = string_bytes asked.file
@@ -89,12 +95,12 @@ abbrev pub suffixes_of : Option (String Global) → List (List ℕ)
 suffixes_of None = []
 suffixes_of (Some suffix) = string_bytes suffix ∷ []
 
--- there is a suffix, and no host has it
+-- there is a suffix, and no host can end in it
 abbrev pub is_bad_suffix : Option (String Global) → Bool
 is_bad_suffix None = false
 is_bad_suffix (Some suffix) = not (is_good (string_bytes suffix))
 
--- the command reads the input: one of its files stands for it, or it is a session, and no bad suffix ends the command before
+-- the command reads the standard input: it is a session, or one of its files is the standard input; and the suffix is not bad
 abbrev pub reads_input : Plan → Bool
 reads_input (asks.Crawl workers max queues file seeds within options) = not (is_bad_suffix within) && (is_input (string_bytes file) || lists_input options.listed)
 reads_input (asks.Key url workers) = false
@@ -103,7 +109,8 @@ reads_input (asks.Serve asked) = not (is_bad_suffix asked.within)
 reads_input (asks.ServeLog asked) = not (is_bad_suffix asked.session.within)
 reads_input (asks.Compact log new) = false
 
--- the command tells a text that is whole before it is written; a session answers as it reads, and a compaction has no text
+-- the command computes its whole output before any of it is written; a session answers while it reads, and a compaction has no
+-- output
 abbrev pub IsTelling : Plan → Type 0
 IsTelling (asks.Serve asked) = ⊥
 IsTelling (asks.ServeLog asked) = ⊥
@@ -115,7 +122,7 @@ abbrev pub has_log : Plan → Bool
 has_log (asks.ServeLog asked) = true
 has_log plan = false
 
--- the command tells the URL at fault of a crawl that is incomplete
+-- the command reports the first affected URL of an incomplete crawl
 abbrev pub explains : Plan → Bool
 explains (asks.Crawl workers max queues file seeds within options) = options.explain
 explains plan = false

@@ -1,4 +1,4 @@
--- What each command tells, and why it fails, by the bytes of its FILE.
+-- What each command prints, and why it fails, by the bytes of its FILE.
 use Rattle.std.specs.Prelude.{◌≡◌, ◌⊎◌, ℕ, ◌≤◌, true, false, if◌then◌else◌, List, [], ◌++◌, codes, length, map, Option, Some, None, Err, IfSome, IsSome, IsSomeAnd, IsErr, String, string_bytes}
 use Rattle.std.specs.Io.KnownBytes.{Appends}
 use Rattle.std.specs.declared.alloc.Global.{Global}
@@ -8,7 +8,7 @@ use Rattle.mercator.specs.FaultText.{culprit_lines, fault_line, torn_line}
 use Rattle.mercator.specs.Faults.{status_of_fault}
 use Rattle.mercator.specs.KeyLine.{IsKeyLine}
 use Rattle.mercator.specs.Limits.{most_input_bytes}
-use Rattle.mercator.specs.Plans.{explains, has_log, is_bad_suffix, is_input, known_bytes, known_seeds, queues_of, suffixes_of, told_file}
+use Rattle.mercator.specs.Plans.{IsVisible, explains, has_log, is_bad_suffix, is_input, known_bytes, known_seeds, queues_of, suffixes_of, told_file}
 use Rattle.crawl_replay.specs.Replay.{IsReplay}
 use Rattle.crawl_replay.specs.Script.{script_of}
 use Rattle.crawl_session.specs.Answers.{answer_lines}
@@ -30,14 +30,14 @@ use Rattle.mercator.specs.declared.commands.fault.Fault.{Fault}
 use Rattle.mercator.specs.declared.commands.log_file.LogFault.TheVariants as unlogged
 use Rattle.mercator.specs.declared.commands.fault.Fault.TheVariants as wrong
 
--- it holds of some bytes that a file can have: those that are known of it, if they are, and no more than the limit
+-- P holds for some bytes that the file can have: the known ones, if they are known, and no more than the limit
 pub record OfFile (known : Option (List ℕ)) (P : List ℕ → Type 0) : Type 0 where
   pub bytes : List ℕ
   pub read : IfSome known (λ known. bytes ≡ known)
   pub few : length bytes ≤ most_input_bytes
   pub holds : P bytes
 
--- it holds of some bytes that the two files of a crawl can have: of the web's, and of those of the listed seeds
+-- P holds for some bytes that the two files of a crawl can have: those of the saved web, and those of the file of seeds
 abbrev pub OfFiles : List ℕ → Option (String Global) → Option (List ℕ) → (List ℕ → List ℕ → Type 0) → Type 0
 OfFiles file listed input P = OfFile (known_bytes file input) (λ bytes. OfFile (known_seeds listed input) (λ seeds. P bytes seeds))
 
@@ -48,7 +48,7 @@ pub record AreFiles (file : List ℕ) (listed : Option (String Global)) (input :
   pub read_seeds : IfSome (known_seeds listed input) (λ known. seeds ≡ known)
   pub few_seeds : length seeds ≤ most_input_bytes
 
--- the part of so many queues whose log has this identity
+-- the part with this many queues whose log has this identity
 abbrev pub part_of : ℕ → List ℕ → Option (ℕ × ℕ) → Option Part
 part_of queues identity None = None
 part_of queues identity (Some p) = Some (record { number = p.0; queues = queues; identity = identity })
@@ -76,7 +76,7 @@ pub record GoesOn (asked : SessionPlan) (input : Option (List ℕ)) (text : List
   pub read : IfSome input (λ known. bytes ≡ known)
   pub answered : text ≡ answer_lines (answers (settings_of asked identity) (state_after (settings_of asked identity) (start (queues_of asked) asked.max) (lines log)) (lines bytes))
 
--- the text is the plan's
+-- the text is the output of the plan
 abbrev pub IsTold : Plan → Option (List ℕ) → List ℕ → Type 0
 IsTold (asks.Crawl workers max queues file seeds within options) input text =
     (is_bad_suffix within ≡ false)
@@ -87,15 +87,15 @@ IsTold (asks.Serve asked) input text = (is_bad_suffix asked.within ≡ false) ×
 IsTold (asks.ServeLog asked) input text = (is_bad_suffix asked.session.within ≡ false) × GoesOn asked.session input text
 IsTold (asks.Compact log new) input text = (is_bad_suffix log.session.within ≡ false) × (text ≡ [])
 
--- why a replay fails: the FILE cannot be read, or is no script, by this fault; or want of memory
+-- why a replay fails: the FILE cannot be read, or is no script, with this error; or memory runs out
 abbrev pub FailsReplay : List ℕ → Option (List ℕ) → Fault → Type 0
 FailsReplay file input wrong.CannotRead = Unit {0}
 FailsReplay file input (wrong.Script fault) = OfFile (known_bytes file input) (λ bytes. script_of bytes ≡ Err fault)
 FailsReplay file input wrong.NoMemory = Unit {0}
 FailsReplay file input _ = ⊥
 
--- why a crawl fails, in this order: the suffix is bad; the FILE cannot be read; a file of seeds cannot be; the web is refused, or
--- a seed is, or there is none, or the crawl is incomplete; or want of memory
+-- why a crawl fails, in this order: the suffix is bad; the FILE cannot be read; the file of seeds cannot be read; the saved web or
+-- a seed is refused, there is no seed, or the crawl is incomplete. Memory may run out at any time
 abbrev pub FailsCrawl : ℕ → ℕ → Option (String Global) → List ℕ → Option (String Global) → List (List ℕ) → Option (List ℕ) → Fault → Type 0
 FailsCrawl workers max within file listed seeds input wrong.BadSuffix = is_bad_suffix within ≡ true
 FailsCrawl workers max within file listed seeds input wrong.CannotRead = is_bad_suffix within ≡ false
@@ -104,37 +104,37 @@ FailsCrawl workers max within file listed seeds input wrong.NoMemory = Unit {0}
 FailsCrawl workers max within file listed seeds input fault =
     (is_bad_suffix within ≡ false) × OfFiles file listed input (λ bytes list. IsUnbegun workers max bytes list seeds fault)
 
--- at which URL a crawl fails: at that of its certificate's fault, by the bytes of its files, and at none by another fault
+-- at which URL a crawl fails: that of the certificate's error, by the bytes of its files; any other error has none
 abbrev pub ExplainsCrawl : Option (String Global) → List ℕ → Option (String Global) → List (List ℕ) → Option (List ℕ) → Fault → Option (List ℕ) → Type 0
 ExplainsCrawl within file listed seeds input fault None = IsAtNone fault
 ExplainsCrawl within file listed seeds input fault (Some url) = OfFiles file listed input (λ bytes list. IsNamedAt bytes list seeds (suffixes_of within) fault (Some url))
 
--- what a crawl of so many workers lost, where it fails at a URL, by the bytes of its files
+-- what a crawl with this many workers lost if it fails at a URL, by the bytes of its files
 abbrev pub CountsCrawl : ℕ → Option (String Global) → List ℕ → Option (String Global) → List (List ℕ) → Option (List ℕ) → Fault → Option (List ℕ) → Losses → Type 0
 CountsCrawl workers within file listed seeds input fault None losses = losses ≡ no_losses
 CountsCrawl workers within file listed seeds input fault (Some url) losses = OfFiles file listed input (λ bytes list. IsCountedAt workers bytes list seeds (suffixes_of within) fault (Some url) losses)
 
--- why a key is not told: the text has no canonical URL, by this refusal; or want of memory
+-- why a key is not printed: the text has no canonical URL, with this error; or memory runs out
 abbrev pub FailsKey : List ℕ → Fault → Type 0
 FailsKey url (wrong.Url refusal) = canonical url ≡ Err refusal
 FailsKey url wrong.NoMemory = Unit {0}
 FailsKey url _ = ⊥
 
--- why a session does not begin: its suffix is bad, or want of memory
+-- why a session does not start: its suffix is bad, or memory runs out
 abbrev pub FailsSession : Option (String Global) → Fault → Type 0
 FailsSession within wrong.BadSuffix = is_bad_suffix within ≡ true
 FailsSession within wrong.NoMemory = Unit {0}
 FailsSession within _ = ⊥
 
--- why one with a log does not begin, and why a log is not compacted: its suffix is bad, the log is at fault, or want of memory
+-- why a session with a log does not start, and why a log is not compacted: the suffix is bad, the log cannot be used, or memory
+-- runs out
 abbrev pub FailsLog : Option (String Global) → Fault → Type 0
 FailsLog within wrong.BadSuffix = is_bad_suffix within ≡ true
 FailsLog within (wrong.Log fault) = is_bad_suffix within ≡ false
 FailsLog within wrong.NoMemory = Unit {0}
 FailsLog within _ = ⊥
 
--- why it ends before its input does: the input cannot be read, an answer or the log cannot be written, or want of
--- memory
+-- why a session ends before its input does: the input cannot be read, an answer or the log cannot be written, or memory runs out
 abbrev pub BreaksOff : Plan → Fault → Type 0
 BreaksOff (asks.Serve asked) wrong.CannotRead = is_bad_suffix asked.within ≡ false
 BreaksOff (asks.Serve asked) wrong.CannotWrite = is_bad_suffix asked.within ≡ false
@@ -145,7 +145,7 @@ BreaksOff (asks.ServeLog asked) wrong.NoMemory = is_bad_suffix asked.session.wit
 BreaksOff (asks.ServeLog asked) (wrong.Log unlogged.CannotWrite) = is_bad_suffix asked.session.within ≡ false
 BreaksOff plan fault = ⊥
 
--- the fault is one by which the plan's command fails before it writes
+-- the plan's command fails with this error before it writes
 abbrev pub Fails : Plan → Option (List ℕ) → Fault → Type 0
 Fails (asks.Crawl workers max queues file seeds within options) input fault = FailsCrawl workers max within (string_bytes file) options.listed (map string_bytes seeds.items) input fault
 Fails (asks.Key url workers) input fault = FailsKey (string_bytes url) fault
@@ -154,8 +154,8 @@ Fails (asks.Serve asked) input fault = FailsSession asked.within fault
 Fails (asks.ServeLog asked) input fault = FailsLog asked.session.within fault
 Fails (asks.Compact log new) input fault = FailsLog log.session.within fault
 
--- there is nothing that the command could tell: the FILE is known and no script; whatever bytes the files of a crawl have, by
--- what is known of them, there is no web, a seed has no canonical URL, or there is no seed; a suffix is bad; or the URL has no canonical URL
+-- the command cannot have an output: the suffix is bad; the FILE is known and no script; the URL has no canonical URL; or, for all
+-- bytes that the files of a crawl can have, there is no saved web, a seed has no canonical URL, or there is no seed
 abbrev pub CannotTell : Plan → Option (List ℕ) → Type 0
 CannotTell (asks.Crawl workers max queues file seeds within options) input =
     (is_bad_suffix within ≡ true) ⊎ (OfFiles (string_bytes file) options.listed input (λ bytes list. IsBegun bytes list (map string_bytes seeds.items)) → ⊥)
@@ -165,53 +165,53 @@ CannotTell (asks.Serve asked) input = is_bad_suffix asked.within ≡ true
 CannotTell (asks.ServeLog asked) input = is_bad_suffix asked.session.within ≡ true
 CannotTell (asks.Compact log new) input = is_bad_suffix log.session.within ≡ true
 
--- a crawl alone can be incomplete, and it is one of a saved web from seeds, one at least, that have canonical URLs
+-- only a crawl can be incomplete: one of a saved web, from at least one seed, whose seeds have canonical URLs
 abbrev pub MayLose : Plan → Option (List ℕ) → Type 0
 MayLose (asks.Crawl workers max queues file seeds within options) input =
     (is_bad_suffix within ≡ false) × OfFiles (string_bytes file) options.listed input (λ bytes list. IsBegun bytes list (map string_bytes seeds.items))
 MayLose _ input = ⊥
 
--- at which URL the plan's command ends by this fault; a crawl alone names one
+-- at which URL the plan's command ends with this error; only a crawl has one
 abbrev pub Explains : Plan → Option (List ℕ) → Fault → Option (List ℕ) → Type 0
 Explains (asks.Crawl workers max queues file seeds within options) input fault culprit =
     ExplainsCrawl within (string_bytes file) options.listed (map string_bytes seeds.items) input fault culprit
 Explains plan input fault culprit = culprit ≡ None
 
--- what the plan's command lost that ends by this fault; a crawl alone loses something
+-- what the plan's command lost if it ends with this error; only a crawl loses something
 abbrev pub Counts : Plan → Option (List ℕ) → Fault → Option (List ℕ) → Losses → Type 0
 Counts (asks.Crawl workers max queues file seeds within options) input fault culprit losses =
     CountsCrawl workers within (string_bytes file) options.listed (map string_bytes seeds.items) input fault culprit losses
 Counts plan input fault culprit losses = losses ≡ no_losses
 
--- a writer that held the old bytes gained the plan's text, where it says what it holds
+-- the plan's output was appended to what a writer holds, if that is known
 pub record Gains (plan : Plan) (input old new : Option (List ℕ)) : Type 0 where
   pub text : List ℕ
   pub told : IsTold plan input text
   pub gained : Appends old new text
 
--- why a plan's command ended by this fault: it fails by it, and then nothing is written; or a write of its text failed; or it is
--- a session, which broke off
+-- why a plan's command ended with this error: it failed before it wrote anything; a write of its output failed; or it is a session
+-- that ended early
 abbrev pub EndsBy : Plan → Option (List ℕ) → Fault → Type 0 → Type 0
 EndsBy plan input fault Unwritten = (Fails plan input fault × Unwritten) ⊎ (((fault ≡ wrong.CannotWrite) × ((text : List ℕ) × IsTold plan input text)) ⊎ BreaksOff plan fault)
 
--- what a session with a log may tell beside a fault: that the log's last line was torn
+-- what a session with a log may report in addition to an error: that the last line of the log was incomplete
 abbrev pub MayNote : Plan → Option (List ℕ) → Option (List ℕ) → Type 0
 MayNote (asks.ServeLog asked) old new = Begins old new (torn_line (string_bytes asked.file))
 MayNote plan old new = Unit {0}
 
--- the writer for faults gained the line, up to where it refused it; of a session with a log, behind what that may tell
+-- the writer for errors gained the line, up to where it failed; for a session with a log, after what that may report
 abbrev pub TellsFault : Plan → Option (List ℕ) → Option (List ℕ) → List ℕ → Type 0
 TellsFault (asks.ServeLog asked) old new line = (middle : Option (List ℕ)) × MayNote (asks.ServeLog asked) old middle × Begins middle new line
 TellsFault plan old new line = Begins old new line
 
--- the lines that tell a fault: its own; and where they are asked for, behind it those that tell it at its URL and what was lost
+-- the lines that report an error: its own, and if the plan asks for them, those about its URL and what was lost
 abbrev pub told_lines : Plan → Fault → Option (List ℕ) → Losses → List ℕ
 told_lines plan fault culprit losses =
     if explains plan then fault_line (told_file plan fault) fault ++ culprit_lines (told_file plan fault) fault culprit losses
     else fault_line (told_file plan fault) fault
 
--- a command ended by a fault. The status is the fault's, and the writer for faults gained the fault's lines, up to where it
--- refused them
+-- a command ended with an error: the status is that of the error, and the writer for errors gained the error's lines, up to where
+-- it failed
 pub record EndsByFault (plan : Plan) (ended : ℕ) (input err_old err_new : Option (List ℕ)) (Unwritten : Type 0) : Type 0 where
   pub fault : Fault
   pub status : ended ≡ status_of_fault fault
@@ -223,13 +223,13 @@ pub record EndsByFault (plan : Plan) (ended : ℕ) (input err_old err_new : Opti
   pub told : TellsFault plan err_old err_new (told_lines plan fault culprit losses)
   pub why : EndsBy plan input fault Unwritten
 
--- both crawls tell the same parts, in the same form
+-- both crawls print the same sections, in the same form
 pub record AskForOneReport (options others : CrawlOptions) : Type 0 where
   pub parts : options.parts ≡ others.parts
   pub json : options.json ≡ others.json
 
--- both plans crawl the input, from the same seeds of the command line within the same suffix, and tell the same parts; with the
--- lines of subqueues, where there are as many
+-- both plans crawl the standard input, from the same seeds of the command line and within the same suffix, and print the same
+-- sections. If they print the counts of queues, they have the same number of workers
 abbrev pub AskForOneText : Plan → Plan → Type 0
 AskForOneText (asks.Crawl workers max queues file seeds within options) (asks.Crawl others other_max other_queues other_file other_seeds other_within other_options) =
     (is_input (string_bytes file) ≡ true) × (is_input (string_bytes other_file) ≡ true) × (options.listed ≡ None) × (other_options.listed ≡ None)
@@ -237,17 +237,17 @@ AskForOneText (asks.Crawl workers max queues file seeds within options) (asks.Cr
     × AskForOneReport options other_options × (queues ≡ other_queues) × (queues ≡ true → workers ≡ others)
 AskForOneText _ _ = ⊥
 
--- what is wrong with words is told: the writer for faults gained a beginning of the text
+-- what is wrong with arguments is reported: the writer for errors gained a beginning of the text, which cannot control a terminal
 abbrev pub TellsWords : PlanError → Option (List ℕ) → Option (List ℕ) → Type 0
-TellsWords (unplanned.Shown text status) old new = Begins old new (string_bytes text)
+TellsWords (unplanned.Shown text status) old new = Begins old new (string_bytes text) × IsVisible (string_bytes text)
 TellsWords unplanned.NoMemory old new = ⊥
 
--- words led to no plan, and the writer for faults was told why: help could not be written, or there was no memory and nothing
--- is written
+-- arguments led to no plan, and the writer for errors gained the reason: help could not be written, or there was no memory and
+-- nothing is written
 abbrev pub FailsWithoutPlan : Option (List ℕ) → Option (List ℕ) → Type 0 → Type 0
 FailsWithoutPlan old new Unwritten = Begins old new (fault_line [] wrong.CannotWrite) ⊎ (Begins old new (fault_line [] wrong.NoMemory) × Unwritten)
 
--- a session with a log is done, and may have told that the log's last line was torn
+-- a session with a log is done, and may have reported that the log's last line was incomplete
 pub record IsDoneWithNote (plan : Plan) (input out_old out_new err_old err_new : Option (List ℕ)) : Type 0 where
   pub logged : has_log plan ≡ true
   pub gains : Gains plan input out_old out_new

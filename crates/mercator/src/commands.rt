@@ -22,6 +22,7 @@ mod fault_text;
 mod folder_words;
 mod input;
 mod log_file;
+mod new_log;
 mod opening;
 mod planned;
 mod platform;

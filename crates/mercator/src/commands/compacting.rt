@@ -10,19 +10,22 @@ ghost use Rattle.mercator.specs.declared.commands.planned.Plan.TheVariants as as
 
 use crate::commands::fault::Fault;
 use crate::commands::log_file::{LockFile, LogFault};
+use crate::commands::new_log::{create_partial, publish};
 use crate::commands::opening::{OpenedLog, open_session};
 use crate::commands::planned::LogPlan;
 use crate::commands::platform::Platform;
 use crate::commands::window::READ_SIZE;
 use crawl_session::{Compactor, Session, whole_len};
 use std::alloc::Global;
-use std::fs::{self, File, Files, OpenFile};
+use std::fs::{self, Files, OpenFile};
 use std::io::{self, Read, Seek, SeekFrom, Write};
 
-/// Writes a compacted copy of the log, with only the requests that are needed, to a new file. The log does not change.
+/// Writes a compacted copy of the log, with only the requests that are needed, to a new file. The log does not change. If the
+/// program is killed, the new file is whole or does not exist, but a file with its temporary name may remain.
 ///
 /// # Errors
-/// `BadSuffix`. `Log` if the log cannot be used, or if the new file exists or cannot be written. `NoMemory`.
+/// `BadSuffix`. `Log` if the log cannot be used, or if the new file exists or cannot be written. `NoMemory`. An error leaves no
+/// new file.
 pub fn compact_log<R: Files, L: LockFile<R::File>, V>(
     platform: &Platform<'_, R, L, V>,
     alloc: Global,
@@ -39,28 +42,41 @@ pub fn compact_log<R: Files, L: LockFile<R::File>, V>(
     compact_as(platform.rt, alloc, &mut session, &mut log, new.as_str())
 }
 
-/// Writes the compacted log to a new file of this name, which is removed if a write fails.
+/// Writes the compacted log to a new file, which gets this name when it is whole and synced to disk. An error leaves no file.
 fn compact_as<R: Files, F: Read + Seek>(
     rt: &R,
     alloc: Global,
     session: &mut Session,
     log: &mut OpenedLog<F>,
-    name: &str,
+    new: &str,
 ) -> Result<(), Fault>
     ensures { IfErr result IsLogFault }
 {
-    let Ok(mut file) = File::create_new(rt, name) else {
-        return Err(Fault::Log(LogFault::CannotMakeNew));
-    };
-    let written = compact_to(alloc, session, log, &mut file);
-    let synced = file.sync_all();
-    if written.is_err() || synced.is_err() {
-        let _ = fs::remove_file(rt, name);
+    let (partial, mut file) = create_partial(rt, alloc, new)?;
+    if let Err(fault) = compact_synced(alloc, session, log, &mut file) {
+        let _ = fs::remove_file(rt, partial.as_str());
+        return Err(fault);
     }
+    publish(rt, partial.as_str(), new)?;
+    Ok(())
+}
+
+/// Writes the compacted log, and syncs it to disk.
+fn compact_synced<F: Read + Seek, O: Write + OpenFile>(
+    alloc: Global,
+    session: &mut Session,
+    log: &mut OpenedLog<F>,
+    out: &mut O,
+) -> Result<(), Fault>
+    ensures compacted { OnOk result (IsCompacted session.old (string_bytes log.old.first) (O.contents out.old) (O.contents out.new)) }
+    ensures fault { IfErr result IsLogFault }
+{
+    let written = compact_to(alloc, session, log, out);
+    let synced = out.sync_all();
     finish(written, synced)
 }
 
-/// Returns how a compaction ends, from how it was written and how it was then synced.
+/// Returns how a compaction ends, from the results of the writes and of the sync.
 fn finish(written: Result<(), Fault>, synced: io::Result<()>) -> Result<(), Fault>
     requires { IfErr written IsLogFault }
     ensures done { IfOk result (λ _. IsOk written × IsOk synced) }

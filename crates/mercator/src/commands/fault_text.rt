@@ -16,7 +16,7 @@ use std::fmt::Display;
 /// The text of an error, with the file that it is about.
 #[derive(Clone, Copy)]
 pub struct FaultText<'a> {
-    /// The name of the file, as it was given.
+    /// The name of the file, with its hidden characters escaped.
     pub file: &'a str,
     /// The error.
     pub fault: Fault,
@@ -174,6 +174,7 @@ fn log_words(fault: LogFault) -> Words
         LogFault::CannotOpen => alone("cannot open"),
         LogFault::InUse => alone("in use by another program"),
         LogFault::CannotRead => alone("cannot read"),
+        LogFault::NotALog => alone("not a log"),
         LogFault::OtherSettings => alone("made with other options"),
         LogFault::CannotWrite => alone("cannot write"),
         LogFault::CannotMakeNew => alone("cannot create the new log, which must not exist"),

@@ -71,6 +71,8 @@ pub enum LogFault {
     InUse,
     /// A read failed.
     CannotRead,
+    /// The file does not begin like a log.
+    NotALog,
     /// The file does not begin like a log that was made with these options.
     OtherSettings,
     /// A write failed.

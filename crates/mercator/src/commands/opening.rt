@@ -22,6 +22,12 @@ use std::io::{self, Read, Seek, SeekFrom};
 /// The number of digits of an identity.
 const DIGITS: usize = 32;
 
+/// How the first line of a log may begin.
+const STARTS: &[&str] = &["workers ", "within ", "part "];
+
+/// The largest number of bytes in [`STARTS`].
+const START_LEN: usize = 8;
+
 /// The file of a log, locked by this process.
 #[derive(Drop)]
 pub struct OpenedLog<F> {
@@ -63,7 +69,7 @@ pub fn open_session<R: Files, L: LockFile<R::File>, V>(
 /// Opens the file of the log, which must begin as the plan says.
 ///
 /// # Errors
-/// `CannotOpen`, `InUse`, `OtherSettings` if it begins otherwise, `CannotRead`, `NoMemory`.
+/// `CannotOpen`, `InUse`, `NotALog`, `OtherSettings` if it begins otherwise, `CannotRead`, `NoMemory`.
 fn open_log<R: Files, L: LockFile<R::File>, V>(
     platform: &Platform<'_, R, L, V>,
     alloc: Global,
@@ -73,6 +79,7 @@ fn open_log<R: Files, L: LockFile<R::File>, V>(
     ensures { IfErr result IsLogFault }
 {
     let mut file = open_file(platform, asked.file.as_str(), makes)?;
+    check_start(&mut file)?;
     let identity = match asked.session.part {
         Some(part) => identity_of(platform.rt, alloc, part, &mut file)?,
         None => String::new(alloc),
@@ -107,6 +114,37 @@ fn open_file<R: Files, L: LockFile<R::File>, V>(
         Ok(false) => Err(LogFault::InUse),
         Err(_) => Err(LogFault::CannotOpen),
     }
+}
+
+/// Checks that the file begins like a log, whatever its options, or is shorter.
+///
+/// # Errors
+/// `NotALog`, `CannotRead`.
+fn check_start<F: Read + Seek>(file: &mut F) -> Result<(), Fault>
+    ensures { IfErr result IsLogFault }
+{
+    let mut start = [0u8; START_LEN];
+    let len = file.seek(SeekFrom::End(0))?;
+    let known = len.min(START_LEN as u64) as usize;
+    file.seek(SeekFrom::Start(0))?;
+    file.read_exact(&mut start[..known])?;
+    if begins_a_log(&start[..known]) {
+        Ok(())
+    } else {
+        Err(Fault::Log(LogFault::NotALog))
+    }
+}
+
+/// Returns whether one of [`STARTS`] begins with these bytes, or these bytes with it.
+fn begins_a_log(bytes: &[u8]) -> bool {
+    for start in STARTS {
+        let start = start.as_bytes();
+        let count = start.len().min(bytes.len());
+        if bytes[..count] == start[..count] {
+            return true;
+        }
+    }
+    false
 }
 
 /// Returns the identity of the log of a part: the digits in its first line, completed by random ones.

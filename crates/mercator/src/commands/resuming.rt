@@ -18,6 +18,7 @@ use crate::commands::planned::LogPlan;
 use crate::commands::platform::Platform;
 use crate::commands::writing::begin;
 use crawl_session::{ServeError, Session, serve};
+use shown_text::shown;
 use std::alloc::{AllocError, Global};
 use std::fs::{Files, OpenFile};
 use std::io::{self, Read, Seek, SeekFrom, Write};
@@ -125,6 +126,7 @@ fn cut<F: OpenFile, E: Write>(
 fn torn_line(alloc: Global, name: &str) -> Result<String, AllocError>
     ensures { IfOk result (λ line. string_bytes line ≡ torn_line name.now) }
 {
+    let name = shown(alloc, name)?;
     let mut line = String::new(alloc);
     writeln!(line, "mercator: log {name}: incomplete last line removed")?;
     Ok(line)

@@ -1,7 +1,7 @@
 //! Parses the arguments of a command line with `clap`.
-ghost use Rattle.std.specs.Prelude.{◌≡◌, ◌*◌, ◌<◌, ◌≤◌, IfOk, IfErr, IfSome};
+ghost use Rattle.std.specs.Prelude.{◌≡◌, ◌*◌, ◌<◌, ◌≤◌, IfOk, IfErr, IfSome, string_bytes};
 ghost use Rattle.crawl_limits.specs.Limits.{worker_limit, pending_limit};
-ghost use Rattle.mercator.specs.Plans.{IsPartOf, IsSessionPlan, IsShown, IsWithinLimits, all_queues, lists_input};
+ghost use Rattle.mercator.specs.Plans.{IsPartOf, IsSessionPlan, IsShown, IsVisible, IsWithinLimits, all_queues, lists_input};
 ghost use Rattle.mercator.specs.declared.commands.words.PlanError.TheVariants as wrong;
 
 use crate::commands::command_line::{self, command_line};
@@ -11,6 +11,8 @@ use clap::error::ErrorKind;
 use clap::{ArgMatches, Command};
 use crawl_limits::{PENDING_LIMIT, WORKER_LIMIT};
 use crawl_replay::number32;
+use shown_text::laws::shown_text_has_no_hidden_character;
+use shown_text::shown_lines;
 use std::alloc::{AllocError, AllocFailed, Global};
 
 /// Why arguments are not a plan.
@@ -18,7 +20,8 @@ use std::alloc::{AllocError, AllocFailed, Global};
 pub enum PlanError {
     /// A text to show instead of running a command: help, with status 0, or an error in the arguments, with status 3.
     Shown {
-        /// The text, whose last line ends in LF. It is empty if the arguments were parsed otherwise than they were checked.
+        /// The text, whose last line ends in LF. Its other hidden characters are escaped. It is empty if the arguments were parsed
+        /// otherwise than they were checked.
         text: String,
         /// The exit status of the program.
         status: u8,
@@ -100,10 +103,26 @@ fn shown(alloc: Global, error: &clap::Error) -> PlanError
     } else {
         0
     };
-    match format!(in alloc; "{error}") {
+    match text_of(alloc, error) {
         Ok(text) => PlanError::Shown { text, status },
         Err(_) => PlanError::NoMemory,
     }
+}
+
+/// Returns the text of this error of `clap`. It quotes arguments, so its hidden characters are escaped.
+fn text_of(alloc: Global, error: &clap::Error) -> Result<String, AllocError>
+    ensures { IfOk result (λ text. IsVisible (string_bytes text)) }
+{
+    let text = format!(in alloc; "{error}")?;
+    visible(alloc, text.as_str())
+}
+
+/// Returns the text with its hidden characters escaped.
+fn visible(alloc: Global, text: &str) -> Result<String, AllocError>
+    ensures { IfOk result (λ visible. IsVisible (string_bytes visible)) }
+{
+    shown_text_has_no_hidden_character();
+    shown_lines(alloc, text)
 }
 
 /// The exit status of a bad command line.
@@ -339,7 +358,7 @@ fn two_inputs(alloc: Global) -> Result<PlanError, AllocError>
     ensures { IfOk result IsShown }
 {
     Ok(PlanError::Shown {
-        text: String::from_str(alloc, TWO_INPUTS)?,
+        text: visible(alloc, TWO_INPUTS)?,
         status: BAD_COMMAND_LINE,
     })
 }
@@ -349,7 +368,7 @@ fn bad_part(alloc: Global) -> Result<PlanError, AllocError>
     ensures { IfOk result IsShown }
 {
     Ok(PlanError::Shown {
-        text: String::from_str(alloc, BAD_PART)?,
+        text: visible(alloc, BAD_PART)?,
         status: BAD_COMMAND_LINE,
     })
 }

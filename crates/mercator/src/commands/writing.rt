@@ -11,6 +11,7 @@ use crate::commands::fault_text::FaultText;
 use crate::commands::planned::Plan;
 use crawl_keys::CanonUrl;
 use crawl_workers::Losses;
+use shown_text::shown;
 use std::alloc::{AllocError, Global};
 use std::io::Write;
 
@@ -73,13 +74,14 @@ fn lines_at(alloc: Global, file: &str, failure: &Failure) -> Result<String, Allo
 {
     let mut lines = fault_line(alloc, file, failure.fault)?;
     if let Some(url) = &failure.culprit {
-        push_culprit(&mut lines, file, failure.fault, url)?;
+        push_culprit(alloc, &mut lines, file, failure.fault, url)?;
         push_losses(&mut lines, failure.losses)?;
     }
     Ok(lines)
 }
 
 fn push_culprit(
+    alloc: Global,
     lines: &mut String,
     file: &str,
     fault: Fault,
@@ -87,7 +89,12 @@ fn push_culprit(
 ) -> Result<(), AllocError>
     ensures { IfOk result (λ _. string_bytes lines.new ≡ string_bytes lines.old ++ culprit_line file.now fault url.now) }
 {
-    let (text, url) = (FaultText { file, fault }, url.as_str());
+    let name = shown(alloc, file)?;
+    let text = FaultText {
+        file: name.as_str(),
+        fault,
+    };
+    let url = url.as_str();
     writeln!(lines, "mercator: {text}: {url}")?;
     Ok(())
 }
@@ -109,7 +116,7 @@ fn push_losses(lines: &mut String, losses: Losses) -> Result<(), AllocError>
     Ok(())
 }
 
-/// Returns the line that reports an error, which ends in LF. `file` is the FILE of the command.
+/// Returns the line that reports an error, which ends in LF. `file` is the FILE of the command; its hidden characters are escaped.
 ///
 /// # Example
 ///
@@ -121,7 +128,11 @@ fn push_losses(lines: &mut String, losses: Losses) -> Result<(), AllocError>
 pub fn fault_line(alloc: Global, file: &str, fault: Fault) -> Result<String, AllocError>
     ensures { IfOk result (λ line. string_bytes line ≡ fault_line file.now fault) }
 {
-    let text = FaultText { file, fault };
+    let file = shown(alloc, file)?;
+    let text = FaultText {
+        file: file.as_str(),
+        fault,
+    };
     let mut line = String::new(alloc);
     writeln!(line, "mercator: {text}")?;
     Ok(line)
