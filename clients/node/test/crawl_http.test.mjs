@@ -19,7 +19,7 @@ const CRAWLER = fileURLToPath(new URL('../crawl_http.mjs', import.meta.url));
 const KILLS = Number(process.env.KILLS ?? 25);
 const options = {
   skip: process.env.MERCATOR ? false : 'MERCATOR does not name the program',
-  timeout: 300_000,
+  timeout: 900_000,
 };
 
 /** Random numbers below a bound, the same in each run. */
