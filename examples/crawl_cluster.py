@@ -12,7 +12,8 @@ URL. It fetches like crawl_http.py, and obeys robots.txt.
 
 To resume a part, however it ended, run its command again. To begin a new crawl, use new logs and
 another --name. If Redis does not answer, the part prints one message, tries to connect for ten
-minutes, and then fails. If Redis needs another password, the part fails immediately.
+minutes, and then fails. If Redis needs another password, the part fails immediately. If Redis
+loses the keys of the crawl, a running part recovers; start any part again that has ended.
 
 The script needs the Python package `redis`. Debian's python3-redis is for /usr/bin/python3.
 
