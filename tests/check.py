@@ -260,8 +260,9 @@ def compare_number(program: str, seed: int, number: int) -> Outcome:
     """Compares the random folder with this number."""
     with tempfile.TemporaryDirectory() as above:
         folder, settings, options = draw_number(seed, number, above)
-        faults: Faults = [(f"site {' '.join(options)}", web_fault(program, folder, options))]
+        faults: Faults = []
         try:
+            faults.append((f"site {' '.join(options)}", web_fault(program, folder, options)))
             rows = Model(folder, settings).rows()
         except drawn.NotPlain:
             return Outcome(number, faults, Counter(), True)

@@ -14,7 +14,8 @@ DIFFERENCES = """\
 differences of the program:
   a name that is not UTF-8 is skipped with a note, because no library call can open its file
   the only known encodings are UTF-8, UTF-16 and windows-1252
-  the bytes 81, 8D, 8F, 90 and 9D of windows-1252 are C1 controls, as in the Encoding Standard"""
+  the bytes 81, 8D, 8F, 90 and 9D of windows-1252 are C1 controls, as in the Encoding Standard
+  after a base, a link with an invalid host stays as it is, and all other hosts are canonical"""
 KNOWN = {"utf_8": "utf-8", "u8": "utf-8", "windows-1252": "cp1252", "1252": "cp1252", "utf-8": "utf-8", "cp1252": "cp1252"}
 
 
@@ -40,12 +41,14 @@ class Converter:
     def __init__(self, tool: Any = None, reader: Any = Reader) -> None:
         self.tool: Any = tool or loading.script("site_to_web_model", "tools/site_to_web.py")
         self.names, self.text, self.entries = self.tool.charset_names, self.tool.text_of, self.tool.entries_below
+        self.resolved = self.tool.with_base
         self.tool.LinkReader = reader
         self.tool.without_long_references = lambda text: text
         self.tool.charset_names = self.known_names
         self.tool.text_of = self.text_with_controls
         self.tool.with_query_in = with_query_in
         self.tool.entries_below = self.utf_8_entries
+        self.tool.with_base = self.with_base
 
     def known_names(self, body: bytes, charset: Optional[str]) -> Iterator[str]:
         """The names of the document's encodings, as far as the program knows them."""
@@ -55,6 +58,16 @@ class Converter:
         """A document's text and encoding, with the controls of windows-1252."""
         text, name = self.text(body, charset)
         return ("".join(map(character, body)), name) if name == "cp1252" else (text, name)
+
+    def with_base(self, links: List[str], base: str, url: Any) -> List[str]:
+        """The links of a page with a base. A link with an invalid host stays as it is; the converter does not know such hosts."""
+        fixed = []
+        for link, text in zip(links, self.resolved(links, base, url)):
+            if text != link and self.tool.scheme_of(text) in ("http", "https"):
+                target = drawn.url_or_none(text)
+                text = link if target is None else str(target)
+            fixed.append(text)
+        return fixed
 
     def utf_8_entries(self, *arguments: Any) -> List[bytes]:
         """The files and folders whose names are UTF-8."""
