@@ -16,7 +16,7 @@ from serving.logs import refuses, small_disk
 from serving.trial import SECONDS, Serve, Skipped, Trial, expect
 
 WORDS = ("--workers", "3")
-OFFERS = 20_000  # a compaction of as many takes long enough to be stopped
+OFFERS = 6_000  # a compaction of as many takes long enough to be stopped
 LIMIT = 65_536  # the largest file that a limited process can write; the compacted log is larger
 TRIES = 20
 
@@ -187,7 +187,7 @@ def named(trial: Trial, log: Path, new: Path, whole: bytes) -> None:
 
 def rivals(trial: Trial, log: Path, other: Path, new: Path) -> None:
     """Of two compactions to one new log at the same time, one succeeds, and the other leaves nothing."""
-    for _ in range(5):
+    for _ in range(3):
         both = [compaction(trial, one, new) for one in (log, other)]
         statuses = [ended(one)[0] for one in both]
         expect(sorted(statuses) == [0, 1], f"the statuses of two compactions to one new log: {statuses}")
