@@ -16,7 +16,7 @@ named_site (Err fault) name top web aliases asks made are is = tt
 pub returns-clause-named : goal.returns-clause-named
 returns-clause-named g c =
     let source = c.in_ok-site.ensures.source in
-    named_site c.report_of_pages.result _ _ _ _ _ source.web (aliases_in _ _ _ (source_of _ _ source) c.in_ok-site.ensures.aliases) (c.report_of_pages.ensures.named source.bytes (source_of _ _ source))
+    named_site c.report_of_pages.result _ _ _ _ _ source.web (aliases_in c.in_ok-site.site.pages source.bytes c.in_ok-site.site.aliases.items (source_of _ _ source) c.in_ok-site.ensures.aliases) (c.report_of_pages.ensures.named source.bytes (source_of _ _ source))
 
 checked_site : (answer : Result CheckReport SiteFault) (top web : List ℕ) (aliases : List Alias) (asks : Asks) → IsSiteWeb web → AreAliasesIn web aliases → IfOk answer (λ report. IsCheck top web aliases asks report.is_broken report.text.items) → IfOk answer (λ report. IsSiteCheck asks report.is_broken report.text.items)
 checked_site (Ok report) top web aliases asks made are is = record { top = top; web = web; made = made; aliases = aliases; are_aliases = are; checked = is }
@@ -25,7 +25,7 @@ checked_site (Err fault) top web aliases asks made are is = tt
 pub returns-clause-done : goal.returns-clause-done
 returns-clause-done g c =
     let source = c.in_ok-site.ensures.source in
-    checked_site c.report_of_pages.result _ _ _ _ source.web (aliases_in _ _ _ (source_of _ _ source) c.in_ok-site.ensures.aliases) (c.report_of_pages.ensures.done source.bytes (source_of _ _ source))
+    checked_site c.report_of_pages.result _ _ _ _ source.web (aliases_in c.in_ok-site.site.pages source.bytes c.in_ok-site.site.aliases.items (source_of _ _ source) c.in_ok-site.ensures.aliases) (c.report_of_pages.ensures.done source.bytes (source_of _ _ source))
 
 site_at : (answer : Result CheckReport SiteFault) (base top web : List ℕ) (aliases : List Alias) (asks : Asks) → IsSiteWeb web → AreAliasesIn web aliases → IsTop base top → IsWebBelow top web → IfOk answer (λ report. IsCheck top web aliases asks report.is_broken report.text.items) → IfOk answer (λ report. IsSiteCheckAt base asks report.is_broken report.text.items)
 site_at (Ok report) base top web aliases asks made are is_top below is = record { site = record { top = top; web = web; made = made; aliases = aliases; are_aliases = are; checked = is }; is_top = is_top; below = below }
@@ -34,4 +34,4 @@ site_at (Err fault) base top web aliases asks made are is_top below is = tt
 pub returns-clause-below : goal.returns-clause-below
 returns-clause-below g c =
     let source = c.in_ok-site.ensures.source in
-    site_at c.report_of_pages.result c.args.base.now _ _ _ _ source.web (aliases_in _ _ _ (source_of _ _ source) c.in_ok-site.ensures.aliases) c.in_ok-pages.ensures.top source.below (c.report_of_pages.ensures.done source.bytes (source_of _ _ source))
+    site_at c.report_of_pages.result c.args.base.now _ _ _ _ source.web (aliases_in c.in_ok-site.site.pages source.bytes c.in_ok-site.site.aliases.items (source_of _ _ source) c.in_ok-site.ensures.aliases) c.in_ok-pages.ensures.top source.below (c.report_of_pages.ensures.done source.bytes (source_of _ _ source))

@@ -38,7 +38,7 @@ returns-clause-done g c =
         web = source.bytes;
         made = source.web;
         aliases = c.in_ok-site.site.aliases.items;
-        are_aliases = aliases_in _ _ _ (source_of _ _ source) c.in_ok-site.ensures.aliases;
+        are_aliases = aliases_in c.in_ok-site.site.pages source.bytes c.in_ok-site.site.aliases.items (source_of _ _ source) c.in_ok-site.ensures.aliases;
         checked = subst (λ (a : Asks). IsCheck top source.bytes c.in_ok-site.site.aliases.items a report.is_broken report.text.items) c.settings_of-settings.ensures.asks check;
       },
     )
@@ -63,7 +63,7 @@ returns-clause-folder g c = λ none_known based.
         web = web;
         made = source.web;
         aliases = c.in_ok-site.site.aliases.items;
-        are_aliases = aliases_in _ _ _ (source_of _ _ source) c.in_ok-site.ensures.aliases;
+        are_aliases = aliases_in c.in_ok-site.site.pages source.bytes c.in_ok-site.site.aliases.items (source_of _ _ source) c.in_ok-site.ensures.aliases;
         checked = named.check;
       };
       fronted = c.settings_of-settings.ensures.front ∙ ap (λ (t : List ℕ). if paths then t else []) c.top.ensures;
