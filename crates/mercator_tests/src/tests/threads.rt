@@ -243,7 +243,10 @@ fn incomplete_or_the_one_report(rt: HostRuntime) {
     for workers in [1, 4, 64] {
         for _ in 0..100 {
             let outcome = third_fails(&rt, rt.alloc(), workers);
-            assert!(rt; outcome == Outcome::Expected || outcome == Outcome::Lacks, "{workers}");
+            assert!(rt;
+                outcome == Outcome::Expected || outcome == Outcome::Lacks,
+                "{workers}"
+            );
         }
     }
 }
