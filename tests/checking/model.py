@@ -173,6 +173,8 @@ class Site:
             for key in self.keys(name):
                 if self.files.setdefault(key, name) == name:
                     self.own[name] = self.url(key)
+        # A query keeps its `%`: decoded, the URL of one file may be the name of another. So whole URLs come first.
+        self.by_url = {self.url(key): name for key, name in self.files.items()}
 
     def keys(self, name: bytes) -> Iterator[Key]:
         """What a server looks up to return a file."""
@@ -205,7 +207,7 @@ class Site:
             return None
         if key.path + b"/" in self.names and key.query is None:
             return Moved(self.url(key._replace(path=key.path + b"/")) + request.query)
-        name = self.files.get(key)
+        name = self.by_url.get(url) or self.files.get(key)
         if name is None or not is_short("page", self.own[name]):
             return None
         return Found(name) if url == self.own[name] else Alias(name, self.own[name])
