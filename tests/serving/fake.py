@@ -73,7 +73,7 @@ class Frontier:
         if word == "link" and " " in rest:
             base, _, rest = rest.partition(" ")
             return self.offer(rest, base)
-        if word in ("next", "done", "again") and re.fullmatch("[0-9]{1,20}", rest):
+        if word in ("next", "done", "again", "later") and re.fullmatch("[0-9]{1,20}", rest):
             return self.of_queue(word, int(rest)) if int(rest) < 2**32 else "bad line"
         if text == "endseeds":
             if not self.has_seeds:
@@ -93,11 +93,14 @@ class Frontier:
         url = self.in_hand[own]
         if word == "again":
             return "refused nothing" if url is None else f"taken {url}"
-        if word == "done":
+        if word in ("done", "later"):
             if url is None:
                 return "refused nothing"
             self.in_hand[own] = None
-            return self.lower()
+            if word == "done":
+                return self.lower()
+            self.waiting[own].append(url)
+            return f"count {self.count}"
         if url is not None:
             return "refused busy"
         if self.waiting[own]:

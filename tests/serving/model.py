@@ -1,10 +1,10 @@
-"""An independent model of a session, which uses the models of URLs and of the machine in drawn.py."""
+"""An independent model of a session, which uses the model of URLs in drawn.py."""
 
 from __future__ import annotations
 
 import re
 from random import Random
-from typing import List, Optional, Sequence, Tuple
+from typing import Dict, List, Optional, Sequence, Set, Tuple
 
 import drawn
 
@@ -12,15 +12,22 @@ LINE_LIMIT = 4096
 
 
 class Session:
-    """The answers of a session, by the table of requests in docs/SESSION.md."""
+    """The answers of a session, by the table of requests in docs/SESSION.md: for each queue a plain list of the URLs that wait."""
 
     def __init__(
         self, workers: int, most: int, suffix: Optional[str] = None, part: Optional[Tuple[int, int]] = None
     ) -> None:
         self.part, parts = part or (0, 1)
-        self.is_part, self.workers = part is not None, workers
-        self.machine = drawn.Machine(drawn.Script(workers * parts, most, []))
-        self.suffix = suffix
+        self.is_part, self.workers, self.most, self.suffix = part is not None, workers, most, suffix
+        self.waiting: List[List[str]] = [[] for _ in range(workers * parts)]
+        self.accepted = [0] * (workers * parts)
+        self.busy: Dict[int, str] = {}
+        self.seen: Set[str] = set()
+        self.opening, self.closed = True, False
+
+    def count(self) -> int:
+        """The number of URLs that are not done, and one for the seeds until they have ended."""
+        return self.opening + sum(map(len, self.waiting)) + len(self.busy)
 
     def answer(self, line: bytes) -> str:
         if len(line) > LINE_LIMIT:
@@ -38,25 +45,39 @@ class Session:
         if text == "sync" and self.is_part:
             return "synced"
         if text == "endseeds":
-            return self.machine.reply("endseeds", 0, None)
-        if word in ("next", "done", "again") and re.fullmatch("[0-9]{1,20}", rest) and int(rest) < 2**32:
+            return self.end_seeds()
+        if word in ("next", "done", "again", "later") and re.fullmatch("[0-9]{1,20}", rest) and int(rest) < 2**32:
             return self.of_queue(word, int(rest))
         return "bad line"
 
-    def of_queue(self, word: str, queue: int) -> str:
-        machine = self.machine
-        if self.is_part and queue // self.workers != self.part:
-            return "refused nosuch"
-        if word == "done":
-            return machine.reply("done", queue, None)
-        if word == "next":
-            reply = machine.reply("take", queue, None)
-            return machine.reply("close", 0, None) if reply == "empty" else reply
-        if queue >= len(machine.accepted):
-            return "refused nosuch"
-        if queue not in machine.busy:
+    def end_seeds(self) -> str:
+        if not self.opening:
             return "refused nothing"
-        return f"taken {machine.accepted[queue][machine.taken[queue] - 1][1]}"
+        self.opening = False
+        return f"count {self.count()}"
+
+    def of_queue(self, word: str, queue: int) -> str:
+        if queue >= len(self.waiting) or self.is_part and queue // self.workers != self.part:
+            return "refused nosuch"
+        if word == "next":
+            return self.next(queue)
+        if queue not in self.busy:
+            return "refused nothing"
+        if word == "again":
+            return f"taken {self.busy[queue]}"
+        url = self.busy.pop(queue)
+        if word == "later":
+            self.waiting[queue].append(url)
+        return f"count {self.count()}"
+
+    def next(self, queue: int) -> str:
+        if queue in self.busy:
+            return "refused busy"
+        if self.waiting[queue]:
+            self.busy[queue] = self.waiting[queue].pop(0)
+            return f"taken {self.busy[queue]}"
+        self.closed = self.closed or self.count() == 0
+        return "closed" if self.closed else f"pending {self.count()}"
 
     def offer(self, text: str, base: Optional[str] = None) -> str:
         try:
@@ -67,17 +88,20 @@ class Session:
             return "not http or https"
         if self.suffix is not None and not f".{url.host}".endswith(f".{self.suffix}"):
             return "filtered"
-        part = drawn.queue_of(url, len(self.machine.accepted)) // self.workers
+        queue = drawn.queue_of(url, len(self.waiting))
+        part = queue // self.workers
         if part != self.part:
             return f"elsewhere {part} {url}"
-        self.machine.reply("look", 0, None)
-        reply = self.machine.reply("enter", 0, None)
-        if not reply.startswith("entered"):
-            return reply
-        reply = self.machine.reply("admit", 0, url)
-        if reply == "seen":
-            self.machine.reply("back", 0, None)
-        return reply
+        if self.closed:
+            return "refused closed"
+        if self.count() == self.most:
+            return "refused full"
+        if str(url) in self.seen:
+            return "seen"
+        self.seen.add(str(url))
+        self.waiting[queue].append(str(url))
+        self.accepted[queue] += 1
+        return f"accepted {queue} {self.accepted[queue] - 1}"
 
 
 ODD_LINES = (
@@ -85,7 +109,7 @@ ODD_LINES = (
     b"done +1", b"next 4294967296", b"next 4294967295", b"again", b"again x", b"endseeds ", b"end", b"link", b"look 0",
     b"link http://a.test/", b"enter 0", b"close", b"offer \xff", b"\xc3", b"offer http://\xe2\x82", b"\r", b"next 0\r",
     b"done 00000000000000000000", b"done 000000000000000000000", b"offer ", b"link  x", b"link  http://a.test/",
-    b"sync", b"sync ", b"sync 0", b"identity x", b"synced",
+    b"later", b"later ", b"later x", b"later -1", b"later 4294967296", b"later 4294967295", b"sync", b"sync ", b"sync 0", b"identity x", b"synced",
 )
 
 
@@ -101,8 +125,10 @@ def drawn_line(draw: Random, first: int, workers: int, has_link: bool, hosts: Se
         return f"link {base} {drawn.drawn_link(draw, list(hosts))}".encode()
     if kind < 75:
         return b"next %d" % queue
-    if kind < 92:
+    if kind < 87 or kind < 92 and not has_link:
         return b"done %d" % queue
+    if kind < 92:
+        return b"later %d" % queue
     if kind < 95 and has_link:
         return b"again %d" % queue
     if kind < 97:

@@ -70,7 +70,7 @@ others_stay q k (x ∷ xs) apart = by_first (is_at (nat_cmp k) x) refl (others_s
         rw (here, apart_at q x (λ is. apart (sym same ∙ is))) refl
     by_first false other rest = rw (other, rest) refl
 
-holds_less : (xs : List ℕ) (k q : ℕ) → Rising 0 xs → list_any (is_at (nat_cmp q)) (remove_key (is_at (nat_cmp k)) xs) ≡ (if nat_eq k q then false else list_any (is_at (nat_cmp q)) xs)
+pub holds_less : (xs : List ℕ) (k q : ℕ) → Rising 0 xs → list_any (is_at (nat_cmp q)) (remove_key (is_at (nat_cmp k)) xs) ≡ (if nat_eq k q then false else list_any (is_at (nat_cmp q)) xs)
 holds_less xs k q rising = by_test (nat_eq k q) refl
   where
     by_test : (b : Bool) → nat_eq k q ≡ b → list_any (is_at (nat_cmp q)) (remove_key (is_at (nat_cmp k)) xs) ≡ (if b then false else list_any (is_at (nat_cmp q)) xs)
@@ -179,7 +179,7 @@ done_held state place (Some queue) =
     cond_both (Held state (Done place)) queue.busy _ _ (λ _. same_gate state (Done place) _ refl refl (λ sender held. refl) (λ sender word. refl))
     (λ _. same_gate state (Done place) _ refl refl (λ sender held. refl) (λ sender word. refl))
 
-held : (state : State) → Sound state → (event : Event) → Held state event (turn state event)
+pub held : (state : State) → Sound state → (event : Event) → Held state event (turn state event)
 held state sound (Look who) = record {
   opening = and_all state.gate.opening;
   holders = λ sender. refl;

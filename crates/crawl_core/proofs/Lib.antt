@@ -2,6 +2,7 @@ pub mod Counts
 pub mod Effects
 pub mod Fetching
 pub mod GateHistory
+pub mod Handing
 pub mod Holders
 pub mod Leaving
 pub mod Places

@@ -42,7 +42,7 @@ AllZip-slice_get R (x ∷ xs) [] i z = absurd z
 AllZip-slice_get R (x ∷ xs) (y ∷ ys) zero z = z.0
 AllZip-slice_get R (x ∷ xs) (y ∷ ys) (suc i) z = AllZip-slice_get R xs ys i z.1
 
-AllZip-slice_set : {A B : Type 0} (R : A → B → Type 0) (xs : List A) (ys : List B) (i : ℕ) (x : A) (y : B) → AllZip R xs ys → R x y → AllZip R (slice_set xs i x) (slice_set ys i y)
+pub AllZip-slice_set : {A B : Type 0} (R : A → B → Type 0) (xs : List A) (ys : List B) (i : ℕ) (x : A) (y : B) → AllZip R xs ys → R x y → AllZip R (slice_set xs i x) (slice_set ys i y)
 AllZip-slice_set R [] [] i a b z r = tt
 AllZip-slice_set R [] (y ∷ ys) i a b z r = absurd z
 AllZip-slice_set R (x ∷ xs) [] i a b z r = absurd z
@@ -54,7 +54,7 @@ AllZip-replicate R zero x y r = tt
 AllZip-replicate R (suc n) x y r = (r, AllZip-replicate R n x y r)
 
 -- what lies from a place on begins with the element there
-drop-slice_get : {A : Type 0} (xs : List A) (n : ℕ) → MatchOption (slice_get xs n) (drop n xs ≡ []) (λ x. drop n xs ≡ x ∷ drop (suc n) xs)
+pub drop-slice_get : {A : Type 0} (xs : List A) (n : ℕ) → MatchOption (slice_get xs n) (drop n xs ≡ []) (λ x. drop n xs ≡ x ∷ drop (suc n) xs)
 drop-slice_get {A} [] n = drop_of_length-le {A = A} [] (omega arith)
 drop-slice_get (x ∷ xs) zero = refl
 drop-slice_get (x ∷ xs) (suc n) = drop-slice_get xs n
@@ -63,7 +63,7 @@ drop-slice_get (x ∷ xs) (suc n) = drop-slice_get xs n
 outstanding-unfinished : (kept : KeptQueue) (queue : Subqueue) → ShowsQueue kept queue → outstanding kept ≡ unfinished queue
 outstanding-unfinished kept queue shown = grind (arith, length-map, length-drop)
 
-sums : (kept : List KeptQueue) (queues : List Subqueue) → AllZip ShowsQueue kept queues → sum_by outstanding kept ≡ sum_by unfinished queues
+pub sums : (kept : List KeptQueue) (queues : List Subqueue) → AllZip ShowsQueue kept queues → sum_by outstanding kept ≡ sum_by unfinished queues
 sums [] [] z = refl
 sums [] (q ∷ qs) z = absurd z
 sums (k ∷ ks) [] z = absurd z
@@ -105,7 +105,7 @@ accepted_shows kept queue url sender shown =
 taken_shows : (kept : KeptQueue) (queue : Subqueue) (message : Message) → ShowsQueue kept queue → oldest queue ≡ Some message → ShowsQueue (record kept { waiting = map (λ m. m.url) (drop (suc queue.taken) queue.accepted); busy = true }) (after_taking queue)
 taken_shows kept queue message shown at = grind (arith, slice_get_within)
 
-finished_shows : (kept : KeptQueue) (queue : Subqueue) → ShowsQueue kept queue → ShowsQueue (record kept { busy = false }) (after_finishing queue)
+pub finished_shows : (kept : KeptQueue) (queue : Subqueue) → ShowsQueue kept queue → ShowsQueue (record kept { busy = false }) (after_finishing queue)
 finished_shows kept queue shown = grind arith
 
 -- ## The table

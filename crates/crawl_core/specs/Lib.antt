@@ -3,6 +3,7 @@ pub mod Fetching
 pub mod Flags
 pub mod GateSide
 pub mod Growth
+pub mod Handing
 pub mod History
 pub mod Invariants
 pub mod Kept

@@ -19,7 +19,10 @@ use std::collections::{BTreeMap, BTreeSet};
 use std::marker::Model;
 
 mod gate;
+mod handing;
 mod queues;
+
+pub use handing::Progress;
 
 /// A frontier as a pure machine: one subqueue for each worker, and the gate's word.
 #[derive(Drop)]

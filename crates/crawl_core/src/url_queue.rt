@@ -2,10 +2,12 @@
 ghost use Rattle.std.specs.Prelude.{◌≡◌, ◌∷◌, [], true, false, drop, IfOk, IfSome, IfNone, OnErr, OnSome};
 ghost use Rattle.std.specs.Option.{option_map};
 ghost use Rattle.crawl_core.specs.Fetching.{kept_fetch};
+ghost use Rattle.crawl_core.specs.Handing.{kept_progress};
 ghost use Rattle.crawl_core.specs.Kept.{empty_queue, has_seen, number_at};
 ghost use Rattle.crawl_core.specs.Moves.{accepting};
 
 use crate::error::NoMemory;
+use crate::machine::Progress;
 use crate::text::Text;
 use hash_index::HashIndex;
 use std::alloc::Global;
@@ -69,6 +71,18 @@ impl UrlQueue {
         }
         let taken = self.seen.len().saturating_sub(self.waiting.len());
         self.seen.get(taken.saturating_sub(1))
+    }
+
+    /// How far the queue is.
+    pub fn progress(&self) -> Progress
+        ensures { result ≡ kept_progress self.now }
+    {
+        let accepted = self.seen.len();
+        Progress {
+            accepted,
+            taken: accepted.saturating_sub(self.waiting.len()),
+            busy: self.busy,
+        }
     }
 
     /// Whether the URL was ever accepted here.

@@ -2,10 +2,12 @@
 ghost use Rattle.std.specs.Prelude.{◌≡◌, ◌∷◌, [], ◌<◌, true, false, length, replicate, slice_get, slice_set, Some, None, drop, IfOk, IfSome, IfNone, OnErr, OnSome};
 ghost use Rattle.std.specs.Option.{option_map};
 ghost use Rattle.crawl_core.specs.Fetching.{kept_fetch};
+ghost use Rattle.crawl_core.specs.Handing.{kept_progress};
 ghost use Rattle.crawl_core.specs.Kept.{KeptQueue, empty_queue, has_seen, number_at};
 ghost use Rattle.crawl_core.specs.Moves.{accepting};
 
 use crate::error::NoMemory;
+use crate::machine::Progress;
 use crate::text::Text;
 use crate::url_queue::UrlQueue;
 use std::alloc::Global;
@@ -19,6 +21,7 @@ pub struct UrlQueues {
 
 impl Model for UrlQueues {
     ghost use Rattle.std.specs.Prelude.{List};
+    ghost use Rattle.crawl_core.specs.Handing.{kept_progress};
     ghost use Rattle.crawl_core.specs.Kept.{KeptQueue};
 
     ghost Value = { List KeptQueue };
@@ -52,6 +55,14 @@ impl UrlQueues {
     {
         let queue = self.queues.get(place as usize)?;
         Some(queue.in_fetch())
+    }
+
+    /// How far the subqueue is, if there is one.
+    pub fn progress(&self, place: u32) -> Option<Progress>
+        ensures { result ≡ option_map kept_progress (slice_get self.now place) }
+    {
+        let queue = self.queues.get(place as usize)?;
+        Some(queue.progress())
     }
 
     /// Whether the subqueue has accepted the URL, if there is one.

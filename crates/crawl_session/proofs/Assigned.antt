@@ -23,11 +23,12 @@ use Rattle.crawl_web.specs.declared.lines.LineError.{LineError}
 use Rattle.crawl_session.specs.declared.answer.Answer.{Answer}
 use Rattle.crawl_session.specs.declared.answer.Answer.TheVariants.{Told}
 use Rattle.crawl_session.specs.declared.request.Request.{Request}
-use Rattle.crawl_session.specs.declared.request.Request.TheVariants.{Offer, Next, Again, Done, EndSeeds}
+use Rattle.crawl_session.specs.declared.request.Request.TheVariants.{Offer, Next, Again, Later, Done, EndSeeds}
 use Rattle.crawl_session.specs.declared.request.RequestError.{RequestError}
 use Rattle.crawl_session.specs.declared.request.RequestError.TheVariants as wrong
 use Rattle.crawl_session.specs.Clients.{asked, accepts, accepted_of}
-use Rattle.crawl_session.specs.Exchanges.{Exchange, client, ends, exchange, is_entered, is_seen}
+use Rattle.crawl_session.specs.Exchanges.{Exchange, client, ends, is_entered, is_seen, offering}
+use Rattle.crawl_session.specs.Frontiers.{Frontier}
 use Rattle.crawl_session.specs.Parts.{request_for}
 use Rattle.crawl_session.specs.Requests.{request_of, request_in, request_from, link_of, linked, offered}
 use Rattle.crawl_session.specs.Sessions.{answered, line_exchange}
@@ -84,6 +85,11 @@ unfolding AssignsUrl
 assigns_again workers None = tt
 assigns_again workers (Some n) = tt
 
+assigns_later : (workers : ℕ) (number : Option ℕ) → AssignsUrl workers (ok_or (option_map Later number) wrong.BadLine)
+unfolding AssignsUrl
+assigns_later workers None = tt
+assigns_later workers (Some n) = tt
+
 assigns_done : (workers : ℕ) (number : Option ℕ) → AssignsUrl workers (ok_or (option_map Done number) wrong.BadLine)
 unfolding AssignsUrl
 assigns_done workers None = tt
@@ -97,7 +103,8 @@ assigns_from workers suffixes text (Some p) =
     (assigns_if (bytes_eq p.0 (codes "link")) workers _ _ (assigns_link workers suffixes (at_space p.1))
     (assigns_other (bytes_eq p.0 (codes "next")) workers _ _ (assigns_next workers (number_of 32 p.1))
     (assigns_other (bytes_eq p.0 (codes "again")) workers _ _ (assigns_again workers (number_of 32 p.1))
-    (assigns_other (bytes_eq p.0 (codes "done")) workers _ None (assigns_done workers (number_of 32 p.1)) tt))))
+    (assigns_other (bytes_eq p.0 (codes "later")) workers _ _ (assigns_later workers (number_of 32 p.1))
+    (assigns_other (bytes_eq p.0 (codes "done")) workers _ None (assigns_done workers (number_of 32 p.1)) tt)))))
 
 assigns_in : (workers : ℕ) (suffixes : List (List ℕ)) (text : Result (List ℕ) LineError) → AssignsUrl workers (request_in workers suffixes text)
 unfolding AssignsUrl
@@ -134,7 +141,7 @@ names_admission state sender url named (Some queue) =
     either_way (λ (x : Turn). Names named (Told x.reply)) (not (holds state.gate sender)) (refused state why.Nothing) again tt
     (either_way (λ (x : Turn). Names named (Told x.reply)) (has_url queue.accepted url) (record { reply = told.Seen; state = state }) (put state sender url named queue) tt refl)
 
-names_offer : (state : State) (url : List ℕ) (named : ℕ) → Names named (exchange state (Offer url named)).answer
+names_offer : (state : State) (url : List ℕ) (named : ℕ) → Names named (offering state url named).answer
 names_offer state url named =
     let first = turn state (event.Look client) in
     let second = turn first.state (event.Enter client) in
@@ -156,18 +163,19 @@ accepts_offer : (queue named : ℕ) (url other : List ℕ) (answer : Answer) →
 accepts_offer queue named url other (Told (told.Accepted there number)) names is = accepted_there queue named there url other names is
 accepts_offer queue named url other _ names is = absurd (cc (is))
 
-accepted_here : (P : ℕ → List ℕ → Type 0) (queue : ℕ) (state : State) (url : List ℕ) (r : Result Request RequestError) → IfOk r (OffersWhere P) → accepts queue r (answered state r).answer ≡ Some url → P queue url
+accepted_here : (P : ℕ → List ℕ → Type 0) (queue : ℕ) (state : Frontier) (url : List ℕ) (r : Result Request RequestError) → IfOk r (OffersWhere P) → accepts queue r (answered state r).answer ≡ Some url → P queue url
 accepted_here P queue state url (Ok (Offer u named)) holds is =
-    let found = accepts_offer queue named u url (exchange state (Offer u named)).answer (names_offer state u named) is in
+    let found = accepts_offer queue named u url (offering state.machine u named).answer (names_offer state.machine u named) is in
     subst (λ q. P q url) (sym found.0) (subst (P named) found.1 holds)
 accepted_here P queue state url (Ok (Next named)) holds is = absurd (cc (is))
 accepted_here P queue state url (Ok (Again named)) holds is = absurd (cc (is))
+accepted_here P queue state url (Ok (Later named)) holds is = absurd (cc (is))
 accepted_here P queue state url (Ok (Done named)) holds is = absurd (cc (is))
 accepted_here P queue state url (Ok EndSeeds) holds is = absurd (cc (is))
 accepted_here P queue state url (Err why) holds is = absurd (cc (is))
 
 -- what holds of each offer's URL and queue, holds of what was accepted
-pub accepted_where : (P : ℕ → List ℕ → Type 0) (settings : Settings) → ((line : List ℕ) → IfOk (request_for settings line) (OffersWhere P)) → (state : State) (lines : List (List ℕ)) (queue k : ℕ) (url : List ℕ)
+pub accepted_where : (P : ℕ → List ℕ → Type 0) (settings : Settings) → ((line : List ℕ) → IfOk (request_for settings line) (OffersWhere P)) → (state : Frontier) (lines : List (List ℕ)) (queue k : ℕ) (url : List ℕ)
     → slice_get (accepted_of queue (asked settings state lines)) k ≡ Some url → P queue url
 accepted_where P settings each state [] queue k url at = absurd (cc)
 accepted_where P settings each state (line ∷ more) queue k url at =
@@ -190,5 +198,5 @@ offers_assigned workers (Ok (Offer url queue)) assigned = assigned
 offers_assigned workers (Ok _) assigned = tt
 offers_assigned workers (Err why) assigned = tt
 
-pub accepted_as_assigned : (settings : Settings) (state : State) (lines : List (List ℕ)) (queue k : ℕ) (url : List ℕ) → slice_get (accepted_of queue (asked settings state lines)) k ≡ Some url → queue ≡ subqueue_of url settings.workers
+pub accepted_as_assigned : (settings : Settings) (state : Frontier) (lines : List (List ℕ)) (queue k : ℕ) (url : List ℕ) → slice_get (accepted_of queue (asked settings state lines)) k ≡ Some url → queue ≡ subqueue_of url settings.workers
 accepted_as_assigned settings = accepted_where (λ queue url. queue ≡ subqueue_of url settings.workers) settings (λ line. offers_assigned settings.workers (request_for settings line) (assigns_for settings line))

@@ -7,9 +7,9 @@ use Rattle.std.specs.Str.Lines.{lines, lines_of_parts, strip_carriage_return}
 use Rattle.std.proofs.lemmas.List.Elements.{All-nil, All-cons, All-head, All-tail, All-take}
 use Rattle.std.proofs.lemmas.List.Splits.{slice_split-cons_yes, slice_split-cons_no}
 use Rattle.std.proofs.Math.Seq.{get_or-append_seam, take-append_seam}
-use Rattle.crawl_core.specs.State.{State}
 use Rattle.crawl_session.specs.Compacting.{Had, having, is_needed, needed, log_line, log_text}
 use Rattle.crawl_session.specs.Input.{IsUnfinished}
+use Rattle.crawl_session.specs.Frontiers.{Frontier}
 use Rattle.crawl_session.specs.Parts.{request_for}
 use Rattle.crawl_session.specs.Sessions.{line_exchange}
 use Rattle.crawl_session.specs.Settings.{Settings}
@@ -50,7 +50,7 @@ of_parts (part ∷ next ∷ more) all =
     All-cons IsUnfinished (strip_carriage_return part) (lines_of_parts (next ∷ more)) (stripped_whole part (All-head IsUnfinished part (next ∷ more) all))
     (of_parts (next ∷ more) (All-tail IsUnfinished part (next ∷ more) all))
 
-needed_whole : (settings : Settings) (had : Had) (state : State) (ls : List (List ℕ)) → AllWhole ls → AllWhole (needed settings had state ls)
+needed_whole : (settings : Settings) (had : Had) (state : Frontier) (ls : List (List ℕ)) → AllWhole ls → AllWhole (needed settings had state ls)
 unfolding AllWhole
 needed_whole settings had state [] all = all
 needed_whole settings had state (line ∷ more) all =
@@ -89,7 +89,7 @@ text_stands [] all = refl
 text_stands (line ∷ more) all =
     line_stands line (log_text more) (All-head IsUnfinished line more all) ∙ ap (λ l. line ∷ l) (text_stands more (All-tail IsUnfinished line more all))
 
-pub needed_stands : (settings : Settings) (had : Had) (state : State) (bytes : List ℕ) → lines (log_text (needed settings had state (lines bytes))) ≡ needed settings had state (lines bytes)
+pub needed_stands : (settings : Settings) (had : Had) (state : Frontier) (bytes : List ℕ) → lines (log_text (needed settings had state (lines bytes))) ≡ needed settings had state (lines bytes)
 unfolding AllWhole
 needed_stands settings had state bytes =
     text_stands (needed settings had state (lines bytes)) (needed_whole settings had state (lines bytes) (of_parts (slice_split is_lf bytes) (parts_whole bytes)))

@@ -3,20 +3,20 @@ use Rattle.std.proofs.Common.{◌≡◌, ℕ, Bool, true, false, if◌then◌els
 use Rattle.std.specs.Io.KnownBytes.{Appends}
 use Rattle.std.proofs.KnownBytes.{Appends-nil, Appends-trans}
 use Rattle.std.proofs.lemmas.Grind.{flat_map-append}
-use Rattle.crawl_core.specs.State.{State}
 use Rattle.crawl_session.specs.Compacting.{Had, having, is_needed, needed, had_after, log_line, log_text, Gives, Compacts}
+use Rattle.crawl_session.specs.Frontiers.{Frontier}
 use Rattle.crawl_session.specs.Parts.{request_for}
 use Rattle.crawl_session.specs.Sessions.{line_exchange, state_after}
 use Rattle.crawl_session.specs.Settings.{Settings, SessionView}
 use Rattle.crawl_session.proofs.Lines.{state_after-append}
 
-pub had_after-append : (settings : Settings) (had : Had) (state : State) (front back : List (List ℕ)) → had_after settings had state (front ++ back) ≡ had_after settings (had_after settings had state front) (state_after settings state front) back
+pub had_after-append : (settings : Settings) (had : Had) (state : Frontier) (front back : List (List ℕ)) → had_after settings had state (front ++ back) ≡ had_after settings (had_after settings had state front) (state_after settings state front) back
 had_after-append settings had state [] back = refl
 had_after-append settings had state (line ∷ more) back =
     let done = line_exchange settings state line in
     had_after-append settings (having had done.answer) done.state more back
 
-pub needed-append : (settings : Settings) (had : Had) (state : State) (front back : List (List ℕ)) → needed settings had state (front ++ back) ≡ needed settings had state front ++ needed settings (had_after settings had state front) (state_after settings state front) back
+pub needed-append : (settings : Settings) (had : Had) (state : Frontier) (front back : List (List ℕ)) → needed settings had state (front ++ back) ≡ needed settings had state front ++ needed settings (had_after settings had state front) (state_after settings state front) back
 needed-append settings had state [] back = refl
 needed-append settings had state (line ∷ more) back =
     let done = line_exchange settings state line in

@@ -1,5 +1,5 @@
 -- The lines of a log that are needed bring a new session to the same state, but for the words that senders remember.
-use Rattle.std.proofs.Common.{◌≡◌, ℕ, ◌<◌, ◌≤◌, Bool, true, false, not, ◌&&◌, ◌||◌, if◌then◌else◌, List, [], ◌∷◌, ◌++◌, length, nat_eq, get_or, slice_get, Option, Some, None, Result, Ok, Err, IfOk, refl, sym, ap, subst, ◌∙◌, true≢false}
+use Rattle.std.proofs.Common.{◌≡◌, ℕ, suc, arith, ◌<◌, ◌≤◌, Bool, true, false, not, ◌&&◌, ◌||◌, if◌then◌else◌, List, [], ◌∷◌, ◌++◌, length, nat_eq, get_or, slice_get, Option, Some, None, Result, Ok, Err, IfOk, refl, sym, ap, subst, ◌∙◌, true≢false}
 use Rattle.std.specs.BTreeMap.{is_at}
 use Rattle.std.specs.List.{list_any}
 use Rattle.std.specs.Ordering.{nat_cmp}
@@ -13,22 +13,28 @@ use Rattle.crawl_core.specs.declared.reply.Reply.{Reply}
 use Rattle.crawl_core.specs.declared.reply.Reply.TheVariants as told
 use Rattle.crawl_core.specs.declared.reply.Refusal.TheVariants as why
 use Rattle.crawl_core.specs.declared.word.Word.{Word}
-use Rattle.crawl_core.specs.GateSide.{GateSide, GateTurn, close, end_seeds, enter, enter_with, gave_back, grant, holds, remembers, same_word, shown_word, turned_away, units_out}
+use Rattle.crawl_core.specs.GateSide.{GateSide, GateTurn, back, close, end_seeds, enter, enter_with, gave_back, grant, holds, let_go, remembers, same_word, shown_word, turned_away, units_out}
 use Rattle.crawl_core.specs.Messages.{Message, has_url}
 use Rattle.crawl_core.specs.Run.{Run}
-use Rattle.crawl_core.specs.State.{State, start, unfinished_in}
+use Rattle.crawl_core.specs.Fetching.{in_fetch}
+use Rattle.crawl_core.specs.Handing.{can_hand_over}
+use Rattle.crawl_core.specs.State.{State, unfinished_in}
 use Rattle.crawl_core.specs.Step.{Turn, turn, admit_to, counted, done_with, put, refused, take_from, take_oldest, with_subqueue}
 use Rattle.crawl_core.specs.Subqueue.{Subqueue, after_finishing, empty_subqueue, oldest}
 use Rattle.crawl_core.proofs.Sound.{Sound, gate_effect}
 use Rattle.crawl_session.specs.declared.answer.Answer.{Answer}
 use Rattle.crawl_session.specs.declared.answer.Answer.TheVariants.{Told, Unasked}
 use Rattle.crawl_session.specs.declared.request.Request.{Request}
-use Rattle.crawl_session.specs.declared.request.Request.TheVariants.{Offer, Next, Again, Done, EndSeeds}
+use Rattle.crawl_session.specs.declared.request.Request.TheVariants.{Offer, Next, Again, Later, Done, EndSeeds}
 use Rattle.crawl_session.specs.declared.request.RequestError.{RequestError}
 use Rattle.crawl_session.specs.Compacting.{Had, had_none, having, says_closed, changes, asks_again, is_needed, needed, log_text}
-use Rattle.crawl_session.specs.Exchanges.{Exchange, client, after, ends, admitting, entering, exchange, is_entered, is_seen, is_empty}
+use Rattle.crawl_session.specs.declared.deferrals.Deferred.{Deferred}
+use Rattle.crawl_session.specs.Exchanges as exchanges
+use Rattle.crawl_session.specs.Exchanges.{Exchange, Outcome, by_machine, client, after, deferring, deferring_taken, ends, admitting, entering, exchange, finishing, handing, is_count, is_due, is_entered, is_seen, is_empty, offering, put_back, replies, retaking, seeds_ended, taking, taking_again, taking_next}
 use Rattle.crawl_session.specs.Parts.{request_for}
+use Rattle.crawl_session.specs.Frontiers.{Frontier, deferrals_at, start, with_deferrals}
 use Rattle.crawl_session.specs.Serving.{with_words}
+use Rattle.crawl_session.specs.Steps as machine
 use Rattle.crawl_session.specs.Sessions.{answered, answers, line_exchange, state_after}
 use Rattle.crawl_session.specs.Settings.{Settings}
 use Rattle.crawl_session.proofs.Choices.{either_way}
@@ -40,9 +46,16 @@ use Rattle.crawl_session.proofs.Runs.{answered_runs}
 use Rattle.crawl_session.proofs.Steps.{returned_gate}
 use Rattle.crawl_session.proofs.Words.{Words, answered_alike, words_forgotten}
 
+abbrev done_with_it : State → ℕ → Exchange
+done_with_it state named = exchanges.done_with state named
+
 -- the same state, but for the words
-abbrev pub Same : State → State → Type 0
+abbrev pub Same : Frontier → Frontier → Type 0
 Same state next = (words : Words) × (next ≡ with_words state words)
+
+-- the same of the machine
+abbrev SameMachine : State → State → Type 0
+SameMachine state next = (words : Words) × (next ≡ machine.with_words state words)
 
 -- ---- turns whose replies change nothing
 
@@ -104,9 +117,8 @@ record Admits (had : Had) (state : State) (done : Turn) : Type 0 where
   seen : is_seen done.reply ≡ true → done.state ≡ state
   other : is_seen done.reply ≡ false → changes had done.reply ≡ true
 
-admits : (had : Had) (state : State) (url : List ℕ) (named : ℕ) (queue : Subqueue) → state.gate.holders ≡ client ∷ [] → Admits had state (admit_to state client url named (Some queue))
-admits had state url named queue one =
-    let held : holds state.gate client ≡ true = ap (λ (hs : List ℕ). list_any (is_at (nat_cmp client)) hs) one in
+admits : (had : Had) (state : State) (url : List ℕ) (named : ℕ) (queue : Subqueue) → holds state.gate client ≡ true → Admits had state (admit_to state client url named (Some queue))
+admits had state url named queue held =
     let seen : Turn = record { reply = told.Seen; state = state } in
     let inner : Admits had state (if has_url queue.accepted url then seen else put state client url named queue) =
     either_way (Admits had state) (has_url queue.accepted url) seen (put state client url named queue)
@@ -120,19 +132,19 @@ Quiet had (Told reply) = changes had reply ≡ false
 Quiet had (Unasked why) = Unit {0}
 
 record Stays (had : Had) (state : State) (x : Exchange) : Type 0 where
-  same : Quiet had x.answer → Same state x.state
+  same : Quiet had x.answer → SameMachine state x.state
 
 stays_after : (had : Had) (old state : State) (e : Event) (more : Reply → State → Exchange) → Stays had old (more (turn state e).reply (turn state e).state) → Stays had old (after state e more)
 stays_after had old state e more stays = record { same = stays.same }
 
-as_it_was : (state next : State) → next ≡ state → Same state next
+as_it_was : (state next : State) → next ≡ state → SameMachine state next
 as_it_was state next same = (state.gate.remembered, same)
 
 quiet_empty : (had : Had) (reply : Reply) → is_empty reply ≡ true → changes had reply ≡ false
 quiet_empty had told.Empty is = refl
 quiet_empty had _ is = absurd (true≢false (sym is))
 
-next_stays : (had : Had) (state : State) (named : ℕ) → (had.closed ≡ true → state.gate.closed ≡ true) → Stays had state (exchange state (Next named))
+next_stays : (had : Had) (state : State) (named : ℕ) → (had.closed ≡ true → state.gate.closed ≡ true) → Stays had state (taking state named)
 next_stays had state named known =
     let done = turn state (event.Take named) in
     let idle = take_idle had state named (slice_get state.subqueues named) in
@@ -144,7 +156,7 @@ next_stays had state named known =
     record { same = λ quiet. as_it_was state _ (ap (λ (g : GateSide). record done.state { gate = g }) (closing.same quiet) ∙ still empty) })
     (λ some. record { same = λ quiet. as_it_was state _ (idle.same quiet) }))
 
-admitting_stays : (had : Had) (workers : ℕ) (url : List ℕ) (named : ℕ) (state old : State) → named < workers → length state.subqueues ≡ workers → state.gate.holders ≡ client ∷ [] → Same old (turn state (event.Back client)).state
+admitting_stays : (had : Had) (workers : ℕ) (url : List ℕ) (named : ℕ) (state old : State) → named < workers → length state.subqueues ≡ workers → holds state.gate client ≡ true → SameMachine old (turn state (event.Back client)).state
     → Stays had old (admitting state url named)
 admitting_stays had workers url named state old below shape one leaves =
     let admit = event.Admit client url named in
@@ -157,7 +169,7 @@ admitting_stays had workers url named state old below shape one leaves =
     (λ seen. record { same = λ quiet. (leaves.0, ap (λ (s : State). (turn s (event.Back client)).state) (admission.seen seen) ∙ leaves.1) })
     (λ other. record { same = λ quiet. absurd (true≢false (sym (admission.other other) ∙ quiet)) }))
 
-offer_stays : (had : Had) (workers : ℕ) (url : List ℕ) (named : ℕ) (state : State) → named < workers → AtRest workers state → Stays had state (exchange state (Offer url named))
+offer_stays : (had : Had) (workers : ℕ) (url : List ℕ) (named : ℕ) (state : State) → named < workers → AtRest workers state → Stays had state (offering state url named)
 offer_stays had workers url named state below rest =
     let first = turn state (event.Look client) in
     let second = turn first.state (event.Enter client) in
@@ -167,7 +179,7 @@ offer_stays had workers url named state below rest =
     let shape : length second.state.subqueues ≡ workers = entering_it.as_many ∙ looking.as_many ∙ rest.shape in
     let entry : Entry url named (enter first.state.gate messages client) =
     subst (Entry url named) (sym (entry_is first.state.gate messages rest.nobody (looked_word state.gate messages))) (tries url named first.state.gate messages rest.nobody) in
-    let back_as : is_entered second.reply ≡ true → Same state (turn second.state (event.Back client)).state =
+    let back_as : is_entered second.reply ≡ true → SameMachine state (turn second.state (event.Back client)).state =
     λ entered. (
       remove_entry (is_at (nat_cmp client)) first.state.gate.remembered,
       ap (λ (g : GateSide). record state { gate = g }) (returned_gate first.state.gate messages (unfinished_in second.state) entered),
@@ -178,13 +190,75 @@ offer_stays had workers url named state below rest =
     (λ entered. admitting_stays had workers url named second.state state below shape (entry.entered entered) (back_as entered))
     (λ refused. record { same = λ quiet. (first.state.gate.remembered, ap (λ (g : GateSide). record first.state { gate = g }) ((enter_refuses first.state.gate messages).same refused)) })))
 
-request_stays : (had : Had) (workers : ℕ) (state : State) (request : Request) → IfOk (as_asked request) (IsAssigned workers) → 1 ≤ workers → AtRest workers state → (had.closed ≡ true → state.gate.closed ≡ true) → Stays had state (exchange state request)
-request_stays had workers state (Offer url named) assigned some rest known = offer_stays had workers url named state (assigned_below workers url named some assigned) rest
-request_stays had workers state (Next named) assigned some rest known = next_stays had state named known
-request_stays had workers state (Again named) assigned some rest known = record { same = λ quiet. as_it_was state state refl }
-request_stays had workers state (Done named) assigned some rest known = record { same = λ quiet. as_it_was state _ ((done_idle had state named (slice_get state.subqueues named)).same quiet) }
+-- ---- in a state of a session
+
+record Keeps (had : Had) (state : Frontier) (x : Outcome) : Type 0 where
+  same : Quiet had x.answer → Same state x.state
+
+keeps_machine : (had : Had) (state : Frontier) (x : Exchange) → Stays had state.machine x → Keeps had state (by_machine state x)
+keeps_machine had state x stays = record { same = λ quiet. let found = stays.same quiet in (found.0, ap (λ (s : State). record state { machine = s }) found.1) }
+
+keeps_still : (had : Had) (state : Frontier) (reply : Reply) → Keeps had state (replies reply state)
+keeps_still had state reply = record { same = λ quiet. (state.machine.gate.remembered, refl) }
+
+next_keeps : (had : Had) (state : Frontier) (named : ℕ) (waiting : List Deferred) (fetched : Option Deferred) → (had.closed ≡ true → state.machine.gate.closed ≡ true) → Keeps had state (taking_next state named waiting fetched)
+next_keeps had state named waiting (Some url) known = keeps_still had state (told.Refused why.Busy)
+next_keeps had state named waiting None known =
+    either_way (Keeps had state) (is_due (slice_get state.machine.subqueues named) waiting) (retaking state named waiting) (by_machine state (taking state.machine named))
+    (by_waiting waiting) (keeps_machine had state (taking state.machine named) (next_stays had state.machine named known))
+  where
+    by_waiting : (waiting : List Deferred) → Keeps had state (retaking state named waiting)
+    by_waiting [] = keeps_still had state (told.Refused why.Busy)
+    by_waiting (first ∷ more) = record { same = λ quiet. absurd (true≢false quiet) }
+
+again_keeps : (had : Had) (state : Frontier) (named : ℕ) (fetched : Option Deferred) → Keeps had state (taking_again state named fetched)
+again_keeps had state named None = record { same = λ quiet. (state.machine.gate.remembered, refl) }
+again_keeps had state named (Some url) = keeps_still had state (told.Taken url.url)
+
+quiet_count : (had : Had) (reply : Reply) → changes had reply ≡ false → is_count reply ≡ false
+quiet_count had reply quiet = grind arith
+
+back_idle : (had : Had) (gate : GateSide) (messages sender : ℕ) → IdleGate had gate (back gate messages sender)
+back_idle had gate messages sender =
+    either_way (IdleGate had gate) (holds gate sender) (gave_back (let_go gate sender) messages) (turned_away gate why.Nothing)
+    (record { same = λ e. absurd (true≢false e) }) (record { same = λ _. refl })
+
+finishing_keeps : (had : Had) (state : Frontier) (named : ℕ) (fetched : Option Deferred) → Keeps had state (finishing state named fetched)
+finishing_keeps had state named None =
+    keeps_machine had state (done_with_it state.machine named) (record { same = λ quiet. as_it_was state.machine _ ((done_idle had state.machine named (slice_get state.machine.subqueues named)).same quiet) })
+finishing_keeps had state named (Some url) =
+    let done = turn state.machine (event.Back url.sender) in
+    let left : Frontier = record state { machine = done.state } in
+    let freed : Frontier = with_deferrals left named (record { waiting = (deferrals_at state named).waiting; fetched = None }) in
+    record {
+      same = λ quiet. (
+        state.machine.gate.remembered,
+        ap (λ b. if b then freed else left) (quiet_count had done.reply quiet)
+            ∙ ap (λ (g : GateSide). record state { machine = record state.machine { gate = g } }) ((back_idle had state.machine.gate (unfinished_in state.machine) url.sender).same quiet),
+      );
+    }
+
+taken_keeps : (had : Had) (state : Frontier) (named : ℕ) (found : Option (Option (List ℕ))) → Keeps had state (deferring_taken state named found)
+taken_keeps had state named None = keeps_still had state (told.Refused why.NoSuch)
+taken_keeps had state named (Some None) = keeps_still had state (told.Refused why.Nothing)
+taken_keeps had state named (Some (Some url)) =
+    let sender = suc state.senders in
+    either_way (Keeps had state) (can_hand_over state.machine named sender) (by_machine (record (put_back state named url sender) { senders = sender }) (handing state.machine named sender)) (replies (told.Refused why.Nothing) state)
+    (record { same = λ quiet. absurd (true≢false quiet) }) (keeps_still had state (told.Refused why.Nothing))
+
+deferring_keeps : (had : Had) (state : Frontier) (named : ℕ) (fetched : Option Deferred) → Keeps had state (deferring state named fetched)
+deferring_keeps had state named None = taken_keeps had state named (in_fetch state.machine named)
+deferring_keeps had state named (Some url) = record { same = λ quiet. absurd (true≢false quiet) }
+
+request_stays : (had : Had) (workers : ℕ) (state : Frontier) (request : Request) → IfOk (as_asked request) (IsAssigned workers) → 1 ≤ workers → AtRest workers state.machine → (had.closed ≡ true → state.machine.gate.closed ≡ true) → Keeps had state (exchange state request)
+request_stays had workers state (Offer url named) assigned some rest known =
+    keeps_machine had state (offering state.machine url named) (offer_stays had workers url named state.machine (assigned_below workers url named some assigned) rest)
+request_stays had workers state (Next named) assigned some rest known = next_keeps had state named (deferrals_at state named).waiting (deferrals_at state named).fetched known
+request_stays had workers state (Again named) assigned some rest known = again_keeps had state named (deferrals_at state named).fetched
+request_stays had workers state (Later named) assigned some rest known = deferring_keeps had state named (deferrals_at state named).fetched
+request_stays had workers state (Done named) assigned some rest known = finishing_keeps had state named (deferrals_at state named).fetched
 request_stays had workers state EndSeeds assigned some rest known =
-    record { same = λ quiet. as_it_was state _ (ap (λ (g : GateSide). record state { gate = g }) ((end_idle had state.gate (unfinished_in state)).same quiet)) }
+    keeps_machine had state (seeds_ended state.machine) (record { same = λ quiet. as_it_was state.machine _ (ap (λ (g : GateSide). record state.machine { gate = g }) ((end_idle had state.machine.gate (unfinished_in state.machine)).same quiet)) })
 
 -- ---- lines that are not needed
 
@@ -192,26 +266,30 @@ quiet_of : (had : Had) (request : Request) (answer : Answer) → asks_again requ
 quiet_of had request (Told reply) other is = ap (λ b. not b && changes had reply) (sym other) ∙ is
 quiet_of had request (Unasked why) other is = tt
 
-unneeded : (had : Had) (workers : ℕ) (state : State) (request : Request) (again : Bool) → asks_again request ≡ again → IfOk (as_asked request) (IsAssigned workers) → 1 ≤ workers → AtRest workers state → (had.closed ≡ true → state.gate.closed ≡ true)
+again_same : (state : Frontier) (named : ℕ) (fetched : Option Deferred) → Same state (taking_again state named fetched).state
+again_same state named None = (state.machine.gate.remembered, refl)
+again_same state named (Some url) = (state.machine.gate.remembered, refl)
+
+unneeded : (had : Had) (workers : ℕ) (state : Frontier) (request : Request) (again : Bool) → asks_again request ≡ again → IfOk (as_asked request) (IsAssigned workers) → 1 ≤ workers → AtRest workers state.machine → (had.closed ≡ true → state.machine.gate.closed ≡ true)
     → is_needed had (Ok request) (exchange state request).answer ≡ false → Same state (exchange state request).state
-unneeded had workers state (Again named) true is assigned some rest known none = as_it_was state state refl
+unneeded had workers state (Again named) true is assigned some rest known none = again_same state named (deferrals_at state named).fetched
 unneeded had workers state request false is assigned some rest known none = (request_stays had workers state request assigned some rest known).same (quiet_of had request (exchange state request).answer is none)
 unneeded had workers state _ true is assigned some rest known none = absurd (true≢false (sym is))
 
-line_stays : (had : Had) (workers : ℕ) (state : State) (r : Result Request RequestError) → IfOk r (IsAssigned workers) → 1 ≤ workers → AtRest workers state → (had.closed ≡ true → state.gate.closed ≡ true)
+line_stays : (had : Had) (workers : ℕ) (state : Frontier) (r : Result Request RequestError) → IfOk r (IsAssigned workers) → 1 ≤ workers → AtRest workers state.machine → (had.closed ≡ true → state.machine.gate.closed ≡ true)
     → is_needed had r (answered state r).answer ≡ false → Same state (answered state r).state
 line_stays had workers state (Ok request) assigned some rest known none = unneeded had workers state request (asks_again request) refl assigned some rest known none
-line_stays had workers state (Err why) assigned some rest known none = as_it_was state state refl
+line_stays had workers state (Err why) assigned some rest known none = (state.machine.gate.remembered, refl)
 
 -- ---- a gate that the client was told is closed
 
-stays_closed : (old : State) (history : List (Event × Reply)) (new : State) → Sound old → old.gate.closed ≡ true → Run old history new → new.gate.closed ≡ true
+pub stays_closed : (old : State) (history : List (Event × Reply)) (new : State) → Sound old → old.gate.closed ≡ true → Run old history new → new.gate.closed ≡ true
 stays_closed old [] new sound closed run = ap (λ (s : State). s.gate.closed) run ∙ closed
 stays_closed old (x ∷ xs) new sound closed run =
     let effect = gate_effect old sound x.0 in
     stays_closed run.0 xs new (subst Sound (sym run.1.state_is) effect.sound) (ap (λ (s : State). s.gate.closed) run.1.state_is ∙ (effect.stays closed).0) run.2
 
-closes_run : (old : State) (front : List (Event × Reply)) (last : Event) (new : State) → Sound old → Run old (front ++ (last, told.Closed) ∷ []) new → new.gate.closed ≡ true
+pub closes_run : (old : State) (front : List (Event × Reply)) (last : Event) (new : State) → Sound old → Run old (front ++ (last, told.Closed) ∷ []) new → new.gate.closed ≡ true
 closes_run old [] last new sound run =
     ap (λ (s : State). s.gate.closed) (run.2 ∙ run.1.state_is) ∙ (gate_effect old sound last).closes (sym run.1.reply_is)
 closes_run old (x ∷ xs) last new sound run = closes_run run.0 xs last new (subst Sound (sym run.1.state_is) (gate_effect old sound x.0).sound) run.2
@@ -221,18 +299,18 @@ closed_is (Told told.Closed) is = refl
 closed_is (Told _) is = absurd (true≢false (sym is))
 closed_is (Unasked why) is = absurd (true≢false (sym is))
 
-knows : (had : Had) (state : State) (r : Result Request RequestError) → Sound state → (had.closed ≡ true → state.gate.closed ≡ true) → (having had (answered state r).answer).closed ≡ true → (answered state r).state.gate.closed ≡ true
+knows : (had : Had) (state : Frontier) (r : Result Request RequestError) → Sound state.machine → (had.closed ≡ true → state.machine.gate.closed ≡ true) → (having had (answered state r).answer).closed ≡ true → (answered state r).state.machine.gate.closed ≡ true
 knows had state r sound known closed = by_answer (says_closed (answered state r).answer) refl closed
   where
-    by_answer : (b : Bool) → says_closed (answered state r).answer ≡ b → (b || had.closed) ≡ true → (answered state r).state.gate.closed ≡ true
+    by_answer : (b : Bool) → says_closed (answered state r).answer ≡ b → (b || had.closed) ≡ true → (answered state r).state.machine.gate.closed ≡ true
     by_answer true is closed =
         let closes = answered_closes state r (closed_is (answered state r).answer is) in
-        closes_run state closes.before closes.last (answered state r).state sound (subst (λ h. Run state h (answered state r).state) closes.is (answered_runs state r))
-    by_answer false is closed = stays_closed state (answered state r).history (answered state r).state sound (known closed) (answered_runs state r)
+        closes_run state.machine closes.before closes.last (answered state r).state.machine sound (subst (λ h. Run state.machine h (answered state r).state.machine) closes.is (answered_runs state r))
+    by_answer false is closed = stays_closed state.machine (answered state r).history (answered state r).state.machine sound (known closed) (answered_runs state r)
 
 -- ---- a whole log
 
-needed_state : (settings : Settings) (had : Had) (state : State) (words : Words) (lines : List (List ℕ)) → 1 ≤ settings.workers → AtRest settings.workers state → (had.closed ≡ true → state.gate.closed ≡ true)
+needed_state : (settings : Settings) (had : Had) (state : Frontier) (words : Words) (lines : List (List ℕ)) → 1 ≤ settings.workers → AtRest settings.workers state.machine → (had.closed ≡ true → state.machine.gate.closed ≡ true)
     → Same (state_after settings state lines) (state_after settings (with_words state words) (needed settings had state lines))
 needed_state settings had state words [] some rest known = (words, refl)
 needed_state settings had state words (line ∷ more) some rest known =
@@ -256,14 +334,14 @@ needed_state settings had state words (line ∷ more) some rest known =
         let done = line_exchange settings state line in
         let back = needed settings (having had done.answer) done.state more in
         let alike = answered_alike state words (request_for settings line) in
-        let P : State → Type 0 = λ s. Same (state_after settings done.state more) (state_after settings s back) in
+        let P : Frontier → Type 0 = λ s. Same (state_after settings done.state more) (state_after settings s back) in
         subst P (sym alike.state) (rest_of alike.words)
     by_need false is rest_of =
         let r = request_for settings line in
         let done = line_exchange settings state line in
         let back = needed settings (having had done.answer) done.state more in
         let same = line_stays had settings.workers state r (assigns_for settings line) some rest known is in
-        let P : State → Type 0 = λ s. Same (state_after settings done.state more) (state_after settings (with_words s words) back) in
+        let P : Frontier → Type 0 = λ s. Same (state_after settings done.state more) (state_after settings (with_words s words) back) in
         subst P same.1 (rest_of words)
 
 pub compacted_state : (settings : Settings) (max : ℕ) (lines : List (List ℕ)) → 1 ≤ settings.workers
@@ -276,4 +354,4 @@ compacted_answers settings max bytes more some =
     let begun = start settings.workers max in
     let same = compacted_state settings max (lines bytes) some in
     ap (λ ls. answers settings (state_after settings begun ls) more) (needed_stands settings had_none begun bytes)
-    ∙ ap (λ (s : State). answers settings s more) same.1 ∙ words_forgotten settings (state_after settings begun (lines bytes)) same.0 more
+    ∙ ap (λ (s : Frontier). answers settings s more) same.1 ∙ words_forgotten settings (state_after settings begun (lines bytes)) same.0 more

@@ -1,24 +1,24 @@
 -- Lines, one after another.
 use Rattle.std.proofs.Common.{◌≡◌, ℕ, List, [], ◌∷◌, ◌++◌, Result, refl, sym, ap, ◌∙◌, append_assoc, arith}
 use Rattle.std.proofs.lemmas.Grind.{flat_map-append}
-use Rattle.crawl_core.specs.State.{State}
 use Rattle.crawl_session.specs.declared.answer.Answer.{Answer}
 use Rattle.crawl_session.specs.declared.request.Request.{Request}
 use Rattle.crawl_session.specs.declared.request.RequestError.{RequestError}
+use Rattle.crawl_session.specs.Frontiers.{Frontier}
 use Rattle.crawl_session.specs.Serving.{ServesAll}
 use Rattle.crawl_session.specs.Sessions.{answered, line_exchange, answers, state_after, history_of}
 use Rattle.crawl_session.specs.Settings.{Settings, SessionView}
 use Rattle.crawl_session.proofs.Cuts.{requests}
 
-pub answers-append : (settings : Settings) (state : State) (front back : List (List ℕ)) → answers settings state (front ++ back) ≡ answers settings state front ++ answers settings (state_after settings state front) back
+pub answers-append : (settings : Settings) (state : Frontier) (front back : List (List ℕ)) → answers settings state (front ++ back) ≡ answers settings state front ++ answers settings (state_after settings state front) back
 answers-append settings state [] back = refl
 answers-append settings state (line ∷ more) back = ap (λ l. (line_exchange settings state line).answer ∷ l) (answers-append settings (line_exchange settings state line).state more back)
 
-pub state_after-append : (settings : Settings) (state : State) (front back : List (List ℕ)) → state_after settings state (front ++ back) ≡ state_after settings (state_after settings state front) back
+pub state_after-append : (settings : Settings) (state : Frontier) (front back : List (List ℕ)) → state_after settings state (front ++ back) ≡ state_after settings (state_after settings state front) back
 state_after-append settings state [] back = refl
 state_after-append settings state (line ∷ more) back = state_after-append settings (line_exchange settings state line).state more back
 
-pub history_of-append : (settings : Settings) (state : State) (front back : List (List ℕ)) → history_of settings state (front ++ back) ≡ history_of settings state front ++ history_of settings (state_after settings state front) back
+pub history_of-append : (settings : Settings) (state : Frontier) (front back : List (List ℕ)) → history_of settings state (front ++ back) ≡ history_of settings state front ++ history_of settings (state_after settings state front) back
 history_of-append settings state [] back = refl
 history_of-append settings state (line ∷ more) back =
     let here = line_exchange settings state line in
@@ -26,28 +26,28 @@ history_of-append settings state (line ∷ more) back =
 
 -- ---- lines that ask alike are answered alike
 
-answers_by : State → List (Result Request RequestError) → List Answer
+answers_by : Frontier → List (Result Request RequestError) → List Answer
 answers_by state [] = []
 answers_by state (r ∷ rs) = (answered state r).answer ∷ answers_by (answered state r).state rs
 
-state_by : State → List (Result Request RequestError) → State
+state_by : Frontier → List (Result Request RequestError) → Frontier
 state_by state [] = state
 state_by state (r ∷ rs) = state_by (answered state r).state rs
 
-answers_as : (settings : Settings) (state : State) (ls : List (List ℕ)) → answers settings state ls ≡ answers_by state (requests settings ls)
+answers_as : (settings : Settings) (state : Frontier) (ls : List (List ℕ)) → answers settings state ls ≡ answers_by state (requests settings ls)
 unfolding answers_by
 answers_as settings state [] = refl
 answers_as settings state (line ∷ more) = ap (λ l. (line_exchange settings state line).answer ∷ l) (answers_as settings (line_exchange settings state line).state more)
 
-state_as : (settings : Settings) (state : State) (ls : List (List ℕ)) → state_after settings state ls ≡ state_by state (requests settings ls)
+state_as : (settings : Settings) (state : Frontier) (ls : List (List ℕ)) → state_after settings state ls ≡ state_by state (requests settings ls)
 unfolding state_by
 state_as settings state [] = refl
 state_as settings state (line ∷ more) = state_as settings (line_exchange settings state line).state more
 
-pub answers_alike : (settings : Settings) (state : State) (ls others : List (List ℕ)) → requests settings ls ≡ requests settings others → answers settings state ls ≡ answers settings state others
+pub answers_alike : (settings : Settings) (state : Frontier) (ls others : List (List ℕ)) → requests settings ls ≡ requests settings others → answers settings state ls ≡ answers settings state others
 answers_alike settings state ls others same = answers_as settings state ls ∙ ap (answers_by state) same ∙ sym (answers_as settings state others)
 
-pub state_alike : (settings : Settings) (state : State) (ls others : List (List ℕ)) → requests settings ls ≡ requests settings others → state_after settings state ls ≡ state_after settings state others
+pub state_alike : (settings : Settings) (state : Frontier) (ls others : List (List ℕ)) → requests settings ls ≡ requests settings others → state_after settings state ls ≡ state_after settings state others
 state_alike settings state ls others same = state_as settings state ls ∙ ap (state_by state) same ∙ sym (state_as settings state others)
 
 -- ---- serving

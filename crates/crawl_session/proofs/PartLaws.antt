@@ -2,7 +2,6 @@
 use Rattle.std.proofs.Common.{◌≡◌, ◌≢◌, ℕ, ◌/◌, Bool, true, false, nat_eq, nat_lt, if◌then◌else◌, List, [], length, codes, slice_get, Some, None, ok_or, Result, Ok, Err, IfOk, refl, sym, ap, subst, ◌∙◌, eqb-true, ne_eqb}
 use Rattle.std.specs.Str.{bytes_eq, is_utf8}
 use Rattle.std.proofs.lemmas.Slice.Eq.{bytes_eq-Decides}
-use Rattle.crawl_core.specs.State.{State}
 use Rattle.crawl_core.proofs.RunParts.{eqb_same}
 use Rattle.crawl_keys.specs.Assignment.{subqueue_of}
 use Rattle.crawl_limits.specs.Limits.{line_limit}
@@ -11,11 +10,12 @@ use Rattle.crawl_web.specs.declared.lines.LineError.TheVariants.{NotText, TooLon
 use Rattle.crawl_session.specs.declared.answer.Answer.TheVariants.{Unasked}
 use Rattle.crawl_session.specs.declared.part.Part.{Part}
 use Rattle.crawl_session.specs.declared.request.Request.{Request}
-use Rattle.crawl_session.specs.declared.request.Request.TheVariants.{Offer, Next, Again, Done, EndSeeds}
+use Rattle.crawl_session.specs.declared.request.Request.TheVariants.{Offer, Next, Again, Later, Done, EndSeeds}
 use Rattle.crawl_session.specs.declared.request.RequestError.{RequestError}
 use Rattle.crawl_session.specs.declared.request.RequestError.TheVariants as wrong
 use Rattle.crawl_session.specs.Clients.{asked, accepted_of}
 use Rattle.crawl_session.specs.Exchanges.{exchange}
+use Rattle.crawl_session.specs.Frontiers.{Frontier}
 use Rattle.crawl_session.specs.Parts.{asked_of, is_own, part_with, placed, placed_if, request_for}
 use Rattle.crawl_session.specs.Requests.{plain_request, request_from, request_in, request_of}
 use Rattle.crawl_session.specs.Sessions.{answered, line_exchange}
@@ -36,6 +36,7 @@ placed_owns part (Offer url queue) = by_own (is_own part queue) refl
     by_own false is = tt
 placed_owns part (Next queue) = either (is_own part queue) (OffersWhere (Owns part)) (Ok (Next queue)) (Err wrong.OtherQueue) tt tt
 placed_owns part (Again queue) = either (is_own part queue) (OffersWhere (Owns part)) (Ok (Again queue)) (Err wrong.OtherQueue) tt tt
+placed_owns part (Later queue) = either (is_own part queue) (OffersWhere (Owns part)) (Ok (Later queue)) (Err wrong.OtherQueue) tt tt
 placed_owns part (Done queue) = either (is_own part queue) (OffersWhere (Owns part)) (Ok (Done queue)) (Err wrong.OtherQueue) tt tt
 placed_owns part EndSeeds = tt
 
@@ -48,12 +49,12 @@ line_owns settings part is line =
     let asks = request_of settings.workers settings.suffixes line in
     subst (λ p. IfOk (asked_of p line asks) (OffersWhere (Owns part))) (sym is) (by_words (OffersWhere (Owns part)) part line asks (if_owns part asks))
 
-pub accepts_its_own : (settings : Settings) (part : Part) (state : State) (lines : List (List ℕ)) (queue k : ℕ) (url : List ℕ) → settings.part ≡ Some part → slice_get (accepted_of queue (asked settings state lines)) k ≡ Some url
+pub accepts_its_own : (settings : Settings) (part : Part) (state : Frontier) (lines : List (List ℕ)) (queue k : ℕ) (url : List ℕ) → settings.part ≡ Some part → slice_get (accepted_of queue (asked settings state lines)) k ≡ Some url
     → (queue ≡ subqueue_of url settings.workers) × (part_with part queue ≡ part.number)
 accepts_its_own settings part state lines queue k url is at =
     (accepted_as_assigned settings state lines queue k url at, accepted_where (Owns part) settings (line_owns settings part is) state lines queue k url at)
 
-pub shares_no_url : (first second : Settings) (own other : Part) (old older : State) (lines others : List (List ℕ)) (queue there k l : ℕ) (url : List ℕ) → first.part ≡ Some own → second.part ≡ Some other → first.workers ≡ second.workers → own.queues ≡ other.queues
+pub shares_no_url : (first second : Settings) (own other : Part) (old older : Frontier) (lines others : List (List ℕ)) (queue there k l : ℕ) (url : List ℕ) → first.part ≡ Some own → second.part ≡ Some other → first.workers ≡ second.workers → own.queues ≡ other.queues
     → slice_get (accepted_of queue (asked first old lines)) k ≡ Some url → slice_get (accepted_of there (asked second older others)) l ≡ Some url → (queue ≡ there) × (own.number ≡ other.number)
 shares_no_url first second own other old older lines others queue there k l url is are workers queues at_k at_l =
     let one = accepts_its_own first own old lines queue k url is at_k in
@@ -94,13 +95,13 @@ offer_placed settings part line url queue is asks =
 placed_by : Part → List ℕ → ℕ → Bool → Result Request RequestError
 placed_by part url queue b = if b then Ok (Offer url queue) else Err (wrong.Elsewhere (part_with part queue) url)
 
-pub tells_elsewhere : (settings : Settings) (part : Part) (state : State) (line url : List ℕ) (queue : ℕ) → settings.part ≡ Some part → request_of settings.workers settings.suffixes line ≡ Ok (Offer url queue) → part_with part queue ≢ part.number
+pub tells_elsewhere : (settings : Settings) (part : Part) (state : Frontier) (line url : List ℕ) (queue : ℕ) → settings.part ≡ Some part → request_of settings.workers settings.suffixes line ≡ Ok (Offer url queue) → part_with part queue ≢ part.number
     → line_exchange settings state line ≡ record { history = []; answer = Unasked (wrong.Elsewhere (part_with part queue) url); state = state }
 unfolding placed_by
 tells_elsewhere settings part state line url queue is asks other =
     ap (answered state) (offer_placed settings part line url queue is asks ∙ ap (placed_by part url queue) (ne_eqb (part_with part queue) part.number other))
 
-pub offers_its_own : (settings : Settings) (part : Part) (state : State) (line url : List ℕ) (queue : ℕ) → settings.part ≡ Some part → request_of settings.workers settings.suffixes line ≡ Ok (Offer url queue) → part_with part queue ≡ part.number
+pub offers_its_own : (settings : Settings) (part : Part) (state : Frontier) (line url : List ℕ) (queue : ℕ) → settings.part ≡ Some part → request_of settings.workers settings.suffixes line ≡ Ok (Offer url queue) → part_with part queue ≡ part.number
     → line_exchange settings state line ≡ exchange state (Offer url queue)
 unfolding placed_by
 offers_its_own settings part state line url queue is asks own =
@@ -108,5 +109,5 @@ offers_its_own settings part state line url queue is asks own =
 
 -- ---- no part
 
-pub alone_asks : (settings : Settings) (state : State) (line : List ℕ) → settings.part ≡ None → line_exchange settings state line ≡ answered state (request_of settings.workers settings.suffixes line)
+pub alone_asks : (settings : Settings) (state : Frontier) (line : List ℕ) → settings.part ≡ None → line_exchange settings state line ≡ answered state (request_of settings.workers settings.suffixes line)
 alone_asks settings state line none = ap (λ p. answered state (asked_of p line (request_of settings.workers settings.suffixes line))) none

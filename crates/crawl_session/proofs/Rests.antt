@@ -1,5 +1,6 @@
 -- Between two requests the client holds no unit; so what each request can be answered is what the table says.
-use Rattle.std.proofs.Common.{◌≡◌, ℕ, ◌<◌, ◌≤◌, Bool, true, false, not, ◌||◌, if◌then◌else◌, List, [], ◌∷◌, length, nat_eq, get_or, slice_get, Option, Some, None, Result, Ok, Err, IfOk, refl, sym, ap, subst, ◌∙◌, true≢false}
+use Rattle.std.proofs.Common.{◌≡◌, ℕ, suc, arith, ◌<◌, ◌≤◌, Bool, true, false, not, ◌||◌, if◌then◌else◌, List, [], ◌∷◌, length, nat_eq, get_or, slice_get, Option, Some, None, Result, Ok, Err, IfOk, refl, sym, ap, subst, ◌∙◌, true≢false}
+use Rattle.std.proofs.lemmas.Bool.Decides.{nat_tests}
 use Rattle.std.specs.List.{All, list_any}
 use Rattle.std.proofs.lemmas.List.{length-replicate}
 use Rattle.std.specs.Ordering.{nat_cmp}
@@ -20,17 +21,25 @@ use Rattle.crawl_core.specs.Fetching.{in_fetch}
 use Rattle.crawl_core.specs.Flags.{same_flag}
 use Rattle.crawl_core.specs.GateSide.{GateSide, GateTurn, back, enter, enter_with, gave_back, grant, holds, let_go, look, remembers, same_word, shown_word, turned_away, units_out}
 use Rattle.crawl_core.specs.Messages.{Message, has_url}
-use Rattle.crawl_core.specs.State.{State, start, unfinished_in}
+use Rattle.crawl_core.specs.Handing.{can_hand_over}
+use Rattle.crawl_core.specs.History.{holds_after}
+use Rattle.crawl_core.specs.State.{State, unfinished_in}
 use Rattle.crawl_core.specs.Step.{Turn, turn, admit_to, counted, done_with, put, refused, take_from, take_oldest, with_subqueue}
 use Rattle.crawl_core.specs.Subqueue.{Subqueue, after_finishing, empty_subqueue, oldest}
+use Rattle.crawl_core.proofs.GateHistory as gate_history
+use Rattle.crawl_core.proofs.GateHistory.{holds_less}
+use Rattle.crawl_core.proofs.Holders.{Rising}
 use Rattle.crawl_core.proofs.RunParts.{eqb_same, start_sound}
-use Rattle.crawl_core.proofs.Sets.{lookup-insert_entry}
+use Rattle.crawl_core.proofs.Sets.{list_any-insert_key, lookup-insert_entry}
 use Rattle.crawl_core.proofs.Sound.{Sound, gate_effect}
 use Rattle.crawl_session.specs.declared.request.Request.{Request}
-use Rattle.crawl_session.specs.declared.request.Request.TheVariants.{Offer, Next, Again, Done, EndSeeds}
+use Rattle.crawl_session.specs.declared.request.Request.TheVariants.{Offer, Next, Again, Later, Done, EndSeeds}
 use Rattle.crawl_session.specs.declared.request.RequestError.{RequestError}
 use Rattle.crawl_session.specs.Clients.{Asked, asked}
-use Rattle.crawl_session.specs.Exchanges.{Exchange, client, after, ends, admitting, entering, exchange, is_entered, is_seen, is_empty, told_again}
+use Rattle.crawl_session.specs.declared.deferrals.Deferred.{Deferred}
+use Rattle.crawl_session.specs.Exchanges as exchanges
+use Rattle.crawl_session.specs.Exchanges.{Exchange, Outcome, by_machine, client, after, deferring, deferring_taken, ends, admitting, entering, exchange, finishing, handing, is_count, is_due, is_entered, is_seen, is_empty, offering, put_back, replies, retaking, seeds_ended, taking, taking_again, taking_next, told_again}
+use Rattle.crawl_session.specs.Frontiers.{Frontier, deferrals_at, start, with_deferrals}
 use Rattle.crawl_session.specs.Parts.{request_for}
 use Rattle.crawl_session.specs.Sessions.{answered}
 use Rattle.crawl_session.specs.Settings.{Settings}
@@ -38,14 +47,17 @@ use Rattle.crawl_session.specs.Tables.{can_be_told, CanBeAnswered}
 use Rattle.crawl_session.proofs.Choices.{either_way}
 use Rattle.crawl_session.proofs.Assigned.{IsAssigned, as_asked, assigns_for, assigned_below}
 
--- a state of a session between two requests
+abbrev done_with_it : State → ℕ → Exchange
+done_with_it state named = exchanges.done_with state named
+
+-- a state of the machine between two requests
 pub record AtRest (workers : ℕ) (state : State) : Type 0 where
   pub sound : Sound state
-  pub nobody : state.gate.holders ≡ []
+  pub nobody : holds state.gate client ≡ false
   pub shape : length state.subqueues ≡ workers
 
--- an event after which nobody holds a unit
-rests_after : (workers : ℕ) (state : State) (e : Event) → Sound state → length state.subqueues ≡ workers → (turn state e).state.gate.holders ≡ [] → AtRest workers (turn state e).state
+-- an event after which the client holds no unit
+rests_after : (workers : ℕ) (state : State) (e : Event) → Sound state → length state.subqueues ≡ workers → holds (turn state e).state.gate client ≡ false → AtRest workers (turn state e).state
 rests_after workers state e sound shape nobody =
     let effect = gate_effect state sound e in
     record { sound = effect.sound; nobody = nobody; shape = effect.as_many ∙ shape }
@@ -57,6 +69,10 @@ record Fits (workers : ℕ) (request : Request) (x : Exchange) : Type 0 where
 
 fits_after : (workers : ℕ) (request : Request) (state : State) (e : Event) (more : Reply → State → Exchange) → Fits workers request (more (turn state e).reply (turn state e).state) → Fits workers request (after state e more)
 fits_after workers request state e more fits = record { rests = fits.rests; told = fits.told }
+
+-- whether the client is one of these
+abbrev has_client : List ℕ → Bool
+has_client holders = list_any (is_at (nat_cmp client)) holders
 
 -- ---- requests of a subqueue's worker
 
@@ -101,16 +117,16 @@ or_other : (a b : Bool) → (a || b) ≡ true → a ≡ false → b ≡ true
 or_other true b passes none = absurd (true≢false none)
 or_other false b passes none = passes
 
-next_fits : (workers named : ℕ) (state : State) → AtRest workers state → Fits workers (Next named) (exchange state (Next named))
+next_fits : (workers named : ℕ) (state : State) → AtRest workers state → Fits workers (Next named) (taking state named)
 unfolding taken_or_empty
 next_fits workers named state rest =
     let done = turn state (event.Take named) in
     let leaves = take_leaves state named (slice_get state.subqueues named) in
-    let at_rest = rests_after workers state (event.Take named) rest.sound rest.shape (leaves.same ∙ rest.nobody) in
+    let at_rest = rests_after workers state (event.Take named) rest.sound rest.shape (ap has_client leaves.same ∙ rest.nobody) in
     let closing = close_keeps named done.state.gate (unfinished_in done.state) in
     fits_after workers (Next named) state (event.Take named) (λ reply taken. if is_empty reply then after taken event.Close ends else ends reply taken)
     (cond_both (is_empty done.reply) (after done.state event.Close ends) (ends done.reply done.state) (Fits workers (Next named))
-    (λ empty. record { rests = rests_after workers done.state event.Close at_rest.sound at_rest.shape (closing.same ∙ at_rest.nobody); told = closing.passes })
+    (λ empty. record { rests = rests_after workers done.state event.Close at_rest.sound at_rest.shape (ap has_client closing.same ∙ at_rest.nobody); told = closing.passes })
     (λ some. record { rests = at_rest; told = or_other (is_empty done.reply) (can_be_told (Next named) done.reply) leaves.passes some }))
 
 -- ---- an offer
@@ -129,66 +145,65 @@ tried gate messages =
     else if nat_eq (units_out gate messages) gate.max then turned_away gate why.Full
     else grant gate messages client
 
-pub entry_is : (gate : GateSide) (messages : ℕ) → gate.holders ≡ [] → remembers gate client ≡ Some (shown_word gate messages) → enter gate messages client ≡ tried gate messages
+pub entry_is : (gate : GateSide) (messages : ℕ) → holds gate client ≡ false → remembers gate client ≡ Some (shown_word gate messages) → enter gate messages client ≡ tried gate messages
 entry_is gate messages nobody word =
-    ap (λ b. if b then turned_away gate why.Busy else enter_with gate messages client (remembers gate client)) (ap (λ (hs : List ℕ). list_any (is_at (nat_cmp client)) hs) nobody)
+    ap (λ b. if b then turned_away gate why.Busy else enter_with gate messages client (remembers gate client)) nobody
     ∙ ap (enter_with gate messages client) word
     ∙ ap (λ b. if not b then record { reply = told.Lost; gate = gate } else tried gate messages) (same_word_same (shown_word gate messages))
 
 pub record Entry (url : List ℕ) (named : ℕ) (done : GateTurn) : Type 0 where
-  pub refused : is_entered done.reply ≡ false → (can_be_told (Offer url named) done.reply ≡ true) × (done.gate.holders ≡ [])
-  pub entered : is_entered done.reply ≡ true → done.gate.holders ≡ client ∷ []
+  pub refused : is_entered done.reply ≡ false → (can_be_told (Offer url named) done.reply ≡ true) × (holds done.gate client ≡ false)
+  pub entered : is_entered done.reply ≡ true → holds done.gate client ≡ true
 
-pub tries : (url : List ℕ) (named : ℕ) (gate : GateSide) (messages : ℕ) → gate.holders ≡ [] → Entry url named (tried gate messages)
+pub tries : (url : List ℕ) (named : ℕ) (gate : GateSide) (messages : ℕ) → holds gate client ≡ false → Entry url named (tried gate messages)
 tries url named gate messages nobody =
     either_way (Entry url named) gate.closed (turned_away gate why.Closed) (if nat_eq (units_out gate messages) gate.max then turned_away gate why.Full else grant gate messages client)
     (record { refused = λ _. (refl, nobody); entered = λ e. absurd (true≢false (sym e)) })
     (either_way (Entry url named) (nat_eq (units_out gate messages) gate.max) (turned_away gate why.Full) (grant gate messages client)
     (record { refused = λ _. (refl, nobody); entered = λ e. absurd (true≢false (sym e)) })
-    (record { refused = λ e. absurd (true≢false e); entered = λ _. ap (λ (hs : List ℕ). insert_key nat_cmp hs client) nobody }))
+    (record { refused = λ e. absurd (true≢false e); entered = λ _. list_any-insert_key nat_cmp_total client client gate.holders }))
 
 pub looked_word : (gate : GateSide) (messages : ℕ) → remembers (look gate messages client).gate client ≡ Some (shown_word gate messages)
 looked_word gate messages = lookup-insert_entry nat_cmp_total client client (shown_word gate messages) gate.remembered
 
--- the client holds the one unit: it goes with the URL, or the URL was seen
+-- the client holds a unit: it goes with the URL, or the URL was seen
 record Admission (state : State) (url : List ℕ) (named : ℕ) (done : Turn) : Type 0 where
   seen : is_seen done.reply ≡ true → done.state ≡ state
-  other : is_seen done.reply ≡ false → (can_be_told (Offer url named) done.reply ≡ true) × (done.state.gate.holders ≡ [])
+  other : is_seen done.reply ≡ false → (can_be_told (Offer url named) done.reply ≡ true) × (holds done.state.gate client ≡ false)
 
-admits : (state : State) (url : List ℕ) (named : ℕ) (queue : Subqueue) → state.gate.holders ≡ client ∷ [] → Admission state url named (admit_to state client url named (Some queue))
-admits state url named queue one =
-    let held : holds state.gate client ≡ true = ap (λ (hs : List ℕ). list_any (is_at (nat_cmp client)) hs) one in
+admits : (state : State) (url : List ℕ) (named : ℕ) (queue : Subqueue) → Sound state → holds state.gate client ≡ true → Admission state url named (admit_to state client url named (Some queue))
+admits state url named queue sound held =
     let seen : Turn = record { reply = told.Seen; state = state } in
     let inner : Admission state url named (if has_url queue.accepted url then seen else put state client url named queue) =
     either_way (Admission state url named) (has_url queue.accepted url) seen (put state client url named queue)
     (record { seen = λ _. refl; other = λ e. absurd (true≢false e) })
-    (record { seen = λ e. absurd (true≢false (sym e)); other = λ _. (refl, ap (λ (hs : List ℕ). remove_key (is_at (nat_cmp client)) hs) one) }) in
+    (record { seen = λ e. absurd (true≢false (sym e)); other = λ _. (refl, holds_less state.gate.holders client client sound.holders) }) in
     subst (λ b. Admission state url named (if not b then refused state why.Nothing else (if has_url queue.accepted url then seen else put state client url named queue))) (sym held) inner
 
-back_leaves : (gate : GateSide) (messages : ℕ) → gate.holders ≡ client ∷ [] → (back gate messages client).gate.holders ≡ []
-back_leaves gate messages one =
-    ap (λ b. (if b then gave_back (let_go gate client) messages else turned_away gate why.Nothing).gate.holders) (ap (λ (hs : List ℕ). list_any (is_at (nat_cmp client)) hs) one)
-    ∙ ap (λ (hs : List ℕ). remove_key (is_at (nat_cmp client)) hs) one
+back_leaves : (gate : GateSide) (messages : ℕ) → Rising 0 gate.holders → holds gate client ≡ true → holds (back gate messages client).gate client ≡ false
+back_leaves gate messages rising held =
+    ap (λ b. holds (if b then gave_back (let_go gate client) messages else turned_away gate why.Nothing).gate client) held
+    ∙ holds_less gate.holders client client rising
 
-admitting_fits : (workers : ℕ) (url : List ℕ) (named : ℕ) (state : State) → named < workers → Sound state → length state.subqueues ≡ workers → state.gate.holders ≡ client ∷ [] → Fits workers (Offer url named) (admitting state url named)
-admitting_fits workers url named state below sound shape one =
+admitting_fits : (workers : ℕ) (url : List ℕ) (named : ℕ) (state : State) → named < workers → Sound state → length state.subqueues ≡ workers → holds state.gate client ≡ true → Fits workers (Offer url named) (admitting state url named)
+admitting_fits workers url named state below sound shape held =
     let admit = event.Admit client url named in
     let queue = get_or state.subqueues named empty_subqueue in
     let there : slice_get state.subqueues named ≡ Some queue = slice_get-get_or state.subqueues named empty_subqueue (subst (λ n. named < n) (sym shape) below) in
     let done = turn state admit in
-    let admission : Admission state url named done = subst (λ q. Admission state url named (admit_to state client url named q)) (sym there) (admits state url named queue one) in
+    let admission : Admission state url named done = subst (λ q. Admission state url named (admit_to state client url named q)) (sym there) (admits state url named queue sound held) in
     let effect = gate_effect state sound admit in
     fits_after workers (Offer url named) state admit (λ reply admitted. if is_seen reply then after admitted (event.Back client) (λ _ left. ends told.Seen left) else ends reply admitted)
     (cond_both (is_seen done.reply) (after done.state (event.Back client) (λ _ left. ends told.Seen left)) (ends done.reply done.state) (Fits workers (Offer url named))
     (λ seen.
-    let still : done.state.gate.holders ≡ client ∷ [] = ap (λ (s : State). s.gate.holders) (admission.seen seen) ∙ one in
+    let still : holds done.state.gate client ≡ true = ap (λ (s : State). holds s.gate client) (admission.seen seen) ∙ held in
     record {
-      rests = rests_after workers done.state (event.Back client) effect.sound (effect.as_many ∙ shape) (back_leaves done.state.gate (unfinished_in done.state) still);
+      rests = rests_after workers done.state (event.Back client) effect.sound (effect.as_many ∙ shape) (back_leaves done.state.gate (unfinished_in done.state) effect.sound.holders still);
       told = refl;
     })
     (λ other. record { rests = rests_after workers state admit sound shape (admission.other other).1; told = (admission.other other).0 }))
 
-offer_fits : (workers : ℕ) (url : List ℕ) (named : ℕ) (state : State) → named < workers → AtRest workers state → Fits workers (Offer url named) (exchange state (Offer url named))
+offer_fits : (workers : ℕ) (url : List ℕ) (named : ℕ) (state : State) → named < workers → AtRest workers state → Fits workers (Offer url named) (offering state url named)
 offer_fits workers url named state below rest =
     let first = turn state (event.Look client) in
     let second = turn first.state (event.Enter client) in
@@ -204,39 +219,130 @@ offer_fits workers url named state below rest =
     (λ entered. admitting_fits workers url named second.state below entering_it.sound (entering_it.as_many ∙ shape) (entry.entered entered))
     (λ refused. record { rests = rests_after workers first.state (event.Enter client) looking.sound shape (entry.refused refused).1; told = (entry.refused refused).0 })))
 
--- ---- lines
+-- ---- URLs that are put back
+
+-- another sender's entry leaves the client without a unit
+enters_apart : (who : ℕ) (held : Bool) (reply : Reply) → holds_after client held (event.Enter (suc who)) reply ≡ held
+enters_apart who held reply = grind (arith, nat_tests)
+
+handing_fits : (workers named who : ℕ) (state : State) → AtRest workers state → Fits workers (Later named) (handing state named (suc who))
+handing_fits workers named who state rest =
+    let sender = suc who in
+    let freed = turn state (event.Done named) in
+    let done = gate_effect state rest.sound (event.Done named) in
+    let seen = turn freed.state (event.Look sender) in
+    let looked = gate_effect freed.state done.sound (event.Look sender) in
+    let inside = turn seen.state (event.Enter sender) in
+    let entered = gate_effect seen.state looked.sound (event.Enter sender) in
+    let shape : length seen.state.subqueues ≡ workers = looked.as_many ∙ done.as_many ∙ rest.shape in
+    let nobody : holds freed.state.gate client ≡ false = (gate_history.held state rest.sound (event.Done named)).holders client ∙ rest.nobody in
+    record {
+      rests = rests_after workers seen.state (event.Enter sender) looked.sound shape ((gate_history.held seen.state looked.sound (event.Enter sender)).holders client ∙ enters_apart who (holds seen.state.gate client) inside.reply ∙ nobody);
+      told = refl;
+    }
+
+back_apart : (sender : ℕ) (reply : Reply) → holds_after client false (event.Back sender) reply ≡ false
+back_apart sender reply = grind (arith, nat_tests)
+
+back_told : (named : ℕ) (gate : GateSide) (messages sender : ℕ) → can_be_told (Done named) (back gate messages sender).reply ≡ true
+back_told named gate messages sender = either_way (λ (t : GateTurn). can_be_told (Done named) t.reply ≡ true) (holds gate sender) (gave_back (let_go gate sender) messages) (turned_away gate why.Nothing) refl refl
+
+-- ---- what comes of a request
+
+-- the client holds nothing afterwards, and the answer is one of the table
+pub record Suits (workers : ℕ) (request : Request) (x : Outcome) : Type 0 where
+  pub rests : AtRest workers x.state.machine
+  pub told : CanBeAnswered (Ok request) x.answer
+
+suits_machine : (workers : ℕ) (request : Request) (frontier : Frontier) (x : Exchange) → Fits workers request x → Suits workers request (by_machine frontier x)
+suits_machine workers request frontier x fits = record { rests = fits.rests; told = fits.told }
+
+suits_still : (workers : ℕ) (request : Request) (frontier : Frontier) (reply : Reply) → AtRest workers frontier.machine → can_be_told request reply ≡ true → Suits workers request (replies reply frontier)
+suits_still workers request frontier reply rest told = record { rests = rest; told = told }
+
+next_suits : (workers named : ℕ) (frontier : Frontier) (waiting : List Deferred) (fetched : Option Deferred) → AtRest workers frontier.machine → Suits workers (Next named) (taking_next frontier named waiting fetched)
+next_suits workers named frontier waiting (Some url) rest = suits_still workers (Next named) frontier (told.Refused why.Busy) rest refl
+next_suits workers named frontier waiting None rest =
+    either_way (Suits workers (Next named)) (is_due (slice_get frontier.machine.subqueues named) waiting) (retaking frontier named waiting) (by_machine frontier (taking frontier.machine named))
+    (by_waiting waiting) (suits_machine workers (Next named) frontier (taking frontier.machine named) (next_fits workers named frontier.machine rest))
+  where
+    by_waiting : (waiting : List Deferred) → Suits workers (Next named) (retaking frontier named waiting)
+    by_waiting [] = record { rests = rest; told = refl }
+    by_waiting (first ∷ more) = record { rests = rest; told = refl }
 
 again_told : (named : ℕ) (found : Option (Option (List ℕ))) → can_be_told (Again named) (told_again found) ≡ true
 again_told named None = refl
 again_told named (Some None) = refl
 again_told named (Some (Some url)) = refl
 
-request_fits : (workers : ℕ) (state : State) (request : Request) → IfOk (as_asked request) (IsAssigned workers) → 1 ≤ workers → AtRest workers state → Fits workers request (exchange state request)
-request_fits workers state (Offer url named) assigned some rest = offer_fits workers url named state (assigned_below workers url named some assigned) rest
-request_fits workers state (Next named) assigned some rest = next_fits workers named state rest
-request_fits workers state (Done named) assigned some rest =
-    let leaves = done_leaves state named (slice_get state.subqueues named) in
-    record { rests = rests_after workers state (event.Done named) rest.sound rest.shape (leaves.same ∙ rest.nobody); told = leaves.passes }
-request_fits workers state (Again named) assigned some rest = record { rests = rest; told = again_told named (in_fetch state named) }
-request_fits workers state EndSeeds assigned some rest =
-    let keeps = end_keeps state.gate (unfinished_in state) in
-    record { rests = rests_after workers state event.EndSeeds rest.sound rest.shape (keeps.same ∙ rest.nobody); told = keeps.passes }
+again_suits : (workers named : ℕ) (frontier : Frontier) (fetched : Option Deferred) → AtRest workers frontier.machine → Suits workers (Again named) (taking_again frontier named fetched)
+again_suits workers named frontier None rest = record { rests = rest; told = again_told named (in_fetch frontier.machine named) }
+again_suits workers named frontier (Some url) rest = suits_still workers (Again named) frontier (told.Taken url.url) rest refl
 
-pub line_fits : (workers : ℕ) (state : State) (r : Result Request RequestError) → IfOk r (IsAssigned workers) → 1 ≤ workers → AtRest workers state → AtRest workers (answered state r).state × CanBeAnswered r (answered state r).answer
-line_fits workers state (Ok request) assigned some rest = let fits = request_fits workers state request assigned some rest in (fits.rests, fits.told)
+done_fits : (workers named : ℕ) (state : State) → AtRest workers state → Fits workers (Done named) (done_with_it state named)
+done_fits workers named state rest =
+    let leaves = done_leaves state named (slice_get state.subqueues named) in
+    record { rests = rests_after workers state (event.Done named) rest.sound rest.shape (ap has_client leaves.same ∙ rest.nobody); told = leaves.passes }
+
+finishing_suits : (workers named : ℕ) (frontier : Frontier) (fetched : Option Deferred) → AtRest workers frontier.machine → Suits workers (Done named) (finishing frontier named fetched)
+finishing_suits workers named frontier None rest = suits_machine workers (Done named) frontier (done_with_it frontier.machine named) (done_fits workers named frontier.machine rest)
+finishing_suits workers named frontier (Some url) rest =
+    let state = frontier.machine in
+    let back_event = event.Back url.sender in
+    let done = turn state back_event in
+    let left : Frontier = record frontier { machine = done.state } in
+    let nobody : holds done.state.gate client ≡ false = (gate_history.held state rest.sound back_event).holders client ∙ ap (λ b. holds_after client b back_event done.reply) rest.nobody ∙ back_apart url.sender done.reply in
+    let rests = rests_after workers state back_event rest.sound rest.shape nobody in
+    record {
+      rests = either_way (λ (s : Frontier). AtRest workers s.machine) (is_count done.reply) (with_deferrals left named (record { waiting = (deferrals_at frontier named).waiting; fetched = None })) left rests rests;
+      told = back_told named state.gate (unfinished_in state) url.sender;
+    }
+
+taken_suits : (workers named : ℕ) (frontier : Frontier) (found : Option (Option (List ℕ))) → AtRest workers frontier.machine → Suits workers (Later named) (deferring_taken frontier named found)
+taken_suits workers named frontier None rest = suits_still workers (Later named) frontier (told.Refused why.NoSuch) rest refl
+taken_suits workers named frontier (Some None) rest = suits_still workers (Later named) frontier (told.Refused why.Nothing) rest refl
+taken_suits workers named frontier (Some (Some url)) rest =
+    let sender = suc frontier.senders in
+    let put : Frontier = record (put_back frontier named url sender) { senders = sender } in
+    either_way (Suits workers (Later named)) (can_hand_over frontier.machine named sender) (by_machine put (handing frontier.machine named sender)) (replies (told.Refused why.Nothing) frontier)
+    (suits_machine workers (Later named) put (handing frontier.machine named sender) (handing_fits workers named frontier.senders frontier.machine rest))
+    (suits_still workers (Later named) frontier (told.Refused why.Nothing) rest refl)
+
+deferring_suits : (workers named : ℕ) (frontier : Frontier) (fetched : Option Deferred) → AtRest workers frontier.machine → Suits workers (Later named) (deferring frontier named fetched)
+deferring_suits workers named frontier None rest = taken_suits workers named frontier (in_fetch frontier.machine named) rest
+deferring_suits workers named frontier (Some url) rest = record { rests = rest; told = refl }
+
+seeds_fit : (workers : ℕ) (state : State) → AtRest workers state → Fits workers EndSeeds (seeds_ended state)
+seeds_fit workers state rest =
+    let keeps = end_keeps state.gate (unfinished_in state) in
+    record { rests = rests_after workers state event.EndSeeds rest.sound rest.shape (ap has_client keeps.same ∙ rest.nobody); told = keeps.passes }
+
+request_suits : (workers : ℕ) (frontier : Frontier) (request : Request) → IfOk (as_asked request) (IsAssigned workers) → 1 ≤ workers → AtRest workers frontier.machine → Suits workers request (exchange frontier request)
+request_suits workers frontier (Offer url named) assigned some rest =
+    suits_machine workers (Offer url named) frontier (offering frontier.machine url named) (offer_fits workers url named frontier.machine (assigned_below workers url named some assigned) rest)
+request_suits workers frontier (Next named) assigned some rest = next_suits workers named frontier (deferrals_at frontier named).waiting (deferrals_at frontier named).fetched rest
+request_suits workers frontier (Again named) assigned some rest = again_suits workers named frontier (deferrals_at frontier named).fetched rest
+request_suits workers frontier (Later named) assigned some rest = deferring_suits workers named frontier (deferrals_at frontier named).fetched rest
+request_suits workers frontier (Done named) assigned some rest = finishing_suits workers named frontier (deferrals_at frontier named).fetched rest
+request_suits workers frontier EndSeeds assigned some rest = suits_machine workers EndSeeds frontier (seeds_ended frontier.machine) (seeds_fit workers frontier.machine rest)
+
+-- ---- lines
+
+pub line_fits : (workers : ℕ) (state : Frontier) (r : Result Request RequestError) → IfOk r (IsAssigned workers) → 1 ≤ workers → AtRest workers state.machine → AtRest workers (answered state r).state.machine × CanBeAnswered r (answered state r).answer
+line_fits workers state (Ok request) assigned some rest = let suits = request_suits workers state request assigned some rest in (suits.rests, suits.told)
 line_fits workers state (Err why) assigned some rest = (rest, refl)
 
 abbrev Fit : Asked → Type 0
 Fit x = CanBeAnswered x.request x.answer
 
-lines_fit : (settings : Settings) (state : State) (lines : List (List ℕ)) → 1 ≤ settings.workers → AtRest settings.workers state → All Fit (asked settings state lines)
+lines_fit : (settings : Settings) (state : Frontier) (lines : List (List ℕ)) → 1 ≤ settings.workers → AtRest settings.workers state.machine → All Fit (asked settings state lines)
 lines_fit settings state [] some rest = All-nil Fit
 lines_fit settings state (line ∷ more) some rest =
     let r = request_for settings line in
     let here = line_fits settings.workers state r (assigns_for settings line) some rest in
     All-cons Fit (record { request = r; answer = (answered state r).answer }) (asked settings (answered state r).state more) here.1 (lines_fit settings (answered state r).state more some here.0)
 
-pub starts_at_rest : (workers max : ℕ) → AtRest workers (start workers max)
+pub starts_at_rest : (workers max : ℕ) → AtRest workers (start workers max).machine
 starts_at_rest workers max = record { sound = start_sound workers max; nobody = refl; shape = length-replicate workers empty_subqueue }
 
 pub answers_fit : (settings : Settings) (max : ℕ) (lines : List (List ℕ)) → 1 ≤ settings.workers → All Fit (asked settings (start settings.workers max) lines)

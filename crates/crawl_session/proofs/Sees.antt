@@ -1,5 +1,5 @@
 -- What a client is told of URLs is what the events say.
-use Rattle.std.proofs.Common.{◌≡◌, ℕ, ◌+◌, Bool, true, false, cond, if◌then◌else◌, List, [], ◌∷◌, ◌++◌, map, Option, Result, Ok, Err, refl, sym, ap, ◌∙◌, arith}
+use Rattle.std.proofs.Common.{◌≡◌, ℕ, suc, ◌+◌, Bool, true, false, cond, if◌then◌else◌, nat_eq, slice_get, List, [], ◌∷◌, ◌++◌, map, Option, Some, None, Result, Ok, Err, refl, sym, ap, subst, ◌∙◌, true≢false, arith}
 use Rattle.std.proofs.lemmas.Bool.Decides.{nat_tests}
 use Rattle.std.specs.List.{cons_option}
 use Rattle.std.proofs.lemmas.List.{map-append}
@@ -13,14 +13,19 @@ use Rattle.crawl_core.specs.declared.reply.Refusal.TheVariants as why
 use Rattle.crawl_core.specs.Fetching.{in_fetch}
 use Rattle.crawl_core.specs.History.{accepted_by, accepted_in, accepted_urls, taken_by, taken_urls, done_by, done_in}
 use Rattle.crawl_core.specs.Messages.{Message}
+use Rattle.crawl_core.specs.Handing.{can_hand_over}
 use Rattle.crawl_core.specs.State.{State}
 use Rattle.crawl_core.specs.Step.{turn}
+use Rattle.crawl_core.specs.Subqueue.{Subqueue}
+use Rattle.crawl_core.proofs.RunParts.{eqb_same}
 use Rattle.crawl_session.specs.declared.answer.Answer.TheVariants.{Told}
 use Rattle.crawl_session.specs.declared.request.Request.{Request}
-use Rattle.crawl_session.specs.declared.request.Request.TheVariants.{Offer, Next, Again, Done, EndSeeds}
+use Rattle.crawl_session.specs.declared.request.Request.TheVariants.{Offer, Next, Again, Later, Done, EndSeeds}
 use Rattle.crawl_session.specs.declared.request.RequestError.{RequestError}
-use Rattle.crawl_session.specs.Clients.{Asked, asked, accepts, takes, finishes, accepted_of, taken_of, done_of}
-use Rattle.crawl_session.specs.Exchanges.{Exchange, client, after, ends, exchange, is_seen, told_again}
+use Rattle.crawl_session.specs.declared.deferrals.Deferred.{Deferred}
+use Rattle.crawl_session.specs.Clients.{Asked, asked, accepts, takes, finishes, puts_back, accepted_of, taken_of, done_of, put_back_of, NonePutBack}
+use Rattle.crawl_session.specs.Exchanges.{Exchange, Outcome, after, again, by_machine, client, deferring, deferring_taken, done_with, ends, exchange, finishing, handing, is_due, is_seen, offering, put_back, replies, retaking, seeds_ended, taking, taking_again, taking_next, told_again}
+use Rattle.crawl_session.specs.Frontiers.{Deferrals, Frontier, NoneDeferred, deferrals_at, no_deferrals}
 use Rattle.crawl_session.specs.Parts.{request_for}
 use Rattle.crawl_session.specs.Sessions.{answered, line_exchange, history_of}
 use Rattle.crawl_session.specs.Settings.{Settings}
@@ -70,7 +75,7 @@ admitted_agrees queue named url reply state = grind arith
 taken : (queue named : ℕ) (reply : Reply) (state : State) → Agree queue (Ok (Next named)) (record { history = (event.Take named, reply) ∷ []; answer = Told reply; state = state })
 taken queue named reply state = grind arith
 
-next_agrees : (queue named : ℕ) (state : State) → Agree queue (Ok (Next named)) (exchange state (Next named))
+next_agrees : (queue named : ℕ) (state : State) → Agree queue (Ok (Next named)) (taking state named)
 next_agrees queue named state = grind arith
 
 done_agrees : (queue named : ℕ) (reply : Reply) (state : State) → Agree queue (Ok (Done named)) (record { history = (event.Done named, reply) ∷ []; answer = Told reply; state = state })
@@ -80,52 +85,157 @@ done_agrees queue named reply state = grind arith
 again_agrees : (queue named : ℕ) (reply : Reply) (state : State) → Agree queue (Ok (Again named)) (ends reply state)
 again_agrees queue named reply state = record { accepted = refl; taken = refl; done = refl }
 
-request_agrees : (queue : ℕ) (state : State) (request : Request) → Agree queue (Ok request) (exchange state request)
-request_agrees queue state (Offer url named) = grind (arith, nat_tests, looked, entered, either_way, admitted_agrees, not_entered, entry_tells, next_agrees, done_agrees, again_agrees, taken)
-request_agrees queue state (Next named) = next_agrees queue named state
-request_agrees queue state (Done named) = done_agrees queue named (turn state (event.Done named)).reply (turn state (event.Done named)).state
-request_agrees queue state (Again named) = again_agrees queue named (told_again (in_fetch state named)) state
-request_agrees queue state EndSeeds = record { accepted = refl; taken = refl; done = refl }
+offer_agrees : (queue named : ℕ) (url : List ℕ) (state : State) → Agree queue (Ok (Offer url named)) (offering state url named)
+offer_agrees queue named url state = grind (arith, nat_tests, looked, entered, either_way, admitted_agrees, not_entered, entry_tells)
 
-answered_agrees : (queue : ℕ) (state : State) (asked : Result Request RequestError) → Agree queue asked (answered state asked)
-answered_agrees queue state (Ok request) = request_agrees queue state request
-answered_agrees queue state (Err why) = record { accepted = refl; taken = refl; done = refl }
+-- ---- what was accepted, whatever was put back
+
+abbrev AcceptsSo : ℕ → Result Request RequestError → Outcome → Type 0
+AcceptsSo queue r x = accepted_urls queue x.history ≡ cons_option (accepts queue r x.answer) []
+
+next_accepts : (queue named : ℕ) (frontier : Frontier) (waiting : List Deferred) (fetched : Option Deferred) → AcceptsSo queue (Ok (Next named)) (taking_next frontier named waiting fetched)
+next_accepts queue named frontier waiting (Some url) = refl
+next_accepts queue named frontier waiting None =
+    either_way (AcceptsSo queue (Ok (Next named))) (is_due (slice_get frontier.machine.subqueues named) waiting) (retaking frontier named waiting) (by_machine frontier (taking frontier.machine named))
+    (by_waiting waiting) (next_agrees queue named frontier.machine).accepted
+  where
+    by_waiting : (waiting : List Deferred) → AcceptsSo queue (Ok (Next named)) (retaking frontier named waiting)
+    by_waiting [] = refl
+    by_waiting (first ∷ more) = refl
+
+again_accepts : (queue named : ℕ) (frontier : Frontier) (fetched : Option Deferred) → AcceptsSo queue (Ok (Again named)) (taking_again frontier named fetched)
+again_accepts queue named frontier None = refl
+again_accepts queue named frontier (Some url) = refl
+
+later_accepts : (queue named : ℕ) (frontier : Frontier) (fetched : Option Deferred) (found : Option (Option (List ℕ))) → in_fetch frontier.machine named ≡ found → AcceptsSo queue (Ok (Later named)) (deferring frontier named fetched)
+later_accepts queue named frontier (Some url) found is = refl
+later_accepts queue named frontier None found is = subst (λ o. AcceptsSo queue (Ok (Later named)) (deferring_taken frontier named o)) (sym is) (by_found found)
+  where
+    by_found : (o : Option (Option (List ℕ))) → AcceptsSo queue (Ok (Later named)) (deferring_taken frontier named o)
+    by_found None = refl
+    by_found (Some None) = refl
+    by_found (Some (Some url)) =
+        let sender = suc frontier.senders in
+        either_way (AcceptsSo queue (Ok (Later named))) (can_hand_over frontier.machine named sender) (by_machine (record (put_back frontier named url sender) { senders = sender }) (handing frontier.machine named sender)) (replies (told.Refused why.Nothing) frontier) refl refl
+
+done_accepts : (queue named : ℕ) (frontier : Frontier) (fetched : Option Deferred) → AcceptsSo queue (Ok (Done named)) (finishing frontier named fetched)
+done_accepts queue named frontier None = (done_agrees queue named (turn frontier.machine (event.Done named)).reply (turn frontier.machine (event.Done named)).state).accepted
+done_accepts queue named frontier (Some url) = refl
+
+answered_accepts : (queue : ℕ) (frontier : Frontier) (r : Result Request RequestError) → AcceptsSo queue r (answered frontier r)
+answered_accepts queue frontier (Err why) = refl
+answered_accepts queue frontier (Ok (Offer url named)) = (offer_agrees queue named url frontier.machine).accepted
+answered_accepts queue frontier (Ok (Next named)) = next_accepts queue named frontier (deferrals_at frontier named).waiting (deferrals_at frontier named).fetched
+answered_accepts queue frontier (Ok (Again named)) = again_accepts queue named frontier (deferrals_at frontier named).fetched
+answered_accepts queue frontier (Ok (Later named)) = later_accepts queue named frontier (deferrals_at frontier named).fetched (in_fetch frontier.machine named) refl
+answered_accepts queue frontier (Ok (Done named)) = done_accepts queue named frontier (deferrals_at frontier named).fetched
+answered_accepts queue frontier (Ok EndSeeds) = refl
+
+-- ---- what was taken and done, where nothing is put back
+
+abbrev as_exchange : Outcome → Exchange
+as_exchange x = record { history = x.history; answer = x.answer; state = x.state.machine }
+
+-- what the client is told agrees with the events, and still nothing is put back
+record AgreesOn (r : Result Request RequestError) (x : Outcome) : Type 0 where
+  agree : (queue : ℕ) → Agree queue r (as_exchange x)
+  none : NoneDeferred x.state
+
+agrees_by_machine : (r : Result Request RequestError) (frontier : Frontier) (x : Exchange) → NoneDeferred frontier → ((queue : ℕ) → Agree queue r x) → AgreesOn r (by_machine frontier x)
+agrees_by_machine r frontier x none agree = record { agree = agree; none = none }
+
+not_due : (queue : Option Subqueue) → false ≡ is_due queue []
+not_due None = refl
+not_due (Some queue) = refl
+
+later_agrees : (frontier : Frontier) (named : ℕ) → NoneDeferred frontier → (found : Option (Option (List ℕ))) → in_fetch frontier.machine named ≡ found → puts_back named (Ok (Later named)) (deferring frontier named None).answer ≡ false → AgreesOn (Ok (Later named)) (deferring frontier named None)
+later_agrees frontier named none found is quiet =
+    subst (λ o. puts_back named (Ok (Later named)) (deferring_taken frontier named o).answer ≡ false → AgreesOn (Ok (Later named)) (deferring_taken frontier named o)) (sym is) (by_found found) quiet
+  where
+    by_found : (o : Option (Option (List ℕ))) → puts_back named (Ok (Later named)) (deferring_taken frontier named o).answer ≡ false → AgreesOn (Ok (Later named)) (deferring_taken frontier named o)
+    by_found None quiet = record { agree = λ queue. record { accepted = refl; taken = refl; done = refl }; none = none }
+    by_found (Some None) quiet = record { agree = λ queue. record { accepted = refl; taken = refl; done = refl }; none = none }
+    by_found (Some (Some url)) quiet =
+        let sender = suc frontier.senders in
+        either_way (λ (x : Outcome). puts_back named (Ok (Later named)) x.answer ≡ false → AgreesOn (Ok (Later named)) x) (can_hand_over frontier.machine named sender) (by_machine (record (put_back frontier named url sender) { senders = sender }) (handing frontier.machine named sender)) (replies (told.Refused why.Nothing) frontier)
+        (λ (said : nat_eq named named ≡ false). absurd (true≢false (sym (eqb_same named) ∙ said)))
+        (λ said. record { agree = λ queue. record { accepted = refl; taken = refl; done = refl }; none = none })
+        quiet
+
+request_agrees : (frontier : Frontier) (request : Request) → NoneDeferred frontier → ((queue : ℕ) → puts_back queue (Ok request) (exchange frontier request).answer ≡ false) → AgreesOn (Ok request) (exchange frontier request)
+request_agrees frontier (Offer url named) none quiet = agrees_by_machine (Ok (Offer url named)) frontier (offering frontier.machine url named) none (λ queue. offer_agrees queue named url frontier.machine)
+request_agrees frontier (Next named) none quiet =
+    let made = agrees_by_machine (Ok (Next named)) frontier (taking frontier.machine named) none (λ queue. next_agrees queue named frontier.machine) in
+    let here = subst (λ b. AgreesOn (Ok (Next named)) (if b then retaking frontier named [] else by_machine frontier (taking frontier.machine named))) (not_due (slice_get frontier.machine.subqueues named)) made in
+    subst (λ (d : Deferrals). AgreesOn (Ok (Next named)) (taking_next frontier named d.waiting d.fetched)) (sym (none named)) here
+request_agrees frontier (Again named) none quiet =
+    let made = agrees_by_machine (Ok (Again named)) frontier (again frontier.machine named) none (λ queue. again_agrees queue named (told_again (in_fetch frontier.machine named)) frontier.machine) in
+    subst (λ (d : Deferrals). AgreesOn (Ok (Again named)) (taking_again frontier named d.fetched)) (sym (none named)) made
+request_agrees frontier (Later named) none quiet =
+    let no : (deferrals_at frontier named).fetched ≡ None = ap (λ (d : Deferrals). d.fetched) (none named) in
+    subst (λ o. puts_back named (Ok (Later named)) (deferring frontier named o).answer ≡ false → AgreesOn (Ok (Later named)) (deferring frontier named o)) (sym no) (later_agrees frontier named none (in_fetch frontier.machine named) refl) (quiet named)
+request_agrees frontier (Done named) none quiet =
+    let done = turn frontier.machine (event.Done named) in
+    let made = agrees_by_machine (Ok (Done named)) frontier (done_with frontier.machine named) none (λ queue. done_agrees queue named done.reply done.state) in
+    subst (λ (d : Deferrals). AgreesOn (Ok (Done named)) (finishing frontier named d.fetched)) (sym (none named)) made
+request_agrees frontier EndSeeds none quiet = agrees_by_machine (Ok EndSeeds) frontier (seeds_ended frontier.machine) none (λ queue. record { accepted = refl; taken = refl; done = refl })
+
+answered_agrees : (frontier : Frontier) (r : Result Request RequestError) → NoneDeferred frontier → ((queue : ℕ) → puts_back queue r (answered frontier r).answer ≡ false) → AgreesOn r (answered frontier r)
+answered_agrees frontier (Ok request) none quiet = request_agrees frontier request none quiet
+answered_agrees frontier (Err why) none quiet = record { agree = λ queue. record { accepted = refl; taken = refl; done = refl }; none = none }
 
 -- ---- lines
 
 put_first : {A : Type 0} (o : Option A) (xs : List A) → cons_option o [] ++ xs ≡ cons_option o xs
 put_first o xs = grind arith
 
-line_agrees : (queue : ℕ) (settings : Settings) (state : State) (line : List ℕ) → Agree queue (request_for settings line) (line_exchange settings state line)
-line_agrees queue settings state line = answered_agrees queue state (request_for settings line)
-
-pub sees_accepted : (settings : Settings) (state : State) (lines : List (List ℕ)) (queue : ℕ) → accepted_urls queue (history_of settings state lines) ≡ accepted_of queue (asked settings state lines)
+pub sees_accepted : (settings : Settings) (state : Frontier) (lines : List (List ℕ)) (queue : ℕ) → accepted_urls queue (history_of settings state lines) ≡ accepted_of queue (asked settings state lines)
 sees_accepted settings state [] queue = refl
 sees_accepted settings state (line ∷ more) queue =
     let here = line_exchange settings state line in
     let rest = history_of settings here.state more in
     ap (map (λ (m : Message). m.url)) (filter_map-append (λ (x : Event × Reply). accepted_by queue x.0 x.1) here.history rest)
     ∙ map-append (λ (m : Message). m.url) (accepted_in queue here.history) (accepted_in queue rest)
-    ∙ ap (λ l. l ++ accepted_urls queue rest) (line_agrees queue settings state line).accepted
+    ∙ ap (λ l. l ++ accepted_urls queue rest) (answered_accepts queue state (request_for settings line))
     ∙ put_first (accepts queue (request_for settings line) here.answer) (accepted_urls queue rest)
     ∙ ap (cons_option (accepts queue (request_for settings line) here.answer)) (sees_accepted settings here.state more queue)
 
-pub sees_taken : (settings : Settings) (state : State) (lines : List (List ℕ)) (queue : ℕ) → taken_urls queue (history_of settings state lines) ≡ taken_of queue (asked settings state lines)
-sees_taken settings state [] queue = refl
-sees_taken settings state (line ∷ more) queue =
-    let here = line_exchange settings state line in
-    let rest = history_of settings here.state more in
-    filter_map-append (λ (x : Event × Reply). taken_by queue x.0 x.1) here.history rest
-    ∙ ap (λ l. l ++ taken_urls queue rest) (line_agrees queue settings state line).taken
-    ∙ put_first (takes queue (request_for settings line) here.answer) (taken_urls queue rest)
-    ∙ ap (cons_option (takes queue (request_for settings line) here.answer)) (sees_taken settings here.state more queue)
+-- where no line put a URL back, neither did the first
+count_first : (queue : ℕ) (x : Asked) (more : List Asked) → put_back_of queue (x ∷ more) ≡ cond (puts_back queue x.request x.answer) 1 0 + put_back_of queue more
+count_first queue x more = sum_by-cons (λ (y : Asked). cond (puts_back queue y.request y.answer) 1 0) x more
 
-pub sees_done : (settings : Settings) (state : State) (lines : List (List ℕ)) (queue : ℕ) → done_in queue (history_of settings state lines) ≡ done_of queue (asked settings state lines)
-sees_done settings state [] queue = refl
-sees_done settings state (line ∷ more) queue =
+none_first : (b : Bool) (n : ℕ) → cond b 1 0 + n ≡ 0 → (b ≡ false) × (n ≡ 0)
+none_first b n none = grind arith
+
+pub quiet_first : (queue : ℕ) (x : Asked) (more : List Asked) → put_back_of queue (x ∷ more) ≡ 0 → puts_back queue x.request x.answer ≡ false
+quiet_first queue x more none = (none_first (puts_back queue x.request x.answer) (put_back_of queue more) (sym (count_first queue x more) ∙ none)).0
+
+pub quiet_rest : (queue : ℕ) (x : Asked) (more : List Asked) → put_back_of queue (x ∷ more) ≡ 0 → put_back_of queue more ≡ 0
+quiet_rest queue x more none = (none_first (puts_back queue x.request x.answer) (put_back_of queue more) (sym (count_first queue x more) ∙ none)).1
+
+abbrev first_asked : Settings → Frontier → List ℕ → Asked
+first_asked settings state line = record { request = request_for settings line; answer = (line_exchange settings state line).answer }
+
+pub sees_taken : (settings : Settings) (state : Frontier) (lines : List (List ℕ)) (queue : ℕ) → NoneDeferred state → NonePutBack (asked settings state lines) → taken_urls queue (history_of settings state lines) ≡ taken_of queue (asked settings state lines)
+sees_taken settings state [] queue none quiet = refl
+sees_taken settings state (line ∷ more) queue none quiet =
     let here = line_exchange settings state line in
     let rest = history_of settings here.state more in
+    let x = first_asked settings state line in
+    let said = answered_agrees state (request_for settings line) none (λ q. quiet_first q x (asked settings here.state more) (quiet q)) in
+    filter_map-append (λ (x : Event × Reply). taken_by queue x.0 x.1) here.history rest
+    ∙ ap (λ l. l ++ taken_urls queue rest) (said.agree queue).taken
+    ∙ put_first (takes queue (request_for settings line) here.answer) (taken_urls queue rest)
+    ∙ ap (cons_option (takes queue (request_for settings line) here.answer)) (sees_taken settings here.state more queue said.none (λ q. quiet_rest q x (asked settings here.state more) (quiet q)))
+
+pub sees_done : (settings : Settings) (state : Frontier) (lines : List (List ℕ)) (queue : ℕ) → NoneDeferred state → NonePutBack (asked settings state lines) → done_in queue (history_of settings state lines) ≡ done_of queue (asked settings state lines)
+sees_done settings state [] queue none quiet = refl
+sees_done settings state (line ∷ more) queue none quiet =
+    let here = line_exchange settings state line in
+    let rest = history_of settings here.state more in
+    let x = first_asked settings state line in
+    let said = answered_agrees state (request_for settings line) none (λ q. quiet_first q x (asked settings here.state more) (quiet q)) in
     sum_by-append (λ (x : Event × Reply). cond (done_by queue x.0 x.1) 1 0) here.history rest
-    ∙ ap (λ n. n + done_in queue rest) (line_agrees queue settings state line).done
-    ∙ ap {B = ℕ} (λ n. cond (finishes queue (request_for settings line) here.answer) 1 0 + n) (sees_done settings here.state more queue)
-    ∙ sym (sum_by-cons (λ (x : Asked). cond (finishes queue x.request x.answer) 1 0) (record { request = request_for settings line; answer = here.answer }) (asked settings here.state more))
+    ∙ ap (λ n. n + done_in queue rest) (said.agree queue).done
+    ∙ ap {B = ℕ} (λ n. cond (finishes queue (request_for settings line) here.answer) 1 0 + n) (sees_done settings here.state more queue said.none (λ q. quiet_rest q x (asked settings here.state more) (quiet q)))
+    ∙ sym (sum_by-cons (λ (x : Asked). cond (finishes queue x.request x.answer) 1 0) x (asked settings here.state more))

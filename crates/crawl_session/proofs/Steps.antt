@@ -23,7 +23,7 @@ use Rattle.crawl_core.specs.State.{State, unfinished_in}
 use Rattle.crawl_core.specs.Step.{turn}
 use Rattle.crawl_core.proofs.Sets.{list_any-insert_key}
 use Rattle.crawl_session.specs.Exchanges.{client, is_entered}
-use Rattle.crawl_session.specs.Serving.{Leads, GoesBack, GivenUp, GivesUp, returned}
+use Rattle.crawl_session.specs.Steps.{Leads, GoesBack, GivenUp, GivesUp, returned}
 
 -- ---- out of memory
 

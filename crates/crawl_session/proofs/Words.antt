@@ -1,7 +1,8 @@
 -- No answer depends on the words that senders remember from before.
-use Rattle.std.proofs.Common.{◌≡◌, ℕ, Bool, true, false, if◌then◌else◌, List, [], ◌∷◌, slice_get, Option, Some, None, Result, Ok, Err, refl, sym, ap, ◌∙◌, arith}
+use Rattle.std.proofs.Common.{◌≡◌, ℕ, suc, Bool, true, false, cond, if◌then◌else◌, List, [], ◌∷◌, slice_get, Option, Some, None, Result, Ok, Err, refl, sym, ap, ◌∙◌, arith}
 use Rattle.std.proofs.lemmas.Bool.Decides.{nat_tests}
-use Rattle.std.specs.BTreeMap.{insert_entry}
+use Rattle.std.specs.BTreeMap.{is_at, insert_entry}
+use Rattle.std.specs.Map.{lookup}
 use Rattle.std.specs.Ordering.{nat_cmp}
 use Rattle.std.proofs.lemmas.Cmp.{nat_cmp_total}
 use Rattle.crawl_core.specs.declared.event.Event.{Event}
@@ -12,21 +13,34 @@ use Rattle.crawl_core.specs.declared.reply.Refusal.TheVariants as why
 use Rattle.crawl_core.specs.declared.word.Word.{Word}
 use Rattle.crawl_core.specs.GateSide.{GateSide, GateTurn, back, close, end_seeds, enter, enter_with, holds, remembers, shown_word}
 use Rattle.crawl_core.specs.Messages.{Message}
-use Rattle.crawl_core.specs.State.{State, unfinished_in}
+use Rattle.crawl_core.specs.Fetching.{in_fetch}
+use Rattle.crawl_core.specs.Handing.{can_hand_over}
+use Rattle.crawl_core.specs.State.{State, count_of, unfinished_in}
 use Rattle.crawl_core.specs.Step.{Turn, turn, admit_to, by_gate, done_with, take_from, take_oldest}
 use Rattle.crawl_core.specs.Subqueue.{Subqueue, oldest}
 use Rattle.crawl_core.proofs.Sets.{lookup-insert_entry}
 use Rattle.crawl_session.specs.declared.request.Request.{Request}
-use Rattle.crawl_session.specs.declared.request.Request.TheVariants.{Offer, Next, Again, Done, EndSeeds}
+use Rattle.crawl_session.specs.declared.request.Request.TheVariants.{Offer, Next, Again, Later, Done, EndSeeds}
 use Rattle.crawl_session.specs.declared.request.RequestError.{RequestError}
-use Rattle.crawl_session.specs.Exchanges.{Exchange, client, after, ends, admitting, entering, exchange, is_entered, is_seen, is_empty}
+use Rattle.crawl_session.specs.declared.answer.Answer.TheVariants.{Told}
+use Rattle.crawl_session.specs.declared.deferrals.Deferred.{Deferred}
+use Rattle.crawl_session.specs.Exchanges as exchanges
+use Rattle.crawl_session.specs.Exchanges.{Exchange, Outcome, by_machine, client, after, deferring, deferring_taken, ends, admitting, entering, exchange, finishing, handing, is_count, is_due, is_entered, is_seen, is_empty, offering, put_back, replies, retaking, seeds_ended, taking, taking_again, taking_next}
 use Rattle.crawl_session.specs.Parts.{request_for}
-use Rattle.crawl_session.specs.Serving.{with_words}
+use Rattle.crawl_session.specs.Frontiers.{Frontier, deferrals_at, with_deferrals}
+use Rattle.crawl_session.specs.Serving as serving
+use Rattle.crawl_session.specs.Steps.{with_words}
 use Rattle.crawl_session.specs.Sessions.{answered, answers, line_exchange}
 use Rattle.crawl_session.specs.Settings.{Settings}
 
 abbrev pub Words : Type 0
 Words = List (ℕ × Word)
+
+abbrev with_words_of : Frontier → Words → Frontier
+with_words_of state words = serving.with_words state words
+
+abbrev done_with_it : State → ℕ → Exchange
+done_with_it state named = exchanges.done_with state named
 
 -- two exchanges of one answer, whose states differ in words alone
 pub record Alike (x y : Exchange) : Type 0 where
@@ -76,16 +90,16 @@ close_alike gate words messages = grind (arith, gate_if)
 end_alike : (gate : GateSide) (words : Words) (messages : ℕ) → AlikeGate (end_seeds (with_gate gate words) messages) (end_seeds gate messages)
 end_alike gate words messages = gate_if gate.opening _ _ _ _ (record { reply = refl; words = words; gate = refl }) (record { reply = refl; words = words; gate = refl })
 
-back_alike : (gate : GateSide) (words : Words) (messages : ℕ) → AlikeGate (back (with_gate gate words) messages client) (back gate messages client)
-back_alike gate words messages = gate_if (holds gate client) _ _ _ _ (record { reply = refl; words = words; gate = refl }) (record { reply = refl; words = words; gate = refl })
+back_alike : (gate : GateSide) (words : Words) (messages sender : ℕ) → AlikeGate (back (with_gate gate words) messages sender) (back gate messages sender)
+back_alike gate words messages sender = gate_if (holds gate sender) _ _ _ _ (record { reply = refl; words = words; gate = refl }) (record { reply = refl; words = words; gate = refl })
 
-with_alike : (gate : GateSide) (words : Words) (messages : ℕ) (word : Option Word) → AlikeGate (enter_with (with_gate gate words) messages client word) (enter_with gate messages client word)
-with_alike gate words messages None = record { reply = refl; words = words; gate = refl }
-with_alike gate words messages (Some word) = grind (arith, nat_tests, gate_if)
+with_alike : (gate : GateSide) (words : Words) (messages sender : ℕ) (word : Option Word) → AlikeGate (enter_with (with_gate gate words) messages sender word) (enter_with gate messages sender word)
+with_alike gate words messages sender None = record { reply = refl; words = words; gate = refl }
+with_alike gate words messages sender (Some word) = grind (arith, nat_tests, gate_if)
 
--- the client enters by the word that it read last
-enter_alike : (gate : GateSide) (words : Words) (messages : ℕ) → remembers (with_gate gate words) client ≡ remembers gate client → AlikeGate (enter (with_gate gate words) messages client) (enter gate messages client)
-enter_alike gate words messages same = grind (arith, gate_if, with_alike)
+-- a sender enters by the word that it read last
+enter_alike : (gate : GateSide) (words : Words) (messages sender : ℕ) → remembers (with_gate gate words) sender ≡ remembers gate sender → AlikeGate (enter (with_gate gate words) messages sender) (enter gate messages sender)
+enter_alike gate words messages sender same = grind (arith, gate_if, with_alike)
 
 -- ---- the subqueues
 
@@ -112,7 +126,7 @@ admitting_alike state words url named =
     let admit = event.Admit client url named in
     let same = admit_alike state words url named (slice_get state.subqueues named) in
     let done = turn state admit in
-    let leaving = gate_turn done.state same.words _ _ (back_alike done.state.gate same.words (unfinished_in done.state)) in
+    let leaving = gate_turn done.state same.words _ _ (back_alike done.state.gate same.words (unfinished_in done.state) client) in
     alike_after (with_words state words) state admit (λ reply admitted. if is_seen reply then after admitted (event.Back client) (λ _ left. ends told.Seen left) else ends reply admitted) same
     (alike_if (is_seen done.reply) _ _ _ _
     (alike_after (with_words done.state same.words) done.state (event.Back client) (λ _ left. ends told.Seen left) leaving (alike_end told.Seen (turn done.state (event.Back client)).state leaving.words))
@@ -120,12 +134,12 @@ admitting_alike state words url named =
 
 entering_alike : (state : State) (words : Words) (url : List ℕ) (named : ℕ) → remembers (with_gate state.gate words) client ≡ remembers state.gate client → Alike (entering (with_words state words) url named) (entering state url named)
 entering_alike state words url named known =
-    let same = gate_turn state words _ _ (enter_alike state.gate words (unfinished_in state) known) in
+    let same = gate_turn state words _ _ (enter_alike state.gate words (unfinished_in state) client known) in
     let done = turn state (event.Enter client) in
     alike_after (with_words state words) state (event.Enter client) (λ reply entered. if is_entered reply then admitting entered url named else ends reply entered) same
     (alike_if (is_entered done.reply) _ _ _ _ (admitting_alike done.state same.words url named) (alike_end done.reply done.state same.words))
 
-offering_alike : (state : State) (words : Words) (url : List ℕ) (named : ℕ) → Alike (exchange (with_words state words) (Offer url named)) (exchange state (Offer url named))
+offering_alike : (state : State) (words : Words) (url : List ℕ) (named : ℕ) → Alike (offering (with_words state words) url named) (offering state url named)
 offering_alike state words url named =
     let word = shown_word state.gate (unfinished_in state) in
     let own = insert_entry nat_cmp words client word in
@@ -133,7 +147,7 @@ offering_alike state words url named =
     alike_after (with_words state words) state (event.Look client) (λ _ looked. entering looked url named) (record { reply = refl; words = own; state = refl })
     (entering_alike (turn state (event.Look client)).state own url named known)
 
-taking_alike : (state : State) (words : Words) (named : ℕ) → Alike (exchange (with_words state words) (Next named)) (exchange state (Next named))
+taking_alike : (state : State) (words : Words) (named : ℕ) → Alike (taking (with_words state words) named) (taking state named)
 taking_alike state words named =
     let same = take_alike state words named (slice_get state.subqueues named) in
     let done = turn state (event.Take named) in
@@ -144,30 +158,137 @@ taking_alike state words named =
     (alike_after (with_words done.state same.words) done.state event.Close ends closing (alike_end closed.reply closed.state closing.words))
     (alike_end done.reply done.state same.words))
 
-exchange_alike : (state : State) (words : Words) (request : Request) → Alike (exchange (with_words state words) request) (exchange state request)
-exchange_alike state words (Offer url named) = offering_alike state words url named
-exchange_alike state words (Next named) = taking_alike state words named
-exchange_alike state words (Again named) = record { answer = refl; words = words; state = refl }
-exchange_alike state words (Done named) =
+done_exchange_alike : (state : State) (words : Words) (named : ℕ) → Alike (done_with_it (with_words state words) named) (done_with_it state named)
+done_exchange_alike state words named =
     let same = done_alike state words named (slice_get state.subqueues named) in
     let done = turn state (event.Done named) in
     alike_after (with_words state words) state (event.Done named) ends same (alike_end done.reply done.state same.words)
-exchange_alike state words EndSeeds =
+
+seeds_alike : (state : State) (words : Words) → Alike (seeds_ended (with_words state words)) (seeds_ended state)
+seeds_alike state words =
     let same = gate_turn state words _ _ (end_alike state.gate words (unfinished_in state)) in
     let done = turn state event.EndSeeds in
     alike_after (with_words state words) state event.EndSeeds ends same (alike_end done.reply done.state same.words)
 
+is_at_self : (sender : ℕ) → is_at (nat_cmp sender) sender ≡ true
+is_at_self sender = grind (arith, nat_tests)
+
+-- a word that was just read is remembered, whatever was before
+read_alike : (sender : ℕ) (word : Word) (words others : Words) → lookup (is_at (nat_cmp sender)) (insert_entry nat_cmp words sender word) ≡ lookup (is_at (nat_cmp sender)) (insert_entry nat_cmp others sender word)
+read_alike sender word words others =
+    lookup-insert_entry nat_cmp_total sender sender word words
+    ∙ ap (λ b. cond b (Some word) (lookup (is_at (nat_cmp sender)) words)) (is_at_self sender)
+    ∙ sym (ap (λ b. cond b (Some word) (lookup (is_at (nat_cmp sender)) others)) (is_at_self sender))
+    ∙ sym (lookup-insert_entry nat_cmp_total sender sender word others)
+
+handing_alike : (state : State) (words : Words) (named sender : ℕ) → Alike (handing (with_words state words) named sender) (handing state named sender)
+handing_alike state words named sender =
+    let count = told.Count (count_of state) in
+    let same = done_alike state words named (slice_get state.subqueues named) in
+    let done = turn state (event.Done named) in
+    let word = shown_word done.state.gate (unfinished_in done.state) in
+    let own = insert_entry nat_cmp same.words sender word in
+    let looked = turn done.state (event.Look sender) in
+    let known = read_alike sender word same.words done.state.gate.remembered in
+    let entering = gate_turn looked.state own _ _ (enter_alike looked.state.gate own (unfinished_in looked.state) sender known) in
+    let inside = turn looked.state (event.Enter sender) in
+    alike_after (with_words state words) state (event.Done named) (λ _ freed. after freed (event.Look sender) (λ _ seen. after seen (event.Enter sender) (λ _ entered. ends count entered))) same
+    (alike_after (with_words done.state same.words) done.state (event.Look sender) (λ _ seen. after seen (event.Enter sender) (λ _ entered. ends count entered)) (record { reply = refl; words = own; state = refl })
+    (alike_after (with_words looked.state own) looked.state (event.Enter sender) (λ _ entered. ends count entered) entering (alike_end count inside.state entering.words)))
+
+-- ---- what comes of a request
+
+-- two outcomes of one answer, whose states differ in words alone
+pub record AlikeOutcome (x y : Outcome) : Type 0 where
+  pub answer : x.answer ≡ y.answer
+  pub words : Words
+  pub state : x.state ≡ with_words_of y.state words
+
+machine_alike : (frontier : Frontier) (words : Words) (x y : Exchange) → Alike x y → AlikeOutcome (by_machine (with_words_of frontier words) x) (by_machine frontier y)
+machine_alike frontier words x y alike = record { answer = alike.answer; words = alike.words; state = ap (λ (s : State). record frontier { machine = s }) alike.state }
+
+outcome_if : (b : Bool) (x y v w : Outcome) → AlikeOutcome x v → AlikeOutcome y w → AlikeOutcome (if b then x else y) (if b then v else w)
+outcome_if true x y v w first second = first
+outcome_if false x y v w first second = second
+
+still_alike : (reply : Reply) (frontier : Frontier) (words : Words) → AlikeOutcome (replies reply (with_words_of frontier words)) (replies reply frontier)
+still_alike reply frontier words = record { answer = refl; words = words; state = refl }
+
+retaking_alike : (frontier : Frontier) (words : Words) (named : ℕ) (waiting : List Deferred) → AlikeOutcome (retaking (with_words_of frontier words) named waiting) (retaking frontier named waiting)
+retaking_alike frontier words named [] = still_alike (told.Refused why.Busy) frontier words
+retaking_alike frontier words named (first ∷ more) = record { answer = refl; words = words; state = refl }
+
+next_alike : (frontier : Frontier) (words : Words) (named : ℕ) (waiting : List Deferred) (fetched : Option Deferred) → AlikeOutcome (taking_next (with_words_of frontier words) named waiting fetched) (taking_next frontier named waiting fetched)
+next_alike frontier words named waiting (Some url) = still_alike (told.Refused why.Busy) frontier words
+next_alike frontier words named waiting None =
+    outcome_if (is_due (slice_get frontier.machine.subqueues named) waiting) _ _ _ _ (retaking_alike frontier words named waiting)
+    (machine_alike frontier words (taking (with_words frontier.machine words) named) (taking frontier.machine named) (taking_alike frontier.machine words named))
+
+again_alike : (frontier : Frontier) (words : Words) (named : ℕ) (fetched : Option Deferred) → AlikeOutcome (taking_again (with_words_of frontier words) named fetched) (taking_again frontier named fetched)
+again_alike frontier words named None = record { answer = refl; words = words; state = refl }
+again_alike frontier words named (Some url) = still_alike (told.Taken url.url) frontier words
+
+-- the state once the sender's unit came back, or did not
+freed : Frontier → ℕ → Reply → State → Frontier
+freed frontier named reply state =
+    let left : Frontier = record frontier { machine = state } in
+    if is_count reply then with_deferrals left named (record { waiting = (deferrals_at frontier named).waiting; fetched = None }) else left
+
+freed_alike : (frontier : Frontier) (named : ℕ) (reply : Reply) (state : State) (words : Words) → freed frontier named reply (with_words state words) ≡ with_words_of (freed frontier named reply state) words
+unfolding freed
+freed_alike frontier named reply state words = by_test (is_count reply)
+  where
+    by_test : (b : Bool) → (if b then with_deferrals (record frontier { machine = with_words state words }) named (record { waiting = (deferrals_at frontier named).waiting; fetched = None }) else record frontier { machine = with_words state words })
+        ≡ with_words_of (if b then with_deferrals (record frontier { machine = state }) named (record { waiting = (deferrals_at frontier named).waiting; fetched = None }) else record frontier { machine = state }) words
+    by_test true = refl
+    by_test false = refl
+
+finishing_alike : (frontier : Frontier) (words : Words) (named : ℕ) (fetched : Option Deferred) → AlikeOutcome (finishing (with_words_of frontier words) named fetched) (finishing frontier named fetched)
+unfolding freed
+finishing_alike frontier words named None = machine_alike frontier words (done_with_it (with_words frontier.machine words) named) (done_with_it frontier.machine named) (done_exchange_alike frontier.machine words named)
+finishing_alike frontier words named (Some url) =
+    let same = gate_turn frontier.machine words _ _ (back_alike frontier.machine.gate words (unfinished_in frontier.machine) url.sender) in
+    let done = turn frontier.machine (event.Back url.sender) in
+    let other = turn (with_words frontier.machine words) (event.Back url.sender) in
+    record {
+      answer = ap Told same.reply;
+      words = same.words;
+      state = ap (λ r. freed frontier named r other.state) same.reply ∙ ap (freed frontier named done.reply) same.state ∙ freed_alike frontier named done.reply done.state same.words;
+    }
+
+taken_alike : (frontier : Frontier) (words : Words) (named : ℕ) (found : Option (Option (List ℕ))) → AlikeOutcome (deferring_taken (with_words_of frontier words) named found) (deferring_taken frontier named found)
+taken_alike frontier words named None = still_alike (told.Refused why.NoSuch) frontier words
+taken_alike frontier words named (Some None) = still_alike (told.Refused why.Nothing) frontier words
+taken_alike frontier words named (Some (Some url)) =
+    let sender = suc frontier.senders in
+    let put : Frontier = record (put_back frontier named url sender) { senders = sender } in
+    outcome_if (can_hand_over frontier.machine named sender) _ _ _ _
+    (machine_alike put words (handing (with_words frontier.machine words) named sender) (handing frontier.machine named sender) (handing_alike frontier.machine words named sender))
+    (still_alike (told.Refused why.Nothing) frontier words)
+
+deferring_alike : (frontier : Frontier) (words : Words) (named : ℕ) (fetched : Option Deferred) → AlikeOutcome (deferring (with_words_of frontier words) named fetched) (deferring frontier named fetched)
+deferring_alike frontier words named None = taken_alike frontier words named (in_fetch frontier.machine named)
+deferring_alike frontier words named (Some url) = record { answer = refl; words = words; state = refl }
+
+exchange_alike : (frontier : Frontier) (words : Words) (request : Request) → AlikeOutcome (exchange (with_words_of frontier words) request) (exchange frontier request)
+exchange_alike frontier words (Offer url named) = machine_alike frontier words (offering (with_words frontier.machine words) url named) (offering frontier.machine url named) (offering_alike frontier.machine words url named)
+exchange_alike frontier words (Next named) = next_alike frontier words named (deferrals_at frontier named).waiting (deferrals_at frontier named).fetched
+exchange_alike frontier words (Again named) = again_alike frontier words named (deferrals_at frontier named).fetched
+exchange_alike frontier words (Later named) = deferring_alike frontier words named (deferrals_at frontier named).fetched
+exchange_alike frontier words (Done named) = finishing_alike frontier words named (deferrals_at frontier named).fetched
+exchange_alike frontier words EndSeeds = machine_alike frontier words (seeds_ended (with_words frontier.machine words)) (seeds_ended frontier.machine) (seeds_alike frontier.machine words)
+
 -- ---- lines
 
-pub answered_alike : (state : State) (words : Words) (asked : Result Request RequestError) → Alike (answered (with_words state words) asked) (answered state asked)
-answered_alike state words (Ok request) = exchange_alike state words request
-answered_alike state words (Err why) = record { answer = refl; words = words; state = refl }
+pub answered_alike : (frontier : Frontier) (words : Words) (asked : Result Request RequestError) → AlikeOutcome (answered (with_words_of frontier words) asked) (answered frontier asked)
+answered_alike frontier words (Ok request) = exchange_alike frontier words request
+answered_alike frontier words (Err why) = record { answer = refl; words = words; state = refl }
 
-pub words_forgotten : (settings : Settings) (state : State) (words : List (ℕ × Word)) (lines : List (List ℕ)) → answers settings (with_words state words) lines ≡ answers settings state lines
+pub words_forgotten : (settings : Settings) (state : Frontier) (words : List (ℕ × Word)) (lines : List (List ℕ)) → answers settings (with_words_of state words) lines ≡ answers settings state lines
 words_forgotten settings state words [] = refl
 words_forgotten settings state words (line ∷ more) =
-    let other = line_exchange settings (with_words state words) line in
+    let other = line_exchange settings (with_words_of state words) line in
     let own = line_exchange settings state line in
     let here = answered_alike state words (request_for settings line) in
     ap (λ a. a ∷ answers settings other.state more) here.answer
-    ∙ ap (λ l. own.answer ∷ l) (ap (λ (s : State). answers settings s more) here.state ∙ words_forgotten settings own.state here.words more)
+    ∙ ap (λ l. own.answer ∷ l) (ap (λ (s : Frontier). answers settings s more) here.state ∙ words_forgotten settings own.state here.words more)

@@ -1,16 +1,17 @@
 -- What the client of a session is told of URLs, by its requests and their answers alone.
-use Rattle.std.specs.Prelude.{◌≡◌, ℕ, Bool, false, List, [], ◌∷◌, ◌++◌, length, nat_eq, slice_get, if◌then◌else◌, Option, Some, None, Result, Ok}
-use Rattle.std.specs.List.{count_by, filter_map}
+use Rattle.std.specs.Prelude.{◌≡◌, ℕ, suc, ◌+◌, ◌≤◌, Bool, false, ◌||◌, List, [], ◌∷◌, ◌++◌, length, nat_eq, slice_get, if◌then◌else◌, Option, Some, None, Result, Ok}
+use Rattle.std.specs.List.{cons_option, count_by, filter_map}
+use Rattle.std.specs.Option.{option_or}
 use Rattle.crawl_core.specs.declared.reply.Reply.TheVariants as told
 use Rattle.crawl_core.specs.Kept.{has_text}
-use Rattle.crawl_core.specs.State.{State}
 use Rattle.crawl_keys.specs.Assignment.{subqueue_of}
 use Rattle.crawl_session.specs.declared.answer.Answer.{Answer}
 use Rattle.crawl_session.specs.declared.answer.Answer.TheVariants.{Told, Unasked}
 use Rattle.crawl_session.specs.declared.request.Request.{Request}
-use Rattle.crawl_session.specs.declared.request.Request.TheVariants.{Offer, Next, Done}
+use Rattle.crawl_session.specs.declared.request.Request.TheVariants.{Offer, Next, Later, Done}
 use Rattle.crawl_session.specs.declared.request.RequestError.{RequestError}
 use Rattle.crawl_session.specs.declared.request.RequestError.TheVariants as wrong
+use Rattle.crawl_session.specs.Frontiers.{Frontier}
 use Rattle.crawl_session.specs.Parts.{request_for}
 use Rattle.crawl_session.specs.Sessions.{line_exchange}
 use Rattle.crawl_session.specs.Settings.{Settings}
@@ -21,7 +22,7 @@ pub record Asked : Type 0 where
   pub answer : Answer
 
 -- the same of lines, from this state on
-abbrev pub asked : Settings → State → List (List ℕ) → List Asked
+abbrev pub asked : Settings → Frontier → List (List ℕ) → List Asked
 asked settings state [] = []
 asked settings state (line ∷ more) =
     record { request = request_for settings line; answer = (line_exchange settings state line).answer } ∷ asked settings (line_exchange settings state line).state more
@@ -41,6 +42,11 @@ abbrev pub finishes : ℕ → Result Request RequestError → Answer → Bool
 finishes queue (Ok (Done named)) (Told (told.Count left)) = nat_eq named queue
 finishes queue _ _ = false
 
+-- the URL that the subqueue was busy with was put back
+abbrev pub puts_back : ℕ → Result Request RequestError → Answer → Bool
+puts_back queue (Ok (Later named)) (Told (told.Count left)) = nat_eq named queue
+puts_back queue _ _ = false
+
 -- the URLs that the client was told were accepted into the subqueue, in order; those that it took from it; and how many
 -- fetches of it were done
 abbrev pub accepted_of : ℕ → List Asked → List (List ℕ)
@@ -51,6 +57,34 @@ taken_of queue asked = filter_map (λ x. takes queue x.request x.answer) asked
 
 abbrev pub done_of : ℕ → List Asked → ℕ
 done_of queue asked = count_by (λ x. finishes queue x.request x.answer) asked
+
+-- how often a URL of the subqueue was put back
+abbrev pub put_back_of : ℕ → List Asked → ℕ
+put_back_of queue asked = count_by (λ x. puts_back queue x.request x.answer) asked
+
+-- no line put a URL back
+abbrev pub NonePutBack : List Asked → Type 0
+NonePutBack asked = (queue : ℕ) → put_back_of queue asked ≡ 0
+
+-- the URL that the subqueue is busy with after a line, by the one before: the one that was taken, until it is done or put back
+abbrev pub busy_after : ℕ → Option (List ℕ) → Asked → Option (List ℕ)
+busy_after queue busy x =
+    if finishes queue x.request x.answer || puts_back queue x.request x.answer then None
+    else option_or (takes queue x.request x.answer) busy
+
+-- the URL that a line put to the end of the subqueue: one that was accepted, or the one that was put back
+abbrev pub joins : ℕ → Option (List ℕ) → Asked → Option (List ℕ)
+joins queue busy x =
+    if puts_back queue x.request x.answer then busy
+    else accepts queue x.request x.answer
+
+abbrev pub joined_from : ℕ → Option (List ℕ) → List Asked → List (List ℕ)
+joined_from queue busy [] = []
+joined_from queue busy (x ∷ more) = cons_option (joins queue busy x) (joined_from queue (busy_after queue busy x) more)
+
+-- the URLs that joined the subqueue, in order: each when it was accepted, and each time that it was put back
+abbrev pub joined_of : ℕ → List Asked → List (List ℕ)
+joined_of queue asked = joined_from queue None asked
 
 -- the URL that another part has
 abbrev pub told_elsewhere : Answer → Option (List ℕ)
@@ -66,14 +100,19 @@ abbrev pub first_of_each : List (List ℕ) → List (List ℕ) → List (List �
 first_of_each others [] = []
 first_of_each others (text ∷ more) = if has_text others text then first_of_each others more else text ∷ first_of_each (others ++ text ∷ []) more
 
--- in each subqueue the URLs taken are the first of those accepted, in order; none was accepted twice; and each was accepted into
--- the subqueue that its host key is assigned to among so many
+-- in each subqueue the URLs taken are the first of those that joined it, in order, which are those accepted where none was put
+-- back; none was accepted twice; each was accepted into the subqueue that its host key is assigned to among so many; and of the
+-- URLs taken, all but the last at most were done or put back
 pub record EachOnceInOrder (workers : ℕ) (asked : List Asked) : Type 0 where
-  pub in_order : (queue k : ℕ) (url : List ℕ) → slice_get (taken_of queue asked) k ≡ Some url → slice_get (accepted_of queue asked) k ≡ Some url
+  pub in_order : (queue k : ℕ) (url : List ℕ) → slice_get (taken_of queue asked) k ≡ Some url → slice_get (joined_of queue asked) k ≡ Some url
+  pub plain : (queue : ℕ) → put_back_of queue asked ≡ 0 → joined_of queue asked ≡ accepted_of queue asked
   pub once : (queue i j : ℕ) (url : List ℕ) → slice_get (accepted_of queue asked) i ≡ Some url → slice_get (accepted_of queue asked) j ≡ Some url → i ≡ j
   pub assigned : (queue k : ℕ) (url : List ℕ) → slice_get (accepted_of queue asked) k ≡ Some url → queue ≡ subqueue_of url workers
+  pub one_at_a_time : (queue : ℕ) → (done_of queue asked + put_back_of queue asked ≤ length (taken_of queue asked)) × (length (taken_of queue asked) ≤ suc (done_of queue asked + put_back_of queue asked))
 
--- every URL that was accepted was taken, and its fetch is done
+-- every URL that joined a subqueue was taken, and each that was accepted is done: each fetch was ended by `done`, but for those
+-- after which the URL was put back
 pub record AllDone (asked : List Asked) : Type 0 where
-  pub taken : (queue : ℕ) → taken_of queue asked ≡ accepted_of queue asked
-  pub done : (queue : ℕ) → done_of queue asked ≡ length (taken_of queue asked)
+  pub taken : (queue : ℕ) → taken_of queue asked ≡ joined_of queue asked
+  pub ended : (queue : ℕ) → done_of queue asked + put_back_of queue asked ≡ length (taken_of queue asked)
+  pub done : (queue : ℕ) → done_of queue asked ≡ length (accepted_of queue asked)

@@ -5,8 +5,6 @@ use Rattle.std.specs.List.{flat_map}
 use Rattle.crawl_core.specs.declared.reply.Reply.{Reply}
 use Rattle.crawl_core.specs.declared.reply.Reply.TheVariants as told
 use Rattle.crawl_core.specs.Kept.{has_text}
-use Rattle.crawl_core.specs.Shows.{Shows}
-use Rattle.crawl_core.specs.State.{State}
 use Rattle.crawl_session.specs.declared.answer.Answer.{Answer}
 use Rattle.crawl_session.specs.declared.answer.Answer.TheVariants.{Told, Unasked}
 use Rattle.crawl_session.specs.declared.request.Request.{Request}
@@ -14,6 +12,7 @@ use Rattle.crawl_session.specs.declared.request.Request.TheVariants.{Again}
 use Rattle.crawl_session.specs.declared.request.RequestError.{RequestError}
 use Rattle.crawl_session.specs.declared.request.RequestError.TheVariants as wrong
 use Rattle.crawl_session.specs.Exchanges.{exchange}
+use Rattle.crawl_session.specs.Frontiers.{Frontier, Shows}
 use Rattle.crawl_session.specs.Parts.{request_for}
 use Rattle.crawl_session.specs.Sessions.{line_exchange, state_after}
 use Rattle.crawl_session.specs.Settings.{Settings, SessionView}
@@ -63,14 +62,14 @@ is_needed had _ (Unasked (wrong.Elsewhere part url)) = not (has_text had.elsewhe
 is_needed had _ _ = false
 
 -- the lines that are needed, from this state on
-abbrev pub needed : Settings → Had → State → List (List ℕ) → List (List ℕ)
+abbrev pub needed : Settings → Had → Frontier → List (List ℕ) → List (List ℕ)
 needed settings had state [] = []
 needed settings had state (line ∷ more) =
     let done = line_exchange settings state line in
     let rest = needed settings (having had done.answer) done.state more in
     if is_needed had (request_for settings line) done.answer then line ∷ rest else rest
 
-abbrev pub had_after : Settings → Had → State → List (List ℕ) → Had
+abbrev pub had_after : Settings → Had → Frontier → List (List ℕ) → Had
 had_after settings had state [] = had
 had_after settings had state (line ∷ more) =
     let done = line_exchange settings state line in
@@ -89,18 +88,18 @@ log_text lines = flat_map log_line lines
 -- a line was given to a session: whether it is needed, and what is kept now
 pub record Gives (had : Had) (old : SessionView) (line : List ℕ) (is : Bool) (next : Had) (new : SessionView) : Type 0 where
   pub settings : new.settings ≡ old.settings
-  pub comes : (state : State) → Shows old.core state →
+  pub comes : (state : Frontier) → Shows old.core state →
       let done = line_exchange old.settings state line in
       (is ≡ is_needed had (request_for old.settings line) done.answer) × ((next ≡ having had done.answer) × Shows new.core done.state)
 
 -- the same of what a line asks
 pub record GivesRequest (had : Had) (old : SessionView) (request : Request) (is : Bool) (next : Had) (new : SessionView) : Type 0 where
   pub settings : new.settings ≡ old.settings
-  pub comes : (state : State) → Shows old.core state →
+  pub comes : (state : Frontier) → Shows old.core state →
       let done = exchange state request in
       (is ≡ is_needed had (Ok request) done.answer) × ((next ≡ having had done.answer) × Shows new.core done.state)
 
 -- lines were given to a session: the text has those that are needed
 pub record Compacts (had : Had) (old : SessionView) (lines : List (List ℕ)) (text : List ℕ) (next : Had) (new : SessionView) : Type 0 where
   pub settings : new.settings ≡ old.settings
-  pub comes : (state : State) → Shows old.core state → (text ≡ log_text (needed old.settings had state lines)) × ((next ≡ had_after old.settings had state lines) × Shows new.core (state_after old.settings state lines))
+  pub comes : (state : Frontier) → Shows old.core state → (text ≡ log_text (needed old.settings had state lines)) × ((next ≡ had_after old.settings had state lines) × Shows new.core (state_after old.settings state lines))

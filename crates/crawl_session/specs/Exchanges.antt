@@ -1,23 +1,28 @@
 -- Which events of the machine a request stands for, and what it is answered.
-use Rattle.std.specs.Prelude.{ℕ, Bool, true, false, List, [], ◌∷◌, if◌then◌else◌, Option, Some, None}
+use Rattle.std.specs.Prelude.{ℕ, suc, Bool, true, false, not, ◌&&◌, List, [], ◌∷◌, length, nat_lt, slice_get, if◌then◌else◌, Option, Some, None}
 use Rattle.crawl_core.specs.declared.event.Event.{Event}
 use Rattle.crawl_core.specs.declared.event.Event.TheVariants as event
 use Rattle.crawl_core.specs.declared.reply.Reply.{Reply}
 use Rattle.crawl_core.specs.declared.reply.Reply.TheVariants as told
 use Rattle.crawl_core.specs.declared.reply.Refusal.TheVariants as why
 use Rattle.crawl_core.specs.Fetching.{in_fetch}
-use Rattle.crawl_core.specs.State.{State}
+use Rattle.crawl_core.specs.Handing.{can_hand_over}
+use Rattle.crawl_core.specs.State.{State, count_of}
 use Rattle.crawl_core.specs.Step.{turn}
+use Rattle.crawl_core.specs.Subqueue.{Subqueue}
 use Rattle.crawl_session.specs.declared.answer.Answer.{Answer}
 use Rattle.crawl_session.specs.declared.answer.Answer.TheVariants.{Told}
 use Rattle.crawl_session.specs.declared.request.Request.{Request}
-use Rattle.crawl_session.specs.declared.request.Request.TheVariants.{Offer, Next, Again, Done, EndSeeds}
+use Rattle.crawl_session.specs.declared.request.Request.TheVariants.{Offer, Next, Again, Later, Done, EndSeeds}
+use Rattle.crawl_session.specs.declared.deferrals.Deferred.{Deferred}
+use Rattle.crawl_session.specs.Frontiers.{Deferrals, Frontier, deferrals_at, waits_again, with_deferrals}
 
 -- the one sender of a session's offers: its client
 abbrev pub client : ℕ
 client = 0
 
--- what comes of a request in a state: the events that it stands for, with their replies; its answer; and the state after them
+-- what comes of a request in a state of the machine: the events that it stands for, with their replies; its answer; and the state
+-- after them
 pub record Exchange : Type 0 where
   pub history : List (Event × Reply)
   pub answer : Answer
@@ -41,6 +46,10 @@ is_entered _ = false
 abbrev pub is_seen : Reply → Bool
 is_seen told.Seen = true
 is_seen _ = false
+
+abbrev pub is_count : Reply → Bool
+is_count (told.Count left) = true
+is_count _ = false
 
 abbrev pub is_empty : Reply → Bool
 is_empty told.Empty = true
@@ -73,10 +82,111 @@ told_again (Some (Some url)) = told.Taken url
 abbrev pub again : State → ℕ → Exchange
 again state queue = ends (told_again (in_fetch state queue)) state
 
+-- a fetch is done, and the seeds end
+abbrev pub done_with : State → ℕ → Exchange
+done_with state queue = after state (event.Done queue) ends
+
+abbrev pub seeds_ended : State → Exchange
+seeds_ended state = after state event.EndSeeds ends
+
+-- the same in a state of a session
+pub record Outcome : Type 0 where
+  pub history : List (Event × Reply)
+  pub answer : Answer
+  pub state : Frontier
+
+-- what comes of the machine alone
+abbrev pub by_machine : Frontier → Exchange → Outcome
+by_machine frontier x = record { history = x.history; answer = x.answer; state = record frontier { machine = x.state } }
+
+-- no event
+abbrev pub replies : Reply → Frontier → Outcome
+replies reply frontier = record { history = []; answer = Told reply; state = frontier }
+
+-- ---- `next`
+
+-- the queue is free, and all that it had accepted when the first of these URLs was put back were taken
+abbrev pub is_due : Option Subqueue → List Deferred → Bool
+is_due (Some queue) (first ∷ more) = not queue.busy && not (nat_lt queue.taken first.after)
+is_due _ _ = false
+
+-- a URL that was put back is taken again: no event
+abbrev pub retaking : Frontier → ℕ → List Deferred → Outcome
+retaking frontier queue [] = replies (told.Refused why.Busy) frontier
+retaking frontier queue (first ∷ more) = replies (told.Taken first.url) (with_deferrals frontier queue (record { waiting = more; fetched = Some first }))
+
+-- the first of those that were put back, if it is due; else the first of those that were not taken
+abbrev pub taking_first : Frontier → ℕ → List Deferred → Outcome
+taking_first frontier queue waiting =
+    if is_due (slice_get frontier.machine.subqueues queue) waiting then retaking frontier queue waiting
+    else by_machine frontier (taking frontier.machine queue)
+
+abbrev pub taking_next : Frontier → ℕ → List Deferred → Option Deferred → Outcome
+taking_next frontier queue waiting None = taking_first frontier queue waiting
+taking_next frontier queue waiting (Some url) = replies (told.Refused why.Busy) frontier
+
+-- ---- `again`, `done`
+
+abbrev pub taking_again : Frontier → ℕ → Option Deferred → Outcome
+taking_again frontier queue None = by_machine frontier (again frontier.machine queue)
+taking_again frontier queue (Some url) = replies (told.Taken url.url) frontier
+
+-- a URL that was put back gives its sender's unit back
+abbrev pub finishing_again : Frontier → ℕ → ℕ → Outcome
+finishing_again frontier queue sender =
+    let done = turn frontier.machine (event.Back sender) in
+    let left : Frontier = record frontier { machine = done.state } in
+    record {
+      history = (event.Back sender, done.reply) ∷ [];
+      answer = Told done.reply;
+      state = if is_count done.reply then with_deferrals left queue (record { waiting = (deferrals_at frontier queue).waiting; fetched = None }) else left;
+    }
+
+abbrev pub finishing : Frontier → ℕ → Option Deferred → Outcome
+finishing frontier queue None = by_machine frontier (done_with frontier.machine queue)
+finishing frontier queue (Some url) = finishing_again frontier queue url.sender
+
+-- ---- `later`
+
+abbrev pub accepted_at : Option Subqueue → ℕ
+accepted_at None = 0
+accepted_at (Some queue) = length queue.accepted
+
+abbrev pub accepted_in : State → ℕ → ℕ
+accepted_in state queue = accepted_at (slice_get state.subqueues queue)
+
+-- the URL waits behind all that its queue has accepted
+abbrev pub put_back : Frontier → ℕ → List ℕ → ℕ → Frontier
+put_back frontier queue url sender =
+    with_deferrals frontier queue (waits_again (deferrals_at frontier queue) (record { url = url; sender = sender; after = accepted_in frontier.machine queue }))
+
+-- the unit of the URL that the queue is busy with goes to this sender
+abbrev pub handing : State → ℕ → ℕ → Exchange
+handing state queue sender =
+    after state (event.Done queue) (λ _ freed. after freed (event.Look sender) (λ _ looked. after looked (event.Enter sender) (λ _ entered. ends (told.Count (count_of state)) entered)))
+
+-- a URL that was not put back before gets a sender of its own
+abbrev pub deferring_first : Frontier → ℕ → List ℕ → Outcome
+deferring_first frontier queue url =
+    let sender = suc frontier.senders in
+    if can_hand_over frontier.machine queue sender then by_machine (record (put_back frontier queue url sender) { senders = sender }) (handing frontier.machine queue sender)
+    else replies (told.Refused why.Nothing) frontier
+
+abbrev pub deferring_taken : Frontier → ℕ → Option (Option (List ℕ)) → Outcome
+deferring_taken frontier queue None = replies (told.Refused why.NoSuch) frontier
+deferring_taken frontier queue (Some None) = replies (told.Refused why.Nothing) frontier
+deferring_taken frontier queue (Some (Some url)) = deferring_first frontier queue url
+
+-- one that was keeps its sender: no event
+abbrev pub deferring : Frontier → ℕ → Option Deferred → Outcome
+deferring frontier queue None = deferring_taken frontier queue (in_fetch frontier.machine queue)
+deferring frontier queue (Some url) = replies (told.Count (count_of frontier.machine)) (put_back frontier queue url.url url.sender)
+
 -- what comes of a request
-abbrev pub exchange : State → Request → Exchange
-exchange state (Offer url queue) = offering state url queue
-exchange state (Next queue) = taking state queue
-exchange state (Again queue) = again state queue
-exchange state (Done queue) = after state (event.Done queue) ends
-exchange state EndSeeds = after state event.EndSeeds ends
+abbrev pub exchange : Frontier → Request → Outcome
+exchange frontier (Offer url queue) = by_machine frontier (offering frontier.machine url queue)
+exchange frontier (Next queue) = taking_next frontier queue (deferrals_at frontier queue).waiting (deferrals_at frontier queue).fetched
+exchange frontier (Again queue) = taking_again frontier queue (deferrals_at frontier queue).fetched
+exchange frontier (Later queue) = deferring frontier queue (deferrals_at frontier queue).fetched
+exchange frontier (Done queue) = finishing frontier queue (deferrals_at frontier queue).fetched
+exchange frontier EndSeeds = by_machine frontier (seeds_ended frontier.machine)

@@ -2,6 +2,7 @@ pub mod Answers
 pub mod Clients
 pub mod Compacting
 pub mod Exchanges
+pub mod Frontiers
 pub mod Input
 pub mod LogStarts
 pub mod Logs
@@ -10,4 +11,5 @@ pub mod Requests
 pub mod Settings
 pub mod Sessions
 pub mod Serving
+pub mod Steps
 pub mod Tables

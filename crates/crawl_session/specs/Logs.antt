@@ -3,16 +3,15 @@ use Rattle.std.specs.Prelude.{◌≡◌, ℕ, List, ◌++◌, codes, if◌then�
 use Rattle.std.specs.Fmt.{decimal}
 use Rattle.std.specs.List.{flat_map}
 use Rattle.std.specs.Str.{bytes_eq}
-use Rattle.crawl_core.specs.Shows.{Shows}
-use Rattle.crawl_core.specs.State.{State}
 use Rattle.crawl_web.specs.Parts.{at_space}
+use Rattle.crawl_session.specs.Frontiers.{Frontier, Shows}
 use Rattle.crawl_session.specs.Sessions.{state_after}
 use Rattle.crawl_session.specs.Settings.{SessionView}
 
 -- lines were given: whatever state was kept, the one after them is kept now
 pub record Reruns (old : SessionView) (lines : List (List ℕ)) (new : SessionView) : Type 0 where
   pub settings : new.settings ≡ old.settings
-  pub comes : (state : State) → Shows old.core state → Shows new.core (state_after old.settings state lines)
+  pub comes : (state : Frontier) → Shows old.core state → Shows new.core (state_after old.settings state lines)
 
 -- the suffixes in the first line of a log
 abbrev pub within_text : List (List ℕ) → List ℕ

@@ -3,7 +3,7 @@ use Rattle.std.specs.Prelude.{ℕ, ◌/◌, Bool, List, codes, nat_eq, if◌then
 use Rattle.std.specs.Str.{bytes_eq}
 use Rattle.crawl_session.specs.declared.part.Part.{Part}
 use Rattle.crawl_session.specs.declared.request.Request.{Request}
-use Rattle.crawl_session.specs.declared.request.Request.TheVariants.{Offer, Next, Again, Done, EndSeeds}
+use Rattle.crawl_session.specs.declared.request.Request.TheVariants.{Offer, Next, Again, Later, Done, EndSeeds}
 use Rattle.crawl_session.specs.declared.request.RequestError.{RequestError}
 use Rattle.crawl_session.specs.declared.request.RequestError.TheVariants as wrong
 use Rattle.crawl_session.specs.Requests.{request_of}
@@ -22,6 +22,7 @@ abbrev pub placed : Part → Request → Result Request RequestError
 placed part (Offer url queue) = if is_own part queue then Ok (Offer url queue) else Err (wrong.Elsewhere (part_with part queue) url)
 placed part (Next queue) = if is_own part queue then Ok (Next queue) else Err wrong.OtherQueue
 placed part (Again queue) = if is_own part queue then Ok (Again queue) else Err wrong.OtherQueue
+placed part (Later queue) = if is_own part queue then Ok (Later queue) else Err wrong.OtherQueue
 placed part (Done queue) = if is_own part queue then Ok (Done queue) else Err wrong.OtherQueue
 placed part EndSeeds = Ok EndSeeds
 

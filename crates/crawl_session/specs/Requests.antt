@@ -13,7 +13,7 @@ use Rattle.crawl_web.specs.Parts.{at_space}
 use Rattle.crawl_web.specs.declared.lines.LineError.{LineError}
 use Rattle.crawl_web.specs.declared.lines.LineError.TheVariants.{TooLong, NotText}
 use Rattle.crawl_session.specs.declared.request.Request.{Request}
-use Rattle.crawl_session.specs.declared.request.Request.TheVariants.{Offer, Next, Again, Done, EndSeeds}
+use Rattle.crawl_session.specs.declared.request.Request.TheVariants.{Offer, Next, Again, Later, Done, EndSeeds}
 use Rattle.crawl_session.specs.declared.request.RequestError.{RequestError}
 use Rattle.crawl_session.specs.declared.request.RequestError.TheVariants as wrong
 
@@ -53,11 +53,12 @@ link_of workers suffixes (Some p) = linked workers suffixes p.1 (canonical p.0)
 abbrev pub plain_request : List ℕ → Option Request
 plain_request word = if bytes_eq word (codes "endseeds") then Some EndSeeds else None
 
--- `next Q`, `again Q`, `done Q`
+-- `next Q`, `again Q`, `later Q`, `done Q`
 abbrev pub numbered_request : List ℕ → List ℕ → Option Request
 numbered_request word number =
     if bytes_eq word (codes "next") then option_map Next (number_of 32 number)
     else if bytes_eq word (codes "again") then option_map Again (number_of 32 number)
+    else if bytes_eq word (codes "later") then option_map Later (number_of 32 number)
     else if bytes_eq word (codes "done") then option_map Done (number_of 32 number)
     else None
 

@@ -1,8 +1,8 @@
 -- What a session is made with, and what it keeps.
 use Rattle.std.specs.Prelude.{ℕ, ◌≤◌, List, Option, None, IfSome}
-use Rattle.crawl_core.specs.Kept.{Kept}
 use Rattle.crawl_limits.specs.Limits.{worker_limit}
 use Rattle.crawl_session.specs.declared.part.Part.{Part}
+use Rattle.crawl_session.specs.Frontiers.{KeptFrontier}
 
 -- how many queues there are, in all parts of the crawl; the suffixes of its filter; and which part it is, if it is one
 pub record Settings : Type 0 where
@@ -14,10 +14,10 @@ pub record Settings : Type 0 where
 abbrev pub alone : ℕ → List (List ℕ) → Settings
 alone workers suffixes = record { workers = workers; suffixes = suffixes; part = None }
 
--- settings, and what its machine keeps
+-- settings, and what it keeps of its state
 pub record SessionView : Type 0 where
   pub settings : Settings
-  pub core : Kept
+  pub core : KeptFrontier
 
 -- URLs can be assigned to its subqueues, and these to parts
 pub record IsSession (settings : Settings) : Type 0 where

@@ -6,7 +6,7 @@ use Rattle.crawl_core.specs.declared.reply.Refusal.TheVariants as why
 use Rattle.crawl_session.specs.declared.answer.Answer.{Answer}
 use Rattle.crawl_session.specs.declared.answer.Answer.TheVariants.{Told, Unasked}
 use Rattle.crawl_session.specs.declared.request.Request.{Request}
-use Rattle.crawl_session.specs.declared.request.Request.TheVariants.{Offer, Next, Again, Done, EndSeeds}
+use Rattle.crawl_session.specs.declared.request.Request.TheVariants.{Offer, Next, Again, Later, Done, EndSeeds}
 use Rattle.crawl_session.specs.declared.request.RequestError.{RequestError}
 
 -- the replies that a request can be answered
@@ -23,6 +23,9 @@ can_be_told (Next queue) (told.Refused why.NoSuch) = true
 can_be_told (Again queue) (told.Taken url) = true
 can_be_told (Again queue) (told.Refused why.Nothing) = true
 can_be_told (Again queue) (told.Refused why.NoSuch) = true
+can_be_told (Later queue) (told.Count left) = true
+can_be_told (Later queue) (told.Refused why.Nothing) = true
+can_be_told (Later queue) (told.Refused why.NoSuch) = true
 can_be_told (Done queue) (told.Count left) = true
 can_be_told (Done queue) (told.Refused why.Nothing) = true
 can_be_told (Done queue) (told.Refused why.NoSuch) = true

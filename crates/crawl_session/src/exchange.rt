@@ -1,38 +1,23 @@
-//! The events of a request, one after another.
+//! The events of a request to the machine, one after another.
 ghost use Rattle.std.specs.Prelude.{◌≡◌, IfOk, OnErr};
 ghost use Rattle.std.specs.Result.{IsOk};
 ghost use Rattle.crawl_core.specs.declared.event.Event.{Event};
 ghost use Rattle.crawl_session.specs.Exchanges as spec;
-ghost use Rattle.crawl_session.specs.Serving.{Comes, GivesUp, GoesBack, Leads};
+ghost use Rattle.crawl_session.specs.Steps.{Comes, GivesUp, GoesBack, Leads};
 ghost use Rattle.crawl_session.specs.declared.answer.Answer.{Answer};
 
-use crate::request::Request;
 use crawl_core::{Core, Event, NoMemory, Refusal, Reply, Text};
 use std::alloc::AllocError;
 
 /// The one sender of a session's offers: its client.
 const CLIENT: u64 = 0;
 
-/// The reply that a request is answered.
+/// Offers the URL to the queue.
 ///
 /// # Errors
-/// Out of memory, for an offer or where a URL is told again. The frontier is then as before, but for the word that its client remembers.
-#[tactic(auto, using(crate::proofs::Steps::gives_up_at_once, crate::proofs::Steps::never_refused))]
-pub fn exchange(core: &mut Core, request: Request) -> Result<Reply, NoMemory>
-    ensures comes { IfOk result (λ reply. Comes (λ state. spec.exchange state request) core.old (Answer.Told reply) core.new) }
-    ensures err { OnErr result (GivesUp core.old core.new) }
-{
-    match request {
-        Request::Offer { url, queue } => offer(core, url, queue),
-        Request::Next { queue } => next(core, queue),
-        Request::Again { queue } => again(core, queue),
-        Request::Done { queue } => core.step(&Event::Done { queue }),
-        Request::EndSeeds => core.step(&Event::EndSeeds),
-    }
-}
-
+/// Out of memory. The frontier is then as before, but for the word that its client remembers.
 #[tactic(auto, using(crate::proofs::Steps::gives_up_at_once))]
-fn offer(core: &mut Core, url: Text, queue: u32) -> Result<Reply, NoMemory>
+pub fn offer(core: &mut Core, url: Text, queue: u32) -> Result<Reply, NoMemory>
     ensures comes { IfOk result (λ reply. Comes (λ state. spec.offering state url queue) core.old (Answer.Told reply) core.new) }
     ensures err { OnErr result (GivesUp core.old core.new) }
 {
@@ -67,7 +52,7 @@ fn admit(core: &mut Core, url: Text, queue: u32) -> Result<Reply, NoMemory>
     Ok(reply)
 }
 
-fn next(core: &mut Core, queue: u32) -> Result<Reply, NoMemory>
+pub fn next(core: &mut Core, queue: u32) -> Result<Reply, NoMemory>
     ensures comes { IfOk result (λ reply. Comes (λ state. spec.taking state queue) core.old (Answer.Told reply) core.new) }
     ensures succeeds { IsOk result }
 {
@@ -78,8 +63,22 @@ fn next(core: &mut Core, queue: u32) -> Result<Reply, NoMemory>
     Ok(reply)
 }
 
+pub fn finish(core: &mut Core, queue: u32) -> Result<Reply, NoMemory>
+    ensures comes { IfOk result (λ reply. Comes (λ state. spec.done_with state queue) core.old (Answer.Told reply) core.new) }
+    ensures err { OnErr result (core.new ≡ core.old) }
+{
+    core.step(&Event::Done { queue })
+}
+
+pub fn end_seeds(core: &mut Core) -> Result<Reply, NoMemory>
+    ensures comes { IfOk result (λ reply. Comes spec.seeds_ended core.old (Answer.Told reply) core.new) }
+    ensures err { OnErr result (core.new ≡ core.old) }
+{
+    core.step(&Event::EndSeeds)
+}
+
 /// The URL that the subqueue is busy with, once more.
-fn again(core: &Core, queue: u32) -> Result<Reply, NoMemory>
+pub fn again(core: &Core, queue: u32) -> Result<Reply, NoMemory>
     ensures { IfOk result (λ reply. Comes (λ state. spec.again state queue) core.now (Answer.Told reply) core.now) }
 {
     match core.in_fetch(queue) {

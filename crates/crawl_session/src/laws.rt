@@ -4,13 +4,13 @@ ghost use Rattle.std.specs.List.{All, list_all};
 ghost use Rattle.std.specs.Str.Lines.{lines};
 ghost use Rattle.crawl_core.specs.History.{accepted_urls, taken_urls, done_in};
 ghost use Rattle.crawl_core.specs.Run.{Run};
-ghost use Rattle.crawl_core.specs.State.{State, start};
 ghost use Rattle.crawl_core.specs.declared.reply.Reply.TheVariants as told;
 ghost use Rattle.crawl_core.specs.declared.word.Word.{Word};
-ghost use Rattle.crawl_session.specs.Clients.{AllDone, EachOnceInOrder, accepted_of, asked, done_of, elsewhere_of, first_of_each, taken_of};
+ghost use Rattle.crawl_session.specs.Clients.{AllDone, EachOnceInOrder, NonePutBack, accepted_of, asked, done_of, elsewhere_of, first_of_each, taken_of};
 ghost use Rattle.crawl_session.specs.Compacting.{had_none, log_text, needed};
 ghost use Rattle.crawl_keys.specs.Assignment.{subqueue_of};
 ghost use Rattle.crawl_session.specs.Exchanges.{exchange};
+ghost use Rattle.crawl_session.specs.Frontiers.{Frontier, NoneDeferred, start};
 ghost use Rattle.crawl_session.specs.Parts.{part_with};
 ghost use Rattle.crawl_session.specs.Requests.{request_of};
 ghost use Rattle.crawl_session.specs.LogStarts.{read_start, start_text};
@@ -27,15 +27,15 @@ ghost use Rattle.crawl_session.specs.declared.request.RequestError.TheVariants a
 
 /// The events of a session are a run of the machine, from whatever state it begins in. So the laws of `crawl_core` hold of them.
 pub fn sessions_are_runs()
-    ensures { (settings : Settings) (state : State) (lines : List (List ℕ)) → Run state (history_of settings state lines) (state_after settings state lines) }
+    ensures { (settings : Settings) (state : Frontier) (lines : List (List ℕ)) → Run state.machine (history_of settings state lines) (state_after settings state lines).machine }
 {}
 
 /// A session goes on where it was: what more lines are answered depends on the earlier ones by the state after them alone. So the
 /// requests of a session, given to a new one, bring it to the same state.
 pub fn sessions_go_on()
-    ensures answers { (settings : Settings) (state : State) (front back : List (List ℕ)) → answers settings state (front ++ back) ≡ answers settings state front ++ answers settings (state_after settings state front) back }
-    ensures state { (settings : Settings) (state : State) (front back : List (List ℕ)) → state_after settings state (front ++ back) ≡ state_after settings (state_after settings state front) back }
-    ensures events { (settings : Settings) (state : State) (front back : List (List ℕ)) → history_of settings state (front ++ back) ≡ history_of settings state front ++ history_of settings (state_after settings state front) back }
+    ensures answers { (settings : Settings) (state : Frontier) (front back : List (List ℕ)) → answers settings state (front ++ back) ≡ answers settings state front ++ answers settings (state_after settings state front) back }
+    ensures state { (settings : Settings) (state : Frontier) (front back : List (List ℕ)) → state_after settings state (front ++ back) ≡ state_after settings (state_after settings state front) back }
+    ensures events { (settings : Settings) (state : Frontier) (front back : List (List ℕ)) → history_of settings state (front ++ back) ≡ history_of settings state front ++ history_of settings (state_after settings state front) back }
 {}
 
 /// A log that was compacted goes on as the whole one: a new session that is given the lines needed of these bytes answers any
@@ -54,15 +54,15 @@ pub fn a_compacted_log_tells_elsewhere()
 /// No answer depends on the words that senders remember from before. So after out of memory each line is answered as if the line
 /// that failed had not been asked.
 pub fn words_are_forgotten()
-    ensures { (settings : Settings) (state : State) (words : List (ℕ × Word)) (lines : List (List ℕ)) → answers settings (with_words state words) lines ≡ answers settings state lines }
+    ensures { (settings : Settings) (state : Frontier) (words : List (ℕ × Word)) (lines : List (List ℕ)) → answers settings (with_words state words) lines ≡ answers settings state lines }
 {}
 
-/// What a client is told of URLs is what happened to them: those that it was told were accepted into a subqueue, or took from
-/// it, or was done with, are those of the events.
+/// What a client is told of URLs is what happened to them: those that it was told were accepted into a subqueue are those of the
+/// events. As long as nothing was put back, so are those that it took from it, and those that it was done with.
 pub fn clients_see_the_events()
-    ensures accepted { (settings : Settings) (state : State) (lines : List (List ℕ)) (queue : ℕ) → accepted_urls queue (history_of settings state lines) ≡ accepted_of queue (asked settings state lines) }
-    ensures taken { (settings : Settings) (state : State) (lines : List (List ℕ)) (queue : ℕ) → taken_urls queue (history_of settings state lines) ≡ taken_of queue (asked settings state lines) }
-    ensures done { (settings : Settings) (state : State) (lines : List (List ℕ)) (queue : ℕ) → done_in queue (history_of settings state lines) ≡ done_of queue (asked settings state lines) }
+    ensures accepted { (settings : Settings) (state : Frontier) (lines : List (List ℕ)) (queue : ℕ) → accepted_urls queue (history_of settings state lines) ≡ accepted_of queue (asked settings state lines) }
+    ensures taken { (settings : Settings) (state : Frontier) (lines : List (List ℕ)) (queue : ℕ) → NoneDeferred state → NonePutBack (asked settings state lines) → taken_urls queue (history_of settings state lines) ≡ taken_of queue (asked settings state lines) }
+    ensures done { (settings : Settings) (state : Frontier) (lines : List (List ℕ)) (queue : ℕ) → NoneDeferred state → NonePutBack (asked settings state lines) → done_in queue (history_of settings state lines) ≡ done_of queue (asked settings state lines) }
 {}
 
 /// Each URL once, in order, by its host's subqueue.
@@ -85,26 +85,26 @@ pub fn closed_means_done()
 
 /// A frontier that is no part answers each line by what it asks, as if there were no parts.
 pub fn a_frontier_alone_has_no_parts()
-    ensures { (settings : Settings) (state : State) (line : List ℕ) → settings.part ≡ None → line_exchange settings state line ≡ answered state (request_of settings.workers settings.suffixes line) }
+    ensures { (settings : Settings) (state : Frontier) (line : List ℕ) → settings.part ≡ None → line_exchange settings state line ≡ answered state (request_of settings.workers settings.suffixes line) }
 {}
 
 /// A part accepts what belongs to its own queues alone: each URL in the queue that its host key is assigned to among all.
 pub fn a_part_accepts_its_own()
-    ensures { (settings : Settings) (part : Part) (state : State) (lines : List (List ℕ)) (queue k : ℕ) (url : List ℕ) → settings.part ≡ Some part → slice_get (accepted_of queue (asked settings state lines)) k ≡ Some url → (queue ≡ subqueue_of url settings.workers) × (part_with part queue ≡ part.number) }
+    ensures { (settings : Settings) (part : Part) (state : Frontier) (lines : List (List ℕ)) (queue k : ℕ) (url : List ℕ) → settings.part ≡ Some part → slice_get (accepted_of queue (asked settings state lines)) k ≡ Some url → (queue ≡ subqueue_of url settings.workers) × (part_with part queue ≡ part.number) }
 {}
 
 /// No two parts of a crawl accept one URL. So it is accepted by one of them at most, and once.
 pub fn parts_share_no_url()
-    ensures { (first second : Settings) (own other : Part) (old older : State) (lines others : List (List ℕ)) (queue there k l : ℕ) (url : List ℕ) → first.part ≡ Some own → second.part ≡ Some other → first.workers ≡ second.workers → own.queues ≡ other.queues
+    ensures { (first second : Settings) (own other : Part) (old older : Frontier) (lines others : List (List ℕ)) (queue there k l : ℕ) (url : List ℕ) → first.part ≡ Some own → second.part ≡ Some other → first.workers ≡ second.workers → own.queues ≡ other.queues
         → slice_get (accepted_of queue (asked first old lines)) k ≡ Some url → slice_get (accepted_of there (asked second older others)) l ≡ Some url → (queue ≡ there) × (own.number ≡ other.number) }
 {}
 
 /// Elsewhere exactly where its queue is another part's: a URL that is offered then does nothing, and is told with that part's
 /// number. Any other is answered as without a part.
 pub fn others_are_told_elsewhere()
-    ensures other { (settings : Settings) (part : Part) (state : State) (line url : List ℕ) (queue : ℕ) → settings.part ≡ Some part → request_of settings.workers settings.suffixes line ≡ Ok (Offer url queue) → part_with part queue ≢ part.number
+    ensures other { (settings : Settings) (part : Part) (state : Frontier) (line url : List ℕ) (queue : ℕ) → settings.part ≡ Some part → request_of settings.workers settings.suffixes line ≡ Ok (Offer url queue) → part_with part queue ≢ part.number
         → line_exchange settings state line ≡ record { history = []; answer = Unasked (wrong.Elsewhere (part_with part queue) url); state = state } }
-    ensures own { (settings : Settings) (part : Part) (state : State) (line url : List ℕ) (queue : ℕ) → settings.part ≡ Some part → request_of settings.workers settings.suffixes line ≡ Ok (Offer url queue) → part_with part queue ≡ part.number
+    ensures own { (settings : Settings) (part : Part) (state : Frontier) (line url : List ℕ) (queue : ℕ) → settings.part ≡ Some part → request_of settings.workers settings.suffixes line ≡ Ok (Offer url queue) → part_with part queue ≡ part.number
         → line_exchange settings state line ≡ exchange state (Offer url queue) }
 {}
 

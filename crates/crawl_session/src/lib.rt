@@ -3,7 +3,9 @@
 
 mod answer;
 mod compact;
+mod deferrals;
 mod exchange;
+mod frontier;
 /// What holds of sessions.
 pub mod laws;
 mod log;

@@ -32,6 +32,7 @@ pub(crate) fn placed(part: &Part, request: Request) -> Result<Request, RequestEr
         }
         Request::Next { queue } if !is_own(part, queue) => Err(RequestError::OtherQueue),
         Request::Again { queue } if !is_own(part, queue) => Err(RequestError::OtherQueue),
+        Request::Later { queue } if !is_own(part, queue) => Err(RequestError::OtherQueue),
         Request::Done { queue } if !is_own(part, queue) => Err(RequestError::OtherQueue),
         other => Ok(other),
     }

@@ -22,6 +22,8 @@ pub enum Request {
     Next { queue: u32 },
     /// `again Q`: the URL that the subqueue gave last, whose fetch is not over.
     Again { queue: u32 },
+    /// `later Q`: the URL that the subqueue gave last, whose fetch is not over, goes to the subqueue's end.
+    Later { queue: u32 },
     /// `done Q`: the fetch of the URL that the subqueue gave last is over.
     Done { queue: u32 },
     /// `endseeds`: no more seeds come.
@@ -131,6 +133,9 @@ fn numbered_request(word: &str, number: &str) -> Option<Request>
             queue: number32(number)?,
         }),
         "again" => Some(Request::Again {
+            queue: number32(number)?,
+        }),
+        "later" => Some(Request::Later {
             queue: number32(number)?,
         }),
         "done" => Some(Request::Done {

@@ -2,11 +2,10 @@
 ghost use Rattle.std.specs.Prelude.{◌≡◌, ◌*◌, ◌<◌, ◌≤◌, ◌⊎◌, ◌↔◌, None, Some, Err, IfOk, OnOk, OnErr};
 ghost use Rattle.std.specs.Str.{bytes_eq};
 ghost use Rattle.crawl_limits.specs.Limits.{AreLimits, worker_limit, pending_limit};
-ghost use Rattle.crawl_core.specs.Shows.{Shows};
-ghost use Rattle.crawl_core.specs.State.{start};
 ghost use Rattle.crawl_core.specs.declared.error.CoreError.{CoreError};
 ghost use Rattle.crawl_keys.specs.Outcome.{Gives};
 ghost use Rattle.crawl_session.specs.Exchanges as spec;
+ghost use Rattle.crawl_session.specs.Frontiers.{Shows, start};
 ghost use Rattle.crawl_session.specs.Parts.{asked_by, placed_if, request_for};
 ghost use Rattle.crawl_session.specs.Requests.{request_of};
 ghost use Rattle.crawl_session.specs.Serving.{Comes, GivesUp, Serves};
@@ -14,7 +13,7 @@ ghost use Rattle.crawl_session.specs.declared.answer.Answer.{Answer};
 ghost use Rattle.crawl_session.specs.declared.request.RequestError.TheVariants as wrong;
 
 use crate::answer::Answer;
-use crate::exchange::exchange;
+use crate::frontier::Frontier;
 use crate::part::{Part, placed};
 use crate::request::{Request, RequestError, request_of};
 use crawl_core::{Core, CoreError, NoMemory, Reply};
@@ -26,7 +25,7 @@ use std::marker::Model;
 #[derive(Drop)]
 pub struct Session {
     alloc: Global,
-    core: Core,
+    frontier: Frontier,
     /// The queues of all parts.
     workers: u32,
     filter: Filter,
@@ -39,7 +38,7 @@ impl Model for Session {
 
     ghost Value = { SessionView };
 
-    ghost view = { λ s. record { settings = record { workers = s.workers; suffixes = s.filter; part = s.part }; core = s.core } };
+    ghost view = { λ s. record { settings = record { workers = s.workers; suffixes = s.filter; part = s.part }; core = s.frontier } };
 
     ghost invariant = { λ s. IsSession (record { workers = s.workers; suffixes = s.filter; part = s.part }) };
 }
@@ -63,10 +62,10 @@ impl Session {
         ensures bad_workers { (result ≡ Err CoreError.BadWorkers) ↔ ((workers < 1) ⊎ (worker_limit < workers)) }
         ensures bad_max { (result ≡ Err CoreError.BadMax) ↔ ((1 ≤ workers) × (workers ≤ worker_limit) × ((max_pending < 1) ⊎ (pending_limit < max_pending))) }
     {
-        match Core::new(alloc, workers, max_pending) {
-            Ok(core) => Ok(Session {
+        match new_frontier(alloc, workers, max_pending) {
+            Ok(frontier) => Ok(Session {
                 alloc,
-                core,
+                frontier,
                 workers,
                 filter,
                 part: None,
@@ -101,10 +100,10 @@ impl Session {
         let Some(workers) = part.queues.checked_mul(parts) else {
             return Err(CoreError::BadWorkers);
         };
-        match Core::new(alloc, workers, max_pending) {
-            Ok(core) => Ok(Session {
+        match new_frontier(alloc, workers, max_pending) {
+            Ok(frontier) => Ok(Session {
                 alloc,
-                core,
+                frontier,
                 workers,
                 filter,
                 part: Some(part),
@@ -149,20 +148,20 @@ impl Session {
     }
 
     /// The reply to what a line asks.
-    #[tactic(auto, using(crate::proofs::Steps::gives_up_at_once))]
+    #[tactic(auto, using(crate::proofs::Lifts::given_up_at_once))]
     pub(crate) fn perform(&mut self, request: Request) -> Result<Reply, NoMemory>
         ensures comes { IfOk result (λ reply. Comes (λ state. spec.exchange state request) self.old.core (Answer.Told reply) self.new.core) }
         ensures same { self.new.settings ≡ self.old.settings }
         ensures err { OnErr result (GivesUp self.old.core self.new.core) }
     {
-        exchange(&mut self.core, request)
+        self.frontier.exchange(request)
     }
 
     /// What the line is answered. It is one without LF, and without a CR before that.
     ///
     /// # Errors
     /// Out of memory. The frontier is then as before, but for the word that its client remembers.
-    #[tactic(auto, using(crate::proofs::Steps::gives_up_at_once))]
+    #[tactic(auto, using(crate::proofs::Lifts::given_up_at_once))]
     pub fn answer(&mut self, line: &[u8]) -> Result<Answer, NoMemory>
         ensures serves { IfOk result (λ answer. Serves self.old line.now answer self.new) }
         ensures same { self.new.settings ≡ self.old.settings }
@@ -173,6 +172,20 @@ impl Session {
             Err(RequestError::NoMemory) => Err(AllocError),
             Err(why) => Ok(Answer::Unasked(why)),
         }
+    }
+}
+
+/// A new frontier for that many workers.
+fn new_frontier(alloc: Global, workers: u32, max_pending: u64) -> Result<Frontier, CoreError>
+    ensures start { IfOk result (λ frontier. Shows frontier (start workers max_pending)) }
+    ensures limits { OnOk result (AreLimits workers max_pending) }
+    ensures bad_workers { (result ≡ Err CoreError.BadWorkers) ↔ ((workers < 1) ⊎ (worker_limit < workers)) }
+    ensures bad_max { (result ≡ Err CoreError.BadMax) ↔ ((1 ≤ workers) × (workers ≤ worker_limit) × ((max_pending < 1) ⊎ (pending_limit < max_pending))) }
+{
+    let core = Core::new(alloc, workers, max_pending)?;
+    match Frontier::new(alloc, core, workers) {
+        Ok(frontier) => Ok(frontier),
+        Err(_) => Err(CoreError::NoMemory),
     }
 }
 

@@ -3,8 +3,7 @@ use Rattle.std.proofs.Common.{◌≡◌, ◌⊎◌, inl, inr, ℕ, List, [], ◌
 use Rattle.std.specs.Io.KnownBytes.{Appends}
 use Rattle.std.proofs.KnownBytes.{Appends-nil, Appends-trans}
 use Rattle.std.specs.Str.Lines.{lines}
-use Rattle.crawl_core.specs.Shows.{Shows}
-use Rattle.crawl_core.specs.State.{start}
+use Rattle.crawl_session.specs.Frontiers.{Shows, start}
 use Rattle.crawl_session.specs.Answers.{answer_lines}
 use Rattle.crawl_session.specs.Compacting.{Had}
 use Rattle.crawl_session.specs.Input.{ServesInput}

@@ -1,9 +1,8 @@
 -- What a new file gains of a log that is compacted.
 use Rattle.std.specs.Prelude.{◌≡◌, ℕ, List, ◌++◌, Option}
 use Rattle.std.specs.Io.KnownBytes.{Appends}
-use Rattle.crawl_core.specs.Shows.{Shows}
-use Rattle.crawl_core.specs.State.{State}
 use Rattle.crawl_session.specs.Compacting.{Compacts, Had, had_none, log_text, needed}
+use Rattle.crawl_session.specs.Frontiers.{Frontier, Shows}
 use Rattle.crawl_session.specs.Settings.{SessionView}
 
 -- some lines were given to a session, by what was known of earlier ones, and the writer gained those that are needed
@@ -18,4 +17,4 @@ pub record IsCompacted (session : SessionView) (first : List ℕ) (out_old out_n
   pub requests : List (List ℕ)
   pub text : List ℕ
   pub gained : Appends out_old out_new (first ++ text)
-  pub shortest : (state : State) → Shows session.core state → text ≡ log_text (needed session.settings had_none state requests)
+  pub shortest : (state : Frontier) → Shows session.core state → text ≡ log_text (needed session.settings had_none state requests)

@@ -12,10 +12,10 @@ use Rattle.mercator.specs.Plans.{IsVisible, explains, has_log, is_bad_suffix, is
 use Rattle.crawl_replay.specs.Replay.{IsReplay}
 use Rattle.crawl_replay.specs.Script.{script_of}
 use Rattle.crawl_session.specs.Answers.{answer_lines}
+use Rattle.crawl_session.specs.Frontiers.{start}
 use Rattle.crawl_session.specs.Sessions.{answers, session_text, state_after}
 use Rattle.crawl_session.specs.Settings.{Settings}
 use Rattle.crawl_session.specs.declared.part.Part.{Part}
-use Rattle.crawl_core.specs.State.{start}
 use Rattle.std.specs.Str.Lines.{lines}
 use Rattle.crawl_workers.specs.Losses.{no_losses}
 use Rattle.crawl_workers.specs.declared.losses.Losses.{Losses}

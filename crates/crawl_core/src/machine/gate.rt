@@ -11,7 +11,7 @@ use crate::reply::{Refusal, Reply};
 use crate::word::Word;
 
 impl Core {
-    fn word(&self) -> Word
+    pub(super) fn word(&self) -> Word
         ensures { result ≡ kept_word self.now }
     {
         Word {

@@ -1,7 +1,6 @@
 //! Opens the file of a log.
 ghost use Rattle.std.specs.Prelude.{◌≡◌, ℕ, List, false, IfErr, IfOk};
-ghost use Rattle.crawl_core.specs.Shows.{Shows};
-ghost use Rattle.crawl_core.specs.State.{start};
+ghost use Rattle.crawl_session.specs.Frontiers.{Shows, start};
 ghost use Rattle.mercator.specs.LogFile.{IsLogFault};
 ghost use Rattle.mercator.specs.Plans.{IsSessionPlan, is_bad_suffix, queues_of};
 ghost use Rattle.mercator.specs.Told.{FailsLog, settings_of};

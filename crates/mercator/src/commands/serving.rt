@@ -1,8 +1,7 @@
 //! The frontier as a co-process.
 ghost use Rattle.std.specs.Prelude.{◌≡◌, ◌*◌, ◌<◌, ◌≤◌, None, Some, IfOk, IfErr, IsErr, true};
 ghost use Rattle.crawl_limits.specs.Limits.{AreLimits};
-ghost use Rattle.crawl_core.specs.Shows.{Shows};
-ghost use Rattle.crawl_core.specs.State.{start};
+ghost use Rattle.crawl_session.specs.Frontiers.{Shows, start};
 ghost use Rattle.mercator.specs.Faults.{of_session, status_of_fault};
 ghost use Rattle.mercator.specs.Plans.{IsSessionPlan, is_bad_suffix, queues_of};
 ghost use Rattle.mercator.specs.Told.{EndsBy, Gains, part_of};

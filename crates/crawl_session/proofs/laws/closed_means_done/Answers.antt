@@ -1,4 +1,4 @@
-use Rattle.crawl_session.proofs.Closings.{all_is_done, closed_for_good}
+use Rattle.crawl_session.proofs.Emptied.{all_is_done, closed_for_good}
 use Rattle.crawl_session.proofs.laws.closed_means_done.Goals as goal
 
 pub returns-clause-done : goal.returns-clause-done

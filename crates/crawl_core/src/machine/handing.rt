@@ -1,0 +1,102 @@
+//! What a session needs beside the events: the unit of a URL in progress goes to a sender, how far a subqueue is, and how many
+//! units are out.
+ghost use Rattle.std.specs.Prelude.{◌≡◌, false, slice_get, unwrap_or, IfOk, OnErr, OnOk};
+ghost use Rattle.std.specs.BTreeMap.{is_at, insert_entry};
+ghost use Rattle.std.specs.BTreeSet.{insert_key};
+ghost use Rattle.std.specs.List.{list_any};
+ghost use Rattle.std.specs.Map.{remove_entry};
+ghost use Rattle.std.specs.Ordering.{nat_cmp};
+ghost use Rattle.std.specs.Option.{option_map};
+ghost use Rattle.crawl_core.specs.Handing.{Hands, lets_in, progress_of};
+ghost use Rattle.crawl_core.specs.Shows.{Shows};
+ghost use Rattle.crawl_core.specs.State.{State, count_of};
+
+use super::Core;
+use crate::error::NoMemory;
+use crate::word::Word;
+use std::alloc::AllocError;
+use std::collections::{BTreeMap, BTreeSet};
+
+/// How far a subqueue is: how many URLs it accepted, how many of these were taken, and whether the last of those is not done.
+#[derive(Clone, Copy, Debug, PartialEq, Eq)]
+pub struct Progress {
+    pub accepted: usize,
+    pub taken: usize,
+    pub busy: bool,
+}
+
+impl Core {
+    /// How many units are out.
+    #[tactic(auto, using(crate::proofs::Handing::kept_count_of))]
+    pub fn count(&self) -> u64
+        ensures { (state : State) → Shows self.now state → result ≡ count_of state }
+    {
+        self.count
+    }
+
+    /// How far the subqueue is, if there is one.
+    #[tactic(auto, using(crate::proofs::Handing::kept_progress_of))]
+    pub fn progress(&self, queue: u32) -> Option<Progress>
+        ensures { (state : State) → Shows self.now state → result ≡ progress_of state queue }
+    {
+        self.queues.progress(queue)
+    }
+
+    /// Hands the unit of the URL that the subqueue is busy with to the sender, and returns whether that can be: `Done`, then
+    /// `Look` and `Enter`, which are then not refused. It can be if the gate is open and the sender holds no unit.
+    ///
+    /// # Errors
+    /// Out of memory. The machine is then as it was.
+    pub fn hand_over(&mut self, queue: u32, sender: u64) -> Result<bool, NoMemory>
+        ensures hands { IfOk result (λ handed. Hands self.old queue sender handed self.new) }
+        ensures err { OnErr result (self.new ≡ self.old) }
+    {
+        if !self.is_fetching(queue) {
+            return Ok(false);
+        }
+        if !self.lets_in(sender) {
+            return Ok(false);
+        }
+        let word = self.word();
+        enter(&mut self.holders, &mut self.remembered, sender, word)?;
+        self.queues.finish(queue);
+        Ok(true)
+    }
+
+    fn is_fetching(&self, queue: u32) -> bool
+        ensures { result ≡ unwrap_or (option_map (λ queue. queue.busy) (slice_get self.now.queues queue)) false }
+    {
+        self.queues.is_busy(queue).unwrap_or(false)
+    }
+
+    fn lets_in(&self, sender: u64) -> bool
+        ensures { result ≡ lets_in self.now.gate sender }
+    {
+        !self.closed && !self.holders.contains(&sender)
+    }
+}
+
+/// The sender is one more holder, and forgets its word: it looks, and enters.
+///
+/// # Errors
+/// Out of memory. Nothing changes.
+fn enter(
+    holders: &mut BTreeSet<u64>,
+    remembered: &mut BTreeMap<u64, Word>,
+    sender: u64,
+    word: Word,
+) -> Result<(), NoMemory>
+    requires { list_any (is_at (nat_cmp sender)) holders.old.keys ≡ false }
+    ensures holders { OnOk result (holders.new.keys ≡ insert_key nat_cmp holders.old.keys sender) }
+    ensures remembered { OnOk result (remembered.new.entries ≡ remove_entry (is_at (nat_cmp sender)) (insert_entry nat_cmp remembered.old.entries sender word)) }
+    ensures same_holders { OnErr result (holders.new.keys ≡ holders.old.keys) }
+    ensures same_words { OnErr result (remembered.new.entries ≡ remembered.old.entries) }
+{
+    holders.insert(sender)?;
+    if remembered.insert(sender, word).is_err() {
+        holders.remove(&sender);
+        return Err(AllocError);
+    }
+    remembered.remove(&sender);
+    Ok(())
+}

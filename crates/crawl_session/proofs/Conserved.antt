@@ -1,0 +1,218 @@
+-- What waited in a queue, and then what joined it, is what was taken from it, and then what waits.
+use Rattle.std.proofs.Common.{◌≡◌, ℕ, zero, suc, ◌+◌, ◌≤◌, Bool, true, false, cond, not, ◌&&◌, ◌||◌, if◌then◌else◌, is_some, nat_eq, List, [], ◌∷◌, ◌++◌, length, map, get_or, replicate, slice_get, Option, Some, None, Result, Ok, Err, refl, sym, ap, subst, ◌∙◌, arith, append_assoc, append-nil, true≢false}
+use Rattle.std.proofs.lemmas.Bool.Decides.{nat_tests}
+use Rattle.std.specs.List.{cons_option}
+use Rattle.std.specs.Option.{option_or, option_to_list}
+use Rattle.std.proofs.lemmas.List.{length-replicate}
+use Rattle.std.proofs.lemmas.List.Sums.{sum_by-cons}
+use Rattle.crawl_core.specs.declared.event.Event.{Event}
+use Rattle.crawl_core.specs.declared.reply.Reply.{Reply}
+use Rattle.crawl_core.specs.declared.reply.Reply.TheVariants as told
+use Rattle.crawl_core.specs.Flags.{one_if}
+use Rattle.crawl_core.specs.Run.{Run}
+use Rattle.crawl_core.specs.State.{State}
+use Rattle.crawl_core.specs.Subqueue.{Subqueue, empty_subqueue}
+use Rattle.crawl_core.proofs.RunParts.{start_sound}
+use Rattle.crawl_core.proofs.Sound.{Sound, gate_effect}
+use Rattle.crawl_session.specs.declared.answer.Answer.{Answer}
+use Rattle.crawl_session.specs.declared.answer.Answer.TheVariants.{Told}
+use Rattle.crawl_session.specs.declared.request.Request.{Request}
+use Rattle.crawl_session.specs.declared.request.Request.TheVariants.{Offer, Next, Again, Later, Done, EndSeeds}
+use Rattle.crawl_session.specs.declared.request.RequestError.{RequestError}
+use Rattle.crawl_session.specs.Clients.{Asked, accepted_of, accepts, asked, busy_after, done_of, finishes, joined_from, joined_of, joins, put_back_of, puts_back, taken_of, takes}
+use Rattle.crawl_session.specs.Frontiers.{Deferrals, Frontier, deferrals_at, no_deferrals, start}
+use Rattle.crawl_session.specs.Parts.{request_for}
+use Rattle.crawl_session.specs.Sessions.{answered, line_exchange, state_after}
+use Rattle.crawl_session.specs.Settings.{Settings}
+use Rattle.crawl_session.proofs.Flows.{answered_passes}
+use Rattle.crawl_session.proofs.Joined.{Fine, Flow, busy_at, line_at}
+use Rattle.crawl_session.proofs.Queues.{Passes, Settled, busy_of, queue_at}
+use Rattle.crawl_session.proofs.Runs.{answered_runs}
+
+-- what waits in a queue, in order
+abbrev pub line_of : Frontier → ℕ → List (List ℕ)
+line_of state queue = line_at (queue_at state queue) (deferrals_at state queue).waiting
+
+-- ---- what runs keep
+
+sound_run : (old : State) (history : List (Event × Reply)) (new : State) → Sound old → Run old history new → Sound new
+sound_run old [] new sound run = subst Sound (sym run) sound
+sound_run old (x ∷ xs) new sound run = sound_run run.0 xs new (subst Sound (sym run.1.state_is) (gate_effect old sound x.0).sound) run.2
+
+pub line_sound : (settings : Settings) (state : Frontier) (line : List ℕ) → Sound state.machine → Sound (line_exchange settings state line).state.machine
+line_sound settings state line sound =
+    let here = line_exchange settings state line in
+    sound_run state.machine here.history here.state.machine sound (answered_runs state (request_for settings line))
+
+-- ---- the URLs
+
+put_on : {A : Type 0} (o : Option A) (xs : List A) → cons_option o xs ≡ option_to_list o ++ xs
+put_on None xs = refl
+put_on (Some x) xs = refl
+
+-- a line, between what was before and what comes
+joint : (waits next more taken last : List (List ℕ)) (j t : Option (List ℕ)) → waits ++ option_to_list j ≡ option_to_list t ++ next → next ++ more ≡ taken ++ last → waits ++ cons_option j more ≡ cons_option t taken ++ last
+joint waits next more taken last j t here later =
+    ap (λ (l : List (List ℕ)). waits ++ l) (put_on j more)
+    ∙ sym (append_assoc waits (option_to_list j) more)
+    ∙ ap (λ (l : List (List ℕ)). l ++ more) here
+    ∙ append_assoc (option_to_list t) next more
+    ∙ ap (λ (l : List (List ℕ)). option_to_list t ++ l) later
+    ∙ sym (append_assoc (option_to_list t) taken last)
+    ∙ ap (λ (l : List (List ℕ)). l ++ last) (sym (put_on t taken))
+
+pub conserved : (settings : Settings) (state : Frontier) (lines : List (List ℕ)) (queue : ℕ) → Sound state.machine → Settled state
+    → line_of state queue ++ joined_from queue (busy_of state queue) (asked settings state lines) ≡ taken_of queue (asked settings state lines) ++ line_of (state_after settings state lines) queue
+conserved settings state [] queue sound settled = append-nil (line_of state queue)
+conserved settings state (line ∷ more) queue sound settled =
+    let r = request_for settings line in
+    let here = line_exchange settings state line in
+    let rest = asked settings here.state more in
+    let x : Asked = record { request = r; answer = here.answer } in
+    let passes = answered_passes state r sound settled in
+    let flow = passes.flow queue in
+    let last = line_of (state_after settings here.state more) queue in
+    let later = conserved settings here.state more queue (line_sound settings state line sound) passes.settled in
+    let next : line_of here.state queue ++ joined_from queue (busy_after queue (busy_of state queue) x) rest ≡ taken_of queue rest ++ last =
+    subst (λ (o : Option (List ℕ)). line_of here.state queue ++ joined_from queue o rest ≡ taken_of queue rest ++ last) flow.busy later in
+    joint (line_of state queue) (line_of here.state queue) (joined_from queue (busy_after queue (busy_of state queue) x) rest) (taken_of queue rest) last (joins queue (busy_of state queue) x) (takes queue r here.answer) flow.line next
+
+pub settled_after_lines : (settings : Settings) (state : Frontier) (lines : List (List ℕ)) → Sound state.machine → Settled state → Sound (state_after settings state lines).machine × Settled (state_after settings state lines)
+settled_after_lines settings state [] sound settled = (sound, settled)
+settled_after_lines settings state (line ∷ more) sound settled =
+    settled_after_lines settings (line_exchange settings state line).state more (line_sound settings state line sound) (answered_passes state (request_for settings line) sound settled).settled
+
+-- ---- how often
+
+abbrev count : Bool → ℕ
+count b = cond b 1 0
+
+abbrev Line : ℕ → Result Request RequestError → Answer → Option (List ℕ) → Option (List ℕ) → Type 0
+Line queue r answer busy next =
+    one_if (is_some (takes queue r answer)) + one_if (is_some busy) ≡ (count (finishes queue r answer) + count (puts_back queue r answer)) + one_if (is_some next)
+
+-- a fetch begins
+begins : (t busy next : Option (List ℕ)) → next ≡ option_or t busy → (is_some t ≡ true → busy ≡ None) → one_if (is_some t) + one_if (is_some busy) ≡ (0 + 0) + one_if (is_some next)
+begins None busy next is free =
+    let same : one_if (is_some next) ≡ one_if (is_some busy) = ap (λ (o : Option (List ℕ)). one_if (is_some o)) is in
+    omega (arith, same)
+begins (Some url) busy next is free =
+    let none : one_if (is_some busy) ≡ 0 = ap (λ (o : Option (List ℕ)). one_if (is_some o)) (free refl) in
+    let one : one_if (is_some next) ≡ 1 = ap (λ (o : Option (List ℕ)). one_if (is_some o)) is in
+    omega (arith, none, one)
+
+-- one ends, or nothing happens
+ends_by : (e : Bool) (busy next : Option (List ℕ)) → next ≡ (if e then None else busy) → (e ≡ true → is_some busy ≡ true) → one_if (is_some busy) ≡ count e + one_if (is_some next)
+ends_by true busy next is was =
+    let one : one_if (is_some busy) ≡ 1 = ap one_if (was refl) in
+    let none : one_if (is_some next) ≡ 0 = ap (λ (o : Option (List ℕ)). one_if (is_some o)) is in
+    omega (arith, one, none)
+ends_by false busy next is was =
+    let same : one_if (is_some next) ≡ one_if (is_some busy) = ap (λ (o : Option (List ℕ)). one_if (is_some o)) is in
+    omega (arith, same)
+
+or_false : (b : Bool) → (b || false) ≡ b
+or_false true = refl
+or_false false = refl
+
+counts_line : (queue : ℕ) (r : Result Request RequestError) (answer : Answer) (busy next : Option (List ℕ)) → next ≡ (if finishes queue r answer || puts_back queue r answer then None else option_or (takes queue r answer) busy)
+    → ((finishes queue r answer || puts_back queue r answer) ≡ true → is_some busy ≡ true) → (is_some (takes queue r answer) ≡ true → busy ≡ None) → Line queue r answer busy next
+counts_line queue (Ok (Next named)) answer busy next is was free = begins (takes queue (Ok (Next named)) answer) busy next is free
+counts_line queue (Ok (Done named)) answer busy next is was free =
+    let e = finishes queue (Ok (Done named)) answer in
+    let same = or_false e in
+    let ended = ends_by e busy next (is ∙ ap (λ b. if b then None else busy) same) (λ done. was (same ∙ done)) in
+    omega (arith, ended)
+counts_line queue (Ok (Later named)) answer busy next is was free =
+    let ended = ends_by (puts_back queue (Ok (Later named)) answer) busy next is was in
+    omega (arith, ended)
+counts_line queue (Ok (Offer url named)) answer busy next is was free = begins None busy next is (λ e. absurd (true≢false (sym e)))
+counts_line queue (Ok (Again named)) answer busy next is was free = begins None busy next is (λ e. absurd (true≢false (sym e)))
+counts_line queue (Ok EndSeeds) answer busy next is was free = begins None busy next is (λ e. absurd (true≢false (sym e)))
+counts_line queue (Err why) answer busy next is was free = begins None busy next is (λ e. absurd (true≢false (sym e)))
+
+length_on : {A : Type 0} (o : Option A) (xs : List A) → length (cons_option o xs) ≡ one_if (is_some o) + length xs
+length_on None xs = omega arith
+length_on (Some x) xs = omega arith
+
+-- as many were taken as fetches ended, but for those that are on
+pub counted_takes : (settings : Settings) (state : Frontier) (lines : List (List ℕ)) (queue : ℕ) → Sound state.machine → Settled state
+    → length (taken_of queue (asked settings state lines)) + one_if (is_some (busy_of state queue)) ≡ (done_of queue (asked settings state lines) + put_back_of queue (asked settings state lines)) + one_if (is_some (busy_of (state_after settings state lines) queue))
+counted_takes settings state [] queue sound settled = refl
+counted_takes settings state (line ∷ more) queue sound settled =
+    let r = request_for settings line in
+    let here = line_exchange settings state line in
+    let rest = asked settings here.state more in
+    let x : Asked = record { request = r; answer = here.answer } in
+    let passes = answered_passes state r sound settled in
+    let flow = passes.flow queue in
+    let later = counted_takes settings here.state more queue (line_sound settings state line sound) passes.settled in
+    let first = counts_line queue r here.answer (busy_of state queue) (busy_of here.state queue) flow.busy flow.was flow.free in
+    let taken = length_on (takes queue r here.answer) (taken_of queue rest) in
+    let done = sum_by-cons (λ (y : Asked). cond (finishes queue y.request y.answer) 1 0) x rest in
+    let put = sum_by-cons (λ (y : Asked). cond (puts_back queue y.request y.answer) 1 0) x rest in
+    omega (arith, later, first, taken, done, put)
+
+-- as many joined as were accepted and put back
+join_counts : (queue : ℕ) (r : Result Request RequestError) (answer : Answer) (busy : Option (List ℕ)) → ((finishes queue r answer || puts_back queue r answer) ≡ true → is_some busy ≡ true) → one_if (is_some (joins queue busy (record { request = r; answer = answer }))) ≡ one_if (is_some (accepts queue r answer)) + count (puts_back queue r answer)
+join_counts queue (Ok (Later named)) answer busy was = by_put (puts_back queue (Ok (Later named)) answer) was
+  where
+    by_put : (b : Bool) → (b ≡ true → is_some busy ≡ true) → one_if (is_some (if b then busy else None)) ≡ 0 + count b
+    by_put true was = let one : one_if (is_some busy) ≡ 1 = ap one_if (was refl) in omega (arith, one)
+    by_put false was = omega arith
+join_counts queue (Ok (Next named)) answer busy was = omega arith
+join_counts queue (Ok (Done named)) answer busy was = omega arith
+join_counts queue (Ok (Offer url named)) answer busy was = plus_zero (one_if (is_some (accepts queue (Ok (Offer url named)) answer)))
+  where
+    plus_zero : (n : ℕ) → n ≡ n + 0
+    plus_zero n = omega arith
+join_counts queue (Ok (Again named)) answer busy was = omega arith
+join_counts queue (Ok EndSeeds) answer busy was = omega arith
+join_counts queue (Err why) answer busy was = omega arith
+
+pub counted_joins : (settings : Settings) (state : Frontier) (lines : List (List ℕ)) (queue : ℕ) → Sound state.machine → Settled state
+    → length (joined_from queue (busy_of state queue) (asked settings state lines)) ≡ length (accepted_of queue (asked settings state lines)) + put_back_of queue (asked settings state lines)
+counted_joins settings state [] queue sound settled = refl
+counted_joins settings state (line ∷ more) queue sound settled =
+    let r = request_for settings line in
+    let here = line_exchange settings state line in
+    let rest = asked settings here.state more in
+    let x : Asked = record { request = r; answer = here.answer } in
+    let passes = answered_passes state r sound settled in
+    let flow = passes.flow queue in
+    let next : length (joined_from queue (busy_after queue (busy_of state queue) x) rest) ≡ length (accepted_of queue rest) + put_back_of queue rest =
+    subst (λ (o : Option (List ℕ)). length (joined_from queue o rest) ≡ length (accepted_of queue rest) + put_back_of queue rest) flow.busy (counted_joins settings here.state more queue (line_sound settings state line sound) passes.settled) in
+    let joined = length_on (joins queue (busy_of state queue) x) (joined_from queue (busy_after queue (busy_of state queue) x) rest) in
+    let accepted = length_on (accepts queue r here.answer) (accepted_of queue rest) in
+    let first = join_counts queue r here.answer (busy_of state queue) flow.was in
+    let put = sum_by-cons (λ (y : Asked). cond (puts_back queue y.request y.answer) 1 0) x rest in
+    omega (arith, next, joined, accepted, first, put)
+
+-- ---- a new session
+
+new_queue : (P : Option Subqueue → Type 0) (workers queue : ℕ) → P None → P (Some empty_subqueue) → P (slice_get (replicate workers empty_subqueue) queue)
+new_queue P zero queue none some = none
+new_queue P (suc workers) zero none some = some
+new_queue P (suc workers) (suc queue) none some = new_queue P workers queue none some
+
+pub new_deferrals : (workers queue : ℕ) → get_or (replicate workers no_deferrals) queue no_deferrals ≡ no_deferrals
+new_deferrals zero queue = refl
+new_deferrals (suc workers) zero = refl
+new_deferrals (suc workers) (suc queue) = new_deferrals workers queue
+
+pub starts_settled : (workers max : ℕ) → Settled (start workers max)
+starts_settled workers max = record {
+  shape = length-replicate workers no_deferrals ∙ sym (length-replicate workers empty_subqueue);
+  fine = λ queue. subst (Fine (queue_at (start workers max) queue)) (sym (new_deferrals workers queue))
+      (record { within = tt; apart = λ some. absurd (true≢false (sym some)) });
+}
+
+pub starts_empty : (workers max queue : ℕ) → line_of (start workers max) queue ≡ []
+starts_empty workers max queue =
+    ap (λ (d : Deferrals). line_at (queue_at (start workers max) queue) d.waiting) (new_deferrals workers queue)
+    ∙ new_queue (λ o. line_at o [] ≡ []) workers queue refl refl
+
+pub starts_free : (workers max queue : ℕ) → busy_of (start workers max) queue ≡ None
+starts_free workers max queue =
+    ap (λ (d : Deferrals). busy_at (queue_at (start workers max) queue) d.fetched) (new_deferrals workers queue)
+    ∙ new_queue (λ o. busy_at o None ≡ None) workers queue refl refl

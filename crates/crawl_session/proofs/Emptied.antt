@@ -1,0 +1,234 @@
+-- A session that was told that the frontier is closed: all is done, and nothing comes after.
+use Rattle.std.proofs.Common.{◌≡◌, ℕ, zero, suc, ◌+◌, ◌-◌, ◌≤◌, ◌<◌, Bool, true, false, cond, nat_eq, if◌then◌else◌, is_some, List, [], ◌∷◌, ◌++◌, length, map, drop, get_or, slice_get, slice_set, Option, Some, None, Result, Ok, Err, refl, sym, ap, subst, ◌∙◌, arith, append-nil, true≢false}
+use Rattle.std.specs.BTreeMap.{is_at}
+use Rattle.std.specs.Ordering.{nat_cmp}
+use Rattle.std.specs.List.{cons_option, list_any, sum_by}
+use Rattle.std.specs.Option.{option_to_list}
+use Rattle.std.proofs.Math.ListN.{drop_of_length-le, get_or-eq_default}
+use Rattle.std.proofs.lemmas.List.Sums.{sum_by-cons, sum_by-set}
+use Rattle.std.proofs.lemmas.Option.{slice_get_within}
+use Rattle.crawl_core.specs.declared.event.Event.{Event}
+use Rattle.crawl_core.specs.declared.reply.Reply.{Reply}
+use Rattle.crawl_core.specs.declared.reply.Reply.TheVariants as told
+use Rattle.crawl_core.specs.Flags.{one_if}
+use Rattle.crawl_core.specs.GateSide.{holds}
+use Rattle.crawl_core.specs.History.{accepted_by, accepted_in, taken_by, taken_urls, is_quiet}
+use Rattle.crawl_core.specs.Messages.{Message}
+use Rattle.crawl_core.specs.Run.{Run}
+use Rattle.crawl_core.specs.State.{State, count_of}
+use Rattle.crawl_core.specs.Subqueue.{Subqueue, unfinished, waiting}
+use Rattle.std.proofs.lemmas.Bool.Decides.{nat_tests}
+use Rattle.crawl_core.proofs.RunParts.{eqb_same, start_sound}
+use Rattle.crawl_core.proofs.Sound.{Sound, gate_effect, none_unfinished}
+use Rattle.crawl_session.specs.declared.answer.Answer.{Answer}
+use Rattle.crawl_session.specs.declared.answer.Answer.TheVariants.{Told}
+use Rattle.crawl_session.specs.declared.deferrals.Deferred.{Deferred}
+use Rattle.crawl_session.specs.declared.request.Request.{Request}
+use Rattle.crawl_session.specs.declared.request.Request.TheVariants.{Offer, Next, Again, Later, Done, EndSeeds}
+use Rattle.crawl_session.specs.declared.request.RequestError.{RequestError}
+use Rattle.crawl_session.specs.Clients.{AllDone, Asked, accepted_of, asked, done_of, joined_from, joined_of, joins, put_back_of, taken_of, takes}
+use Rattle.crawl_session.specs.Frontiers.{Deferrals, Frontier, deferrals_at, no_deferrals, start}
+use Rattle.crawl_session.specs.Parts.{request_for}
+use Rattle.crawl_session.specs.Sessions.{answered, history_of, line_exchange, state_after}
+use Rattle.crawl_session.specs.Settings.{Settings}
+use Rattle.crawl_session.proofs.Closings.{session_closes}
+use Rattle.crawl_session.proofs.Compactions.{closes_run, stays_closed}
+use Rattle.crawl_session.proofs.Conserved.{counted_joins, counted_takes, line_of, line_sound, settled_after_lines, starts_free, starts_settled}
+use Rattle.crawl_session.proofs.Flows.{answered_passes, past}
+use Rattle.crawl_session.proofs.Joined.{busy_at, idle_fetch, line_at}
+use Rattle.crawl_session.proofs.Onces.{joined_is}
+use Rattle.crawl_session.proofs.Owned.{Owned, answered_owned, fetched_units, has_sender, starts_owned, units_in, units_of}
+use Rattle.crawl_session.proofs.Queues.{Settled, busy_of, queue_at}
+use Rattle.crawl_session.proofs.Runs.{answered_runs, session_runs}
+use Rattle.crawl_session.proofs.Sees.{sees_accepted}
+
+-- ---- a state in which no unit is out
+
+-- a queue in which nothing waits and nothing is fetched
+record Empties (state : Frontier) (queue : ℕ) : Type 0 where
+  line : line_of state queue ≡ []
+  busy : busy_of state queue ≡ None
+
+no_holders : {A : Type 0} (xs : List A) → length xs ≡ 0 → xs ≡ []
+no_holders [] none = refl
+no_holders (x ∷ xs) none = absurd (omega (arith, none))
+
+no_units : (state : Frontier) → Owned state → count_of state.machine ≡ 0 → (sender : ℕ) → units_of sender state ≡ 0
+no_units state owned none sender =
+    let empty : state.machine.gate.holders ≡ [] = no_holders state.machine.gate.holders (omega (arith, none)) in
+    let free : holds state.machine.gate sender ≡ false = ap (λ (hs : List ℕ). list_any (is_at (nat_cmp sender)) hs) empty in
+    let few = owned.held sender in
+    let zero_units : one_if (holds state.machine.gate sender) ≡ 0 = ap one_if free in
+    omega (arith, few, zero_units)
+
+own_sender : (d : Deferred) → has_sender d.sender d ≡ 1
+own_sender d = ap {B = ℕ} (λ b. cond b 1 0) (eqb_same d.sender)
+
+-- no URL that was put back, where none has a sender
+none_put_back : (deferrals : Deferrals) → ((sender : ℕ) → units_in sender deferrals ≡ 0) → deferrals ≡ no_deferrals
+none_put_back deferrals none = by_parts deferrals.waiting deferrals.fetched none
+  where
+    by_parts : (ds : List Deferred) (f : Option Deferred) → ((sender : ℕ) → sum_by (has_sender sender) ds + fetched_units sender f ≡ 0) → record { waiting = ds; fetched = f } ≡ no_deferrals
+    by_parts [] None none = refl
+    by_parts [] (Some d) none = absurd (let own = own_sender d in let no : 0 + has_sender d.sender d ≡ 0 = none d.sender in omega (arith, own, no))
+    by_parts (d ∷ ds) f none =
+        absurd (let own = own_sender d in let sum = sum_by-cons (has_sender d.sender) d ds in let no = none d.sender in omega (arith, own, sum, no))
+
+nothing_put_back : (state : Frontier) (queue : ℕ) → Settled state → Owned state → count_of state.machine ≡ 0 → deferrals_at state queue ≡ no_deferrals
+nothing_put_back state queue settled owned none = by_queue (queue_at state queue) refl
+  where
+    by_queue : (o : Option Subqueue) → queue_at state queue ≡ o → deferrals_at state queue ≡ no_deferrals
+    by_queue None at =
+        let beyond : length state.deferrals ≤ queue = subst (λ n. n ≤ queue) (sym settled.shape) (past state.machine.subqueues queue at) in
+        get_or-eq_default state.deferrals no_deferrals beyond
+    by_queue (Some found) at =
+        let below : queue < length state.deferrals = subst (λ n. queue < n) (sym settled.shape) (slice_get_within state.machine.subqueues queue found at) in
+        none_put_back (deferrals_at state queue)
+        (λ sender. (
+        let sum = sum_by-set (units_in sender) state.deferrals queue no_deferrals no_deferrals below in
+        let all = no_units state owned none sender in
+        let no = no_units_new sender in
+        omega (arith, sum, all, no)))
+      where
+        no_units_new : (sender : ℕ) → units_in sender no_deferrals ≡ 0
+        no_units_new sender = refl
+
+empties : (state : Frontier) (queue : ℕ) → Sound state.machine → Settled state → Owned state → count_of state.machine ≡ 0 → Empties state queue
+empties state queue sound settled owned none = by_queue (queue_at state queue) refl
+  where
+    no : deferrals_at state queue ≡ no_deferrals
+    no = nothing_put_back state queue settled owned none
+
+    by_queue : (o : Option Subqueue) → queue_at state queue ≡ o → Empties state queue
+    by_queue None at = record {
+      line = ap (λ (o : Option Subqueue). line_at o (deferrals_at state queue).waiting) at ∙ ap (λ (d : Deferrals). line_at None d.waiting) no;
+      busy = ap (λ (o : Option Subqueue). busy_at o (deferrals_at state queue).fetched) at ∙ ap (λ (d : Deferrals). busy_at None d.fetched) no;
+    }
+    by_queue (Some found) at =
+        let inv = sound.queues queue found at in
+        let zero_left = none_unfinished state.machine queue found at none in
+        let all : length found.accepted ≤ found.taken = omega (arith, zero_left, inv.within, inv.begun) in
+        let flag : one_if found.busy ≡ 0 = omega (arith, zero_left, inv.within, inv.begun) in
+        let idle : found.busy ≡ false = not_set found.busy flag in
+        record {
+          line =
+              ap (λ (o : Option Subqueue). line_at o (deferrals_at state queue).waiting) at
+              ∙ ap (λ (d : Deferrals). line_at (Some found) d.waiting) no
+              ∙ ap (map (λ (m : Message). m.url)) (drop_of_length-le found.accepted all);
+          busy =
+              ap (λ (o : Option Subqueue). busy_at o (deferrals_at state queue).fetched) at
+              ∙ ap (λ (d : Deferrals). busy_at (Some found) d.fetched) no
+              ∙ idle_fetch found idle;
+        }
+      where
+        not_set : (b : Bool) → one_if b ≡ 0 → b ≡ false
+        not_set true flag = absurd (omega (arith, flag))
+        not_set false flag = refl
+
+-- ---- all is done
+
+owned_after_lines : (settings : Settings) (state : Frontier) (lines : List (List ℕ)) → Sound state.machine → Settled state → Owned state → Owned (state_after settings state lines)
+owned_after_lines settings state [] sound settled owned = owned
+owned_after_lines settings state (line ∷ more) sound settled owned =
+    let r = request_for settings line in
+    owned_after_lines settings (line_exchange settings state line).state more (line_sound settings state line sound) (answered_passes state r sound settled).settled (answered_owned state r sound settled owned)
+
+-- what holds of the state after a line that was answered so
+record Shut (settings : Settings) (max : ℕ) (all : List (List ℕ)) : Type 0 where
+  sound : Sound (state_after settings (start settings.workers max) all).machine
+  settled : Settled (state_after settings (start settings.workers max) all)
+  owned : Owned (state_after settings (start settings.workers max) all)
+  closed : (state_after settings (start settings.workers max) all).machine.gate.closed ≡ true
+
+shut : (settings : Settings) (max : ℕ) (front : List (List ℕ)) (line : List ℕ) → (line_exchange settings (state_after settings (start settings.workers max) front) line).answer ≡ Told told.Closed → Shut settings max (front ++ line ∷ [])
+shut settings max front line closed =
+    let begun = start settings.workers max in
+    let all = front ++ line ∷ [] in
+    let closes = session_closes settings begun front line closed in
+    let fresh = start_sound settings.workers max in
+    let settled = starts_settled settings.workers max in
+    let both = settled_after_lines settings begun all fresh settled in
+    record {
+      sound = both.0;
+      settled = both.1;
+      owned = owned_after_lines settings begun all fresh settled (starts_owned settings.workers max);
+      closed = closes_run begun.machine closes.before closes.last (state_after settings begun all).machine fresh (subst (λ h. Run begun.machine h (state_after settings begun all).machine) closes.is (session_runs settings begun all));
+    }
+
+pub all_is_done : (settings : Settings) (max : ℕ) (front : List (List ℕ)) (line : List ℕ) → (line_exchange settings (state_after settings (start settings.workers max) front) line).answer ≡ Told told.Closed → AllDone (asked settings (start settings.workers max) (front ++ line ∷ []))
+all_is_done settings max front line closed =
+    let begun = start settings.workers max in
+    let all = front ++ line ∷ [] in
+    let end = state_after settings begun all in
+    let told_all = asked settings begun all in
+    let is_shut = shut settings max front line closed in
+    let none : count_of end.machine ≡ 0 = is_shut.sound.empty is_shut.closed in
+    let empty : (queue : ℕ) → Empties end queue = λ queue. empties end queue is_shut.sound is_shut.settled is_shut.owned none in
+    let fresh = start_sound settings.workers max in
+    let settled = starts_settled settings.workers max in
+    let taken : (queue : ℕ) → taken_of queue told_all ≡ joined_of queue told_all =
+    λ queue. sym (joined_is settings max all queue ∙ ap (λ (l : List (List ℕ)). taken_of queue told_all ++ l) (empty queue).line ∙ append-nil (taken_of queue told_all)) in
+    let free : (queue : ℕ) → one_if (is_some (busy_of begun queue)) ≡ 0 = λ queue. ap (λ (o : Option (List ℕ)). one_if (is_some o)) (starts_free settings.workers max queue) in
+    let idle : (queue : ℕ) → one_if (is_some (busy_of end queue)) ≡ 0 = λ queue. ap (λ (o : Option (List ℕ)). one_if (is_some o)) (empty queue).busy in
+    let ended : (queue : ℕ) → done_of queue told_all + put_back_of queue told_all ≡ length (taken_of queue told_all) =
+    λ queue. (let counts = counted_takes settings begun all queue fresh settled in let none_then = free queue in let none_now = idle queue in omega (arith, counts, none_then, none_now)) in
+    record {
+      taken = taken;
+      ended = ended;
+      done = λ queue.
+          let joined : length (joined_of queue told_all) ≡ length (accepted_of queue told_all) + put_back_of queue told_all =
+          ap (λ (o : Option (List ℕ)). length (joined_from queue o told_all)) (sym (starts_free settings.workers max queue)) ∙ counted_joins settings begun all queue fresh settled in
+          let same = ap length (taken queue) in
+          let over = ended queue in
+          omega (arith, joined, same, over);
+    }
+
+-- ---- and nothing comes after
+
+quiet_accepts : (queue : ℕ) (e : Event) (reply : Reply) → is_quiet reply ≡ true → accepted_by queue e reply ≡ None
+quiet_accepts queue e reply quiet = grind arith
+
+-- a run from a closed gate accepts nothing
+closed_run : (queue : ℕ) (old : State) (history : List (Event × Reply)) (new : State) → Sound old → old.gate.closed ≡ true → Run old history new → accepted_in queue history ≡ []
+closed_run queue old [] new sound closed run = refl
+closed_run queue old (x ∷ xs) new sound closed run = grind (arith, nat_tests, closed_run queue run.0 xs, gate_effect, quiet_accepts)
+
+-- nothing is taken where nothing waits, then and afterwards
+takes_none : (queue : ℕ) (r : Result Request RequestError) (answer : Answer) (busy : Option (List ℕ)) → option_to_list (joins queue busy (record { request = r; answer = answer })) ≡ option_to_list (takes queue r answer) ++ [] → takes queue r answer ≡ None
+takes_none queue (Ok (Next named)) answer busy same = by_taken (takes queue (Ok (Next named)) answer) same
+  where
+    by_taken : (t : Option (List ℕ)) → [] ≡ option_to_list t ++ [] → t ≡ None
+    by_taken None same = refl
+    by_taken (Some url) same = absurd (cc)
+takes_none queue (Ok (Offer url named)) answer busy same = refl
+takes_none queue (Ok (Again named)) answer busy same = refl
+takes_none queue (Ok (Later named)) answer busy same = refl
+takes_none queue (Ok (Done named)) answer busy same = refl
+takes_none queue (Ok EndSeeds) answer busy same = refl
+takes_none queue (Err why) answer busy same = refl
+
+closed_takes : (settings : Settings) (state : Frontier) (lines : List (List ℕ)) (queue : ℕ) → Sound state.machine → Settled state → Owned state → state.machine.gate.closed ≡ true → taken_of queue (asked settings state lines) ≡ []
+closed_takes settings state [] queue sound settled owned closed = refl
+closed_takes settings state (line ∷ more) queue sound settled owned closed =
+    let r = request_for settings line in
+    let here = line_exchange settings state line in
+    let passes = answered_passes state r sound settled in
+    let next_sound = line_sound settings state line sound in
+    let next_owned = answered_owned state r sound settled owned in
+    let next_closed = stays_closed state.machine here.history here.state.machine sound closed (answered_runs state r) in
+    let before = empties state queue sound settled owned (sound.empty closed) in
+    let behind = empties here.state queue next_sound passes.settled next_owned (next_sound.empty next_closed) in
+    let flow = (passes.flow queue).line in
+    let same : option_to_list (joins queue (busy_of state queue) (record { request = r; answer = here.answer })) ≡ option_to_list (takes queue r here.answer) ++ [] =
+    ap (λ (l : List (List ℕ)). l ++ option_to_list (joins queue (busy_of state queue) (record { request = r; answer = here.answer }))) (sym before.line) ∙ flow ∙ ap (λ (l : List (List ℕ)). option_to_list (takes queue r here.answer) ++ l) behind.line in
+    ap (λ (o : Option (List ℕ)). cons_option o (taken_of queue (asked settings here.state more))) (takes_none queue r here.answer (busy_of state queue) same)
+    ∙ closed_takes settings here.state more queue next_sound passes.settled next_owned next_closed
+
+pub closed_for_good : (settings : Settings) (max : ℕ) (front : List (List ℕ)) (line : List ℕ) (back : List (List ℕ)) (queue : ℕ) → (line_exchange settings (state_after settings (start settings.workers max) front) line).answer ≡ Told told.Closed
+    → (accepted_of queue (asked settings (state_after settings (start settings.workers max) (front ++ line ∷ [])) back) ≡ []) × (taken_of queue (asked settings (state_after settings (start settings.workers max) (front ++ line ∷ [])) back) ≡ [])
+closed_for_good settings max front line back queue closed =
+    let here = state_after settings (start settings.workers max) (front ++ line ∷ []) in
+    let is_shut = shut settings max front line closed in (
+      sym (sees_accepted settings here back queue) ∙ ap (map (λ (m : Message). m.url)) (closed_run queue here.machine (history_of settings here back) (state_after settings here back).machine is_shut.sound is_shut.closed (session_runs settings here back)),
+      closed_takes settings here back queue is_shut.sound is_shut.settled is_shut.owned is_shut.closed,
+    )

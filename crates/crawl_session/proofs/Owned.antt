@@ -1,0 +1,300 @@
+-- A URL that was put back has its sender's unit until it is done.
+use Rattle.std.proofs.Common.{◌≡◌, ℕ, zero, suc, ◌+◌, ◌≤◌, ◌<◌, Bool, true, false, cond, not, ◌&&◌, ◌||◌, if◌then◌else◌, is_some, nat_eq, List, [], ◌∷◌, ◌++◌, length, get_or, replicate, slice_get, slice_set, Option, Some, None, Result, Ok, Err, refl, sym, ap, subst, ◌∙◌, arith, eqb-true, true≢false}
+use Rattle.std.proofs.lemmas.Bool.Decides.{nat_tests}
+use Rattle.std.specs.List.{list_any, sum_by}
+use Rattle.std.specs.Ordering.{nat_cmp}
+use Rattle.std.specs.BTreeMap.{is_at}
+use Rattle.std.specs.BTreeSet.{insert_key}
+use Rattle.std.proofs.lemmas.Cmp.{nat_cmp_total}
+use Rattle.std.proofs.lemmas.List.Sums.{sum_by-cons, sum_by-set, sum_by_push}
+use Rattle.std.proofs.lemmas.Option.{slice_get_within}
+use Rattle.crawl_core.specs.declared.event.Event.{Event}
+use Rattle.crawl_core.specs.declared.event.Event.TheVariants as event
+use Rattle.crawl_core.specs.declared.reply.Reply.{Reply}
+use Rattle.crawl_core.specs.declared.reply.Reply.TheVariants as told
+use Rattle.crawl_core.specs.declared.reply.Refusal.TheVariants as why
+use Rattle.crawl_core.specs.Fetching.{fetch_of, in_fetch}
+use Rattle.crawl_core.specs.Flags.{one_if}
+use Rattle.crawl_core.specs.GateSide.{GateTurn, back, gave_back, holds, let_go, turned_away}
+use Rattle.crawl_core.specs.Handing.{can_hand_over, handed_over, has_room, is_fetching, lets_in}
+use Rattle.crawl_core.specs.History.{holds_after}
+use Rattle.crawl_core.specs.Invariants.{SubqueueInvariant}
+use Rattle.crawl_core.specs.State.{State, count_of, unfinished_in}
+use Rattle.crawl_core.specs.Step.{Turn, turn, with_subqueue}
+use Rattle.crawl_core.specs.Subqueue.{Subqueue, after_finishing, unfinished}
+use Rattle.crawl_core.proofs.Counts.{there}
+use Rattle.crawl_core.proofs.GateHistory as gate_history
+use Rattle.crawl_core.proofs.GateHistory.{holds_less}
+use Rattle.crawl_core.proofs.Handing.{handed_is, is_free}
+use Rattle.crawl_core.proofs.Places.{sum_at}
+use Rattle.crawl_core.proofs.Effects.{cond_both}
+use Rattle.crawl_core.proofs.RunParts.{eqb_same}
+use Rattle.crawl_core.proofs.Sets.{list_any-insert_key}
+use Rattle.crawl_core.proofs.Sound.{Sound, gate_effect}
+use Rattle.crawl_session.specs.declared.deferrals.Deferred.{Deferred}
+use Rattle.crawl_session.specs.declared.request.Request.{Request}
+use Rattle.crawl_session.specs.declared.request.Request.TheVariants.{Offer, Next, Again, Later, Done, EndSeeds}
+use Rattle.crawl_session.specs.declared.request.RequestError.{RequestError}
+use Rattle.crawl_session.specs.Exchanges as exchanges
+use Rattle.crawl_session.specs.Exchanges.{Exchange, Outcome, accepted_at, admitting, after, by_machine, client, deferring, deferring_taken, ends, exchange, finishing, handing, is_count, is_due, is_empty, is_entered, is_seen, offering, put_back, replies, retaking, seeds_ended, taking, taking_again, taking_next}
+use Rattle.crawl_session.specs.Frontiers.{Deferrals, Frontier, deferrals_at, no_deferrals, start, waits_again, with_deferrals}
+use Rattle.crawl_session.specs.Sessions.{answered}
+use Rattle.crawl_session.proofs.Choices.{either_way}
+use Rattle.crawl_session.proofs.Flows.{fetches_busy, in_range}
+use Rattle.crawl_session.proofs.Queues.{Settled, queue_at}
+
+-- how many URLs have this sender, in a queue and in all
+abbrev pub has_sender : ℕ → Deferred → ℕ
+has_sender sender d = cond (nat_eq d.sender sender) 1 0
+
+abbrev pub fetched_units : ℕ → Option Deferred → ℕ
+fetched_units sender None = 0
+fetched_units sender (Some d) = has_sender sender d
+
+abbrev pub units_in : ℕ → Deferrals → ℕ
+units_in sender deferrals = sum_by (has_sender sender) deferrals.waiting + fetched_units sender deferrals.fetched
+
+abbrev pub units_of : ℕ → Frontier → ℕ
+units_of sender state = sum_by (units_in sender) state.deferrals
+
+-- none has the client as its sender; and each sender has as many as it holds units, at most
+pub record Owned (state : Frontier) : Type 0 where
+  pub mine : units_of client state ≡ 0
+  pub held : (sender : ℕ) → units_of sender state ≤ one_if (holds state.machine.gate sender)
+
+-- ---- the machine alone
+
+-- no unit of another than the client comes or goes
+abbrev Others : State → State → Type 0
+Others old new = (n : ℕ) → holds new.gate (suc n) ≡ holds old.gate (suc n)
+
+by_entry : (n : ℕ) (held : Bool) (reply : Reply) → holds_after (suc n) held (event.Enter client) reply ≡ held
+by_entry n held reply = grind (arith, nat_tests)
+
+by_return : (n : ℕ) (held : Bool) (reply : Reply) → holds_after (suc n) held (event.Back client) reply ≡ held
+by_return n held reply = grind (arith, nat_tests)
+
+by_admission : (n : ℕ) (held : Bool) (url : List ℕ) (named : ℕ) (reply : Reply) → holds_after (suc n) held (event.Admit client url named) reply ≡ held
+by_admission n held url named reply = grind (arith, nat_tests)
+
+enter_others : (state : State) → Sound state → Others state (turn state (event.Enter client)).state
+enter_others state sound n = (gate_history.held state sound (event.Enter client)).holders (suc n) ∙ by_entry n (holds state.gate (suc n)) (turn state (event.Enter client)).reply
+
+back_others : (state : State) → Sound state → Others state (turn state (event.Back client)).state
+back_others state sound n = (gate_history.held state sound (event.Back client)).holders (suc n) ∙ by_return n (holds state.gate (suc n)) (turn state (event.Back client)).reply
+
+admit_others : (state : State) (url : List ℕ) (named : ℕ) → Sound state → Others state (turn state (event.Admit client url named)).state
+admit_others state url named sound n = (gate_history.held state sound (event.Admit client url named)).holders (suc n) ∙ by_admission n (holds state.gate (suc n)) url named (turn state (event.Admit client url named)).reply
+
+others_both : (a b c : State) → Others a b → Others b c → Others a c
+others_both a b c first second n = second n ∙ first n
+
+admitting_others : (state : State) (url : List ℕ) (named : ℕ) → Sound state → Others state (admitting state url named).state
+admitting_others state url named sound =
+    let done = turn state (event.Admit client url named) in
+    let effect = gate_effect state sound (event.Admit client url named) in
+    let first = admit_others state url named sound in
+    either_way (λ (x : Exchange). Others state x.state) (is_seen done.reply) (after done.state (event.Back client) (λ _ left. ends told.Seen left)) (ends done.reply done.state)
+    (others_both state done.state (turn done.state (event.Back client)).state first (back_others done.state effect.sound)) first
+
+offering_others : (state : State) (url : List ℕ) (named : ℕ) → Sound state → Others state (offering state url named).state
+offering_others state url named sound =
+    let looked = turn state (event.Look client) in
+    let looking = gate_effect state sound (event.Look client) in
+    let entered = turn looked.state (event.Enter client) in
+    let entering_it = gate_effect looked.state looking.sound (event.Enter client) in
+    let first = enter_others looked.state looking.sound in
+    either_way (λ (x : Exchange). Others state x.state) (is_entered entered.reply) (admitting entered.state url named) (ends entered.reply entered.state)
+    (λ n. admitting_others entered.state url named entering_it.sound n ∙ first n) first
+
+taking_others : (state : State) (named : ℕ) → Sound state → Others state (taking state named).state
+taking_others state named sound =
+    let done = turn state (event.Take named) in
+    let effect = gate_effect state sound (event.Take named) in
+    let first : Others state done.state = λ n. (gate_history.held state sound (event.Take named)).holders (suc n) in
+    either_way (λ (x : Exchange). Others state x.state) (is_empty done.reply) (after done.state event.Close ends) (ends done.reply done.state)
+    (λ n. (gate_history.held done.state effect.sound event.Close).holders (suc n) ∙ first n) first
+
+owned_machine : (state : Frontier) (new : State) → Others state.machine new → Owned state → Owned (record state { machine = new })
+owned_machine state new others owned = record { mine = owned.mine; held = by_sender }
+  where
+    by_sender : (sender : ℕ) → units_of sender state ≤ one_if (holds new.gate sender)
+    by_sender zero = let none = owned.mine in omega (arith, none)
+    by_sender (suc n) = subst (λ b. units_of (suc n) state ≤ one_if b) (sym (others n)) (owned.held (suc n))
+
+-- ---- one queue's deferrals
+
+-- the units after a change of one queue
+units_after : (state : Frontier) (named : ℕ) (deferrals : Deferrals) (found : Subqueue) → Settled state → queue_at state named ≡ Some found → (sender : ℕ)
+    → sum_by (units_in sender) (slice_set state.deferrals named deferrals) + units_in sender (deferrals_at state named) ≡ units_of sender state + units_in sender deferrals
+units_after state named deferrals found settled at sender =
+    let below : named < length state.deferrals = subst (λ n. named < n) (sym settled.shape) (slice_get_within state.machine.subqueues named found at) in
+    sum_by-set (units_in sender) state.deferrals named deferrals no_deferrals below
+
+-- the same URLs in another way
+owned_same : (state : Frontier) (named : ℕ) (deferrals : Deferrals) (found : Subqueue) → Settled state → queue_at state named ≡ Some found → ((sender : ℕ) → units_in sender deferrals ≡ units_in sender (deferrals_at state named)) → Owned state → Owned (with_deferrals state named deferrals)
+owned_same state named deferrals found settled at same owned = record {
+  mine = let sum = units_after state named deferrals found settled at client in let is = same client in let none = owned.mine in omega (arith, sum, is, none);
+  held = λ sender. let sum = units_after state named deferrals found settled at sender in let is = same sender in let few = owned.held sender in omega (arith, sum, is, few);
+}
+
+-- ---- requests
+
+retake_units : (sender : ℕ) (first : Deferred) (more : List Deferred) (deferrals : Deferrals) → deferrals.waiting ≡ first ∷ more → deferrals.fetched ≡ None → units_in sender (record { waiting = more; fetched = Some first }) ≡ units_in sender deferrals
+retake_units sender first more deferrals waits none =
+    let sum = sum_by-cons (has_sender sender) first more in
+    let all = ap (sum_by (has_sender sender)) waits in
+    let no : fetched_units sender deferrals.fetched ≡ 0 = ap (fetched_units sender) none in
+    omega (arith, sum, all, no)
+
+retake_owned : (state : Frontier) (named : ℕ) (queue : Option Subqueue) (waiting : List Deferred) → queue_at state named ≡ queue → (deferrals_at state named).waiting ≡ waiting → Settled state → (deferrals_at state named).fetched ≡ None → is_due queue waiting ≡ true → Owned state → Owned (retaking state named waiting).state
+retake_owned state named queue [] at waits settled none due owned = owned
+retake_owned state named None (first ∷ more) at waits settled none due owned = absurd (true≢false (sym due))
+retake_owned state named (Some found) (first ∷ more) at waits settled none due owned =
+    owned_same state named (record { waiting = more; fetched = Some first }) found settled at (λ sender. retake_units sender first more (deferrals_at state named) waits none) owned
+
+next_owned : (state : Frontier) (named : ℕ) (fetched : Option Deferred) → (deferrals_at state named).fetched ≡ fetched → Sound state.machine → Settled state → Owned state → Owned (taking_next state named (deferrals_at state named).waiting fetched).state
+next_owned state named (Some d) is sound settled owned = owned
+next_owned state named None is sound settled owned =
+    cond_both (λ (x : Outcome). Owned x.state) (is_due (queue_at state named) (deferrals_at state named).waiting) (retaking state named (deferrals_at state named).waiting) (by_machine state (taking state.machine named))
+    (λ due. retake_owned state named (queue_at state named) (deferrals_at state named).waiting refl refl settled is due owned)
+    (λ _. owned_machine state (taking state.machine named).state (taking_others state.machine named sound) owned)
+
+-- one that was put back is done
+finish_units : (sender : ℕ) (d : Deferred) (deferrals : Deferrals) → deferrals.fetched ≡ Some d → units_in sender (record { waiting = deferrals.waiting; fetched = None }) + has_sender sender d ≡ units_in sender deferrals
+finish_units sender d deferrals is =
+    let one : fetched_units sender deferrals.fetched ≡ has_sender sender d = ap (fetched_units sender) is in
+    omega (arith, one)
+
+less_held : (b h : Bool) (n m : ℕ) → n ≡ m + cond b 1 0 → n ≤ one_if h → m ≤ one_if (if b then false else h)
+less_held true h n m is few = by_held h few
+  where
+    by_held : (h : Bool) → n ≤ one_if h → m ≤ 0
+    by_held true few = omega (arith, is, few)
+    by_held false few = omega (arith, is, few)
+less_held false h n m is few = omega (arith, is, few)
+
+given_owned : (state : Frontier) (named : ℕ) (d : Deferred) (found : Subqueue) → queue_at state named ≡ Some found → (deferrals_at state named).fetched ≡ Some d → Sound state.machine → Settled state → Owned state
+    → Owned (with_deferrals (record state { machine = record state.machine { gate = let_go state.machine.gate d.sender } }) named (record { waiting = (deferrals_at state named).waiting; fetched = None }))
+given_owned state named d found at is sound settled owned =
+    let old = deferrals_at state named in
+    let new : Deferrals = record { waiting = old.waiting; fetched = None } in
+    let sums : (sender : ℕ) → units_of sender state ≡ sum_by (units_in sender) (slice_set state.deferrals named new) + has_sender sender d =
+    λ sender. (let sum = units_after state named new found settled at sender in let one = finish_units sender d old is in omega (arith, sum, one)) in
+    record {
+      mine = let sum = sums client in let none = owned.mine in omega (arith, sum, none);
+      held = λ sender. subst (λ b. sum_by (units_in sender) (slice_set state.deferrals named new) ≤ one_if b) (sym (holds_less state.machine.gate.holders d.sender sender sound.holders))
+          (less_held (nat_eq d.sender sender) (holds state.machine.gate sender) (units_of sender state) (sum_by (units_in sender) (slice_set state.deferrals named new)) (sums sender) (owned.held sender));
+    }
+
+finish_again_owned : (state : Frontier) (named : ℕ) (d : Deferred) (found : Subqueue) → queue_at state named ≡ Some found → (deferrals_at state named).fetched ≡ Some d → Sound state.machine → Settled state → Owned state → Owned (finishing state named (Some d)).state
+finish_again_owned state named d found at is sound settled owned =
+    let gate = state.machine.gate in
+    let messages = unfinished_in state.machine in
+    either_way (λ (t : GateTurn). Owned (if is_count t.reply then with_deferrals (record state { machine = record state.machine { gate = t.gate } }) named (record { waiting = (deferrals_at state named).waiting; fetched = None }) else record state { machine = record state.machine { gate = t.gate } }))
+    (holds gate d.sender) (gave_back (let_go gate d.sender) messages) (turned_away gate why.Nothing)
+    (given_owned state named d found at is sound settled owned) owned
+
+finishing_owned : (state : Frontier) (named : ℕ) (fetched : Option Deferred) → (deferrals_at state named).fetched ≡ fetched → Sound state.machine → Settled state → Owned state → Owned (finishing state named fetched).state
+finishing_owned state named None is sound settled owned = owned_machine state (exchanges.done_with state.machine named).state (λ n. (gate_history.held state.machine sound (event.Done named)).holders (suc n)) owned
+finishing_owned state named (Some d) is sound settled owned = let found = in_range state named d settled is in finish_again_owned state named d found.0 found.1 is sound settled owned
+
+-- one waits again
+push_units : (sender : ℕ) (d : Deferred) (deferrals : Deferrals) → units_in sender (waits_again deferrals d) ≡ sum_by (has_sender sender) deferrals.waiting + has_sender sender d
+push_units sender d deferrals = let sum = sum_by_push (has_sender sender) deferrals.waiting d in omega (arith, sum)
+
+defer_again_units : (sender n : ℕ) (u : Deferred) (deferrals : Deferrals) → deferrals.fetched ≡ Some u → units_in sender (waits_again deferrals (record { url = u.url; sender = u.sender; after = n })) ≡ units_in sender deferrals
+defer_again_units sender n u deferrals is =
+    let sum = push_units sender (record { url = u.url; sender = u.sender; after = n }) deferrals in
+    let one : fetched_units sender deferrals.fetched ≡ has_sender sender u = ap (fetched_units sender) is in
+    omega (arith, sum, one)
+
+and_parts : (a b c : Bool) → (a && (b && c)) ≡ true → (a ≡ true) × ((b ≡ true) × (c ≡ true))
+and_parts a b c e = grind arith
+
+is_at_number : (s sender : ℕ) → is_at (nat_cmp s) sender ≡ nat_eq sender s
+is_at_number s sender = grind (arith, nat_tests)
+
+more_held : (b h : Bool) (n m : ℕ) → m ≡ n + cond b 1 0 → n ≤ one_if h → (b ≡ true → h ≡ false) → m ≤ one_if (b || h)
+more_held true h n m is few free = let none : one_if h ≡ 0 = ap one_if (free refl) in omega (arith, is, few, none)
+more_held false h n m is few free = omega (arith, is, few)
+
+defer_owned : (state : Frontier) (named : ℕ) (url : List ℕ) (found : Subqueue) → queue_at state named ≡ Some found → fetch_of found ≡ Some url → (deferrals_at state named).fetched ≡ None → Sound state.machine → Settled state → Owned state → can_hand_over state.machine named (suc state.senders) ≡ true
+    → Owned (by_machine (record (put_back state named url (suc state.senders)) { senders = suc state.senders }) (handing state.machine named (suc state.senders))).state
+defer_owned state named url found at fetched none sound settled owned can =
+    let s = suc state.senders in
+    let machine = state.machine in
+    let flags = and_parts (is_fetching (slice_get machine.subqueues named)) (lets_in machine.gate s) (has_room machine) can in
+    let busy = fetches_busy found url fetched in
+    let inv = sound.queues named found at in
+    let one : one_if found.busy ≡ 1 = ap one_if busy in
+    let sum = sum_at unfinished machine.subqueues named found (after_finishing found) at in
+    let fewer : count_of (with_subqueue machine named (after_finishing found)) + 1 ≡ count_of machine = omega (arith, sum, one, inv.begun, inv.within) in
+    let is = handed_is machine named s found at busy flags.1.0 fewer flags.1.1 in
+    let free : holds machine.gate s ≡ false = is_free machine.gate s flags.1.0 in
+    let old = deferrals_at state named in
+    let d : Deferred = record { url = url; sender = s; after = accepted_at (queue_at state named) } in
+    let new = waits_again old d in
+    let sums : (sender : ℕ) → sum_by (units_in sender) (slice_set state.deferrals named new) ≡ units_of sender state + cond (nat_eq s sender) 1 0 =
+    λ sender. (
+    let total = units_after state named new found settled at sender in
+    let push = push_units sender d old in
+    let no : fetched_units sender old.fetched ≡ 0 = ap (fetched_units sender) none in
+    omega (arith, total, push, no)) in
+    let holds_now : (sender : ℕ) → holds (handed_over machine named s).gate sender ≡ (nat_eq s sender || holds machine.gate sender) =
+    λ sender. ap (λ (m : State). holds m.gate sender) is ∙ list_any-insert_key nat_cmp_total sender s machine.gate.holders ∙ ap (λ b. b || holds machine.gate sender) (is_at_number sender s) in
+    record {
+      mine = let total = sums client in let none_mine = owned.mine in let apart : cond (nat_eq (suc state.senders) client) 1 0 ≡ 0 = ap {B = ℕ} (λ b. cond b 1 0) (suc_apart state.senders) in omega (arith, total, none_mine, apart);
+      held = λ sender. subst (λ b. sum_by (units_in sender) (slice_set state.deferrals named new) ≤ one_if b) (sym (holds_now sender))
+          (more_held (nat_eq s sender) (holds machine.gate sender) (units_of sender state) _ (sums sender) (owned.held sender) (λ same. ap (holds machine.gate) (sym (eqb-true s sender same)) ∙ free));
+    }
+  where
+    suc_apart : (n : ℕ) → nat_eq (suc n) client ≡ false
+    suc_apart n = grind (arith, nat_tests)
+
+taken_owned : (state : Frontier) (named : ℕ) (found : Option (Option (List ℕ))) → in_fetch state.machine named ≡ found → (deferrals_at state named).fetched ≡ None → Sound state.machine → Settled state → Owned state → Owned (deferring_taken state named found).state
+taken_owned state named None is none sound settled owned = owned
+taken_owned state named (Some None) is none sound settled owned = owned
+taken_owned state named (Some (Some url)) is none sound settled owned =
+    let sender = suc state.senders in
+    let here = there fetch_of (queue_at state named) (Some url) is in
+    cond_both (λ (x : Outcome). Owned x.state) (can_hand_over state.machine named sender) (by_machine (record (put_back state named url sender) { senders = sender }) (handing state.machine named sender)) (replies (told.Refused why.Nothing) state)
+    (λ can. defer_owned state named url here.0 here.1 here.2 none sound settled owned can) (λ _. owned)
+
+deferring_owned : (state : Frontier) (named : ℕ) (fetched : Option Deferred) → (deferrals_at state named).fetched ≡ fetched → Sound state.machine → Settled state → Owned state → Owned (deferring state named fetched).state
+deferring_owned state named None is sound settled owned = taken_owned state named (in_fetch state.machine named) refl is sound settled owned
+deferring_owned state named (Some u) is sound settled owned =
+    let found = in_range state named u settled is in
+    let n = accepted_at (queue_at state named) in
+    owned_same state named (waits_again (deferrals_at state named) (record { url = u.url; sender = u.sender; after = n })) found.0 settled found.1 (λ sender. defer_again_units sender n u (deferrals_at state named) is) owned
+
+again_owned : (state : Frontier) (named : ℕ) (fetched : Option Deferred) → Owned state → Owned (taking_again state named fetched).state
+again_owned state named None owned = owned
+again_owned state named (Some d) owned = owned
+
+request_owned : (state : Frontier) (request : Request) → Sound state.machine → Settled state → Owned state → Owned (exchange state request).state
+request_owned state (Offer url named) sound settled owned = owned_machine state (offering state.machine url named).state (offering_others state.machine url named sound) owned
+request_owned state (Next named) sound settled owned = next_owned state named (deferrals_at state named).fetched refl sound settled owned
+request_owned state (Again named) sound settled owned = again_owned state named (deferrals_at state named).fetched owned
+request_owned state (Later named) sound settled owned = deferring_owned state named (deferrals_at state named).fetched refl sound settled owned
+request_owned state (Done named) sound settled owned = finishing_owned state named (deferrals_at state named).fetched refl sound settled owned
+request_owned state EndSeeds sound settled owned = owned_machine state (seeds_ended state.machine).state (λ n. (gate_history.held state.machine sound event.EndSeeds).holders (suc n)) owned
+
+pub answered_owned : (state : Frontier) (r : Result Request RequestError) → Sound state.machine → Settled state → Owned state → Owned (answered state r).state
+answered_owned state (Ok request) sound settled owned = request_owned state request sound settled owned
+answered_owned state (Err why) sound settled owned = owned
+
+-- ---- a new session, and one where no unit is out
+
+none_new : (workers sender : ℕ) → sum_by (units_in sender) (replicate workers no_deferrals) ≡ 0
+none_new zero sender = refl
+none_new (suc workers) sender =
+    let first = sum_by-cons (units_in sender) no_deferrals (replicate workers no_deferrals) in
+    let rest = none_new workers sender in
+    omega (arith, first, rest)
+
+pub starts_owned : (workers max : ℕ) → Owned (start workers max)
+starts_owned workers max = record {
+  mine = none_new workers client;
+  held = λ sender. let none = none_new workers sender in omega (arith, none);
+}

@@ -1,0 +1,172 @@
+-- What each request does to each queue: a URL joins its end, one is taken, or a fetch ends.
+use Rattle.std.proofs.Common.{◌≡◌, ◌⊎◌, inl, inr, ℕ, zero, suc, ◌+◌, ◌≤◌, ◌<◌, Bool, true, false, not, ◌&&◌, ◌||◌, if◌then◌else◌, is_some, nat_eq, List, [], ◌∷◌, ◌++◌, length, get_or, slice_get, slice_set, Option, Some, None, Result, Ok, Err, refl, sym, ap, subst, ◌∙◌, arith, eqb-true, ne_eqb, true≢false}
+use Rattle.std.specs.Option.{option_map, option_or, option_to_list}
+use Rattle.std.proofs.lemmas.Bool.{eqb-false}
+use Rattle.std.proofs.lemmas.List.{get_or-set_same, get_or-set_other}
+use Rattle.std.proofs.lemmas.Option.{slice_get_within}
+use Rattle.crawl_core.specs.declared.event.Event.TheVariants as event
+use Rattle.crawl_core.specs.declared.reply.Reply.{Reply}
+use Rattle.crawl_core.specs.declared.reply.Reply.TheVariants as told
+use Rattle.crawl_core.specs.declared.reply.Refusal.TheVariants as why
+use Rattle.crawl_core.specs.Fetching.{fetch_of, in_fetch}
+use Rattle.crawl_core.specs.Handing.{can_hand_over, handed_over, is_fetching, lets_in}
+use Rattle.crawl_core.specs.Messages.{Message}
+use Rattle.crawl_core.specs.State.{State}
+use Rattle.crawl_core.specs.Step.{turn}
+use Rattle.crawl_core.specs.Subqueue.{Subqueue, after_accepting, after_finishing, after_taking, oldest}
+use Rattle.crawl_core.proofs.Places.{get_set_same, get_set_other, length-slice_set}
+use Rattle.crawl_core.proofs.RunParts.{eqb_same}
+use Rattle.crawl_session.specs.declared.answer.Answer.{Answer}
+use Rattle.crawl_session.specs.declared.answer.Answer.TheVariants.{Told}
+use Rattle.crawl_session.specs.declared.deferrals.Deferred.{Deferred}
+use Rattle.crawl_session.specs.declared.request.Request.{Request}
+use Rattle.crawl_session.specs.declared.request.Request.TheVariants.{Offer, Next, Again, Later, Done, EndSeeds}
+use Rattle.crawl_session.specs.declared.request.RequestError.{RequestError}
+use Rattle.crawl_session.specs.Clients.{Asked, accepts, busy_after, finishes, joins, puts_back, takes}
+use Rattle.crawl_session.specs.Exchanges.{Exchange, Outcome, accepted_at, by_machine, exchange, replies}
+use Rattle.crawl_session.specs.Frontiers.{Deferrals, Frontier, deferrals_at, no_deferrals, waits_again, with_deferrals}
+use Rattle.crawl_session.specs.Sessions.{answered}
+use Rattle.crawl_session.proofs.InLine.{Within}
+use Rattle.crawl_session.proofs.Joined.{Fine, Flow, busy_at, flow_still}
+
+-- ---- all queues
+
+abbrev pub queue_at : Frontier → ℕ → Option Subqueue
+queue_at state queue = slice_get state.machine.subqueues queue
+
+-- the URL that the queue is busy with
+abbrev pub busy_of : Frontier → ℕ → Option (List ℕ)
+busy_of state queue = busy_at (queue_at state queue) (deferrals_at state queue).fetched
+
+-- each queue of the machine has its deferrals, and these are fine
+pub record Settled (state : Frontier) : Type 0 where
+  pub shape : length state.deferrals ≡ length state.machine.subqueues
+  pub fine : (queue : ℕ) → Fine (queue_at state queue) (deferrals_at state queue)
+
+abbrev pub as_told : Result Request RequestError → Answer → Asked
+as_told r answer = record { request = r; answer = answer }
+
+-- what comes of what a line asks: in each queue happens what the client is told
+pub record Passes (state : Frontier) (r : Result Request RequestError) (x : Outcome) : Type 0 where
+  pub settled : Settled x.state
+  pub flow : (queue : ℕ) → Flow (queue_at state queue) (deferrals_at state queue) (joins queue (busy_of state queue) (as_told r x.answer)) (takes queue r x.answer) (finishes queue r x.answer || puts_back queue r x.answer) (queue_at x.state queue) (deferrals_at x.state queue)
+
+-- nothing happens in any
+abbrev pub Quietly : Result Request RequestError → Answer → Type 0
+Quietly r answer = (queue : ℕ) (busy : Option (List ℕ)) → (joins queue busy (as_told r answer) ≡ None) × ((takes queue r answer ≡ None) × ((finishes queue r answer || puts_back queue r answer) ≡ false))
+
+still_as : (queue : Option Subqueue) (deferrals : Deferrals) (j t : Option (List ℕ)) (e : Bool) → j ≡ None → t ≡ None → e ≡ false → Flow queue deferrals j t e queue deferrals
+still_as queue deferrals j t e no_join no_take no_end =
+    subst (λ (b : Bool). Flow queue deferrals j t b queue deferrals) (sym no_end)
+    (subst (λ (o : Option (List ℕ)). Flow queue deferrals j o false queue deferrals) (sym no_take)
+    (subst (λ (o : Option (List ℕ)). Flow queue deferrals o None false queue deferrals) (sym no_join) (flow_still queue deferrals)))
+
+pub passes_still : (state : Frontier) (r : Result Request RequestError) (reply : Reply) → Settled state → Quietly r (Told reply) → Passes state r (replies reply state)
+passes_still state r reply settled quiet = record {
+  settled = settled;
+  flow = λ queue. let said = quiet queue (busy_of state queue) in still_as (queue_at state queue) (deferrals_at state queue) _ _ _ said.0 said.1.0 said.1.1;
+}
+
+-- the machine's queues stay
+pub passes_gate : (state : Frontier) (r : Result Request RequestError) (x : Exchange) → Settled state → x.state.subqueues ≡ state.machine.subqueues → Quietly r x.answer → Passes state r (by_machine state x)
+passes_gate state r x settled same quiet =
+    let at : (queue : ℕ) → slice_get x.state.subqueues queue ≡ queue_at state queue = λ queue. ap (λ (l : List Subqueue). slice_get l queue) same in
+    record {
+      settled = record {
+        shape = settled.shape ∙ ap length (sym same);
+        fine = λ queue. subst (λ (o : Option Subqueue). Fine o (deferrals_at state queue)) (sym (at queue)) (settled.fine queue);
+      };
+      flow = λ queue.
+          let said = quiet queue (busy_of state queue) in
+          subst (λ (o : Option Subqueue). Flow (queue_at state queue) (deferrals_at state queue) (joins queue (busy_of state queue) (as_told r x.answer)) (takes queue r x.answer) (finishes queue r x.answer || puts_back queue r x.answer) o (deferrals_at state queue)) (sym (at queue))
+          (still_as (queue_at state queue) (deferrals_at state queue) _ _ _ said.0 said.1.0 said.1.1);
+    }
+
+-- ---- one queue
+
+-- what holds of this queue where a test of it is passed, and of the others where it is not
+one_queue : (named queue : ℕ) (P : Bool → ℕ → Type 0) → P true named → (nat_eq named queue ≡ false → P false queue) → P (nat_eq named queue) queue
+one_queue named queue P here other = by_test (nat_eq named queue) refl
+  where
+    by_test : (b : Bool) → nat_eq named queue ≡ b → P b queue
+    by_test true same = subst (P true) (eqb-true named queue same) here
+    by_test false apart = other apart
+
+-- the state with another machine's queue and other deferrals there
+abbrev changed : Frontier → State → ℕ → Subqueue → Deferrals → ℕ → Frontier
+changed state machine named queue deferrals senders = record {
+  machine = machine;
+  deferrals = slice_set state.deferrals named deferrals;
+  senders = senders;
+}
+
+-- the change of one queue
+pub record Change (state new : Frontier) (named : ℕ) (queue : Option Subqueue) (deferrals : Deferrals) : Type 0 where
+  pub shape : length new.deferrals ≡ length new.machine.subqueues
+  pub here : queue_at new named ≡ queue
+  pub here_too : deferrals_at new named ≡ deferrals
+  pub other : (there : ℕ) → nat_eq named there ≡ false → queue_at new there ≡ queue_at state there
+  pub other_too : (there : ℕ) → nat_eq named there ≡ false → deferrals_at new there ≡ deferrals_at state there
+
+pub settled_after : (state new : Frontier) (named : ℕ) (queue : Option Subqueue) (deferrals : Deferrals) → Settled state → Change state new named queue deferrals → Fine queue deferrals → Settled new
+settled_after state new named queue deferrals settled change fine = record {
+  shape = change.shape;
+  fine = λ there. one_queue named there (λ b q. Fine (queue_at new q) (deferrals_at new q))
+      (subst (λ (o : Option Subqueue). Fine o (deferrals_at new named)) (sym change.here) (subst (λ (d : Deferrals). Fine queue d) (sym change.here_too) fine))
+      (λ apart. subst (λ (o : Option Subqueue). Fine o (deferrals_at new there)) (sym (change.other there apart)) (subst (λ (d : Deferrals). Fine (queue_at state there) d) (sym (change.other_too there apart)) (settled.fine there)));
+}
+
+-- what happens there, and nothing in the others
+pub flow_after : (state new : Frontier) (named : ℕ) (queue : Option Subqueue) (deferrals : Deferrals) (j t : ℕ → Bool → Option (List ℕ)) (e : Bool → Bool) → Change state new named queue deferrals
+    → Flow (queue_at state named) (deferrals_at state named) (j named true) (t named true) (e true) queue deferrals
+    → ((there : ℕ) → (j there false ≡ None) × ((t there false ≡ None) × (e false ≡ false)))
+    → (there : ℕ) → Flow (queue_at state there) (deferrals_at state there) (j there (nat_eq named there)) (t there (nat_eq named there)) (e (nat_eq named there)) (queue_at new there) (deferrals_at new there)
+flow_after state new named queue deferrals j t e change flow quiet there =
+    one_queue named there (λ b q. Flow (queue_at state q) (deferrals_at state q) (j q b) (t q b) (e b) (queue_at new q) (deferrals_at new q))
+    (subst (λ (o : Option Subqueue). Flow (queue_at state named) (deferrals_at state named) (j named true) (t named true) (e true) o (deferrals_at new named)) (sym change.here)
+    (subst (λ (d : Deferrals). Flow (queue_at state named) (deferrals_at state named) (j named true) (t named true) (e true) queue d) (sym change.here_too) flow))
+    (λ apart.
+    let said = quiet there in
+    subst (λ (o : Option Subqueue). Flow (queue_at state there) (deferrals_at state there) (j there false) (t there false) (e false) o (deferrals_at new there)) (sym (change.other there apart))
+    (subst (λ (d : Deferrals). Flow (queue_at state there) (deferrals_at state there) (j there false) (t there false) (e false) (queue_at state there) d) (sym (change.other_too there apart))
+    (still_as (queue_at state there) (deferrals_at state there) (j there false) (t there false) (e false) said.0 said.1.0 said.1.1)))
+
+-- a queue of the machine is another
+pub change_queue : (state : Frontier) (gate_machine : State) (named : ℕ) (old new : Subqueue) → Settled state → queue_at state named ≡ Some old → gate_machine.subqueues ≡ slice_set state.machine.subqueues named new
+    → Change state (record state { machine = gate_machine }) named (Some new) (deferrals_at state named)
+change_queue state machine named old new settled at is = record {
+  shape = settled.shape ∙ sym (ap length is ∙ length-slice_set state.machine.subqueues named new);
+  here = ap (λ (l : List Subqueue). slice_get l named) is ∙ get_set_same state.machine.subqueues named old new at;
+  here_too = refl;
+  other = λ there apart. ap (λ (l : List Subqueue). slice_get l there) is ∙ get_set_other state.machine.subqueues named there new apart;
+  other_too = λ there apart. refl;
+}
+
+-- its deferrals are others
+apart_from : (named there : ℕ) → nat_eq named there ≡ false → (there ≡ named → ⊥)
+apart_from named there apart same = eqb-false named there apart (sym same)
+
+pub change_deferrals : (state : Frontier) (named : ℕ) (queue : Subqueue) (deferrals : Deferrals) → Settled state → queue_at state named ≡ Some queue → Change state (with_deferrals state named deferrals) named (Some queue) deferrals
+change_deferrals state named queue deferrals settled at =
+    let below : named < length state.deferrals = subst (λ n. named < n) (sym settled.shape) (slice_get_within state.machine.subqueues named queue at) in
+    record {
+      shape = length-slice_set state.deferrals named deferrals ∙ settled.shape;
+      here = at;
+      here_too = get_or-set_same state.deferrals named deferrals no_deferrals below;
+      other = λ there apart. refl;
+      other_too = λ there apart. get_or-set_other state.deferrals named there deferrals no_deferrals (apart_from named there apart);
+    }
+
+-- both, with so many senders
+pub change_both : (state : Frontier) (machine : State) (named senders : ℕ) (old new : Subqueue) (deferrals : Deferrals) → Settled state → queue_at state named ≡ Some old → machine.subqueues ≡ slice_set state.machine.subqueues named new
+    → Change state (record { machine = machine; deferrals = slice_set state.deferrals named deferrals; senders = senders }) named (Some new) deferrals
+change_both state machine named senders old new deferrals settled at is =
+    let first = change_queue state machine named old new settled at is in
+    let second = change_deferrals state named old deferrals settled at in
+    record {
+      shape = length-slice_set state.deferrals named deferrals ∙ first.shape;
+      here = first.here;
+      here_too = second.here_too;
+      other = first.other;
+      other_too = second.other_too;
+    }

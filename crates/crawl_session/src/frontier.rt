@@ -1,0 +1,233 @@
+//! What a session keeps of its state, and what comes of a request.
+ghost use Rattle.std.specs.Prelude.{◌≡◌, None, Some, get_or, replicate, slice_get, IfOk, OnErr};
+ghost use Rattle.crawl_session.specs.Exchanges as spec;
+ghost use Rattle.crawl_session.specs.Frontiers as kept;
+ghost use Rattle.crawl_session.specs.Frontiers.{deferrals_at, no_deferrals};
+ghost use Rattle.crawl_session.specs.Serving.{Comes, GivesUp};
+ghost use Rattle.crawl_session.specs.declared.answer.Answer.{Answer};
+ghost use Rattle.crawl_session.specs.declared.deferrals.Deferred.{Deferred};
+
+use crate::deferrals::{DeferralQueues, Deferred};
+use crate::exchange::{again, end_seeds, finish, next, offer};
+use crate::request::Request;
+use crawl_core::{Core, Event, NoMemory, Refusal, Reply, Text};
+use std::alloc::{AllocError, Global};
+use std::marker::Model;
+
+/// A machine, and the URLs that were put back and are not done.
+#[derive(Drop)]
+pub struct Frontier {
+    core: Core,
+    deferrals: DeferralQueues,
+    /// How many senders there were for such URLs, from 1 on.
+    senders: u64,
+}
+
+impl Model for Frontier {
+    ghost use Rattle.crawl_session.specs.Frontiers.{KeptFrontier};
+
+    ghost Value = { KeptFrontier };
+
+    ghost view = { λ f. record { machine = f.core; deferrals = f.deferrals; senders = f.senders } };
+}
+
+impl Frontier {
+    /// A new frontier around a new machine with so many queues.
+    ///
+    /// # Errors
+    /// Out of memory.
+    pub fn new(alloc: Global, core: Core, workers: u32) -> Result<Frontier, NoMemory>
+        ensures { IfOk result (λ frontier. frontier ≡ record { machine = core; deferrals = replicate workers no_deferrals; senders = 0 }) }
+    {
+        let deferrals = DeferralQueues::new(alloc, workers)?;
+        Ok(Frontier {
+            core,
+            deferrals,
+            senders: 0,
+        })
+    }
+
+    /// The reply that a request is answered.
+    ///
+    /// # Errors
+    /// Out of memory. The frontier is then as before, but for the word that its client remembers.
+    #[tactic(auto, using(crate::proofs::Lifts::given_up_at_once))]
+    pub fn exchange(&mut self, request: Request) -> Result<Reply, NoMemory>
+        ensures comes { IfOk result (λ reply. Comes (λ state. spec.exchange state request) self.old (Answer.Told reply) self.new) }
+        ensures err { OnErr result (GivesUp self.old self.new) }
+    {
+        match request {
+            Request::Offer { url, queue } => self.offer(url, queue),
+            Request::Next { queue } => self.next(queue),
+            Request::Again { queue } => self.again(queue),
+            Request::Later { queue } => self.later(queue),
+            Request::Done { queue } => self.done(queue),
+            Request::EndSeeds => self.end_seeds(),
+        }
+    }
+
+    fn offer(&mut self, url: Text, queue: u32) -> Result<Reply, NoMemory>
+        ensures comes { IfOk result (λ reply. Comes (λ state. spec.by_machine state (spec.offering state.machine url queue)) self.old (Answer.Told reply) self.new) }
+        ensures err { OnErr result (GivesUp self.old self.new) }
+    {
+        offer(&mut self.core, url, queue)
+    }
+
+    fn end_seeds(&mut self) -> Result<Reply, NoMemory>
+        ensures comes { IfOk result (λ reply. Comes (λ state. spec.by_machine state (spec.seeds_ended state.machine)) self.old (Answer.Told reply) self.new) }
+        ensures err { OnErr result (self.new ≡ self.old) }
+    {
+        end_seeds(&mut self.core)
+    }
+
+    fn next(&mut self, queue: u32) -> Result<Reply, NoMemory>
+        ensures comes { IfOk result (λ reply. Comes (λ state. spec.taking_next state queue (deferrals_at state queue).waiting (deferrals_at state queue).fetched) self.old (Answer.Told reply) self.new) }
+        ensures err { OnErr result (self.new ≡ self.old) }
+    {
+        if self.deferrals.fetched(queue).is_some() {
+            return Ok(Reply::Refused(Refusal::Busy));
+        }
+        if self.is_due(queue) {
+            return self.retake(queue);
+        }
+        self.take(queue)
+    }
+
+    /// Whether the first that was put back is to be taken next.
+    fn is_due(&self, queue: u32) -> bool
+        ensures { (state : kept.Frontier) → kept.Shows self.now state → result ≡ spec.is_due (slice_get state.machine.subqueues queue) (deferrals_at state queue).waiting }
+    {
+        let Some(progress) = self.core.progress(queue) else {
+            return false;
+        };
+        let Some(first) = self.deferrals.first(queue) else {
+            return false;
+        };
+        !progress.busy && progress.taken >= first.after
+    }
+
+    fn retake(&mut self, queue: u32) -> Result<Reply, NoMemory>
+        ensures comes { IfOk result (λ reply. Comes (λ state. spec.retaking state queue (deferrals_at state queue).waiting) self.old (Answer.Told reply) self.new) }
+        ensures err { OnErr result (self.new ≡ self.old) }
+    {
+        let Some(first) = self.deferrals.first(queue) else {
+            return Ok(Reply::Refused(Refusal::Busy));
+        };
+        let url = first.url.clone()?;
+        self.deferrals.retake(queue);
+        Ok(Reply::Taken(url))
+    }
+
+    fn take(&mut self, queue: u32) -> Result<Reply, NoMemory>
+        ensures comes { IfOk result (λ reply. Comes (λ state. spec.by_machine state (spec.taking state.machine queue)) self.old (Answer.Told reply) self.new) }
+        ensures err { OnErr result (self.new ≡ self.old) }
+    {
+        next(&mut self.core, queue)
+    }
+
+    /// The URL that the queue is busy with, once more.
+    fn again(&self, queue: u32) -> Result<Reply, NoMemory>
+        ensures { IfOk result (λ reply. Comes (λ state. spec.taking_again state queue (deferrals_at state queue).fetched) self.now (Answer.Told reply) self.now) }
+    {
+        match self.deferrals.fetched(queue) {
+            Some(url) => Ok(Reply::Taken(url.url.clone()?)),
+            None => again(&self.core, queue),
+        }
+    }
+
+    fn done(&mut self, queue: u32) -> Result<Reply, NoMemory>
+        ensures comes { IfOk result (λ reply. Comes (λ state. spec.finishing state queue (deferrals_at state queue).fetched) self.old (Answer.Told reply) self.new) }
+        ensures err { OnErr result (self.new ≡ self.old) }
+    {
+        match self.deferrals.sender(queue) {
+            Some(sender) => self.finish_again(queue, sender),
+            None => self.finish(queue),
+        }
+    }
+
+    fn finish(&mut self, queue: u32) -> Result<Reply, NoMemory>
+        ensures comes { IfOk result (λ reply. Comes (λ state. spec.by_machine state (spec.done_with state.machine queue)) self.old (Answer.Told reply) self.new) }
+        ensures err { OnErr result (self.new ≡ self.old) }
+    {
+        finish(&mut self.core, queue)
+    }
+
+    /// The unit of a URL that was put back before is given back.
+    fn finish_again(&mut self, queue: u32, sender: u64) -> Result<Reply, NoMemory>
+        ensures comes { IfOk result (λ reply. Comes (λ state. spec.finishing_again state queue sender) self.old (Answer.Told reply) self.new) }
+        ensures err { OnErr result (self.new ≡ self.old) }
+    {
+        let reply = self.core.step(&Event::Back { sender })?;
+        if is_count(&reply) {
+            self.deferrals.finish(queue);
+        }
+        Ok(reply)
+    }
+
+    fn later(&mut self, queue: u32) -> Result<Reply, NoMemory>
+        ensures comes { IfOk result (λ reply. Comes (λ state. spec.deferring state queue (deferrals_at state queue).fetched) self.old (Answer.Told reply) self.new) }
+        ensures err { OnErr result (self.new ≡ self.old) }
+    {
+        if self.deferrals.fetched(queue).is_some() {
+            return self.put_back(queue);
+        }
+        self.defer(queue)
+    }
+
+    /// A URL that was put back before is put back again.
+    fn put_back(&mut self, queue: u32) -> Result<Reply, NoMemory>
+        ensures comes { IfOk result (λ reply. (url : Deferred) → (get_or self.old.deferrals queue no_deferrals).fetched ≡ Some url → Comes (λ state. spec.deferring state queue (Some url)) self.old (Answer.Told reply) self.new) }
+        ensures err { OnErr result (self.new ≡ self.old) }
+    {
+        let after = self.accepted_in(queue);
+        self.deferrals.put_back(queue, after)?;
+        Ok(Reply::Count(self.core.count()))
+    }
+
+    fn accepted_in(&self, queue: u32) -> usize
+        ensures { (state : kept.Frontier) → kept.Shows self.now state → result ≡ spec.accepted_in state.machine queue }
+    {
+        match self.core.progress(queue) {
+            Some(progress) => progress.accepted,
+            None => 0,
+        }
+    }
+
+    /// The URL that the machine's queue is busy with is put back.
+    fn defer(&mut self, queue: u32) -> Result<Reply, NoMemory>
+        ensures comes { IfOk result (λ reply. Comes (λ state. spec.deferring state queue None) self.old (Answer.Told reply) self.new) }
+        ensures err { OnErr result (self.new ≡ self.old) }
+    {
+        let url = match self.core.in_fetch(queue) {
+            None => return Ok(Reply::Refused(Refusal::NoSuch)),
+            Some(None) => return Ok(Reply::Refused(Refusal::Nothing)),
+            Some(Some(url)) => url.clone()?,
+        };
+        self.defer_first(queue, url)
+    }
+
+    /// The unit of the URL goes to a sender of its own.
+    fn defer_first(&mut self, queue: u32, url: Text) -> Result<Reply, NoMemory>
+        ensures comes { IfOk result (λ reply. Comes (λ state. spec.deferring_first state queue url) self.old (Answer.Told reply) self.new) }
+        ensures err { OnErr result (self.new ≡ self.old) }
+    {
+        let Some(sender) = self.senders.checked_add(1) else {
+            return Err(AllocError);
+        };
+        let count = self.core.count();
+        let after = self.accepted_in(queue);
+        let url = Deferred { url, sender, after };
+        let handed = self.deferrals.hand_over(&mut self.core, queue, url)?;
+        if !handed {
+            return Ok(Reply::Refused(Refusal::Nothing));
+        }
+        self.senders = sender;
+        Ok(Reply::Count(count))
+    }
+}
+
+fn is_count(reply: &Reply) -> bool
+    ensures { result ≡ spec.is_count reply.now }
+{
+    matches!(reply, Reply::Count(_))
+}
