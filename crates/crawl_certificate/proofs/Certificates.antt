@@ -8,7 +8,7 @@ use Rattle.std.specs.Prelude.{take}
 use Rattle.crawl_frontier.specs.declared.entry.Entry.{Entry}
 use Rattle.crawl_frontier.specs.Accounts.{AccountId}
 use Rattle.crawl_keys.specs.Assignment.{subqueue_of}
-use Rattle.crawl_web.specs.declared.page.PageResult.{PageResult}
+use Rattle.crawl_pages.specs.declared.page.PageResult.{PageResult}
 use Rattle.crawl_certificate.specs.AccountEntries.{entries_of, DifferByUrl}
 use Rattle.crawl_certificate.specs.CertFaults.{first_fault}
 use Rattle.crawl_certificate.specs.Certificate.{entry_urls, result_urls, IsAscending, AreReachable, CountsOf}

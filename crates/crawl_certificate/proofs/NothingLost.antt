@@ -5,10 +5,10 @@ use Rattle.std.proofs.lemmas.Bool.{and_right, not_from_true, and_left, cases_Boo
 use Rattle.std.proofs.lemmas.List.Elements.{All-weaker}
 use Rattle.std.proofs.lemmas.List.Folds.{list_any_none}
 use Rattle.crawl_frontier.specs.declared.entry.Entry.{Entry}
-use Rattle.crawl_web.specs.declared.page.PageResult.{PageResult}
+use Rattle.crawl_pages.specs.declared.page.PageResult.{PageResult}
 use Rattle.crawl_certificate.specs.CertFaults.{is_accepted, has_result, some_missing, seed_missing, not_fetched, link_missing}
 use Rattle.crawl_certificate.specs.Certificate.{entry_urls, result_urls, NothingLost, AllowedAreIn}
-use Rattle.crawl_web.specs.Pages.{links_of}
+use Rattle.crawl_pages.specs.Pages.{links_of}
 use Rattle.crawl_certificate.proofs.Lists.{any_from, text_itself}
 use Rattle.crawl_certificate.proofs.Certified.{from_map}
 

@@ -8,7 +8,7 @@ use Rattle.std.proofs.lemmas.Bool.{cases_lt, cases_order}
 use Rattle.std.proofs.lemmas.List.{map-append, length-append, length-map, take-append-drop, get_or_append_left, get_or-append_right, map-set, set-get_or, get_or-map}
 use Rattle.std.proofs.lemmas.List.Elements.{All-append, All-contains, All-take, All-drop, Contains-get_or, Contains-append_left, Contains-append_right}
 use Rattle.std.proofs.lemmas.List.Sorted.{All-permutation, IsPermutation-append, IsPermutation-map, IsPermutation-sym, IsNonDecreasingBy-take, IsNonDecreasingBy-drop, Contains-permutation}
-use Rattle.crawl_web.specs.declared.page.PageResult.{PageResult}
+use Rattle.crawl_pages.specs.declared.page.PageResult.{PageResult}
 use Rattle.crawl_certificate.specs.declared.sorting.Numbered.{Numbered}
 use Rattle.crawl_certificate.specs.Sixteens.{AreAlikeWithin, BeginAlike}
 use Rattle.crawl_certificate.specs.Sorting.{AllBeginAlike, AreGuessed, AreInOrder, AreNumbered, ArePrepared, AllEqual, ArePartedAt, IsAlikeUntil, IsNumbered, pages_of}

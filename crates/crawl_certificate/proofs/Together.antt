@@ -5,8 +5,8 @@ use Rattle.std.specs.Str.{bytes_eq}
 use Rattle.std.proofs.lemmas.List.{length-map}
 use Rattle.std.proofs.lemmas.List.Folds.{list_any-append}
 use Rattle.crawl_frontier.specs.declared.entry.Entry.{Entry}
-use Rattle.crawl_web.specs.declared.page.PageResult.{PageResult}
-use Rattle.crawl_web.specs.Pages.{links_of}
+use Rattle.crawl_pages.specs.declared.page.PageResult.{PageResult}
+use Rattle.crawl_pages.specs.Pages.{links_of}
 use Rattle.crawl_certificate.specs.CertFaults.{is_accepted, has_result, stands_in, is_behind}
 use Rattle.crawl_certificate.specs.Culprits.{is_lost, is_a_link, is_a_stray, is_twice}
 use Rattle.crawl_certificate.specs.Least.{IsLeast, url_of}

@@ -9,8 +9,8 @@ use Rattle.std.proofs.lemmas.List.Elements.{All-contains_itself, All-weaker}
 use Rattle.std.proofs.lemmas.List.Folds.{list_any-append, list_any_none}
 use Rattle.crawl_frontier.specs.declared.entry.Entry.{Entry}
 use Rattle.crawl_frontier.proofs.Gets.{same_at}
-use Rattle.crawl_web.specs.declared.page.PageResult.{PageResult}
-use Rattle.crawl_web.specs.Pages.{links_of}
+use Rattle.crawl_pages.specs.declared.page.PageResult.{PageResult}
+use Rattle.crawl_pages.specs.Pages.{links_of}
 use Rattle.crawl_certificate.specs.AccountEntries.{DifferByUrl}
 use Rattle.crawl_certificate.specs.CertFaults.{first_fault, has_result, is_accepted, is_behind, is_founded, is_linked, stands_in, twice, unfounded}
 use Rattle.crawl_certificate.specs.Certificate.{NothingLost, entry_urls, result_urls}

@@ -5,14 +5,14 @@ use Rattle.std.specs.Cmp.Lexicographic.{slice_cmp}
 use Rattle.std.specs.Ordering.{nat_cmp}
 use Rattle.std.specs.declared.cmp.Ordering.TheVariants.{Less}
 use Rattle.crawl_frontier.specs.declared.entry.Entry.{Entry}
-use Rattle.crawl_web.specs.declared.page.Page.{Page}
-use Rattle.crawl_web.specs.declared.page.PageResult.{PageResult}
+use Rattle.crawl_pages.specs.declared.page.Page.{Page}
+use Rattle.crawl_pages.specs.declared.page.PageResult.{PageResult}
 use Rattle.crawl_certificate.specs.declared.error.CertError.{CertError}
 use Rattle.crawl_certificate.specs.declared.error.CertError.TheVariants.{NoMemory}
 use Rattle.crawl_frontier.specs.Accounts.{AccountId}
 use Rattle.crawl_keys.specs.Assignment.{subqueue_of}
 use Rattle.crawl_keys.specs.Outcome.{Gives}
-use Rattle.crawl_web.specs.Pages.{links_of}
+use Rattle.crawl_pages.specs.Pages.{links_of}
 use Rattle.crawl_certificate.specs.Reachable.{Reachable}
 
 -- the URLs of entries, and of results, in their order

@@ -3,7 +3,7 @@ use Rattle.std.specs.Prelude.{◌≡◌, ℕ, Bool, ◌&&◌, ◌||◌, List, []
 use Rattle.std.specs.List.{list_any}
 use Rattle.std.specs.Str.{bytes_eq}
 use Rattle.crawl_frontier.specs.declared.entry.Entry.{Entry}
-use Rattle.crawl_web.specs.declared.page.PageResult.{PageResult}
+use Rattle.crawl_pages.specs.declared.page.PageResult.{PageResult}
 use Rattle.crawl_certificate.specs.declared.marks.Marks.{Marks}
 use Rattle.crawl_certificate.specs.CertFaults.{has_result, is_linked}
 use Rattle.crawl_certificate.specs.Culprits.{is_a_link, is_lost, is_a_stray, is_twice}

@@ -1,8 +1,8 @@
 -- Which URLs a crawl can reach: those to which a walk over links leads from a seed, by allowed URLs alone.
 use Rattle.std.specs.Prelude.{◌≡◌, ℕ, ◌+◌, Bool, IsTrue, List, [], ◌∷◌, length}
 use Rattle.std.specs.List.{Contains}
-use Rattle.crawl_web.specs.declared.page.Page.{Page}
-use Rattle.crawl_web.specs.Pages.{links_of}
+use Rattle.crawl_pages.specs.declared.page.Page.{Page}
+use Rattle.crawl_pages.specs.Pages.{links_of}
 
 -- a walk goes on from a URL over these: each stands among the links of the page of the one before and is allowed, and the
 -- last is `end`

@@ -1,9 +1,9 @@
 -- The pages of results.
 use Rattle.std.specs.Prelude.{ℕ, List, [], ◌∷◌, if◌then◌else◌}
 use Rattle.std.specs.Str.{bytes_eq}
-use Rattle.crawl_web.specs.declared.page.Page.{Page}
-use Rattle.crawl_web.specs.declared.page.Page.TheVariants.{Missing}
-use Rattle.crawl_web.specs.declared.page.PageResult.{PageResult}
+use Rattle.crawl_pages.specs.declared.page.Page.{Page}
+use Rattle.crawl_pages.specs.declared.page.Page.TheVariants.{Missing}
+use Rattle.crawl_pages.specs.declared.page.PageResult.{PageResult}
 
 -- the page that the results have at a URL, and else `Missing`
 abbrev pub page_in : List PageResult → List ℕ → Page

@@ -2,9 +2,9 @@
 use Rattle.std.specs.Prelude.{ℕ, Bool, true, not, List, [], ◌∷◌}
 use Rattle.std.specs.Str.{bytes_eq}
 use Rattle.crawl_frontier.specs.declared.entry.Entry.{Entry}
-use Rattle.crawl_web.specs.declared.page.Page.{Page}
-use Rattle.crawl_web.specs.declared.page.Page.TheVariants.{Found}
-use Rattle.crawl_web.specs.declared.page.PageResult.{PageResult}
+use Rattle.crawl_pages.specs.declared.page.Page.{Page}
+use Rattle.crawl_pages.specs.declared.page.Page.TheVariants.{Found}
+use Rattle.crawl_pages.specs.declared.page.PageResult.{PageResult}
 
 -- URLs, filters, entries and results of the small runs
 abbrev pub url_a : List ℕ

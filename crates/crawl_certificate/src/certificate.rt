@@ -7,7 +7,7 @@ ghost use Rattle.crawl_certificate.specs.AccountEntries.{entries_of, DifferByUrl
 ghost use Rattle.crawl_certificate.specs.ResultPages.{page_in};
 ghost use Rattle.crawl_certificate.specs.Reachable.{WalkOf};
 ghost use Rattle.crawl_certificate.specs.Certificate.{Tells, IsAscending, AreReachable, CountsOf, NothingLost, entry_urls, result_urls};
-ghost use Rattle.crawl_web.specs.declared.page.PageResult.{PageResult};
+ghost use Rattle.crawl_pages.specs.declared.page.PageResult.{PageResult};
 ghost use Rattle.crawl_certificate.specs.Marks.{AreMarks};
 ghost use Rattle.crawl_certificate.specs.CertFaults.{first_fault};
 ghost use Rattle.crawl_certificate.specs.Culprits.{NamesCulprit, NamesFirst, first_named};
@@ -25,7 +25,7 @@ use crate::threads::marks_in_threads;
 use crate::walk::{is_faultless, is_faultless_in_threads};
 use crawl_frontier::Account;
 use crawl_keys::{CanonUrl, Filter};
-use crawl_web::PageResult;
+use crawl_pages::PageResult;
 use std::alloc::{AllocError, Global};
 use std::marker::Model;
 use std::thread::Threads;
@@ -39,7 +39,7 @@ pub struct CrawlResult {
 // Contracts see what was found as the list of its pages.
 impl Model for CrawlResult {
     ghost use Rattle.std.specs.Prelude.{List};
-    ghost use Rattle.crawl_web.specs.declared.page.PageResult.{PageResult};
+    ghost use Rattle.crawl_pages.specs.declared.page.PageResult.{PageResult};
 
     ghost Value = { List PageResult };
 

@@ -2,7 +2,7 @@
 ghost use Rattle.std.specs.Prelude.{◌≡◌, ◌<◌, ◌≤◌, ◌+◌, ◌^◌, ◌++◌, length};
 
 use crate::lookups::Accepted;
-use crawl_web::PageResult;
+use crawl_pages::PageResult;
 
 /// A chunk of the results, with the entries that they may have.
 #[derive(Clone, Copy)]

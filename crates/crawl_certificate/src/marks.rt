@@ -4,7 +4,7 @@ ghost use Rattle.std.specs.Prelude.{◌≡◌, ◌+◌, ◌==◌, ℕ, Bool, fal
 ghost use Rattle.std.specs.Str.{bytes_eq};
 ghost use Rattle.crawl_frontier.specs.declared.entry.Entry.{Entry};
 ghost use Rattle.crawl_keys.specs.HostFilter.{allows};
-ghost use Rattle.crawl_web.specs.Pages.{links_of};
+ghost use Rattle.crawl_pages.specs.Pages.{links_of};
 ghost use Rattle.crawl_certificate.specs.CertFaults.{is_accepted, stands_in, has_result, is_behind, is_linked};
 ghost use Rattle.crawl_certificate.specs.Culprits.{is_lost, is_a_link, is_a_stray, is_twice};
 ghost use Rattle.crawl_certificate.specs.Least.{IsLeast, url_of, url_if, lesser};
@@ -15,7 +15,7 @@ use crate::lookups::Accepted;
 use crate::missing::least_missing;
 use crawl_frontier::Entry;
 use crawl_keys::{CanonUrl, Filter};
-use crawl_web::{PageResult, links_of};
+use crawl_pages::{PageResult, links_of};
 use std::alloc::{AllocError, Global};
 
 /// What is told of results: of each fault the least URL that has it.

@@ -11,7 +11,7 @@ ghost use Rattle.std.specs.Ordering.{nat_cmp};
 ghost use Rattle.crawl_certificate.specs.Sixteens.{IsSixteen};
 ghost use Rattle.crawl_certificate.specs.Sorting.{AllBeginAlike, AllEqual, AreInOrder, ArePartedAt, ArePrepared, IsNumbered, pages_of};
 
-use crawl_web::PageResult;
+use crawl_pages::PageResult;
 use numbering::number_all;
 use std::alloc::{AllocError, Global};
 

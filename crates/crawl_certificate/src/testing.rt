@@ -6,7 +6,7 @@ ghost use Rattle.crawl_certificate.specs.Walks.{IsWalk};
 use crate::lookups::Accepted;
 use crate::walk::linked_in_threads;
 use crawl_frontier::Account;
-use crawl_web::PageResult;
+use crawl_pages::PageResult;
 use std::alloc::{AllocError, Global};
 use std::thread::Threads;
 

@@ -7,8 +7,8 @@ ghost use Rattle.std.specs.Prelude.{◌≡◌, ◌+◌, ◌<◌, ◌^◌, ◌==�
 ghost use Rattle.std.specs.List.{Contains};
 ghost use Rattle.crawl_frontier.specs.declared.entry.Entry.{Entry};
 ghost use Rattle.crawl_keys.specs.HostFilter.{allows};
-ghost use Rattle.crawl_web.specs.Pages.{links_of};
-ghost use Rattle.crawl_web.specs.declared.page.PageResult.{PageResult};
+ghost use Rattle.crawl_pages.specs.Pages.{links_of};
+ghost use Rattle.crawl_pages.specs.declared.page.PageResult.{PageResult};
 ghost use Rattle.crawl_certificate.specs.AccountEntries.{DifferByUrl};
 ghost use Rattle.crawl_certificate.specs.CertFaults.{first_fault, is_linked, stands_in};
 ghost use Rattle.crawl_certificate.specs.Certificate.{NothingLost};
@@ -25,7 +25,7 @@ use crate::lookups::{Accepted, Urls, url_set};
 use crate::marks::{is_next, no_marks};
 use crawl_frontier::Entry;
 use crawl_keys::{CanonUrl, Filter};
-use crawl_web::{PageResult, links_of};
+use crawl_pages::{PageResult, links_of};
 use std::alloc::{AllocError, Global};
 pub use threads::{is_faultless_in_threads, linked_in_threads};
 

@@ -9,7 +9,7 @@ use Rattle.crawl_core.specs.declared.event.Event.{Event}
 use Rattle.crawl_core.specs.declared.event.Event.TheVariants.{Look, Enter, Admit, Back, EndSeeds, Take, Done, Close}
 use Rattle.crawl_keys.specs.CanonicalText.{canonical}
 use Rattle.crawl_keys.specs.declared.error.KeyError.{KeyError}
-use Rattle.crawl_web.specs.Parts.{at_space}
+use Rattle.text_lines.specs.Fields.{at_space}
 use Rattle.crawl_replay.specs.Numbers.{number_of}
 use Rattle.crawl_replay.specs.Script.{address_from, admit_at, admit_parts, admit_with, plain_event, numbered_event, event_from, event_of}
 use Rattle.crawl_replay.specs.ScriptLines.{IsNumber, IsNumbered, IsAdmit, IsBadAdmission, IsEventLine}

@@ -5,9 +5,9 @@ use Rattle.std.specs.Str.{bytes_eq}
 use Rattle.std.proofs.lemmas.Bool.{le-leb, and_parts}
 use Rattle.std.proofs.lemmas.Slice.Eq.{bytes_eq-Decides}
 use Rattle.crawl_limits.specs.Limits.{AreLimits, worker_limit, pending_limit}
-use Rattle.crawl_web.specs.Lines.{text_of}
-use Rattle.crawl_web.specs.Parts.{at_space}
-use Rattle.crawl_web.specs.declared.lines.LineError.{LineError}
+use Rattle.text_lines.specs.Lines.{text_of}
+use Rattle.text_lines.specs.Fields.{at_space}
+use Rattle.text_lines.specs.declared.lines.LineError.{LineError}
 use Rattle.crawl_replay.specs.Numbers.{number_of}
 use Rattle.crawl_replay.specs.Script.{is_within, header_of, header_in, with_text}
 use Rattle.crawl_replay.specs.ScriptLines.{IsLineText, IsHeaderLine, HeaderSays}

@@ -4,7 +4,7 @@ use Rattle.std.specs.Result.{result_err}
 use Rattle.std.specs.Str.Lines.{lines}
 use Rattle.crawl_core.specs.declared.event.Event.{Event}
 use Rattle.crawl_keys.specs.Outcome.{Gives}
-use Rattle.crawl_web.specs.LeastFault.{SoundAfter, IsLeastFault}
+use Rattle.text_lines.specs.LeastFault.{SoundAfter, IsLeastFault}
 use Rattle.crawl_replay.specs.declared.script.Script.{Script}
 use Rattle.crawl_replay.specs.declared.script.header.Header.{Header}
 use Rattle.crawl_replay.specs.declared.script.error.ScriptError.{ScriptError}

@@ -6,9 +6,9 @@ use Rattle.std.proofs.lemmas.Str.{IsUtf8-from_is_utf8, is_utf8-from_IsUtf8, IsUt
 use Rattle.std.proofs.lemmas.Bool.Decides.{nat_tests}
 use Rattle.crawl_core.specs.declared.event.Event.{Event}
 use Rattle.crawl_limits.specs.Limits.{line_limit}
-use Rattle.crawl_web.specs.Lines.{text_of}
-use Rattle.crawl_web.specs.declared.lines.LineError.{LineError}
-use Rattle.crawl_web.specs.declared.lines.LineError.TheVariants as without
+use Rattle.text_lines.specs.Lines.{text_of}
+use Rattle.text_lines.specs.declared.lines.LineError.{LineError}
+use Rattle.text_lines.specs.declared.lines.LineError.TheVariants as without
 use Rattle.crawl_replay.specs.Script.{event_of, said_by, some_event, with_text}
 use Rattle.crawl_replay.specs.ScriptLines.{IsLineText, IsEventLine, IsBadAdmission, LineSays}
 use Rattle.crawl_replay.specs.declared.script.error.ScriptError.{ScriptError}

@@ -9,7 +9,7 @@ use Rattle.std.proofs.lemmas.Bool.Decides.{Decides-by_and, nat_tests}
 use Rattle.std.proofs.lemmas.Option.{cond_some}
 use Rattle.std.proofs.lemmas.List.{take_at, drop_at, length-append}
 use Rattle.std.proofs.lemmas.List.Sums.{split_at_first, prefix_len_stops}
-use Rattle.crawl_web.specs.Parts.{is_space, at_space}
+use Rattle.text_lines.specs.Fields.{is_space, at_space}
 use Rattle.crawl_replay.specs.Numbers.{is_number, number_of}
 use Rattle.crawl_replay.specs.ScriptLines.{IsNumber}
 

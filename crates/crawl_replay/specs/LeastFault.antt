@@ -1,7 +1,7 @@
 -- The least fault of a script: that of the first of its lines that has one.
 use Rattle.std.specs.Prelude.{◌≡◌, ℕ, ◌+◌, List, [], ◌∷◌, length, Option, Result, Ok, Err}
 use Rattle.std.specs.Result.{result_err}
-use Rattle.crawl_web.specs.LeastFault.{IsLeastFault}
+use Rattle.text_lines.specs.LeastFault.{IsLeastFault}
 use Rattle.crawl_replay.specs.Script.{header_in, said_by}
 use Rattle.crawl_replay.specs.declared.script.header.Header.{Header}
 use Rattle.crawl_replay.specs.declared.script.error.ScriptError.{ScriptError}

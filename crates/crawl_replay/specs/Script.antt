@@ -9,10 +9,10 @@ use Rattle.crawl_limits.specs.Limits.{worker_limit, pending_limit}
 use Rattle.crawl_keys.specs.declared.error.KeyError.{KeyError}
 use Rattle.crawl_keys.specs.CanonicalText.{canonical}
 use Rattle.crawl_keys.specs.Assignment.{subqueue_of}
-use Rattle.crawl_web.specs.Lines.{text_of}
-use Rattle.crawl_web.specs.declared.lines.LineError.{LineError}
+use Rattle.text_lines.specs.Lines.{text_of}
+use Rattle.text_lines.specs.declared.lines.LineError.{LineError}
 use Rattle.crawl_replay.specs.Numbers.{number_of}
-use Rattle.crawl_web.specs.Parts.{at_space}
+use Rattle.text_lines.specs.Fields.{at_space}
 use Rattle.crawl_replay.specs.ScriptFaults.{fault_of}
 use Rattle.crawl_replay.specs.declared.script.header.Header.{Header}
 use Rattle.crawl_replay.specs.declared.script.error.ScriptError.{ScriptError}

@@ -1,6 +1,6 @@
 -- The fault of a script whose line has no text.
-use Rattle.crawl_web.specs.declared.lines.LineError.{LineError}
-use Rattle.crawl_web.specs.declared.lines.LineError.TheVariants.{TooLong, NotText}
+use Rattle.text_lines.specs.declared.lines.LineError.{LineError}
+use Rattle.text_lines.specs.declared.lines.LineError.TheVariants.{TooLong, NotText}
 use Rattle.crawl_replay.specs.declared.script.error.ScriptError.{ScriptError}
 use Rattle.crawl_replay.specs.declared.script.error.ScriptError.TheVariants as wrong
 

@@ -13,7 +13,7 @@ mod event;
 mod header;
 
 use crawl_core::Event;
-use crawl_web::{first_line, text_of};
+use text_lines::{first_line, text_of};
 pub use error::ScriptError;
 use event::said_by;
 pub use header::{Header, header_of};

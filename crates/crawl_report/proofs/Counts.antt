@@ -1,6 +1,6 @@
 -- The lines of what is counted of a URL.
 use Rattle.std.proofs.Common.{◌≡◌, ℕ, Bool, true, false, List, [], ◌∷◌, map, Option, Some, refl, ap, ◌∙◌, subst, if◌then◌else◌}
-use Rattle.crawl_web.specs.declared.page.PageResult.{PageResult}
+use Rattle.crawl_pages.specs.declared.page.PageResult.{PageResult}
 use Rattle.crawl_sources.specs.Sources.{sources_of}
 use Rattle.crawl_sources.specs.Tallies.{Count, IsCount, IsTally}
 use Rattle.crawl_report.specs.Lines as line

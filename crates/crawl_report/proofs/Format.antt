@@ -6,11 +6,13 @@ use Rattle.std.specs.Cmp.Lexicographic.{slice_cmp}
 use Rattle.std.specs.List.{enumerate_from, flat_map}
 use Rattle.std.specs.List.Sorted.{IsSortedByKey}
 use Rattle.std.specs.Ordering.{nat_cmp}
-use Rattle.crawl_web.specs.ReportText.{is_missing, result_line, results_by_url, total_line}
-use Rattle.crawl_web.specs.declared.page.Page.{Page}
-use Rattle.crawl_web.specs.declared.page.Page.TheVariants.{Found, Moved, Missing}
-use Rattle.crawl_web.specs.declared.page.PageResult.{PageResult}
-use Rattle.crawl_web.proofs.ReportLaws.{results_by_url-alone}
+use Rattle.crawl_pages.specs.Pages.{is_missing}
+use Rattle.crawl_pages.specs.ResultOrder.{results_by_url}
+use Rattle.crawl_report.specs.ReportText.{result_line, total_line}
+use Rattle.crawl_pages.specs.declared.page.Page.{Page}
+use Rattle.crawl_pages.specs.declared.page.Page.TheVariants.{Found, Moved, Missing}
+use Rattle.crawl_pages.specs.declared.page.PageResult.{PageResult}
+use Rattle.crawl_pages.proofs.OrderLaws.{results_by_url-alone}
 use Rattle.crawl_sources.specs.Sources.{line_of, sources}
 use Rattle.crawl_report.specs.Lines as line
 use Rattle.crawl_report.specs.Lines.{Line, text_line}

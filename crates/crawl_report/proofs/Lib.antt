@@ -6,3 +6,4 @@ pub mod Printed
 pub mod Sets
 pub mod OneOrder
 pub mod PageLines
+pub mod ReportLaws

@@ -11,11 +11,11 @@ use Rattle.std.specs.List.{sum_by}
 use Rattle.std.specs.List.Sorted.{IsPermutation, IsSortedByKey}
 use Rattle.std.specs.Ordering.{is_lt, nat_cmp}
 use Rattle.std.specs.Str.{bytes_eq}
-use Rattle.crawl_web.proofs.ReportLaws.{results_by_url-alone}
-use Rattle.crawl_web.proofs.ReportOrder.{filter-kept, filter-dropped}
-use Rattle.crawl_web.specs.ReportText.{results_at, results_by_url}
-use Rattle.crawl_web.specs.declared.page.Page.TheVariants.{Missing}
-use Rattle.crawl_web.specs.declared.page.PageResult.{PageResult}
+use Rattle.crawl_pages.proofs.OrderLaws.{results_by_url-alone}
+use Rattle.crawl_pages.proofs.StableSort.{filter-kept, filter-dropped}
+use Rattle.crawl_pages.specs.ResultOrder.{results_at, results_by_url}
+use Rattle.crawl_pages.specs.declared.page.Page.TheVariants.{Missing}
+use Rattle.crawl_pages.specs.declared.page.PageResult.{PageResult}
 
 -- a result at a URL
 abbrev at : List ℕ → PageResult

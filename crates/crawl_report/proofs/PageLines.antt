@@ -5,10 +5,10 @@ use Rattle.std.proofs.lemmas.Str.{IsUtf8-from_is_utf8}
 use Rattle.std.specs.Result.{result_ok}
 use Rattle.std.specs.Str.{IsUtf8, is_utf8}
 use Rattle.crawl_keys.specs.CanonicalText.{canonical}
-use Rattle.crawl_web.proofs.WebLines.{line_of-utf8}
-use Rattle.crawl_web.specs.Parts.{at_space}
-use Rattle.crawl_web.specs.WebLines.{line_of_text, page_url, said_apart, url_said}
-use Rattle.crawl_web.specs.declared.saved_web.line.Line.TheVariants as says
+use Rattle.saved_web.proofs.WebLines.{line_of-utf8}
+use Rattle.text_lines.specs.Fields.{at_space}
+use Rattle.saved_web.specs.WebLines.{line_of_text, page_url, said_apart, url_said}
+use Rattle.saved_web.specs.declared.line.Line.TheVariants as says
 
 pub page_at_space : (text url : List ℕ) → IsUtf8 text → at_space text ≡ Some (codes "page", url) → page_url text ≡ result_ok (canonical url)
 page_at_space text url utf8 at = ap url_said (line_of-utf8 text utf8 ∙ ap (said_apart text) at)

@@ -7,7 +7,7 @@ use Rattle.std.specs.List.Sorted.{IsSortedBy, IsSortedByKey}
 use Rattle.std.specs.Ordering.{nat_cmp, is_lt}
 use Rattle.std.specs.Str.{bytes_eq}
 use Rattle.hash_order.specs.HashOrder.{by_hash, by_hash_ties}
-use Rattle.crawl_web.specs.declared.page.PageResult.{PageResult}
+use Rattle.crawl_pages.specs.declared.page.PageResult.{PageResult}
 use Rattle.crawl_report.specs.Tallies.{pointed}
 use Rattle.crawl_report.specs.Unreached.{has_result, is_in, is_unreached}
 use Rattle.crawl_sources.proofs.Counts.{length_pointed}

@@ -2,6 +2,7 @@ pub mod Json
 pub mod Lines
 pub mod Members
 pub mod Printing
+pub mod ReportText
 pub mod Rows
 pub mod Tallies
 pub mod Today

@@ -3,7 +3,7 @@ use Rattle.std.specs.Prelude.{ℕ, List, [], ◌∷◌, ◌++◌, codes, Option}
 use Rattle.std.specs.Fmt.{decimal}
 use Rattle.std.specs.Option.{option_map}
 use Rattle.json.specs.Json.{Members, no_members, member}
-use Rattle.crawl_web.specs.ReportText.{moved_part}
+use Rattle.crawl_report.specs.ReportText.{moved_part}
 use Rattle.crawl_sources.specs.Sources.{page_text}
 use Rattle.crawl_report.specs.Members.{kind, text_at, count_at, text_or_null}
 use Rattle.crawl_report.specs.declared.row.Row.{Row}

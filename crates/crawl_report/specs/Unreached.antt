@@ -4,8 +4,8 @@ use Rattle.std.specs.List.{list_any, filter_map}
 use Rattle.std.specs.Str.{bytes_eq}
 use Rattle.std.specs.BTreeSet.{BTreeSet, contains}
 use Rattle.hash_order.specs.HashOrder.{by_hash}
-use Rattle.crawl_web.specs.WebLines.{page_url}
-use Rattle.crawl_web.specs.declared.page.PageResult.{PageResult}
+use Rattle.saved_web.specs.WebLines.{page_url}
+use Rattle.crawl_pages.specs.declared.page.PageResult.{PageResult}
 use Rattle.crawl_report.specs.declared.report.Parts.{Parts}
 
 -- the canonical URLs of the pages that a web with these lines has

@@ -5,7 +5,7 @@ ghost use Rattle.json.specs.Token.{key, string, number};
 ghost use Rattle.json.specs.Tree.{json_tokens};
 ghost use Rattle.crawl_report.specs.Members.{text_or_null};
 
-use crawl_web::NoMemory;
+use crawl_pages::NoMemory;
 use itoa::Buffer;
 use json::Writer;
 

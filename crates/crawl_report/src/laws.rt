@@ -1,9 +1,11 @@
 //! What holds of reports. None does anything when it is called.
-ghost use Rattle.std.specs.Prelude.{◌≡◌, ℕ, Bool, List};
+ghost use Rattle.std.specs.Prelude.{◌≡◌, ◌↔◌, ℕ, Bool, List, Contains};
 ghost use Rattle.std.specs.List.Sorted.{IsPermutation, IsSortedByKey};
 ghost use Rattle.std.specs.Cmp.Lexicographic.{slice_cmp};
 ghost use Rattle.std.specs.Ordering.{nat_cmp};
-ghost use Rattle.crawl_web.specs.declared.page.PageResult.{PageResult};
+ghost use Rattle.crawl_pages.specs.ResultOrder.{results_at, HasEachUrlOnce};
+ghost use Rattle.crawl_pages.specs.declared.page.PageResult.{PageResult};
+ghost use Rattle.crawl_report.specs.ReportText.{report};
 ghost use Rattle.crawl_report.specs.Today.{told_text, text_with};
 
 /// Where results ascend, the text of a report with results, queues and sources is the report of the results, then a line for
@@ -15,4 +17,14 @@ pub fn text_is_the_format()
 /// Given texts have one ascending order.
 pub fn one_order()
     ensures { (texts own other : List (List ℕ)) → IsPermutation texts own → IsPermutation texts other → IsSortedByKey (λ url. url) (slice_cmp nat_cmp) own → IsSortedByKey (λ url. url) (slice_cmp nat_cmp) other → own ≡ other }
+{}
+
+/// Results of different URLs may come in any order: the report is the same.
+pub fn any_order_of_arrival()
+    // If the results of each URL come in the same order in both.
+    ensures across { (results others : List PageResult) → ((url : List ℕ) → results_at url results ≡ results_at url others) → report results ≡ report others }
+
+    // If each URL comes once.
+    ensures permuted { (results others : List PageResult) → HasEachUrlOnce results → IsPermutation results others → report results ≡ report others }
+    ensures same { (results others : List PageResult) → HasEachUrlOnce results → HasEachUrlOnce others → ((one : PageResult) → Contains results one ↔ Contains others one) → report results ≡ report others }
 {}

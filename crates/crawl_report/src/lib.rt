@@ -5,6 +5,7 @@ mod as_json;
 /// What holds of reports.
 pub mod laws;
 mod out;
+mod plain_text;
 mod printing;
 mod queues;
 mod report;
@@ -13,7 +14,8 @@ mod threads;
 mod unseen;
 mod web_urls;
 
-pub use crawl_web::NoMemory;
+pub use crawl_pages::NoMemory;
+pub use plain_text::report_text;
 pub use printing::{print, print_in_parts, print_in_threads};
 pub use queues::queue_text;
 pub use report::{Parts, Report, Sources};

@@ -4,7 +4,7 @@ ghost use Rattle.crawl_report.specs.Lines.{line_of};
 ghost use Rattle.crawl_report.specs.Printing.{Adds, bytes_of, is_json};
 
 use crate::row::{Row, push_line, with_json};
-use crawl_web::NoMemory;
+use crawl_pages::NoMemory;
 use std::alloc::Global;
 
 #[derive(Drop)]

@@ -1,7 +1,7 @@
 //! A report as bytes.
 ghost use Rattle.std.specs.Prelude.{◌≡◌, ◌<◌, ◌++◌, [], length, IfOk, count_by};
 ghost use Rattle.std.specs.List.{flat_map};
-ghost use Rattle.crawl_web.specs.ReportText.{is_found, is_missing, is_moved};
+ghost use Rattle.crawl_pages.specs.Pages.{is_found, is_missing, is_moved};
 ghost use Rattle.crawl_report.specs.Json.{printed_line};
 ghost use Rattle.crawl_report.specs.Lines as line;
 ghost use Rattle.crawl_report.specs.Lines.{line_of};
@@ -12,7 +12,7 @@ use crate::out::Out;
 use crate::report::{Report, with_parts};
 use crate::row::Row;
 use crate::threads::results_in_threads;
-use crawl_web::{NoMemory, Page, PageResult};
+use crawl_pages::{NoMemory, Page, PageResult};
 use std::alloc::Global;
 use std::thread::Threads;
 

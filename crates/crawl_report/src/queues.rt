@@ -4,7 +4,7 @@ ghost use Rattle.crawl_report.specs.Today.{queue_lines};
 
 use crate::out::Out;
 use crate::printing::with_queues;
-use crawl_web::NoMemory;
+use crawl_pages::NoMemory;
 use std::alloc::Global;
 
 /// A line `queue Q COUNT` for each count in order, Q its number from 0, each ended by LF.

@@ -13,7 +13,7 @@ use crate::report::moved::with_moved;
 use crate::report::referrers::with_sources;
 use crate::report::unreached::with_unreached;
 use crawl_keys::CanonUrl;
-use crawl_web::{NoMemory, PageResult};
+use crawl_pages::{NoMemory, PageResult};
 use std::alloc::Global;
 
 /// Which sources of missing URLs a report tells.

@@ -3,13 +3,13 @@ ghost use Rattle.std.specs.Prelude.{◌≡◌, ◌++◌, ◌∷◌, [], OnOk, If
 ghost use Rattle.std.specs.Option.{option_map};
 ghost use Rattle.json.specs.Token.{begin_object, end_object};
 ghost use Rattle.json.specs.Tree.{json_tokens};
-ghost use Rattle.crawl_web.specs.ReportText.{moved_part};
+ghost use Rattle.crawl_report.specs.ReportText.{moved_part};
 ghost use Rattle.crawl_report.specs.Json.{json_of, json_line};
 ghost use Rattle.crawl_report.specs.Lines as line;
 ghost use Rattle.crawl_report.specs.Lines.{line_of, line_text, text_line};
 
 use crate::as_json::{put_count, put_text, put_text_or_null, put_url};
-use crawl_web::NoMemory;
+use crawl_pages::NoMemory;
 use itoa::Buffer;
 use json::Writer;
 

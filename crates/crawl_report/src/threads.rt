@@ -7,7 +7,7 @@ ghost use Rattle.crawl_report.specs.Rows.{result_lines};
 
 use crate::out::Out;
 use crate::printing::with_results;
-use crawl_web::{NoMemory, PageResult};
+use crawl_pages::{NoMemory, PageResult};
 use std::alloc::Global;
 use std::thread::{Threads, join};
 

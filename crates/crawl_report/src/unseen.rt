@@ -8,7 +8,7 @@ ghost use Rattle.crawl_report.specs.Tallies.{pointed};
 ghost use Rattle.crawl_report.specs.Unreached.{has_result, unreached_of, unseen_of, is_in};
 
 use crawl_keys::{CanonUrl, Filter};
-use crawl_web::{NoMemory, PageResult};
+use crawl_pages::{NoMemory, PageResult};
 use hash_order::HashedText;
 use std::alloc::Global;
 use std::collections::BTreeSet;

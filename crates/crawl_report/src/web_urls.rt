@@ -3,13 +3,14 @@ ghost use Rattle.std.specs.Prelude.{◌≡◌, IfOk};
 ghost use Rattle.std.specs.Str.Lines.{lines};
 ghost use Rattle.std.specs.Result.{result_ok};
 ghost use Rattle.crawl_keys.specs.CanonicalText.{canonical};
-ghost use Rattle.crawl_web.specs.WebLines.{page_url};
+ghost use Rattle.saved_web.specs.WebLines.{page_url};
 ghost use Rattle.crawl_report.specs.Unreached.{asked_pages, page_urls};
 
 use crate::report::Parts;
 use crawl_keys::{CanonUrl, KeyError, canonical};
-use crawl_web::{NoMemory, first_line, split_space};
+use crawl_pages::NoMemory;
 use std::alloc::{AllocError, Global};
+use text_lines::{first_line, split_space};
 
 /// The URLs of the web's pages where those that no result has are told, else none.
 ///

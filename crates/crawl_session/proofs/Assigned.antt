@@ -17,9 +17,9 @@ use Rattle.crawl_keys.specs.CanonicalText.{canonical, resolve}
 use Rattle.crawl_keys.specs.HostFilter.{allows}
 use Rattle.crawl_keys.specs.declared.error.KeyError.{KeyError}
 use Rattle.crawl_replay.specs.Numbers.{number_of}
-use Rattle.crawl_web.specs.Lines.{text_of}
-use Rattle.crawl_web.specs.Parts.{at_space}
-use Rattle.crawl_web.specs.declared.lines.LineError.{LineError}
+use Rattle.text_lines.specs.Lines.{text_of}
+use Rattle.text_lines.specs.Fields.{at_space}
+use Rattle.text_lines.specs.declared.lines.LineError.{LineError}
 use Rattle.crawl_session.specs.declared.answer.Answer.{Answer}
 use Rattle.crawl_session.specs.declared.answer.Answer.TheVariants.{Told}
 use Rattle.crawl_session.specs.declared.request.Request.{Request}

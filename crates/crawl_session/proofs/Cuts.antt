@@ -10,7 +10,7 @@ use Rattle.std.proofs.lemmas.List.{length-append, length-take-le, take_all}
 use Rattle.std.proofs.lemmas.List.Elements.{All-nil, All-cons, All-append, All-take}
 use Rattle.std.proofs.lemmas.List.Splits.{slice_split_none, slice_split_at, length-slice_split}
 use Rattle.crawl_limits.specs.Limits.{line_limit}
-use Rattle.crawl_web.proofs.CutLines.{lines_cut}
+use Rattle.text_lines.proofs.CutLines.{lines_cut}
 use Rattle.crawl_session.specs.declared.request.Request.{Request}
 use Rattle.crawl_session.specs.declared.request.RequestError.{RequestError}
 use Rattle.crawl_session.specs.declared.request.RequestError.TheVariants.{LineTooLong}

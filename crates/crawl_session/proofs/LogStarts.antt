@@ -8,7 +8,7 @@ use Rattle.std.specs.Str.{bytes_eq}
 use Rattle.crawl_replay.specs.Numbers.{number_of}
 use Rattle.crawl_replay.specs.ScriptLines.{IsNumber}
 use Rattle.crawl_replay.proofs.NumberText.{at_space-joined, at_space-number, number_of_is}
-use Rattle.crawl_web.specs.Parts.{at_space, is_space}
+use Rattle.text_lines.specs.Fields.{at_space, is_space}
 use Rattle.crawl_session.specs.Logs.{settings_line}
 use Rattle.crawl_session.specs.LogStarts.{identity_read, identity_text, part_in, part_text, read_part, read_start, start_text, value_in, value_of}
 use Rattle.crawl_session.proofs.Logs.{front_of, number_printed}

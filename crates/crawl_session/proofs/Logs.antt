@@ -17,7 +17,7 @@ use Rattle.crawl_replay.specs.ScriptLines.{IsNumber}
 use Rattle.crawl_replay.specs.declared.script.header.Header.{Header}
 use Rattle.crawl_replay.proofs.HeaderWords.{header_said}
 use Rattle.crawl_replay.proofs.NumberText.{at_space-joined, joined-at_space}
-use Rattle.crawl_web.specs.Parts.{at_space, is_space}
+use Rattle.text_lines.specs.Fields.{at_space, is_space}
 use Rattle.crawl_session.specs.declared.answer.Answer.{Answer}
 use Rattle.crawl_session.specs.Logs.{Reruns, within_text, numbers_text, settings_line, suffix_from, next_suffix}
 use Rattle.crawl_session.specs.Serving.{Serves}

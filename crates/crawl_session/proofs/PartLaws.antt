@@ -5,8 +5,8 @@ use Rattle.std.proofs.lemmas.Slice.Eq.{bytes_eq-Decides}
 use Rattle.crawl_core.proofs.RunParts.{eqb_same}
 use Rattle.crawl_keys.specs.Assignment.{subqueue_of}
 use Rattle.crawl_limits.specs.Limits.{line_limit}
-use Rattle.crawl_web.specs.Parts.{at_space}
-use Rattle.crawl_web.specs.declared.lines.LineError.TheVariants.{NotText, TooLong}
+use Rattle.text_lines.specs.Fields.{at_space}
+use Rattle.text_lines.specs.declared.lines.LineError.TheVariants.{NotText, TooLong}
 use Rattle.crawl_session.specs.declared.answer.Answer.TheVariants.{Unasked}
 use Rattle.crawl_session.specs.declared.part.Part.{Part}
 use Rattle.crawl_session.specs.declared.request.Request.{Request}

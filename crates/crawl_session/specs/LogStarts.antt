@@ -4,7 +4,7 @@ use Rattle.std.specs.Fmt.{decimal}
 use Rattle.std.specs.Option.{option_map}
 use Rattle.std.specs.Str.{bytes_eq}
 use Rattle.crawl_replay.specs.Numbers.{number_of}
-use Rattle.crawl_web.specs.Parts.{at_space}
+use Rattle.text_lines.specs.Fields.{at_space}
 
 -- a part by its number and how many there are
 abbrev pub part_text : Option (ℕ × ℕ) → List ℕ

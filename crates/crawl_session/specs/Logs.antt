@@ -3,7 +3,7 @@ use Rattle.std.specs.Prelude.{◌≡◌, ℕ, List, ◌++◌, codes, if◌then�
 use Rattle.std.specs.Fmt.{decimal}
 use Rattle.std.specs.List.{flat_map}
 use Rattle.std.specs.Str.{bytes_eq}
-use Rattle.crawl_web.specs.Parts.{at_space}
+use Rattle.text_lines.specs.Fields.{at_space}
 use Rattle.crawl_session.specs.Frontiers.{Frontier, Shows}
 use Rattle.crawl_session.specs.Sessions.{state_after}
 use Rattle.crawl_session.specs.Settings.{SessionView}

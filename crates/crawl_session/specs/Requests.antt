@@ -8,10 +8,10 @@ use Rattle.crawl_keys.specs.HostFilter.{allows}
 use Rattle.crawl_keys.specs.declared.error.KeyError.{KeyError}
 use Rattle.crawl_keys.specs.declared.error.KeyError.TheVariants as key
 use Rattle.crawl_replay.specs.Numbers.{number_of}
-use Rattle.crawl_web.specs.Lines.{text_of}
-use Rattle.crawl_web.specs.Parts.{at_space}
-use Rattle.crawl_web.specs.declared.lines.LineError.{LineError}
-use Rattle.crawl_web.specs.declared.lines.LineError.TheVariants.{TooLong, NotText}
+use Rattle.text_lines.specs.Lines.{text_of}
+use Rattle.text_lines.specs.Fields.{at_space}
+use Rattle.text_lines.specs.declared.lines.LineError.{LineError}
+use Rattle.text_lines.specs.declared.lines.LineError.TheVariants.{TooLong, NotText}
 use Rattle.crawl_session.specs.declared.request.Request.{Request}
 use Rattle.crawl_session.specs.declared.request.Request.TheVariants.{Offer, Next, Again, Later, Done, EndSeeds}
 use Rattle.crawl_session.specs.declared.request.RequestError.{RequestError}

@@ -11,7 +11,7 @@ use crate::serving::ServeError;
 use crate::session::Session;
 use crate::texts::Texts;
 use crawl_core::{NoMemory, Reply};
-use crawl_web::first_line;
+use text_lines::first_line;
 use std::alloc::{AllocError, Global};
 use std::io::Write;
 use std::marker::Model;

@@ -16,7 +16,7 @@ ghost use Rattle.crawl_session.specs.Requests.{request_of};
 ghost use Rattle.crawl_session.specs.LogStarts.{read_start, start_text};
 ghost use Rattle.crawl_session.specs.Logs.{settings_line};
 ghost use Rattle.crawl_session.specs.Serving.{with_words};
-ghost use Rattle.crawl_web.specs.Parts.{is_space};
+ghost use Rattle.text_lines.specs.Fields.{is_space};
 ghost use Rattle.crawl_session.specs.Sessions.{answered, answers, history_of, line_exchange, state_after};
 ghost use Rattle.crawl_session.specs.Settings.{Settings};
 ghost use Rattle.crawl_session.specs.Tables.{CanBeAnswered};

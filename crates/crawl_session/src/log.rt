@@ -13,7 +13,7 @@ ghost use Rattle.crawl_session.specs.Logs.{Reruns};
 use crate::session::Session;
 use crawl_core::NoMemory;
 use crawl_replay::{Header, header_of};
-use crawl_web::{first_line, split_space};
+use text_lines::{first_line, split_space};
 use memchr::memrchr;
 use std::alloc::Global;
 

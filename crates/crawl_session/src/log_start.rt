@@ -5,7 +5,7 @@ ghost use Rattle.crawl_session.specs.LogStarts as spec;
 
 use crawl_core::NoMemory;
 use crawl_replay::number32;
-use crawl_web::split_space;
+use text_lines::split_space;
 use std::alloc::Global;
 
 /// `part I of K` for a part with its number and how many there are, and `identity TEXT`, each with a space behind it.

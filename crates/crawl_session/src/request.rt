@@ -4,13 +4,13 @@ ghost use Rattle.crawl_limits.specs.Limits.{worker_limit};
 ghost use Rattle.crawl_keys.specs.CanonicalText.{resolve};
 ghost use Rattle.crawl_keys.specs.Outcome.{Gives};
 ghost use Rattle.crawl_session.specs.Requests as spec;
-ghost use Rattle.crawl_web.specs.Parts.{at_space};
+ghost use Rattle.text_lines.specs.Fields.{at_space};
 ghost use Rattle.crawl_session.specs.declared.request.RequestError.TheVariants as wrong;
 
 use crawl_core::Text;
 use crawl_keys::{Base, CanonUrl, Filter, KeyError, canonical};
 use crawl_replay::number32;
-use crawl_web::{LineError, split_space, text_of};
+use text_lines::{LineError, split_space, text_of};
 use std::alloc::{AllocError, Global};
 
 /// What a line asks of the frontier.
@@ -33,7 +33,7 @@ pub enum Request {
 /// Why a line asks nothing of the frontier.
 #[derive(Debug, PartialEq, Eq, Drop)]
 pub enum RequestError {
-    /// The line has more than [`LINE_LIMIT`](crawl_web::LINE_LIMIT) bytes.
+    /// The line has more than [`LINE_LIMIT`](text_lines::LINE_LIMIT) bytes.
     LineTooLong,
     /// The line is not UTF-8.
     NotText,

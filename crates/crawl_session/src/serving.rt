@@ -9,7 +9,7 @@ ghost use Rattle.crawl_session.specs.declared.serving.ServeError.TheVariants as 
 use crate::log::whole_len;
 use crate::session::Session;
 use crawl_core::NoMemory;
-use crawl_web::{LINE_LIMIT, first_line};
+use text_lines::{LINE_LIMIT, first_line};
 use std::alloc::{AllocError, AllocFailed, Global};
 use std::io::{ErrorKind, Read, Write};
 

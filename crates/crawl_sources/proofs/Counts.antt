@@ -12,9 +12,9 @@ use Rattle.std.specs.List.{list_any}
 use Rattle.std.specs.Option.{option_map}
 use Rattle.std.specs.Str.{bytes_eq}
 use Rattle.hash_order.specs.HashOrder.{by_hash, by_hash_ties}
-use Rattle.crawl_web.specs.Pages.{links_of}
-use Rattle.crawl_web.specs.declared.page.PageResult.{PageResult}
-use Rattle.crawl_web.proofs.ReportOrder.{filter-kept, filter-dropped}
+use Rattle.crawl_pages.specs.Pages.{links_of}
+use Rattle.crawl_pages.specs.declared.page.PageResult.{PageResult}
+use Rattle.crawl_pages.proofs.StableSort.{filter-kept, filter-dropped}
 use Rattle.crawl_sources.specs.Sources.{links_to, sources_of, least, least_with, source_line, line_of}
 use Rattle.crawl_sources.specs.Tallies.{pointed, Count, none_counted, counted, Tallies, count_of, IsCount, IsTally}
 

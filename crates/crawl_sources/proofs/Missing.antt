@@ -3,10 +3,11 @@ use Rattle.std.proofs.Common.{◌≡◌, Bool, List, [], ◌∷◌, filter, refl
 use Rattle.std.proofs.lemmas.Bool.{cases_Bool}
 use Rattle.std.proofs.lemmas.List.Kept.{IsSortedBy-filter}
 use Rattle.std.specs.Str.{bytes_eq}
-use Rattle.crawl_web.specs.declared.page.PageResult.{PageResult}
-use Rattle.crawl_web.specs.ReportText.{is_before, is_missing, results_by_url}
-use Rattle.crawl_web.proofs.ReportOrder.{filter-kept, filter-dropped}
-use Rattle.crawl_web.proofs.ReportLaws.{before_ranks, results_by_url-in_order, results_by_url-alone}
+use Rattle.crawl_pages.specs.declared.page.PageResult.{PageResult}
+use Rattle.crawl_pages.specs.Pages.{is_missing}
+use Rattle.crawl_pages.specs.ResultOrder.{is_before, results_by_url}
+use Rattle.crawl_pages.proofs.StableSort.{filter-kept, filter-dropped}
+use Rattle.crawl_pages.proofs.OrderLaws.{before_ranks, results_by_url-in_order, results_by_url-alone}
 use Rattle.crawl_sources.specs.Sources.{missing}
 
 -- ---- two tests in either order

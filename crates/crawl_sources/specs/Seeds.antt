@@ -6,9 +6,9 @@ use Rattle.std.specs.Result.{result_ok}
 use Rattle.crawl_keys.specs.CanonicalText.{canonical}
 use Rattle.crawl_keys.specs.declared.error.KeyError.{KeyError}
 use Rattle.crawl_keys.specs.declared.error.KeyError.TheVariants as key
-use Rattle.crawl_web.specs.Lines.{text_of}
-use Rattle.crawl_web.specs.declared.lines.LineError.{LineError}
-use Rattle.crawl_web.specs.declared.lines.LineError.TheVariants.{TooLong, NotText}
+use Rattle.text_lines.specs.Lines.{text_of}
+use Rattle.text_lines.specs.declared.lines.LineError.{LineError}
+use Rattle.text_lines.specs.declared.lines.LineError.TheVariants.{TooLong, NotText}
 use Rattle.crawl_sources.specs.declared.seeds.SeedsFault.{SeedsFault}
 use Rattle.crawl_sources.specs.declared.seeds.SeedsFault.TheVariants as wrong
 

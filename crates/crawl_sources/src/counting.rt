@@ -3,12 +3,12 @@ ghost use Rattle.std.specs.Prelude.{◌≡◌, ℕ, Bool, List, [], Some, OnOk, 
 ghost use Rattle.std.specs.List.{list_any};
 ghost use Rattle.std.specs.Option.{option_map};
 ghost use Rattle.std.specs.Str.{bytes_eq};
-ghost use Rattle.crawl_web.specs.declared.page.PageResult.{PageResult};
+ghost use Rattle.crawl_pages.specs.declared.page.PageResult.{PageResult};
 ghost use Rattle.crawl_sources.specs.Tallies.{counted, count_of, pointed, IsTally};
 
 use crate::tally::Tally;
 use crawl_keys::CanonUrl;
-use crawl_web::{NoMemory, PageResult, links_of};
+use crawl_pages::{NoMemory, PageResult, links_of};
 use hash_order::HashedText;
 use std::alloc::Global;
 use std::collections::BTreeMap;

@@ -3,7 +3,7 @@ ghost use Rattle.std.specs.Prelude.{◌≡◌, ℕ, false, List, [], Some, None}
 ghost use Rattle.std.specs.List.{All, Contains};
 ghost use Rattle.std.specs.Ordering.{is_lt, nat_cmp};
 ghost use Rattle.std.specs.Cmp.Lexicographic.{slice_cmp};
-ghost use Rattle.crawl_web.specs.LeastFault.{SoundAfter, IsLeastFault};
+ghost use Rattle.text_lines.specs.LeastFault.{SoundAfter, IsLeastFault};
 ghost use Rattle.crawl_sources.specs.SeedFaults.{fault_after};
 ghost use Rattle.crawl_sources.specs.Seeds.{first_fault};
 ghost use Rattle.crawl_sources.specs.Sources.{least};

@@ -6,13 +6,13 @@ ghost use Rattle.crawl_sources.specs.Seeds.{fault_of, line_fault, seed_url, seed
 ghost use Rattle.crawl_sources.specs.declared.seeds.SeedsFault.TheVariants as wrong;
 
 use crawl_keys::{CanonUrl, KeyError, canonical};
-use crawl_web::{LineError, first_line, text_of};
+use text_lines::{LineError, first_line, text_of};
 use std::alloc::{AllocFailed, Global};
 
 /// Why bytes are no seeds, in the order of the checks of a line. Lines are numbered from 1.
 #[derive(Clone, Copy, Debug, PartialEq, Eq)]
 pub enum SeedsFault {
-    /// The line with this number has more than [`LINE_LIMIT`](crawl_web::LINE_LIMIT) bytes.
+    /// The line with this number has more than [`LINE_LIMIT`](text_lines::LINE_LIMIT) bytes.
     LineTooLong(u64),
     /// The line with this number is not UTF-8.
     NotText(u64),

@@ -2,14 +2,14 @@
 ghost use Rattle.std.specs.Prelude.{◌≡◌, ℕ, List, ◌++◌, IfOk, OnOk, filter, false, true, string_bytes, IsSome};
 ghost use Rattle.std.specs.List.{flat_map, list_any};
 ghost use Rattle.std.specs.Str.{bytes_eq};
-ghost use Rattle.crawl_web.specs.ReportText.{is_missing};
-ghost use Rattle.crawl_web.specs.declared.page.PageResult.{PageResult};
+ghost use Rattle.crawl_pages.specs.Pages.{is_missing};
+ghost use Rattle.crawl_pages.specs.declared.page.PageResult.{PageResult};
 ghost use Rattle.crawl_sources.specs.Sources.{missing, sources, source_line, line_of};
 ghost use Rattle.crawl_sources.specs.Tallies.{pointed, count_of, IsTally};
 
 use crate::counting::{Tallies, tally_links, tally_of};
 use crate::tally::Tally;
-use crawl_web::{NoMemory, Page, PageResult};
+use crawl_pages::{NoMemory, Page, PageResult};
 use std::alloc::Global;
 
 /// Where the missing URLs of the results' report are linked from: for each missing result, in the report's order, a line

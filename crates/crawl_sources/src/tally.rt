@@ -4,7 +4,7 @@ ghost use Rattle.std.specs.Option.{option_map};
 ghost use Rattle.crawl_sources.specs.Sources.{least_with};
 ghost use Rattle.crawl_sources.specs.Tallies.{pointed, none_counted, counted};
 
-use crawl_web::NoMemory;
+use crawl_pages::NoMemory;
 use std::alloc::Global;
 use std::marker::Model;
 

@@ -2,7 +2,7 @@
 use Rattle.std.specs.Prelude.{◌≡◌, ℕ, Bool, true, IsTrue, List, map}
 use Rattle.std.specs.List.{All}
 use Rattle.crawl_keys.specs.Assignment.{subqueue_of}
-use Rattle.crawl_web.specs.declared.page.PageResult.{PageResult}
+use Rattle.crawl_pages.specs.declared.page.PageResult.{PageResult}
 use Rattle.crawl_frontier.specs.declared.entry.Entry.{Entry}
 use Rattle.crawl_frontier.specs.Entries.{has_url}
 use Rattle.crawl_frontier.specs.Accounts.{At}

@@ -1,9 +1,9 @@
 -- What became of each URL that a worker took and of each link of its page, and what was lost by it.
 use Rattle.std.specs.Prelude.{◌≡◌, ◌↔◌, ℕ, ◌+◌, Bool, false, List, [], ◌∷◌, ◌++◌, map, Option, None, Some, Result, Ok, Err}
 use Rattle.std.specs.List.{flat_map}
-use Rattle.crawl_web.specs.declared.page.Page.{Page}
-use Rattle.crawl_web.specs.declared.page.PageResult.{PageResult}
-use Rattle.crawl_web.specs.Pages.{links_of}
+use Rattle.crawl_pages.specs.declared.page.Page.{Page}
+use Rattle.crawl_pages.specs.declared.page.PageResult.{PageResult}
+use Rattle.crawl_pages.specs.Pages.{links_of}
 use Rattle.crawl_frontier.specs.declared.entry.Entry.{Entry}
 use Rattle.crawl_frontier.specs.declared.offer.Offer.{Offer}
 use Rattle.crawl_frontier.specs.declared.error.OfferError.{OfferError}

@@ -1,7 +1,7 @@
 -- Workers in turn on one thread.
 use Rattle.std.specs.Prelude.{◌≡◌, ℕ, ◌<◌, Bool, List, Some, slice_get}
 use Rattle.std.specs.List.{AllZip}
-use Rattle.crawl_web.specs.declared.page.Page.{Page}
+use Rattle.crawl_pages.specs.declared.page.Page.{Page}
 use Rattle.crawl_frontier.specs.Parts.{WorkerId}
 use Rattle.crawl_workers.specs.declared.turns.Runner.{Runner}
 use Rattle.crawl_workers.specs.declared.turns.Runner.TheVariants.{Going, Ended, Moved}

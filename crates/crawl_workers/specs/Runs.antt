@@ -1,7 +1,7 @@
 -- What all workers of a run have done.
 use Rattle.std.specs.Prelude.{ℕ, Bool, List}
 use Rattle.std.specs.List.{AllZip}
-use Rattle.crawl_web.specs.declared.page.Page.{Page}
+use Rattle.crawl_pages.specs.declared.page.Page.{Page}
 use Rattle.crawl_frontier.specs.Parts.{WorkerId}
 use Rattle.crawl_workers.specs.declared.worker_end.WorkerEnd.{WorkerEnd}
 use Rattle.crawl_workers.specs.Outcomes.{IsTold}

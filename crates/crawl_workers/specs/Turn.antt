@@ -1,8 +1,8 @@
 -- What one turn of a worker does.
 use Rattle.std.specs.Prelude.{◌≡◌, ◌⊎◌, ℕ, ◌+◌, ◌-◌, ◌^◌, ◌<◌, ◌≤◌, min, Bool, List, [], ◌∷◌, ◌++◌, length, Some}
 use Rattle.std.specs.List.{flat_map}
-use Rattle.crawl_web.specs.declared.page.Page.{Page}
-use Rattle.crawl_web.specs.Pages.{links_of}
+use Rattle.crawl_pages.specs.declared.page.Page.{Page}
+use Rattle.crawl_pages.specs.Pages.{links_of}
 use Rattle.crawl_frontier.specs.declared.book.Logged.{Logged}
 use Rattle.crawl_frontier.specs.Parts.{WorkerId, BusyId, worker}
 use Rattle.crawl_workers.specs.declared.losses.Loss.TheVariants as loss

@@ -1,7 +1,7 @@
 //! What a worker tells its source of the fetches to come, so that these find near what they read.
 
 use crawl_frontier::{Frontier, Name, Worker};
-use crawl_web::SessionFetch;
+use crawl_pages::SessionFetch;
 use std::sync::Wait;
 
 /// So many URLs a source expects at once.

@@ -1,9 +1,9 @@
 //! What follows from the definitions alone: what a run in which nothing is lost leaves in its account.
 ghost use Rattle.std.specs.Prelude.{◌≡◌, ℕ, ◌<◌, Bool, List, [], Ok, Result};
 ghost use Rattle.std.specs.List.{All};
-ghost use Rattle.crawl_web.specs.declared.page.Page.{Page};
-ghost use Rattle.crawl_web.specs.declared.page.PageResult.{PageResult};
-ghost use Rattle.crawl_web.specs.Pages.{links_of};
+ghost use Rattle.crawl_pages.specs.declared.page.Page.{Page};
+ghost use Rattle.crawl_pages.specs.declared.page.PageResult.{PageResult};
+ghost use Rattle.crawl_pages.specs.Pages.{links_of};
 ghost use Rattle.crawl_frontier.specs.declared.entry.Entry.{Entry};
 ghost use Rattle.crawl_frontier.specs.declared.error.OfferError.{OfferError};
 ghost use Rattle.crawl_frontier.specs.declared.offer.Offer.{Offer};

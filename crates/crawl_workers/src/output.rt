@@ -11,7 +11,7 @@ use crate::recent::RecentUrls;
 use crate::worker_end::WorkerEnd;
 use crawl_frontier::{ClosedWorker, Name};
 use crawl_keys::CanonUrl;
-use crawl_web::{Page, PageResult};
+use crawl_pages::{Page, PageResult};
 use std::alloc::Global;
 
 /// Where its memory comes from, the results so far, how much was lost, up to the greatest u64, in all and by why, the URLs that

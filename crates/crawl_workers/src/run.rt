@@ -7,7 +7,7 @@ use crate::output::WorkerOutput;
 use crate::turn::{Step, turn};
 use crate::worker_end::WorkerEnd;
 use crawl_frontier::{Frontier, Name, Worker};
-use crawl_web::{Fetch, SessionFetch, WithoutSession};
+use crawl_pages::{Fetch, SessionFetch, WithoutSession};
 use crossbeam_utils::Backoff;
 use std::alloc::Global;
 use std::sync::Wait;

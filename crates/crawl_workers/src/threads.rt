@@ -8,7 +8,7 @@ use crate::error::RunError;
 use crate::run::run_worker_in;
 use crate::worker_end::WorkerEnd;
 use crawl_frontier::{Frontier, Name, Worker};
-use crawl_web::{Fetch, SessionFetch, WithoutSession};
+use crawl_pages::{Fetch, SessionFetch, WithoutSession};
 use std::alloc::Global;
 use std::snapshot::Snapshot;
 use std::sync::{OnceLock, Wait};

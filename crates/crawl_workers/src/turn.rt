@@ -2,7 +2,7 @@
 ghost use Rattle.std.specs.Prelude.{◌≡◌, ◌⊎◌, ◌≤◌, true, false, [], ◌∷◌, None, count_by, if◌then◌else◌};
 ghost use Rattle.crawl_keys.specs.HostFilter.{allows};
 ghost use Rattle.crawl_frontier.specs.Parts.{WorkerId};
-ghost use Rattle.crawl_web.specs.Pages.{links_of};
+ghost use Rattle.crawl_pages.specs.Pages.{links_of};
 ghost use Rattle.crawl_workers.specs.Logs.{AllLogged, HasLine};
 ghost use Rattle.crawl_workers.specs.Recent.{Knows};
 ghost use Rattle.crawl_workers.specs.Ran.{most_lost_at};
@@ -13,7 +13,7 @@ use crate::output::WorkerOutput;
 use crate::recent::READ_AT_ONCE;
 use crawl_frontier::{BusyWorker, ClosedWorker, Frontier, Name, Offer, OfferError, Turn, Worker};
 use crawl_keys::CanonUrl;
-use crawl_web::{Links, Page, SessionFetch};
+use crawl_pages::{Links, Page, SessionFetch};
 use std::sync::Wait;
 
 /// What a worker did in a turn.

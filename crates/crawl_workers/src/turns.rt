@@ -1,6 +1,6 @@
 //! Workers in turn, on the calling thread.
 ghost use Rattle.std.specs.Prelude.{◌≡◌, ◌≤◌, ◌<◌, [], true, false, MatchResult, vec_capacity, vec_len, length, List, ℕ, Bool};
-ghost use Rattle.crawl_web.specs.declared.page.Page.{Page};
+ghost use Rattle.crawl_pages.specs.declared.page.Page.{Page};
 ghost use Rattle.crawl_keys.specs.HostFilter.{allows};
 ghost use Rattle.crawl_frontier.specs.Parts.{WorkerId};
 ghost use Rattle.crawl_workers.specs.Runs.{AllRan};
@@ -11,7 +11,7 @@ use crate::output::WorkerOutput;
 use crate::turn::{Step, turn};
 use crate::worker_end::WorkerEnd;
 use crawl_frontier::{Frontier, Name, Worker};
-use crawl_web::{Fetch, SessionFetch, WithoutSession};
+use crawl_pages::{Fetch, SessionFetch, WithoutSession};
 use std::alloc::Global;
 use std::mem;
 use std::sync::Wait;

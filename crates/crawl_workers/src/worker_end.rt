@@ -1,7 +1,7 @@
 //! What a worker ends with.
 use crate::losses::Losses;
 use crawl_frontier::{ClosedWorker, Name};
-use crawl_web::PageResult;
+use crawl_pages::PageResult;
 
 /// A worker that met the gate closed, what it found, and how much it lost.
 #[derive(Drop)]

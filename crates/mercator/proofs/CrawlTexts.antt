@@ -12,7 +12,7 @@ use Rattle.crawl_report.specs.Rows.{rows_with}
 use Rattle.crawl_report.specs.Tallies.{pointed}
 use Rattle.crawl_report.specs.Unreached.{asked_pages, unreached_of}
 use Rattle.crawl_report.specs.declared.report.Parts.{Parts}
-use Rattle.crawl_web.specs.declared.page.PageResult.{PageResult}
+use Rattle.crawl_pages.specs.declared.page.PageResult.{PageResult}
 use Rattle.mercator.specs.WebCrawl.{AreUnreached, IsTextOf}
 use Rattle.mercator.specs.declared.commands.planned.CrawlOptions.{CrawlOptions}
 

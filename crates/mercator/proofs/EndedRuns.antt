@@ -20,8 +20,8 @@ use Rattle.crawl_frontier.specs.declared.error.OfferError.TheVariants as refused
 use Rattle.crawl_frontier.specs.Parts.{WorkerId, SenderId}
 use Rattle.crawl_frontier.specs.declared.entry.Entry.{Entry}
 use Rattle.crawl_gate.specs.Seat.{GateId, SeatId}
-use Rattle.crawl_web.specs.declared.page.Page.{Page}
-use Rattle.crawl_web.specs.declared.page.PageResult.{PageResult}
+use Rattle.crawl_pages.specs.declared.page.Page.{Page}
+use Rattle.crawl_pages.specs.declared.page.PageResult.{PageResult}
 use Rattle.crawl_workers.specs.Logs.{AllLogged}
 use Rattle.crawl_workers.specs.Losses.{all_losses}
 use Rattle.crawl_workers.specs.Ran.{Ran}

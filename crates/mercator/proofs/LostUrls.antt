@@ -12,8 +12,8 @@ use Rattle.crawl_frontier.specs.declared.error.OfferError.{OfferError}
 use Rattle.crawl_frontier.specs.declared.error.OfferError.TheVariants as refused
 use Rattle.crawl_frontier.specs.declared.offer.Offer.{Offer}
 use Rattle.crawl_gate.specs.Seat.{GateId}
-use Rattle.crawl_web.specs.declared.page.Page.{Page}
-use Rattle.crawl_web.specs.declared.page.PageResult.{PageResult}
+use Rattle.crawl_pages.specs.declared.page.Page.{Page}
+use Rattle.crawl_pages.specs.declared.page.PageResult.{PageResult}
 use Rattle.crawl_workers.specs.Runs.{AllRan}
 use Rattle.crawl_workers.specs.declared.losses.Losses.{Losses}
 use Rattle.crawl_workers.specs.declared.worker_end.WorkerEnd.{WorkerEnd}

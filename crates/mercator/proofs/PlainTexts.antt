@@ -16,7 +16,7 @@ use Rattle.crawl_report.specs.Rows.{rows_with}
 use Rattle.crawl_report.specs.Today.{text_with}
 use Rattle.crawl_report.specs.Unreached.{page_urls, unreached_of}
 use Rattle.crawl_report.specs.declared.report.Parts.{Parts}
-use Rattle.crawl_web.specs.declared.page.PageResult.{PageResult}
+use Rattle.crawl_pages.specs.declared.page.PageResult.{PageResult}
 use Rattle.mercator.specs.WebCrawl.{AreUnreached, IsCrawlText, IsPlain, IsPlainText, printed_with}
 use Rattle.mercator.specs.declared.commands.planned.CrawlOptions.{CrawlOptions}
 

@@ -10,7 +10,7 @@ use Rattle.crawl_report.specs.Rows.{rows_with}
 use Rattle.crawl_report.specs.Unreached.{asked_pages, unreached_of}
 use Rattle.crawl_report.specs.declared.report.Parts.{Parts}
 use Rattle.crawl_report.proofs.OneOrder.{one_order}
-use Rattle.crawl_web.specs.declared.page.PageResult.{PageResult}
+use Rattle.crawl_pages.specs.declared.page.PageResult.{PageResult}
 use Rattle.mercator.specs.Crawls.{AreCounts}
 use Rattle.crawl_keys.specs.HostFilter.{allows, filter_of, is_good}
 use Rattle.mercator.specs.Plans.{is_bad_suffix, is_input, known_bytes, known_seeds, lists_input, suffixes_of}

@@ -6,12 +6,12 @@ use Rattle.crawl_certificate.proofs.OneCrawl.{one_crawl}
 use Rattle.crawl_keys.specs.HostFilter.{allows}
 use Rattle.crawl_keys.specs.declared.error.KeyError.{KeyError}
 use Rattle.crawl_sources.specs.Seeds.{seeds_in}
-use Rattle.crawl_web.specs.SavedWeb.{page_of}
-use Rattle.crawl_web.specs.ReportText.{report}
-use Rattle.crawl_web.specs.declared.page.Page.{Page}
-use Rattle.crawl_web.specs.declared.page.PageResult.{PageResult}
+use Rattle.saved_web.specs.SavedWeb.{page_of}
+use Rattle.crawl_report.specs.ReportText.{report}
+use Rattle.crawl_pages.specs.declared.page.Page.{Page}
+use Rattle.crawl_pages.specs.declared.page.PageResult.{PageResult}
 use Rattle.std.specs.Str.Lines.{lines}
-use Rattle.crawl_web.specs.WebFaults.{IsSound}
+use Rattle.saved_web.specs.WebFaults.{IsSound}
 use Rattle.mercator.specs.Crawls.{AreCounts, IsFaultAt, IsJudgedAt}
 use Rattle.crawl_workers.specs.declared.losses.Losses.{Losses}
 use Rattle.mercator.specs.JudgedRuns.{CountsLosses}

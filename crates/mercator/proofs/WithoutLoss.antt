@@ -15,9 +15,9 @@ use Rattle.crawl_frontier.specs.Entries.{has_url}
 use Rattle.crawl_frontier.specs.Parts.{WorkerId, SenderId}
 use Rattle.crawl_frontier.specs.declared.entry.Entry.{Entry}
 use Rattle.crawl_keys.specs.Assignment.{subqueue_of}
-use Rattle.crawl_web.specs.Pages.{links_of}
-use Rattle.crawl_web.specs.declared.page.Page.{Page}
-use Rattle.crawl_web.specs.declared.page.PageResult.{PageResult}
+use Rattle.crawl_pages.specs.Pages.{links_of}
+use Rattle.crawl_pages.specs.declared.page.Page.{Page}
+use Rattle.crawl_pages.specs.declared.page.PageResult.{PageResult}
 use Rattle.crawl_workers.proofs.Lossless.{all_taken_found, logged_accepted, links_accepted}
 use Rattle.crawl_workers.specs.Logs.{HasLine, AllLogged}
 use Rattle.crawl_workers.specs.Lossless.{IsAccepted, AllAccepted}

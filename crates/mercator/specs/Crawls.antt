@@ -16,8 +16,8 @@ use Rattle.crawl_frontier.specs.declared.error.FrontierError.{FrontierError}
 use Rattle.crawl_frontier.specs.declared.error.FrontierError.TheVariants as frontier
 use Rattle.crawl_gate.specs.GateError.{IsMaximum}
 use Rattle.crawl_keys.specs.Assignment.{subqueue_of}
-use Rattle.crawl_web.specs.declared.page.Page.{Page}
-use Rattle.crawl_web.specs.declared.page.PageResult.{PageResult}
+use Rattle.crawl_pages.specs.declared.page.Page.{Page}
+use Rattle.crawl_pages.specs.declared.page.PageResult.{PageResult}
 use Rattle.crawl_workers.specs.Losses.{no_losses}
 use Rattle.crawl_workers.specs.declared.error.RunError.{RunError}
 use Rattle.crawl_workers.specs.declared.error.RunError.TheVariants as run

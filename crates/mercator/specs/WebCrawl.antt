@@ -12,9 +12,9 @@ use Rattle.crawl_report.specs.Today.{told_text}
 use Rattle.crawl_report.specs.Unreached.{asked_pages, unreached_of}
 use Rattle.crawl_report.specs.declared.report.Parts.{Parts}
 use Rattle.crawl_sources.specs.Seeds.{seeds_in}
-use Rattle.crawl_web.specs.SavedWeb.{page_of}
+use Rattle.saved_web.specs.SavedWeb.{page_of}
 use Rattle.crawl_keys.specs.declared.error.KeyError.{KeyError}
-use Rattle.crawl_web.specs.WebFaults.{IsSound, IsWebFault}
+use Rattle.saved_web.specs.WebFaults.{IsSound, IsWebFault}
 use Rattle.mercator.specs.declared.commands.fault.Fault.{Fault}
 use Rattle.mercator.specs.declared.commands.fault.Fault.TheVariants as wrong
 use Rattle.mercator.specs.declared.commands.planned.CrawlOptions.{CrawlOptions}
@@ -29,8 +29,8 @@ use Rattle.mercator.specs.Losses.{IsLost}
 use Rattle.mercator.specs.declared.crawling.Crawled.{Crawled}
 use Rattle.mercator.specs.declared.crawling.Mode.{Mode}
 use Rattle.mercator.specs.declared.crawling.error.CrawlError.TheVariants as crawl
-use Rattle.crawl_web.specs.ReportText.{report}
-use Rattle.crawl_web.specs.declared.page.PageResult.{PageResult}
+use Rattle.crawl_report.specs.ReportText.{report}
+use Rattle.crawl_pages.specs.declared.page.PageResult.{PageResult}
 
 -- these are the canonical URLs of the texts
 abbrev pub AreSeeds : List (List ℕ) → List (List ℕ) → Type 0

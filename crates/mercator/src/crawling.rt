@@ -20,7 +20,7 @@ mod watched;
 use crawl_certificate::CrawlResult;
 use crawl_frontier::{Account, Setup};
 use crawl_keys::{CanonUrl, Filter};
-use crawl_web::{Fetch, SessionFetch, WithoutSession};
+use crawl_pages::{Fetch, SessionFetch, WithoutSession};
 pub use error::CrawlError;
 pub use failure::CrawlFailure;
 pub(crate) use losses::no_losses;

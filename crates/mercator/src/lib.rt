@@ -44,7 +44,8 @@ pub use commands::{
 pub use crawl_certificate::{CertError, CrawlResult, certify};
 pub use crawl_replay::{Script, ScriptError, read_script, replay_text};
 pub use crawl_report::{Sources, queue_text};
-pub use crawl_web::{LINE_LIMIT, SessionFetch};
+pub use crawl_pages::SessionFetch;
+pub use text_lines::LINE_LIMIT;
 pub use crawl_workers::{RunError, WorkerEnd, run_threads, run_turns, run_worker};
 pub use crawling::{
     CrawlError, CrawlFailure, CrawlSettings, Crawled, Mode, Observe, Unobserved, Watched,

@@ -9,7 +9,7 @@ use Rattle.std.specs.Cmp.Lexicographic.{slice_cmp}
 use Rattle.crawl_certificate.specs.Certificate.{IsAscending, result_urls}
 use Rattle.mercator_site.specs.Own.{from_own, own_of, while_own}
 use Rattle.saved_site.specs.Below.{begins}
-use Rattle.crawl_web.specs.declared.page.PageResult.{PageResult}
+use Rattle.crawl_pages.specs.declared.page.PageResult.{PageResult}
 
 -- a text between two that begin so does
 between : (p a b c : List ℕ) → slice_cmp nat_cmp a b ≡ Less → slice_cmp nat_cmp b c ≡ Less → begins p a ≡ true → begins p c ≡ true → begins p b ≡ true

@@ -7,11 +7,11 @@ use Rattle.crawl_keys.specs.CanonicalText.{canonical, resolve}
 use Rattle.crawl_keys.specs.HostFilter.{allows}
 use Rattle.crawl_keys.specs.HostKey.{host_key}
 use Rattle.crawl_keys.specs.declared.error.KeyError.{KeyError}
-use Rattle.crawl_web.specs.SavedWeb.{page_of}
-use Rattle.crawl_web.specs.declared.page.Page.{Page}
-use Rattle.crawl_web.specs.declared.page.PageResult.{PageResult}
-use Rattle.crawl_web.specs.declared.saved_web.error.WebError.{WebError}
-use Rattle.crawl_web.specs.declared.saved_web.error.WebError.TheVariants as web
+use Rattle.saved_web.specs.SavedWeb.{page_of}
+use Rattle.crawl_pages.specs.declared.page.Page.{Page}
+use Rattle.crawl_pages.specs.declared.page.PageResult.{PageResult}
+use Rattle.saved_web.specs.declared.error.WebError.{WebError}
+use Rattle.saved_web.specs.declared.error.WebError.TheVariants as web
 use Rattle.mercator.proofs.SiteCrawls.{crawl_of_same}
 use Rattle.mercator.specs.Crawls.{CrawlFails}
 use Rattle.mercator.specs.Faults.{of_web, status_of_fault}

@@ -8,8 +8,8 @@ use Rattle.check_report.specs.declared.value.Findings.{Findings}
 use Rattle.check_report.specs.declared.value.Contents.{Contents}
 use Rattle.crawl_keys.specs.CanonicalText.{canonical, resolve}
 use Rattle.crawl_keys.specs.HostKey.{host_key}
-use Rattle.crawl_web.specs.SavedWeb.{page_of}
-use Rattle.crawl_web.specs.declared.page.PageResult.{PageResult}
+use Rattle.saved_web.specs.SavedWeb.{page_of}
+use Rattle.crawl_pages.specs.declared.page.PageResult.{PageResult}
 use Rattle.mercator.specs.WebCrawl.{IsSiteCrawl}
 use Rattle.mercator_site.specs.Asks.{Asks}
 use Rattle.mercator_site.specs.External.{AreExternal, Row, row_of}

@@ -6,8 +6,8 @@ use Rattle.std.specs.List.Sorted.{IsPermutation, IsSortedByKey}
 use Rattle.std.specs.Ordering.{nat_cmp}
 use Rattle.std.specs.Str.{bytes_eq}
 use Rattle.check_report.specs.declared.value.External.{External}
-use Rattle.crawl_web.specs.Pages.{links_of}
-use Rattle.crawl_web.specs.declared.page.PageResult.{PageResult}
+use Rattle.crawl_pages.specs.Pages.{links_of}
+use Rattle.crawl_pages.specs.declared.page.PageResult.{PageResult}
 use Rattle.saved_site.specs.Below.{begins}
 
 -- the URLs that do not begin with the top

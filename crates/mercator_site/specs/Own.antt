@@ -1,7 +1,7 @@
 -- The URLs of a site: those below its top.
 use Rattle.std.specs.Prelude.{ℕ, List, [], ◌∷◌, filter, if◌then◌else◌}
 use Rattle.std.specs.List.{AllPass}
-use Rattle.crawl_web.specs.declared.page.PageResult.{PageResult}
+use Rattle.crawl_pages.specs.declared.page.PageResult.{PageResult}
 use Rattle.saved_site.specs.Below.{begins}
 
 -- all of these URLs begin with the top

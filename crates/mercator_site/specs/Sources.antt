@@ -1,9 +1,9 @@
 -- Sources with the pages of a saved web.
 use Rattle.std.specs.Prelude.{◌≡◌, ℕ, List}
 use Rattle.std.specs.Str.Lines.{lines}
-use Rattle.crawl_web.specs.SavedWeb.{page_of}
-use Rattle.crawl_web.specs.WebFaults.{IsSound}
-use Rattle.crawl_web.specs.declared.page.Page.{Page}
+use Rattle.saved_web.specs.SavedWeb.{page_of}
+use Rattle.saved_web.specs.WebFaults.{IsSound}
+use Rattle.crawl_pages.specs.declared.page.Page.{Page}
 
 -- the bytes are a saved web, which has this page at each URL
 pub record IsSourceOf (meaning : List ℕ → Page) (bytes : List ℕ) : Type 0 where

@@ -1,5 +1,5 @@
 //! The contents of a site's files, in memory or on disk.
-use crawl_web::NoMemory;
+use crawl_pages::NoMemory;
 use saved_site::{Body, folder_body};
 use site_check::Bodies;
 use std::alloc::{AllocError, Global};

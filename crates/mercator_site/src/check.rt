@@ -17,7 +17,7 @@ use crate::own::own_results;
 use crate::print::print_check;
 use check_report::{Contents, External};
 use crawl_keys::CanonUrl;
-use crawl_web::PageResult;
+use crawl_pages::PageResult;
 use mercator::Crawled;
 use saved_site::{
     Alias, LinkPlaces, LinkedSite, PageAnchors, Rules, SiteFiles, SiteNames, Web, files_pages,

@@ -9,7 +9,7 @@ use crate::fault::SiteFault;
 use crate::start::starts;
 use crawl_keys::{CanonUrl, Filter, FilterError, KeyError, canonical};
 use crawl_limits::PENDING_LIMIT;
-use crawl_web::{SavedWeb, WebInThreads};
+use saved_web::{SavedWeb, WebInThreads};
 use mercator::{CrawlSettings, Crawled, Fault, Mode, SessionFetch, crawl_with};
 use std::alloc::Global;
 use std::sync::Wait;

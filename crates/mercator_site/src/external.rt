@@ -6,7 +6,7 @@ ghost use Rattle.mercator_site.specs.External.{AreExternal, outside, outside_lin
 use crate::own::is_own;
 use check_report::External;
 use crawl_keys::CanonUrl;
-use crawl_web::{NoMemory, PageResult, links_of};
+use crawl_pages::{NoMemory, PageResult, links_of};
 use std::alloc::Global;
 
 /// The URLs outside the top that the pages link to, in byte order, each with the number of links. Two links in one page count as

@@ -5,7 +5,7 @@ ghost use Rattle.mercator_site.specs.Own.{from_own, own_of, while_own};
 ghost use Rattle.saved_site.specs.Below.{begins};
 
 use crawl_keys::CanonUrl;
-use crawl_web::PageResult;
+use crawl_pages::PageResult;
 
 /// Whether the URL belongs to the site with this top.
 pub(crate) fn is_own(top: &CanonUrl, url: &CanonUrl) -> bool

@@ -7,7 +7,7 @@ use Rattle.std.proofs.lemmas.List.{reverse-append}
 use Rattle.std.proofs.lemmas.List.Folds.{list_all-append}
 use Rattle.std.proofs.lemmas.Slice.Eq.{bytes_eq-Decides}
 use Rattle.crawl_keys.specs.CanonicalText.{canonical}
-use Rattle.crawl_web.specs.declared.page.Page.TheVariants as page
+use Rattle.crawl_pages.specs.declared.page.Page.TheVariants as page
 use Rattle.percent_encoding.specs.Percent.{percent_decode}
 use Rattle.saved_site.specs.Below.{IsTop, is_below, is_mark, without_slashes}
 use Rattle.saved_site.specs.Meaning.{page_in, under_page}

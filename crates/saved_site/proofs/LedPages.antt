@@ -7,10 +7,10 @@ use Rattle.std.specs.Str.{bytes_eq}
 use Rattle.std.proofs.lemmas.List.{append-nil, take_more}
 use Rattle.std.proofs.lemmas.List.Elements.{All-head, All-tail, filter_map-append}
 use Rattle.hash_index.specs.Lists.{index_of}
-use Rattle.crawl_web.proofs.Ahead.{lead_still}
-use Rattle.crawl_web.specs.Ahead.{KeepIndices, LeadTo}
-use Rattle.crawl_web.specs.declared.page.Page.{Page}
-use Rattle.crawl_web.specs.declared.page.Page.TheVariants as page
+use Rattle.saved_web.proofs.Ahead.{lead_still}
+use Rattle.saved_web.specs.Ahead.{KeepIndices, LeadTo}
+use Rattle.crawl_pages.specs.declared.page.Page.{Page}
+use Rattle.crawl_pages.specs.declared.page.Page.TheVariants as page
 use Rattle.saved_site.specs.Leads.{LeadsTo}
 use Rattle.saved_site.specs.Linked.{PageFound, page_with}
 use Rattle.saved_site.specs.LinkedPages.{page_led, found_in, found_all, IsLed, AreLed, urls_of}

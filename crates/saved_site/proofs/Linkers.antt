@@ -4,8 +4,8 @@ use Rattle.std.specs.Bool.{if◌then◌else◌}
 use Rattle.std.proofs.lemmas.Bool.{cond-true}
 use Rattle.std.proofs.lemmas.List.{map_push}
 use Rattle.std.proofs.lemmas.List.Elements.{All-push}
-use Rattle.crawl_web.specs.Ahead.{KeepIndices}
-use Rattle.crawl_web.specs.declared.page.Page.{Page}
+use Rattle.saved_web.specs.Ahead.{KeepIndices}
+use Rattle.crawl_pages.specs.declared.page.Page.{Page}
 use Rattle.hash_index.specs.Lists.{index_of}
 use Rattle.saved_site.proofs.LedPages.{all_led_still, has_found, same_found}
 use Rattle.saved_site.specs.Linked.{PageFound, page_with, found_of, is_kept, IsKept, AreKept, with_found}

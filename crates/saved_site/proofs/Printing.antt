@@ -4,8 +4,8 @@ use Rattle.std.specs.List.{flat_map}
 use Rattle.std.specs.Str.Lines.{lines}
 use Rattle.std.proofs.lemmas.Bool.{cond-true}
 use Rattle.std.proofs.lemmas.List.Concat.{flat_map-append}
-use Rattle.crawl_web.specs.WebFaults.{IsSound}
-use Rattle.crawl_web.specs.SavedWeb.{page_of}
+use Rattle.saved_web.specs.WebFaults.{IsSound}
+use Rattle.saved_web.specs.SavedWeb.{page_of}
 use Rattle.saved_site.proofs.Found.{web_at}
 use Rattle.saved_site.proofs.Sound.{AllPages, web_sound}
 use Rattle.saved_site.specs.Meaning.{page_in}

@@ -5,14 +5,14 @@ use Rattle.std.specs.List.{list_all}
 use Rattle.std.specs.Str.{is_utf8, IsUtf8}
 use Rattle.std.proofs.lemmas.Bool.{and_parts, leb-true, cond-true}
 use Rattle.std.proofs.lemmas.Str.{IsUtf8-append, IsUtf8-from_is_utf8}
-use Rattle.crawl_web.proofs.CutLines.{text_of-utf8}
-use Rattle.crawl_web.proofs.WebLines.{line_of-utf8}
+use Rattle.text_lines.proofs.CutLines.{text_of-utf8}
+use Rattle.saved_web.proofs.WebLines.{line_of-utf8}
 use Rattle.crawl_limits.specs.Limits.{line_limit}
-use Rattle.crawl_web.specs.Lines.{text_of}
-use Rattle.crawl_web.specs.Parts.{at_space}
-use Rattle.crawl_web.specs.WebLines.{said_apart, line_of_text, line_of}
-use Rattle.crawl_web.specs.declared.saved_web.line.Line.{Line}
-use Rattle.crawl_web.specs.declared.saved_web.line.Line.TheVariants as line_says
+use Rattle.text_lines.specs.Lines.{text_of}
+use Rattle.text_lines.specs.Fields.{at_space}
+use Rattle.saved_web.specs.WebLines.{said_apart, line_of_text, line_of}
+use Rattle.saved_web.specs.declared.line.Line.{Line}
+use Rattle.saved_web.specs.declared.line.Line.TheVariants as line_says
 use Rattle.saved_site.specs.Texts.{is_inner, fits}
 
 -- the line is a text, whatever its number, and says this

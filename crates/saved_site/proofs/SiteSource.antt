@@ -12,7 +12,7 @@ use Rattle.std.proofs.lemmas.Cmp.{nat_list_cmp_total, tied_itself}
 use Rattle.std.proofs.lemmas.List.Elements.{All-head, All-tail}
 use Rattle.std.proofs.lemmas.Map.Text.{is_eq-slice_cmp}
 use Rattle.std.proofs.lemmas.Slice.Eq.{bytes_eq-Decides}
-use Rattle.crawl_web.specs.declared.page.Page.{Page}
+use Rattle.crawl_pages.specs.declared.page.Page.{Page}
 use Rattle.saved_site.proofs.BelowTop.{none_outside}
 use Rattle.saved_site.proofs.Found.{web_at}
 use Rattle.saved_site.proofs.PageByPage.{all_taken}

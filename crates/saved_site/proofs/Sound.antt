@@ -16,15 +16,15 @@ use Rattle.std.proofs.lemmas.Cmp.{nat_list_cmp_total}
 use Rattle.std.proofs.lemmas.Map.Text.{is_eq-slice_cmp}
 use Rattle.std.proofs.lemmas.List.Folds.{list_any-append}
 use Rattle.crawl_keys.specs.declared.error.KeyError.{KeyError}
-use Rattle.crawl_web.proofs.ReadWeb.{under_more}
-use Rattle.crawl_web.specs.LeastFault.{SoundAfter}
-use Rattle.crawl_web.specs.WebChecks.{is_second, under_last_page, before, header_of, header_fault, page_fault, under_fault, said_fault, text_fault, fault_after}
-use Rattle.crawl_web.specs.WebFaults.{IsSound}
-use Rattle.crawl_web.specs.WebLines.{says_page, says_moved, url_said, is_page, is_moved_line, is_link, is_page_at}
-use Rattle.crawl_web.specs.declared.saved_web.error.WebError.{WebError}
-use Rattle.crawl_web.specs.declared.saved_web.error.WebError.TheVariants as wrong
-use Rattle.crawl_web.specs.declared.saved_web.line.Line.{Line}
-use Rattle.crawl_web.specs.declared.saved_web.line.Line.TheVariants as line_says
+use Rattle.saved_web.proofs.ReadWeb.{under_more}
+use Rattle.text_lines.specs.LeastFault.{SoundAfter}
+use Rattle.saved_web.specs.WebChecks.{is_second, under_last_page, before, header_of, header_fault, page_fault, under_fault, said_fault, text_fault, fault_after}
+use Rattle.saved_web.specs.WebFaults.{IsSound}
+use Rattle.saved_web.specs.WebLines.{says_page, says_moved, url_said, is_page, is_moved_line, is_link, is_page_at}
+use Rattle.saved_web.specs.declared.error.WebError.{WebError}
+use Rattle.saved_web.specs.declared.error.WebError.TheVariants as wrong
+use Rattle.saved_web.specs.declared.line.Line.{Line}
+use Rattle.saved_web.specs.declared.line.Line.TheVariants as line_says
 use Rattle.saved_site.proofs.Lines.{first_line, fits_inner, line_on}
 use Rattle.saved_site.proofs.Says as lemma
 use Rattle.saved_site.proofs.Says.{Says}

@@ -1,7 +1,7 @@
 -- Aliases: other URLs for which a server returns a file. The links of the file are followed at its own URL only.
 use Rattle.std.specs.Prelude.{◌≡◌, [], ◌∷◌, List, All}
-use Rattle.crawl_web.specs.declared.page.Page.{Page}
-use Rattle.crawl_web.specs.declared.page.Page.TheVariants as page
+use Rattle.crawl_pages.specs.declared.page.Page.{Page}
+use Rattle.crawl_pages.specs.declared.page.Page.TheVariants as page
 use Rattle.saved_site.specs.Linked.{PageFound, page_at}
 use Rattle.saved_site.specs.declared.web.Alias.{Alias}
 

@@ -4,8 +4,8 @@ use Rattle.std.specs.List.{list_all, list_any}
 use Rattle.std.specs.Str.Lines.{lines}
 use Rattle.std.specs.Str.{bytes_eq}
 use Rattle.crawl_keys.specs.CanonicalText.{canonical}
-use Rattle.crawl_web.specs.SavedWeb.{page_of}
-use Rattle.crawl_web.specs.declared.page.Page.TheVariants as page
+use Rattle.saved_web.specs.SavedWeb.{page_of}
+use Rattle.crawl_pages.specs.declared.page.Page.TheVariants as page
 use Rattle.percent_encoding.specs.Percent.{percent_decode}
 
 abbrev pub is_slash : ℕ → Bool

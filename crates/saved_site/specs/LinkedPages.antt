@@ -5,9 +5,9 @@ use Rattle.std.specs.Option.{is_some}
 use Rattle.hash_index.specs.Index.{IsIndexOf}
 use Rattle.hash_index.specs.Lists.{index_of}
 use Rattle.hash_order.specs.HashOrder.{hash_of}
-use Rattle.crawl_web.specs.Ahead.{KeepIndices, LeadTo}
-use Rattle.crawl_web.specs.declared.page.Page.{Page}
-use Rattle.crawl_web.specs.declared.page.Page.TheVariants as page
+use Rattle.saved_web.specs.Ahead.{KeepIndices, LeadTo}
+use Rattle.crawl_pages.specs.declared.page.Page.{Page}
+use Rattle.crawl_pages.specs.declared.page.Page.TheVariants as page
 use Rattle.saved_site.specs.LinkTables.{IsTableOf}
 use Rattle.saved_site.specs.Linked.{PageFound}
 use Rattle.saved_site.specs.Meaning.{under_page}

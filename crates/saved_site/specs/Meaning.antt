@@ -2,10 +2,10 @@
 use Rattle.std.specs.Prelude.{◌≡◌, ℕ, List, [], ◌∷◌, if◌then◌else◌}
 use Rattle.std.specs.Str.Lines.{lines}
 use Rattle.std.specs.Str.{bytes_eq}
-use Rattle.crawl_web.specs.SavedWeb.{link_url, found_page, page_of}
-use Rattle.crawl_web.specs.WebFaults.{IsSound}
-use Rattle.crawl_web.specs.declared.page.Page.{Page}
-use Rattle.crawl_web.specs.declared.page.Page.TheVariants as page
+use Rattle.saved_web.specs.SavedWeb.{link_url, found_page, page_of}
+use Rattle.saved_web.specs.WebFaults.{IsSound}
+use Rattle.crawl_pages.specs.declared.page.Page.{Page}
+use Rattle.crawl_pages.specs.declared.page.Page.TheVariants as page
 use Rattle.saved_site.specs.Pages.{ascending, web_text}
 use Rattle.saved_site.specs.declared.page.Under.{Under}
 use Rattle.saved_site.specs.declared.page.Under.TheVariants.{Links, Moved}

@@ -3,7 +3,7 @@ ghost use Rattle.std.specs.Prelude.{◌≡◌, ◌<◌, ◌∷◌, ◌++◌, [],
 ghost use Rattle.saved_site.specs.Texts.{fits, all_fit, link_line, link_lines, texts_in};
 
 use crate::text::LINK_FRONT;
-use crawl_web::first_line;
+use text_lines::first_line;
 use std::alloc::{AllocError, Global};
 use std::marker::Model;
 

@@ -1,7 +1,7 @@
 //! The pages of a site as a source of a crawl, whose links are the indices of URLs.
 ghost use Rattle.std.specs.Prelude.{◌≡◌, ◌∷◌, [], true, IfOk, IfErr};
 ghost use Rattle.std.specs.List.{flat_map};
-ghost use Rattle.crawl_web.specs.declared.page.Page.TheVariants as variant;
+ghost use Rattle.crawl_pages.specs.declared.page.Page.TheVariants as variant;
 ghost use Rattle.saved_site.specs.Aliases.{AreAliases, alias_page};
 ghost use Rattle.saved_site.specs.Linked.{AreKept, IsSiteSource, page_at, page_with};
 
@@ -15,7 +15,7 @@ mod url_list;
 
 use crate::web::Alias;
 use crawl_keys::CanonUrl;
-use crawl_web::{FetchError, Page, SessionFetch};
+use crawl_pages::{FetchError, Page, SessionFetch};
 pub(crate) use linker::Linker;
 use part::Part;
 use std::alloc::{AllocError, Global};
@@ -32,7 +32,7 @@ pub struct LinkedPages {
 impl Model for LinkedPages {
     ghost use Rattle.std.specs.Prelude.{ℕ, List};
     ghost use Rattle.std.specs.List.{flat_map};
-    ghost use Rattle.crawl_web.specs.declared.page.Page.{Page};
+    ghost use Rattle.crawl_pages.specs.declared.page.Page.{Page};
 
     ghost Value = { List (List ℕ × Page) };
 

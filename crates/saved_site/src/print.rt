@@ -1,8 +1,8 @@
 //! Prints pages as a saved web.
 ghost use Rattle.std.specs.Prelude.{◌≡◌, ◌++◌, ◌∷◌, [], ℕ, List, IfOk, MatchOption};
 ghost use Rattle.std.specs.Str.Lines.{lines};
-ghost use Rattle.crawl_web.specs.WebFaults.{IsSound};
-ghost use Rattle.crawl_web.specs.SavedWeb.{page_of};
+ghost use Rattle.saved_web.specs.WebFaults.{IsSound};
+ghost use Rattle.saved_web.specs.SavedWeb.{page_of};
 ghost use Rattle.saved_site.specs.Meaning.{page_in};
 ghost use Rattle.saved_site.specs.Pages.{ascending, is_behind, web_text};
 

@@ -4,7 +4,7 @@ ghost use Rattle.std.specs.List.{list_all};
 ghost use Rattle.saved_site.specs.Texts.{fits, is_inner, is_plain};
 ghost use Rattle.std.specs.Str.{is_utf8};
 
-use crawl_web::LINE_LIMIT;
+use text_lines::LINE_LIMIT;
 use std::alloc::{AllocError, Global};
 use std::marker::Model;
 

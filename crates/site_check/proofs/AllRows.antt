@@ -2,11 +2,11 @@
 use Rattle.std.proofs.Common.{◌≡◌, ◌∙◌, ℕ, Bool, true, false, not, List, [], ◌∷◌, ◌++◌, map, filter, refl, sym, ap, inl, inr}
 use Rattle.std.proofs.lemmas.Bool.{cases_Bool}
 use Rattle.std.specs.List.{flat_map}
-use Rattle.crawl_web.proofs.ReportOrder.{filter-kept, filter-dropped}
-use Rattle.crawl_web.specs.declared.page.Page.{Page}
-use Rattle.crawl_web.specs.declared.page.Page.TheVariants.{Found, Moved, Missing}
-use Rattle.crawl_web.specs.declared.page.PageResult.{PageResult}
-use Rattle.crawl_web.specs.ReportText.{is_found}
+use Rattle.crawl_pages.proofs.StableSort.{filter-kept, filter-dropped}
+use Rattle.crawl_pages.specs.declared.page.Page.{Page}
+use Rattle.crawl_pages.specs.declared.page.Page.TheVariants.{Found, Moved, Missing}
+use Rattle.crawl_pages.specs.declared.page.PageResult.{PageResult}
+use Rattle.crawl_pages.specs.Pages.{is_found}
 use Rattle.site_check.specs.Broken.{Linked, is_unfound, linked, linked_at, result_at, rows_at, rows_with, broken_of, ways_at, ways_with, redirects_of}
 use Rattle.site_check.specs.Ignored.{missing_texts, text_at}
 use Rattle.site_check.specs.declared.linked.Linked as code

@@ -8,9 +8,9 @@ use Rattle.std.specs.List.{flat_map}
 use Rattle.std.specs.Map.{lookup}
 use Rattle.std.specs.Option.{option_map_or}
 use Rattle.std.specs.Str.{bytes_eq}
-use Rattle.crawl_web.specs.declared.page.Page.{Page}
-use Rattle.crawl_web.specs.declared.page.Page.TheVariants.{Found, Moved, Missing}
-use Rattle.crawl_web.specs.declared.page.PageResult.{PageResult}
+use Rattle.crawl_pages.specs.declared.page.Page.{Page}
+use Rattle.crawl_pages.specs.declared.page.Page.TheVariants.{Found, Moved, Missing}
+use Rattle.crawl_pages.specs.declared.page.PageResult.{PageResult}
 use Rattle.saved_site.specs.declared.web.LinkPlaces.{LinkPlaces}
 use Rattle.hash_order.specs.HashOrder.{by_hash, by_hash_ties}
 use Rattle.site_check.specs.Broken.{result_at}

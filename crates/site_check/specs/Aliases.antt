@@ -3,8 +3,8 @@ use Rattle.std.specs.Prelude.{ℕ, Bool, ◌&&◌, not, List}
 use Rattle.std.specs.BTreeSet.{BTreeSet, contains}
 use Rattle.std.specs.List.{list_any}
 use Rattle.std.specs.Str.{bytes_eq}
-use Rattle.crawl_web.specs.ReportText.{is_found}
-use Rattle.crawl_web.specs.declared.page.PageResult.{PageResult}
+use Rattle.crawl_pages.specs.Pages.{is_found}
+use Rattle.crawl_pages.specs.declared.page.PageResult.{PageResult}
 use Rattle.hash_order.specs.HashOrder.{by_hash}
 use Rattle.saved_site.specs.declared.web.Alias.{Alias}
 

@@ -4,10 +4,10 @@ use Rattle.std.specs.List.{list_any, flat_map}
 use Rattle.std.specs.Option.{option_map}
 use Rattle.std.specs.Str.{bytes_eq}
 use Rattle.crawl_sources.specs.Sources.{sources_of}
-use Rattle.crawl_web.specs.ReportText.{is_found}
-use Rattle.crawl_web.specs.declared.page.Page.{Page}
-use Rattle.crawl_web.specs.declared.page.Page.TheVariants.{Moved, Missing}
-use Rattle.crawl_web.specs.declared.page.PageResult.{PageResult}
+use Rattle.crawl_pages.specs.Pages.{is_found}
+use Rattle.crawl_pages.specs.declared.page.Page.{Page}
+use Rattle.crawl_pages.specs.declared.page.Page.TheVariants.{Moved, Missing}
+use Rattle.crawl_pages.specs.declared.page.PageResult.{PageResult}
 use Rattle.site_check.specs.declared.linked.Linked as code
 
 -- ---- results that found no page

@@ -7,8 +7,8 @@ use Rattle.std.specs.Str.Lossy.{utf8_lossy}
 use Rattle.check_report.specs.declared.value.Broken.{Broken}
 use Rattle.check_report.specs.declared.value.Kind.{Kind}
 use Rattle.check_report.specs.declared.value.Kind.TheVariants.{NoPage, NoAnchor}
-use Rattle.crawl_web.specs.ReportText.{is_missing}
-use Rattle.crawl_web.specs.declared.page.PageResult.{PageResult}
+use Rattle.crawl_pages.specs.Pages.{is_missing}
+use Rattle.crawl_pages.specs.declared.page.PageResult.{PageResult}
 use Rattle.site_check.specs.Broken.{begins, is_ignored, shown}
 
 -- a text that is empty or begins with `#` is no entry

@@ -5,10 +5,10 @@ use Rattle.std.specs.BTreeMap.{BTreeMap, get_by}
 use Rattle.std.specs.List.{flat_map}
 use Rattle.std.specs.Option.{option_map_or}
 use Rattle.std.specs.Str.{bytes_eq}
-use Rattle.crawl_web.specs.ReportText.{is_missing}
-use Rattle.crawl_web.specs.declared.page.Page.{Page}
-use Rattle.crawl_web.specs.declared.page.Page.TheVariants.{Found, Moved, Missing}
-use Rattle.crawl_web.specs.declared.page.PageResult.{PageResult}
+use Rattle.crawl_pages.specs.Pages.{is_missing}
+use Rattle.crawl_pages.specs.declared.page.Page.{Page}
+use Rattle.crawl_pages.specs.declared.page.Page.TheVariants.{Found, Moved, Missing}
+use Rattle.crawl_pages.specs.declared.page.PageResult.{PageResult}
 use Rattle.hash_order.specs.HashOrder.{by_hash}
 use Rattle.saved_site.specs.declared.web.LinkPlaces.{LinkPlaces}
 use Rattle.site_check.specs.Broken.{is_ignored, shown}

@@ -5,9 +5,9 @@ use Rattle.check_report.specs.declared.value.Kind.{Kind}
 use Rattle.check_report.specs.declared.value.Kind.TheVariants.{NoPage, NoAnchor}
 use Rattle.check_report.specs.declared.value.Redirect.{Redirect}
 use Rattle.check_report.specs.declared.value.Totals.{Totals}
-use Rattle.crawl_web.specs.declared.page.Page.{Page}
-use Rattle.crawl_web.specs.declared.page.Page.TheVariants.{Found, Moved, Missing}
-use Rattle.crawl_web.specs.declared.page.PageResult.{PageResult}
+use Rattle.crawl_pages.specs.declared.page.Page.{Page}
+use Rattle.crawl_pages.specs.declared.page.Page.TheVariants.{Found, Moved, Missing}
+use Rattle.crawl_pages.specs.declared.page.PageResult.{PageResult}
 use Rattle.saved_site.specs.declared.web.Alias.{Alias}
 use Rattle.site_check.specs.Aliases.{is_alias, is_alias_page, is_own_page}
 

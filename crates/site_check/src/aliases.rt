@@ -2,7 +2,7 @@
 ghost use Rattle.std.specs.Prelude.{◌≡◌, ℕ, List, IfOk};
 ghost use Rattle.site_check.specs.Aliases.{is_alias, is_in};
 
-use crawl_web::NoMemory;
+use crawl_pages::NoMemory;
 use hash_order::HashedText;
 use saved_site::Alias;
 use std::alloc::Global;

@@ -12,7 +12,7 @@ use crate::located::take_places;
 use crate::shown::shown;
 use check_report::{Broken, Kind, Place};
 use crawl_keys::CanonUrl;
-use crawl_web::{NoMemory, Page, PageResult};
+use crawl_pages::{NoMemory, Page, PageResult};
 use page_anchors::is_indicated;
 use saved_site::{Alias, AnchorLink, AnchorLinks, Anchors, PageAnchors, SiteFiles, Target};
 use std::alloc::Global;

@@ -2,7 +2,7 @@
 ghost use Rattle.std.specs.Prelude.{◌≡◌, ◌==◌, ◌++◌, ℕ, List, [], IfOk, OnOk, map, not, string_bytes, length};
 ghost use Rattle.std.specs.List.{flat_map};
 ghost use Rattle.crawl_sources.specs.Tallies.{pointed};
-ghost use Rattle.crawl_web.specs.declared.page.PageResult.{PageResult};
+ghost use Rattle.crawl_pages.specs.declared.page.PageResult.{PageResult};
 ghost use Rattle.saved_site.specs.declared.files.SiteFiles.{SiteFiles};
 ghost use Rattle.site_check.specs.Broken.{broken_of, linked_at, redirects_of, result_at, rows_with, ways_with};
 ghost use Rattle.site_check.specs.Ignored.{AreUnused, missing_texts, not_ignored, parts_in, text_at, unused};
@@ -26,7 +26,7 @@ use crate::totals::totals_of;
 use crate::unreached::unreached;
 use crate::worst::worst;
 use check_report::{Broken, FileCount, Findings, Redirect, Totals};
-use crawl_web::{NoMemory, PageResult};
+use crawl_pages::{NoMemory, PageResult};
 use saved_site::{Alias, Body, LinkPlaces, PageAnchors, SiteFiles};
 use std::alloc::Global;
 use std::thread::{Threads, join};

@@ -7,7 +7,8 @@ ghost use Rattle.site_check.specs.Ignored.{entries_in, entry_in, entry_of, has_n
 
 use crate::names::split_byte;
 use crate::shown::begins;
-use crawl_web::{NoMemory, first_line};
+use crawl_pages::NoMemory;
+use text_lines::first_line;
 use std::alloc::Global;
 
 /// Reads an ignore list, one entry per line. An entry matches the targets that begin with it. Empty lines and lines that start with

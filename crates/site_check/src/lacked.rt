@@ -3,7 +3,7 @@ ghost use Rattle.std.specs.Prelude.{IsPermutation};
 
 use crate::leads::Lead;
 use crawl_keys::CanonUrl;
-use crawl_web::NoMemory;
+use crawl_pages::NoMemory;
 use std::alloc::Global;
 use std::cmp::Ordering;
 

@@ -9,7 +9,7 @@ use crate::ignored::is_ignored;
 use crate::linked::{Linked, is_missing};
 use crate::shown::shown;
 use crawl_keys::CanonUrl;
-use crawl_web::{NoMemory, Page, PageResult};
+use crawl_pages::{NoMemory, Page, PageResult};
 use hash_order::HashedText;
 use saved_site::LinkPlaces;
 use std::alloc::Global;

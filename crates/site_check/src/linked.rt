@@ -2,14 +2,14 @@
 ghost use Rattle.std.specs.Prelude.{◌≡◌, ◌++◌, ◌+◌, ◌<◌, ◌^◌, ℕ, List, IfOk, IsSome, Some, map, filter, length, slice_get, false, true};
 ghost use Rattle.std.specs.List.{list_any};
 ghost use Rattle.std.specs.Str.{bytes_eq};
-ghost use Rattle.crawl_web.specs.ReportText.{is_missing};
-ghost use Rattle.crawl_web.specs.declared.page.PageResult.{PageResult};
+ghost use Rattle.crawl_pages.specs.Pages.{is_missing};
+ghost use Rattle.crawl_pages.specs.declared.page.PageResult.{PageResult};
 ghost use Rattle.crawl_sources.specs.Sources.{sources_of};
 ghost use Rattle.crawl_sources.specs.Tallies.{pointed, count_of, IsTally};
 ghost use Rattle.site_check.specs.Broken.{is_unfound, linked, linked_at};
 
 use crawl_sources::{Tallies, tally_links, tally_of};
-use crawl_web::{NoMemory, Page, PageResult};
+use crawl_pages::{NoMemory, Page, PageResult};
 use std::alloc::Global;
 use std::thread::{Threads, join};
 

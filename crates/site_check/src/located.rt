@@ -2,7 +2,7 @@
 use crate::check::{Bodies, Site};
 use crate::leads::Lead;
 use check_report::Place;
-use crawl_web::NoMemory;
+use crawl_pages::NoMemory;
 use saved_site::{Body, TextPlace, text_places};
 use std::alloc::Global;
 use std::mem;

@@ -7,7 +7,7 @@ ghost use Rattle.site_check.specs.Names.{AreNames, behind_slashes, has_name, is_
 
 use crate::shown::shown;
 use check_report::Place;
-use crawl_web::NoMemory;
+use crawl_pages::NoMemory;
 use saved_site::SiteFiles;
 use std::alloc::Global;
 use std::collections::BTreeMap;

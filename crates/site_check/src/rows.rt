@@ -15,7 +15,7 @@ use crate::names::{Named, same_name};
 use crate::shown::shown;
 use check_report::{Broken, Kind, Place, Redirect};
 use crawl_keys::CanonUrl;
-use crawl_web::{NoMemory, Page};
+use crawl_pages::{NoMemory, Page};
 use std::alloc::Global;
 
 /// The rows of the pages that are not there, in order, with where links to each stand.

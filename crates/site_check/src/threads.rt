@@ -7,7 +7,7 @@ use crate::check::{Bodies, Site};
 use crate::lacked::Lacked;
 use crate::leads::{Lead, Maps, leads_from};
 use crate::located::{PlaceOf, by_page, every_place};
-use crawl_web::{NoMemory, PageResult};
+use crawl_pages::{NoMemory, PageResult};
 use std::alloc::Global;
 use std::sync::atomic::AtomicUsize;
 use std::thread;

@@ -1,12 +1,12 @@
 //! The totals of a check.
 ghost use Rattle.std.specs.Prelude.{◌≡◌, IfOk, count_by};
-ghost use Rattle.crawl_web.specs.ReportText.{is_found};
+ghost use Rattle.crawl_pages.specs.Pages.{is_found};
 ghost use Rattle.site_check.specs.Aliases.{is_alias_page, is_in, is_own_page};
 ghost use Rattle.site_check.specs.Totals.{capped, is_part, link_count, links_in, own_links, part_count, place_count, totals_by, totals_of, url_count};
 
 use crate::aliases::{AliasUrls, alias_urls};
 use check_report::{Broken, Kind, Redirect, Totals};
-use crawl_web::{NoMemory, Page, PageResult};
+use crawl_pages::{NoMemory, Page, PageResult};
 use saved_site::Alias;
 use std::alloc::Global;
 

@@ -1,6 +1,6 @@
 //! Files that no link leads to.
 use crate::shown::shown;
-use crawl_web::{NoMemory, Page, PageResult};
+use crawl_pages::{NoMemory, Page, PageResult};
 use saved_site::SiteFiles;
 use std::alloc::Global;
 

@@ -1,6 +1,6 @@
 //! The files with most broken links.
 use check_report::{Broken, FileCount};
-use crawl_web::NoMemory;
+use crawl_pages::NoMemory;
 use std::alloc::Global;
 
 /// How many files are told.

@@ -8,7 +8,7 @@ ghost use Rattle.crawl_certificate.specs.Sorting.{AllBeginAlike, AllEqual, AreIn
 
 use super::numbering::number_all_by_threads;
 use super::{BYTES, LEVELS, Numbered, sort_from, sort_runs, with_numbers, without_numbers};
-use crawl_web::PageResult;
+use crawl_pages::PageResult;
 use rayon::slice::par_sort_unstable_by_key;
 use std::alloc::{AllocError, Global};
 use std::thread::{Threads, join_mut};

@@ -16,7 +16,7 @@ use crate::lookups::Accepted;
 use crate::threads::{add_marks, halvings_of};
 use crawl_frontier::Entry;
 use crawl_keys::{CanonUrl, Filter};
-use crawl_web::PageResult;
+use crawl_pages::PageResult;
 use std::alloc::{AllocError, Global};
 use std::thread::{Threads, join};
 

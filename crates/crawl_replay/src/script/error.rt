@@ -2,14 +2,14 @@ ghost use Rattle.std.specs.Prelude.{◌≡◌};
 ghost use Rattle.crawl_replay.specs.ScriptFaults.{fault_of};
 ghost use Rattle.crawl_replay.specs.declared.script.error.ScriptError.TheVariants as wrong;
 
-use crawl_web::LineError;
+use text_lines::LineError;
 use std::alloc::{AllocError, AllocFailed};
 use thiserror::Error;
 
 /// Why bytes are no script, in the order of the checks. Lines are numbered from 1.
 #[derive(Clone, Copy, Debug, PartialEq, Eq, Error)]
 pub enum ScriptError {
-    /// The line with this number has more than [`LINE_LIMIT`](crawl_web::LINE_LIMIT) bytes.
+    /// The line with this number has more than [`LINE_LIMIT`](text_lines::LINE_LIMIT) bytes.
     #[error("script: line {0}: line too long")]
     LineTooLong(u64),
     /// The line with this number is not UTF-8.

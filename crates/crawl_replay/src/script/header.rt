@@ -4,7 +4,7 @@ ghost use Rattle.crawl_replay.specs.Script.{is_within, header_of};
 
 use crate::numbers::{number32, number64};
 use crawl_limits::{PENDING_LIMIT, WORKER_LIMIT};
-use crawl_web::split_space;
+use text_lines::split_space;
 
 /// What the first line says.
 #[derive(Clone, Copy, Debug, PartialEq, Eq)]

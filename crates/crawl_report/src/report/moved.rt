@@ -7,7 +7,7 @@ ghost use Rattle.crawl_report.specs.Rows.{moved_lines};
 use crate::out::Out;
 use crate::row::Row;
 use crawl_keys::CanonUrl;
-use crawl_web::{NoMemory, Page, PageResult};
+use crawl_pages::{NoMemory, Page, PageResult};
 
 /// Prints where the pages moved to, where this is told.
 pub fn with_moved(out: Out, pages: &[PageResult], moved: bool) -> Result<Out, NoMemory>

@@ -2,7 +2,7 @@
 ghost use Rattle.std.specs.Prelude.{◌≡◌, ℕ, List, ◌∷◌, true, IfOk, IsSome, map, filter};
 ghost use Rattle.std.specs.List.{list_any, flat_map};
 ghost use Rattle.std.specs.Str.{bytes_eq};
-ghost use Rattle.crawl_web.specs.declared.page.PageResult.{PageResult};
+ghost use Rattle.crawl_pages.specs.declared.page.PageResult.{PageResult};
 ghost use Rattle.crawl_report.specs.Lines as line;
 ghost use Rattle.crawl_report.specs.Lines.{line_of};
 ghost use Rattle.crawl_report.specs.Printing.{Adds};
@@ -12,8 +12,8 @@ ghost use Rattle.crawl_sources.specs.Tallies.{count_of, pointed, IsTally};
 use crate::out::Out;
 use crate::report::Sources;
 use crate::row::Row;
+use crawl_pages::{NoMemory, Page, PageResult};
 use crawl_sources::{Tallies, Tally, tally_links, tally_of};
-use crawl_web::{NoMemory, Page, PageResult};
 use std::alloc::Global;
 
 /// Prints the sources of the URLs that are told.

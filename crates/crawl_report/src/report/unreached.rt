@@ -7,7 +7,7 @@ ghost use Rattle.crawl_report.specs.Tallies.{pointed};
 use crate::out::Out;
 use crate::row::Row;
 use crawl_keys::CanonUrl;
-use crawl_web::NoMemory;
+use crawl_pages::NoMemory;
 
 /// Prints a line for each of these URLs.
 pub fn with_unreached(mut out: Out, urls: &[&CanonUrl]) -> Result<Out, NoMemory>

@@ -1,6 +1,7 @@
 //! A web of one host, whose links threads find ahead, as a source of pages for two threads.
 use crawl_keys::{CanonUrl, canonical};
-use crawl_web::{Fetch, FetchError, Page, SavedWeb, SessionFetch, WebInThreads};
+use crawl_pages::{Fetch, FetchError, Page, SessionFetch};
+use saved_web::{SavedWeb, WebInThreads};
 use std::alloc::{AllocError, Global};
 use std::thread::{Threads, join};
 

@@ -2,7 +2,7 @@
 use crate::tests::runs::{Found, How, Run};
 use crate::tests::sources::{Counting, Fails, OneMoved};
 use crawl_keys::canonical;
-use crawl_web::SavedWeb;
+use saved_web::SavedWeb;
 use std::alloc::Global;
 use std::sync::Wait;
 use std::sync::atomic::AtomicU64;

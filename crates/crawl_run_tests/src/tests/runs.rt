@@ -3,7 +3,7 @@ ghost use Rattle.std.specs.Prelude.{◌≡◌};
 
 use crawl_frontier::{ClosedWorker, Frontier, Name, Seeder, Sender, Setup, Worker};
 use crawl_keys::{Filter, canonical};
-use crawl_web::{Fetch, PageResult};
+use crawl_pages::{Fetch, PageResult};
 use crawl_workers::{WorkerEnd, run_threads, run_turns, run_worker};
 use std::alloc::Global;
 use std::marker::Brand;

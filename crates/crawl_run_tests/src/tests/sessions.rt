@@ -1,11 +1,11 @@
 //! A source whose session remembers a page, and a run of it in threads.
 ghost use Rattle.std.specs.Prelude.{◌≡◌, Some, IfSome, IfOk};
-ghost use Rattle.crawl_web.specs.declared.page.Page.TheVariants.{Moved};
+ghost use Rattle.crawl_pages.specs.declared.page.Page.TheVariants.{Moved};
 
 use crate::tests::runs::{How, finishes, seeded};
 use crawl_frontier::{Frontier, Name, Setup};
 use crawl_keys::{CanonUrl, Filter, KeyError, canonical};
-use crawl_web::{FetchError, Page, SessionFetch};
+use crawl_pages::{FetchError, Page, SessionFetch};
 use crawl_workers::{run_threads_in, run_turns_in};
 use std::alloc::Global;
 use std::marker::Brand;

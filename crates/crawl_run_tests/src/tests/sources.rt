@@ -1,11 +1,12 @@
 //! Sources of pages.
 ghost use Rattle.std.specs.Prelude.{if◌then◌else◌, Some};
 ghost use Rattle.std.specs.Str.{bytes_eq};
-ghost use Rattle.crawl_web.specs.declared.page.Page.TheVariants.{Moved, Missing};
-ghost use Rattle.crawl_web.specs.KnownPages.{page_at};
+ghost use Rattle.crawl_pages.specs.declared.page.Page.TheVariants.{Moved, Missing};
+ghost use Rattle.saved_web.specs.KnownPages.{page_at};
 
 use crawl_keys::CanonUrl;
-use crawl_web::{Fetch, FetchError, Page, SavedWeb};
+use crawl_pages::{Fetch, FetchError, Page};
+use saved_web::SavedWeb;
 use std::alloc::Global;
 use std::hint;
 use std::sync::atomic::{AtomicU64, Ordering};

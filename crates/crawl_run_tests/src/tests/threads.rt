@@ -1,7 +1,7 @@
 //! Runs with few and many workers: that each URL is fetched once, and that all workers end whatever is lost.
 use crate::tests::runs::{Found, How, Run};
 use crate::tests::sources::{Counting, Fails, RING};
-use crawl_web::SavedWeb;
+use saved_web::SavedWeb;
 use std::alloc::Global;
 use std::sync::Wait;
 use std::sync::atomic::{AtomicU64, Ordering};

@@ -1,6 +1,7 @@
 //! Pages as values: the order of their links, and their redirects.
 use crate::tests::results::{are_urls, result_of};
-use crawl_web::{Page, SavedWeb, links_of};
+use crawl_pages::{Page, links_of};
+use saved_web::SavedWeb;
 use std::alloc::Global;
 
 /// The page of a saved web at a URL: its kind, the number of skipped links, and the URLs that it leads to.

@@ -2,7 +2,8 @@
 //! error and its line, or on every page.
 use crate::tests::second_reader::{Line, error_of, lines_of, page_of};
 use crawl_keys::CanonUrl;
-use crawl_web::{Fetch, SavedWeb, WebError};
+use crawl_pages::Fetch;
+use saved_web::{SavedWeb, WebError};
 use std::alloc::{AllocError, Global};
 use std::test::Fail;
 

@@ -1,7 +1,8 @@
 //! Reports and their sources, of results in any order, with duplicates, or that no crawl has.
 use crate::tests::results::{Asked, result_at};
 use crawl_sources::sources_text;
-use crawl_web::{Page, PageResult, report_text};
+use crawl_pages::{Page, PageResult};
+use crawl_report::report_text;
 use std::alloc::Global;
 
 /// Results in their order of arrival, their report, and where its missing URLs are linked from.

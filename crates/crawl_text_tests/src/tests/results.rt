@@ -1,6 +1,7 @@
 //! Results of saved webs, and lists of URLs.
 use crawl_keys::{CanonUrl, canonical};
-use crawl_web::{Fetch, PageResult, SavedWeb};
+use crawl_pages::{Fetch, PageResult};
+use saved_web::SavedWeb;
 use std::alloc::Global;
 
 /// The text of a saved web, and a URL.

@@ -1,7 +1,8 @@
 //! A second reader of saved webs, which follows the table of the format. It cuts the bytes into lines first, and then checks each
 //! line against all lines above it.
 use crawl_keys::{CanonUrl, canonical, resolve};
-use crawl_web::{Links, Page, WebError};
+use crawl_pages::{Links, Page};
+use saved_web::WebError;
 use std::alloc::{AllocError, Global};
 use std::mem;
 

@@ -9,7 +9,7 @@ use crate::crawling::CrawlError;
 use crawl_keys::{FilterError, KeyError};
 use crawl_replay::ScriptError;
 use crawl_sources::SeedsFault;
-use crawl_web::WebError;
+use saved_web::WebError;
 use std::alloc::{AllocError, AllocFailed};
 
 /// Why a command failed. [`fault_line`](crate::fault_line) returns the line that the program prints about it.

@@ -9,7 +9,7 @@ use crawl_certificate::CertError;
 use crawl_frontier::FinishError;
 use crawl_replay::ScriptError;
 use crawl_sources::SeedsFault;
-use crawl_web::WebError;
+use saved_web::WebError;
 use std::fmt;
 use std::fmt::Display;
 

@@ -11,7 +11,7 @@ ghost use Rattle.mercator.specs.LogFile.{has_sync, items, line_end, line_len, ma
 use crate::commands::fault::Fault;
 use crate::commands::window::Window;
 use crawl_session::{ServeError, whole_len};
-use crawl_web::{LINE_LIMIT, first_line};
+use text_lines::{LINE_LIMIT, first_line};
 use memchr::memchr;
 use std::alloc::{AllocError, Global};
 use std::fs::{File, OpenFile, TryLockError};

@@ -5,7 +5,7 @@ ghost use Rattle.crawl_certificate.specs.AccountEntries.{entries_of};
 ghost use Rattle.crawl_certificate.specs.Certificate.{ArePages, IsAscending, IsCrawl, CountsOf, NothingLost, result_urls};
 ghost use Rattle.crawl_certificate.specs.Culprits.{NamesCulprit};
 ghost use Rattle.crawl_keys.specs.HostFilter.{allows};
-ghost use Rattle.crawl_web.specs.declared.page.Page.{Page};
+ghost use Rattle.crawl_pages.specs.declared.page.Page.{Page};
 ghost use Rattle.mercator.specs.Crawls.{AreCounts, ComesIn, IsJudgedAt, IsOfRun};
 ghost use Rattle.crawl_workers.specs.Losses.{all_losses};
 ghost use Rattle.mercator.specs.JudgedRuns.{CountsLosses, IsRun};
@@ -21,7 +21,7 @@ use crawl_certificate::{
 };
 use crawl_frontier::Account;
 use crawl_keys::CanonUrl;
-use crawl_web::PageResult;
+use crawl_pages::PageResult;
 use std::alloc::Global;
 use std::thread::Threads;
 

@@ -2,7 +2,7 @@
 ghost use Rattle.std.specs.Prelude.{◌≡◌, ◌∷◌, ◌++◌, [], ℕ, List, IfErr, IfOk};
 ghost use Rattle.crawl_certificate.specs.Certificate.{ArePages};
 ghost use Rattle.crawl_frontier.specs.Accounts.{Accounts};
-ghost use Rattle.crawl_web.specs.declared.page.Page.{Page};
+ghost use Rattle.crawl_pages.specs.declared.page.Page.{Page};
 ghost use Rattle.mercator.specs.Crawls.{AllPages, ComesIn, CountedBelow, IsUncertified};
 ghost use Rattle.mercator.specs.Losses.{losses_with};
 ghost use Rattle.mercator.specs.LosslessRuns.{all_closed, all_found};
@@ -11,7 +11,7 @@ ghost use Rattle.mercator.specs.declared.crawling.Mode.{Mode};
 use crate::crawling::CrawlError;
 use crate::crawling::losses::both_losses;
 use crawl_frontier::{Account, ClosedWorker, Frontier, Name, Sender};
-use crawl_web::PageResult;
+use crawl_pages::PageResult;
 use crawl_workers::{Losses, WorkerEnd};
 use std::alloc::{AllocError, Global};
 

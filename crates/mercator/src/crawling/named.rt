@@ -19,7 +19,7 @@ use crate::crawling::losses::{no_losses, with_refusal};
 use crate::crawling::{CrawlError, CrawlFailure, CrawlSettings, Crawled, Mode};
 use crawl_frontier::{Frontier, Name, Seeder, Setup, Worker};
 use crawl_keys::CanonUrl;
-use crawl_web::SessionFetch;
+use crawl_pages::SessionFetch;
 use crawl_workers::{Losses, RunError, WorkerEnd, run_threads_in, run_turns_in};
 use std::alloc::Global;
 use std::sync::Wait;

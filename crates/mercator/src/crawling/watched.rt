@@ -3,7 +3,7 @@ ghost use Rattle.std.specs.Prelude.{◌≡◌, ◌<◌, ◌+◌};
 ghost use Rattle.mercator.specs.Limits.{most_untold};
 
 use crawl_keys::CanonUrl;
-use crawl_web::{FetchError, Page, SessionFetch};
+use crawl_pages::{FetchError, Page, SessionFetch};
 use std::alloc::Global;
 use std::sync::atomic::{AtomicU64, Ordering};
 

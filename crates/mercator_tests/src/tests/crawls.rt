@@ -4,7 +4,7 @@ use crate::tests::webs::{NOTHING, RING, RING_REPORT, TWO_LINKS, TWO_LINKS_REPORT
 use crawl_certificate::CertError;
 use crawl_frontier::FrontierError;
 use crawl_keys::Filter;
-use crawl_web::report_text;
+use crawl_report::report_text;
 use mercator::{
     CrawlError, CrawlSettings, Crawled, Fault, Mode, Report, crawl_saved_web, report_of_saved_web,
 };

@@ -1,6 +1,7 @@
 //! Files in memory: their saved web, their pages, and a check of them.
 use crawl_keys::{CanonUrl, canonical};
-use crawl_web::{Fetch, Page, SavedWeb, SessionFetch};
+use crawl_pages::{Fetch, Page, SessionFetch};
+use saved_web::SavedWeb;
 use mercator_site::{
     CheckForm, CheckReport, CheckSettings, Files, report_of_files, report_of_site,
 };

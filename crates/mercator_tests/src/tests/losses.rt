@@ -2,7 +2,8 @@
 use crate::tests::sources::WithoutHost;
 use crate::tests::webs::RING;
 use crawl_keys::{CanonUrl, Filter, canonical};
-use crawl_web::{SavedWeb, WithoutSession};
+use crawl_pages::WithoutSession;
+use saved_web::SavedWeb;
 use crawl_workers::Losses;
 use mercator::{CrawlSettings, Mode, crawl_explained};
 use std::alloc::Global;

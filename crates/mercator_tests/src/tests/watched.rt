@@ -1,8 +1,10 @@
 //! Crawls with an observer: what it is told, and that nothing else changes.
-ghost use Rattle.crawl_web.specs.KnownPages.{page_at};
+ghost use Rattle.saved_web.specs.KnownPages.{page_at};
 
 use crawl_keys::{CanonUrl, Filter, canonical};
-use crawl_web::{Fetch, FetchError, Page, SavedWeb, WithoutSession, report_text};
+use crawl_pages::{Fetch, FetchError, Page, WithoutSession};
+use crawl_report::report_text;
+use saved_web::SavedWeb;
 use mercator::{CrawlSettings, Mode, Observe, crawl_watched};
 use std::alloc::{AllocError, Global};
 use std::sync::Wait;

@@ -2,7 +2,7 @@
 ghost use Rattle.std.specs.Prelude.{◌≡◌, ◌<◌, ◌++◌, ℕ, List, [], None, true, length, get_or, IfOk, IfSome, OnOk};
 ghost use Rattle.std.specs.List.{Contains};
 ghost use Rattle.crawl_keys.specs.Folders.{is_of_folder};
-ghost use Rattle.crawl_web.specs.SavedWeb.{link_url};
+ghost use Rattle.saved_web.specs.SavedWeb.{link_url};
 ghost use Rattle.saved_site.specs.Leads.{AreKnown, AreOfFolder, LeadsTo};
 
 use crawl_keys::before_fragment;

@@ -1,8 +1,8 @@
 //! Where the links of pages lead, as indices of URLs.
 ghost use Rattle.std.specs.Prelude.{◌≡◌, true, None, IfOk, OnOk, count_by, is_none};
 ghost use Rattle.std.specs.List.{filter_map};
-ghost use Rattle.crawl_web.specs.Ahead.{KeepIndices, LeadTo};
-ghost use Rattle.crawl_web.specs.SavedWeb.{link_url};
+ghost use Rattle.saved_web.specs.Ahead.{KeepIndices, LeadTo};
+ghost use Rattle.saved_web.specs.SavedWeb.{link_url};
 ghost use Rattle.saved_site.specs.Leads.{LeadsTo};
 ghost use Rattle.saved_site.specs.LinkTables.{IsTable, IsTableOf};
 ghost use Rattle.saved_site.specs.LinkedPages.{IsLed, page_led};

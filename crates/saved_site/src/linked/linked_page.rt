@@ -4,7 +4,7 @@ ghost use Rattle.std.specs.List.{filter_map};
 ghost use Rattle.saved_site.specs.LinkedPages.{page_led};
 
 use crawl_keys::CanonUrl;
-use crawl_web::{Links, Page};
+use crawl_pages::{Links, Page};
 use hash_index::Keyed;
 use std::alloc::{AllocError, Global};
 

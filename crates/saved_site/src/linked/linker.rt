@@ -1,6 +1,6 @@
 //! The pages that one thread makes, with the indices of their links' URLs.
 ghost use Rattle.std.specs.Prelude.{◌≡◌, [], true, IfOk, OnOk};
-ghost use Rattle.crawl_web.specs.Ahead.{KeepIndices};
+ghost use Rattle.saved_web.specs.Ahead.{KeepIndices};
 ghost use Rattle.saved_site.specs.Linked.{AreKept, found_of, is_kept, with_found};
 ghost use Rattle.saved_site.specs.LinkedPages.{IsLed, IsLonger, IsPageList, page_led};
 ghost use Rattle.saved_site.specs.LinkTables.{IsTableOf};
@@ -32,7 +32,7 @@ pub(crate) struct Linker {
 // Contracts see the top, and what is found at each URL.
 impl Model for Linker {
     ghost use Rattle.std.specs.Prelude.{ℕ, List, string_bytes};
-    ghost use Rattle.crawl_web.specs.declared.page.Page.{Page};
+    ghost use Rattle.crawl_pages.specs.declared.page.Page.{Page};
 
     ghost Value = { List ℕ × List (List ℕ × Page) };
 

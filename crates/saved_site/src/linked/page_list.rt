@@ -7,7 +7,7 @@ ghost use Rattle.saved_site.specs.LinkedPages.{IsPageList, found_all, urls_of};
 
 use crate::linked::linked_page::LinkedPage;
 use crawl_keys::CanonUrl;
-use crawl_web::Page;
+use crawl_pages::Page;
 use hash_index::HashIndex;
 use std::alloc::{AllocError, Global};
 

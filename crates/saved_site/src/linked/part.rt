@@ -5,7 +5,7 @@ ghost use Rattle.saved_site.specs.LinkedPages.{IsPageList, found_all};
 
 use crate::linked::page_list::PageList;
 use crawl_keys::CanonUrl;
-use crawl_web::Page;
+use crawl_pages::Page;
 use std::alloc::{AllocError, Global};
 use std::marker::Model;
 
@@ -19,7 +19,7 @@ pub(crate) struct Part {
 // Contracts see what is found at each URL.
 impl Model for Part {
     ghost use Rattle.std.specs.Prelude.{ℕ, List};
-    ghost use Rattle.crawl_web.specs.declared.page.Page.{Page};
+    ghost use Rattle.crawl_pages.specs.declared.page.Page.{Page};
 
     ghost Value = { List (List ℕ × Page) };
 

@@ -1,6 +1,6 @@
 //! URLs, each once, by their indices.
 ghost use Rattle.std.specs.Prelude.{◌≡◌, [], Some, slice_get, IfOk};
-ghost use Rattle.crawl_web.specs.Ahead.{KeepIndices};
+ghost use Rattle.saved_web.specs.Ahead.{KeepIndices};
 
 use crawl_keys::CanonUrl;
 use hash_index::HashIndex;

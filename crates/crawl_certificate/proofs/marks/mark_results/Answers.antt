@@ -2,9 +2,9 @@ use Rattle.std.proofs.Common.{ℕ, List, Bool, false, not, ◌&&◌, [], ◌∷�
 use Rattle.std.specs.Str.{bytes_eq}
 use Rattle.std.proofs.lemmas.List.{take_more}
 use Rattle.crawl_frontier.specs.declared.entry.Entry.{Entry}
-use Rattle.crawl_web.specs.declared.page.PageResult.{PageResult}
+use Rattle.crawl_pages.specs.declared.page.PageResult.{PageResult}
 use Rattle.crawl_keys.specs.HostFilter.{allows}
-use Rattle.crawl_web.specs.Pages.{links_of}
+use Rattle.crawl_pages.specs.Pages.{links_of}
 use Rattle.crawl_certificate.specs.CertFaults.{is_accepted, has_result, is_linked, stands_in}
 use Rattle.crawl_certificate.specs.Culprits.{is_lost, is_a_link, is_twice}
 use Rattle.crawl_certificate.specs.Least.{IsLeast, url_of}

@@ -1,5 +1,5 @@
 use Rattle.std.proofs.Common.{◌≡◌, ℕ, ◌+◌, ◌<◌, ◌^◌, true, length, slice_get, Some}
-use Rattle.crawl_web.specs.declared.page.PageResult.{PageResult}
+use Rattle.crawl_pages.specs.declared.page.PageResult.{PageResult}
 use Rattle.crawl_certificate.specs.CertFaults.{is_linked}
 use Rattle.crawl_certificate.specs.Lookups.{stands_at}
 use Rattle.crawl_certificate.specs.Marks.{MarksOnly}

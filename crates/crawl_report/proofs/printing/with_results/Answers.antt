@@ -1,5 +1,5 @@
 use Rattle.std.proofs.Common.{[], ◌∷◌, ap}
-use Rattle.crawl_web.specs.declared.page.PageResult.{PageResult}
+use Rattle.crawl_pages.specs.declared.page.PageResult.{PageResult}
 use Rattle.crawl_report.specs.Lines.{Line}
 use Rattle.crawl_report.specs.Rows.{page_line, result_lines}
 use Rattle.crawl_report.proofs.Adding.{adds_none, adds_same, adds_nothing, line_more, lines_all}

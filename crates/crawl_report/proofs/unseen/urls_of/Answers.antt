@@ -1,7 +1,7 @@
 use Rattle.std.proofs.Common.{◌||◌, [], ◌∷◌, ◌++◌, take, sym, ap, ◌∙◌}
 use Rattle.std.proofs.lemmas.List.{take_more}
 use Rattle.std.specs.Str.{bytes_eq}
-use Rattle.crawl_web.specs.declared.page.PageResult.{PageResult}
+use Rattle.crawl_pages.specs.declared.page.PageResult.{PageResult}
 use Rattle.crawl_report.specs.Unreached.{has_result}
 use Rattle.crawl_sources.proofs.Counts.{any_push}
 use Rattle.crawl_report.proofs.Sets.{set_put}

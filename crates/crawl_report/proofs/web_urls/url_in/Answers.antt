@@ -1,5 +1,5 @@
 use Rattle.std.proofs.Common.{◌≡◌, Some, codes, IfOk, rules, sym, subst}
-use Rattle.crawl_web.specs.Parts.{at_space}
+use Rattle.text_lines.specs.Fields.{at_space}
 use Rattle.crawl_report.proofs.PageLines.{page_at_space}
 use Rattle.crawl_report.proofs.web_urls.url_in.Goals as goal
 

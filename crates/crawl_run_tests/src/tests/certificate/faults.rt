@@ -5,7 +5,7 @@ use crate::tests::certificate::tables::{
 };
 use crawl_certificate::{CertError, CrawlResult, Culprit, certify, certify_in_threads};
 use crawl_keys::{CanonUrl, Filter, canonical};
-use crawl_web::{Page, PageResult};
+use crawl_pages::{Page, PageResult};
 use std::alloc::Global;
 use std::sync::Wait;
 use std::test::Fail;

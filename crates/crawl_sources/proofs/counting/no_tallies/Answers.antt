@@ -1,7 +1,7 @@
 use Rattle.std.proofs.Common.{◌≡◌, List, take, Some, None, sym, subst, if◌then◌else◌}
 use Rattle.std.specs.List.{list_any}
 use Rattle.std.specs.Str.{bytes_eq}
-use Rattle.crawl_web.specs.declared.page.PageResult.{PageResult}
+use Rattle.crawl_pages.specs.declared.page.PageResult.{PageResult}
 use Rattle.crawl_sources.specs.Tallies.{pointed, count_of, none_counted}
 use Rattle.crawl_sources.proofs.Counts.{none_put, pointed_more}
 use Rattle.crawl_sources.proofs.counting.no_tallies.Goals as goal

@@ -1,7 +1,7 @@
 use Rattle.std.proofs.Common.{ap, ◌∙◌, rules}
 use Rattle.std.proofs.lemmas.List.Sorted.{answers_always}
-use Rattle.crawl_web.specs.ReportText.{is_before, results_by_url}
-use Rattle.crawl_web.proofs.ReportLaws.{references_rank, results_by_url-from_sort}
+use Rattle.crawl_pages.specs.ResultOrder.{is_before, results_by_url}
+use Rattle.crawl_pages.proofs.OrderLaws.{references_rank, results_by_url-from_sort}
 use Rattle.crawl_sources.proofs.Missing.{missing_sorted}
 use Rattle.crawl_sources.proofs.sources.missing.Goals as goal
 

@@ -1,7 +1,7 @@
 use Rattle.std.proofs.Common.{◌≡◌, ℕ, false, List, [], ◌++◌, take, string_bytes, sym, ap, subst, ◌∙◌}
 use Rattle.std.proofs.lemmas.List.{flat_map_more}
 use Rattle.std.specs.List.{flat_map}
-use Rattle.crawl_web.specs.declared.page.PageResult.{PageResult}
+use Rattle.crawl_pages.specs.declared.page.PageResult.{PageResult}
 use Rattle.crawl_sources.specs.Sources.{source_line, line_of}
 use Rattle.crawl_sources.specs.Tallies.{pointed, count_of}
 use Rattle.crawl_sources.proofs.Counts.{pointed_more, url_among, line_counted}

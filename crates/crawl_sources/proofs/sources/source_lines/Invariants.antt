@@ -1,6 +1,6 @@
 use Rattle.std.proofs.Common.{◌≡◌, ℕ, false, List, take, string_bytes}
 use Rattle.std.specs.List.{flat_map}
-use Rattle.crawl_web.specs.declared.page.PageResult.{PageResult}
+use Rattle.crawl_pages.specs.declared.page.PageResult.{PageResult}
 use Rattle.crawl_sources.specs.Sources.{line_of}
 use Rattle.crawl_sources.specs.Tallies.{pointed, count_of, IsTally}
 use Rattle.crawl_sources.proofs.sources.source_lines.Given as goal

@@ -1,7 +1,7 @@
 use Rattle.std.proofs.Common.{◌≡◌, ◌≤◌, sym, ap, subst, ◌∙◌}
 use Rattle.std.specs.List.{count_by}
 use Rattle.crawl_keys.specs.HostFilter.{allows}
-use Rattle.crawl_web.specs.Pages.{links_of}
+use Rattle.crawl_pages.specs.Pages.{links_of}
 use Rattle.crawl_workers.specs.Logs.{AllLogged}
 use Rattle.crawl_workers.specs.Recent.{Knows}
 use Rattle.crawl_workers.specs.Turn.{TellsLinks}

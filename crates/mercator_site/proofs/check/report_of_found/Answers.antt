@@ -2,7 +2,7 @@ use Rattle.std.proofs.Common.{ℕ, List, map, Vec, Global, refl, sym, ap, subst,
 use Rattle.std.specs.Option.{option_map}
 use Rattle.check_report.specs.declared.value.External.{External}
 use Rattle.crawl_keys.specs.CanonicalText.{canonical}
-use Rattle.crawl_web.specs.declared.page.PageResult.{PageResult}
+use Rattle.crawl_pages.specs.declared.page.PageResult.{PageResult}
 use Rattle.site_check.specs.Broken.{broken_of, redirects_of}
 use Rattle.site_check.specs.Ignored.{AreUnused, parts_in}
 use Rattle.site_check.specs.Names.{AreNamed}

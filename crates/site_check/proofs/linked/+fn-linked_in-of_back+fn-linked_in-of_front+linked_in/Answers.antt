@@ -1,6 +1,6 @@
 use Rattle.std.proofs.Common.{◌≡◌, ◌∙◌, ◌+◌, ◌<◌, ◌^◌, List, IfOk, length, map, ap, sym, subst, arith, length-append}
 use Rattle.std.proofs.lemmas.Result.{IfOk-at_ok}
-use Rattle.crawl_web.specs.declared.page.PageResult.{PageResult}
+use Rattle.crawl_pages.specs.declared.page.PageResult.{PageResult}
 use Rattle.crawl_sources.specs.Tallies.{pointed}
 use Rattle.site_check.specs.Broken.{linked, linked_at}
 use Rattle.site_check.proofs.linked.+fn-linked_in-of_back+fn-linked_in-of_front+linked_in.Goals as goal

@@ -4,7 +4,7 @@ use Rattle.std.proofs.lemmas.Option.{slice_get-map, slice_get_read}
 use Rattle.std.specs.Borrow.{Bor}
 use Rattle.std.specs.Option.{option_map}
 use Rattle.crawl_sources.specs.Tallies.{pointed}
-use Rattle.crawl_web.specs.declared.page.PageResult.{PageResult}
+use Rattle.crawl_pages.specs.declared.page.PageResult.{PageResult}
 use Rattle.site_check.specs.Broken.{linked, linked_at}
 use Rattle.site_check.proofs.Counting.{linked_more, sources_fit, with_pages}
 use Rattle.site_check.proofs.linked.sums.Goals as goal

@@ -1,6 +1,6 @@
 use Rattle.std.proofs.Common.{◌≡◌, ◌+◌, ◌<◌, ◌^◌, ◌++◌, List, length, map, take}
 use Rattle.crawl_sources.specs.Tallies.{pointed}
-use Rattle.crawl_web.specs.declared.page.PageResult.{PageResult}
+use Rattle.crawl_pages.specs.declared.page.PageResult.{PageResult}
 use Rattle.site_check.specs.Broken.{linked, linked_at}
 use Rattle.site_check.proofs.linked.sums.Given as goal
 

@@ -1,6 +1,6 @@
 use Rattle.std.proofs.Common.{◌≡◌, ◌∙◌, ◌+◌, ◌<◌, ◌^◌, ◌++◌, List, length, ap, sym, arith, length-append}
 use Rattle.std.proofs.lemmas.Result.{IfOk-at_ok}
-use Rattle.crawl_web.specs.declared.page.PageResult.{PageResult}
+use Rattle.crawl_pages.specs.declared.page.PageResult.{PageResult}
 use Rattle.site_check.specs.Leads.{indices_at, leads_from, number_at}
 use Rattle.site_check.specs.declared.leads.Maps.{Maps}
 use Rattle.site_check.proofs.LeadsFound.{leads_behind}

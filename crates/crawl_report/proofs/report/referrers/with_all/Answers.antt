@@ -2,7 +2,7 @@ use Rattle.std.proofs.Common.{◌≡◌, true, List, IfOk, sym, ap, subst, ◌�
 use Rattle.std.specs.Borrow.{Bor}
 use Rattle.std.specs.List.{flat_map, list_any}
 use Rattle.std.specs.Str.{bytes_eq}
-use Rattle.crawl_web.specs.declared.page.PageResult.{PageResult}
+use Rattle.crawl_pages.specs.declared.page.PageResult.{PageResult}
 use Rattle.crawl_report.specs.Printing.{Adds}
 use Rattle.crawl_report.specs.Rows.{lines_at}
 use Rattle.crawl_report.specs.Tallies.{pointed}

@@ -1,7 +1,7 @@
 use Rattle.std.proofs.Common.{◌∷◌, map, ap, ◌∙◌}
 use Rattle.std.proofs.lemmas.List.{take_all}
 use Rattle.std.specs.List.{flat_map}
-use Rattle.crawl_web.specs.declared.page.PageResult.{PageResult}
+use Rattle.crawl_pages.specs.declared.page.PageResult.{PageResult}
 use Rattle.crawl_sources.specs.Tallies.{pointed, count_of}
 use Rattle.crawl_sources.proofs.Counts.{url_among}
 use Rattle.crawl_report.specs.Lines as line

@@ -1,6 +1,6 @@
 use Rattle.std.proofs.Common.{◌≡◌, Some, None, length, sym, ap, ◌∙◌, rules}
 use Rattle.std.specs.Prelude.{unwrap_or}
-use Rattle.crawl_web.proofs.CutLines.{first_byte-position}
+use Rattle.text_lines.proofs.CutLines.{first_byte-position}
 use Rattle.mercator.proofs.commands.log_file.line_len.Goals as goal
 
 pub returns-in-Some-clause-value : goal.returns-in-Some-clause-value

@@ -1,4 +1,4 @@
-use Rattle.crawl_web.specs.KnownPages.{page_at}
+use Rattle.saved_web.specs.KnownPages.{page_at}
 use Rattle.mercator.proofs.SiteCrawls.{found_of}
 use Rattle.mercator.proofs.commands.web_crawl.crawl_saved_web_in_threads.Goals as goal
 

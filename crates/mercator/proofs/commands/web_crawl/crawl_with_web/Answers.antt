@@ -1,6 +1,6 @@
 use Rattle.std.proofs.Common.{refl}
 use Rattle.std.proofs.lemmas.Result.{err_from_is_err_and}
-use Rattle.crawl_web.specs.KnownPages.{page_at}
+use Rattle.saved_web.specs.KnownPages.{page_at}
 use Rattle.mercator.proofs.SiteCrawls.{counted_of, found_of, lost_at, named_of, unread_named}
 use Rattle.mercator.proofs.commands.web_crawl.crawl_with_web.Goals as goal
 

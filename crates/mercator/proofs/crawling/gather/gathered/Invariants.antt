@@ -1,7 +1,7 @@
 use Rattle.std.proofs.Common.{◌≡◌, ℕ, List, ◌++◌}
 use Rattle.std.specs.Vec.Iter.{into_iter_items}
 use Rattle.crawl_certificate.specs.Certificate.{ArePages}
-use Rattle.crawl_web.specs.declared.page.Page.{Page}
+use Rattle.crawl_pages.specs.declared.page.Page.{Page}
 use Rattle.mercator.specs.Crawls.{AllPages}
 use Rattle.mercator.specs.Losses.{losses_with}
 use Rattle.mercator.specs.LosslessRuns.{all_closed, all_found}

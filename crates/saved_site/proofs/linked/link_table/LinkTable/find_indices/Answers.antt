@@ -1,6 +1,6 @@
 use Rattle.std.proofs.Common.{◌≡◌, ℕ, ◌+◌, ◌∷◌, Option, Some, None, ap, sym, subst, ◌∙◌, arith}
 use Rattle.std.proofs.lemmas.Bool.{and_parts}
-use Rattle.crawl_web.specs.SavedWeb.{link_url}
+use Rattle.saved_web.specs.SavedWeb.{link_url}
 use Rattle.saved_site.specs.Leads.{LeadsTo}
 use Rattle.saved_site.specs.Texts.{all_fit, fits, texts_in}
 use Rattle.saved_site.proofs.Lines.{texts_in-link_lines}

@@ -1,5 +1,5 @@
 use Rattle.std.proofs.Common.{◌≡◌, ◌+◌, ◌≤◌, true, length}
-use Rattle.crawl_web.specs.Ahead.{KeepIndices}
+use Rattle.saved_web.specs.Ahead.{KeepIndices}
 use Rattle.saved_site.specs.LinkTables.{IsTableOf}
 use Rattle.saved_site.specs.Texts.{all_fit, texts_in}
 use Rattle.saved_site.proofs.LinkIndices.{Looked, none_count}

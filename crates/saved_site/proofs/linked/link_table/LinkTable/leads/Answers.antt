@@ -1,6 +1,6 @@
 use Rattle.std.proofs.Common.{rules, ◌≡◌, ℕ, List, slice_get, ap, sym, ◌∙◌}
 use Rattle.std.specs.List.{filter_map}
-use Rattle.crawl_web.specs.declared.page.Page.TheVariants as page
+use Rattle.crawl_pages.specs.declared.page.Page.TheVariants as page
 use Rattle.saved_site.proofs.LinkIndices.{led_page}
 use Rattle.saved_site.specs.Meaning.{under_page}
 use Rattle.saved_site.proofs.linked.link_table.LinkTable.leads.Goals as goal

@@ -1,0 +1,51 @@
+//! Where pages come from.
+ghost use Rattle.std.specs.Prelude.{◌≡◌, IfOk};
+
+use crate::page::Page;
+use crawl_keys::CanonUrl;
+use std::alloc::{AllocError, AllocFailed, Global};
+
+/// Why a fetch gave no page.
+#[derive(Clone, Copy, Debug, PartialEq, Eq)]
+pub enum FetchError {
+    /// A growth was refused.
+    NoMemory,
+    /// The fetch itself failed.
+    Failed,
+}
+
+impl From<AllocError> for FetchError {
+    ghost use Rattle.crawl_pages.specs.declared.fetch.FetchError.TheVariants.{NoMemory};
+
+    ghost from_gives = { λ _ e. e ≡ NoMemory };
+
+    fn from(_refused: AllocError) -> FetchError {
+        FetchError::NoMemory
+    }
+}
+
+impl<T: Drop> From<AllocFailed<T>> for FetchError {
+    ghost use Rattle.crawl_pages.specs.declared.fetch.FetchError.TheVariants.{NoMemory};
+
+    ghost from_gives = { λ _ e. e ≡ NoMemory };
+
+    fn from(_refused: AllocFailed<T>) -> FetchError {
+        FetchError::NoMemory
+    }
+}
+
+/// A source of pages. It has one fixed meaning, a page for every URL, and may fail, but never answers another page.
+pub trait Fetch {
+    ghost use Rattle.std.specs.Prelude.{ℕ, List};
+    ghost use Rattle.crawl_pages.specs.declared.page.Page.{Page};
+
+    /// The page of each canonical text.
+    ghost meaning: { Self → List ℕ → Page };
+
+    /// The page at the URL.
+    ///
+    /// # Errors
+    /// `NoMemory` where a growth was refused, `Failed` where the source gave no answer.
+    fn fetch(&self, alloc: Global, url: &CanonUrl) -> Result<Page, FetchError>
+        ensures meaning { IfOk result (λ page. page ≡ meaning self.now url.now) };
+}

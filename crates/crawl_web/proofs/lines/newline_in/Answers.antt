@@ -1,5 +1,0 @@
-use Rattle.crawl_web.proofs.CutLines.{first_byte-position}
-use Rattle.crawl_web.proofs.lines.newline_in.Goals as goal
-
-pub returns : goal.returns
-returns c = first_byte-position _ c.args.bytes.now c.memchr.result c.memchr.ensures

@@ -1,7 +1,0 @@
-use Rattle.std.proofs.Common.{rules}
-use Rattle.crawl_web.proofs.Ahead.{known_there}
-use Rattle.crawl_web.proofs.saved_web.ahead.Ahead.page.Goals as goal
-
-pub returns : goal.returns
-returns c =
-    known_there c.args.self.now c.args.url.now c.in_ok-index.index c.page_among.result (search rules) (c.page_among.ensures c.args.self.now (search rules))

@@ -1,5 +1,0 @@
-use Rattle.crawl_web.specs.Ahead.{IsChunk}
-use Rattle.crawl_web.proofs.saved_web.ahead.chunk.Chunk.add_block.Given as goal
-
-abbrev pub invariant-loop-index : goal.invariant-loop-index
-invariant-loop-index l = IsChunk l.web l.self

@@ -1,6 +1,0 @@
-use Rattle.std.proofs.Common.{rules}
-use Rattle.crawl_web.proofs.Ahead.{copied_page}
-use Rattle.crawl_web.proofs.saved_web.ahead.chunk.LinksAhead.page.Goals as goal
-
-pub returns : goal.returns
-returns c = λ page is. copied_page page c.args.urls.now c.args.self.now c.from.result is (search rules)

@@ -1,9 +1,0 @@
-use Rattle.std.proofs.Common.{take}
-use Rattle.crawl_web.specs.Ahead.{KeepIndices, LeadTo}
-use Rattle.crawl_web.proofs.saved_web.ahead.chunk.indices_of.Given as goal
-
-abbrev pub invariant-loop-link : goal.invariant-loop-link
-invariant-loop-link l = record {
-  lead : LeadTo l.urls l.indices.items (take l.link-index l.links);
-  keep : KeepIndices l.fn.urls l.urls;
-}

@@ -1,7 +1,0 @@
-use Rattle.std.proofs.Common.{◌≡◌, slice_get}
-use Rattle.std.specs.List.{flat_map}
-use Rattle.crawl_web.proofs.PartPlaces.{from_part}
-use Rattle.crawl_web.proofs.saved_web.web_pages.page_at.Given as goal
-
-abbrev pub invariant-loop-part : goal.invariant-loop-part
-invariant-loop-part l = slice_get (from_part l.parts l.part-index) l.index ≡ slice_get (flat_map (λ part. part) l.parts) l.fn.index

@@ -1,8 +1,0 @@
-use Rattle.std.proofs.Common.{◌≡◌, ℕ, List, true, false, take}
-use Rattle.std.specs.List.{flat_map}
-use Rattle.crawl_web.specs.PageLists.{has}
-use Rattle.crawl_web.proofs.saved_web.web_pages.some_known.Given as goal
-
-abbrev pub invariant-loop-other : goal.invariant-loop-other
-invariant-loop-other g l =
-    (url : List ℕ) → has (flat_map (λ part. part) (take l.other-index l.others)) url ≡ true → has (flat_map (λ part. part) l.parts) url ≡ false

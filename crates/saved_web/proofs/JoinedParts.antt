@@ -1,0 +1,268 @@
+-- Two parts of a saved web, each read behind the header, put together.
+use Rattle.std.proofs.Common.{◌≡◌, ℕ, ◌+◌, ◌<◌, ◌==◌, Bool, true, false, ◌||◌, List, [], ◌∷◌, ◌++◌, length, nat_lt, Option, Some, None, IfSome, is_some, Result, Ok, Err, refl, sym, ap, subst, ◌∙◌, arith, append_assoc, append-nil, length-append, ne_eqb}
+use Rattle.std.specs.Bool.{if◌then◌else◌}
+use Rattle.std.specs.List.{list_any}
+use Rattle.std.specs.Option.{option_map, option_or, option_map_or}
+use Rattle.std.specs.Result.{result_ok}
+use Rattle.std.specs.Str.{bytes_eq, is_utf8}
+use Rattle.std.specs.Str.Lines.{lines}
+use Rattle.std.proofs.lemmas.Bool.{cond-true, cond-false, or_parts}
+use Rattle.std.proofs.lemmas.List.Folds.{list_any-append}
+use Rattle.std.proofs.lemmas.Slice.Eq.{bytes_eq-Decides}
+use Rattle.crawl_keys.specs.CanonicalText.{canonical}
+use Rattle.crawl_keys.specs.declared.error.KeyError.{KeyError}
+use Rattle.saved_web.proofs.PassedLines.{said_passes}
+use Rattle.saved_web.specs.KnownPages.{KnownPages, known_page}
+use Rattle.text_lines.specs.LeastFault.{SoundAfter}
+use Rattle.crawl_limits.specs.Limits.{line_limit}
+use Rattle.saved_web.specs.PageLists.{PageRead, has}
+use Rattle.saved_web.specs.PageLists as list
+use Rattle.saved_web.specs.Reading.{AreRead, AreReadBehind, IsHeader}
+use Rattle.saved_web.specs.SavedWeb.{lines_behind, put_link, link_texts, put_moved, moved_text, page_with, page_behind, page_of}
+use Rattle.saved_web.specs.WebChecks.{Before, under_last_page, before, page_fault, under_fault, said_fault, text_fault, line_fault, fault_after}
+use Rattle.saved_web.specs.WebLines.{line_of_text, line_of, says_page, url_said, is_page, is_page_at, page_url, is_link, is_moved_line}
+use Rattle.text_lines.specs.declared.lines.LineError.TheVariants.{TooLong, NotText}
+use Rattle.saved_web.specs.declared.error.WebError.TheVariants as wrong
+use Rattle.saved_web.specs.declared.line.Line.{Line}
+use Rattle.saved_web.specs.declared.line.Line.TheVariants as says
+
+or_true : (a b : Bool) → b ≡ true → (a || b) ≡ true
+or_true true b e = refl
+or_true false b e = e
+
+-- ---- a line that passes behind some lines passes behind others
+
+-- what is before a line in one place, and in another: no check that it passes there fails here
+record Passes (b d : Before) (said : Line (List ℕ)) : Type 0 where
+  second : d.second ≡ b.second
+  some_page : b.some_page ≡ true → d.some_page ≡ true
+  link : b.some_page ≡ true → d.link ≡ b.link
+  moved : b.some_page ≡ true → d.moved ≡ b.moved
+  known : (url : List ℕ) → url_said said ≡ Some url → b.known url ≡ false → d.known url ≡ false
+
+unknown : (n : ℕ) (b : Bool) → (if b then Some (wrong.PageTwice n) else None) ≡ None → b ≡ false
+unknown n true e = absurd (cc)
+unknown n false e = refl
+
+page_again : (n m : ℕ) (known other : List ℕ → Bool) (url : Result (List ℕ) KeyError) → ((u : List ℕ) → url ≡ Ok u → known u ≡ false → other u ≡ false) → page_fault n known url ≡ None → page_fault m other url ≡ None
+page_again n m known other (Err e) stays passes = absurd (cc)
+page_again n m known other (Ok u) stays passes = rw (stays u refl (unknown n (known u) passes)) refl
+
+under_parts : (n : ℕ) (some mixed : Bool) → under_fault n some mixed ≡ None → (some ≡ true) × (mixed ≡ false)
+under_parts n true true passes = absurd (cc)
+under_parts n true false passes = (refl, refl)
+under_parts n false mixed passes = absurd (cc)
+
+under_again : (n m : ℕ) (some mixed more other : Bool) → under_fault n some mixed ≡ None → (some ≡ true → more ≡ true) → (some ≡ true → other ≡ mixed) → under_fault m more other ≡ None
+under_again n m some mixed more other passes page same =
+    let parts = under_parts n some mixed passes in
+    rw (page parts.0, same parts.0 ∙ parts.1) refl
+
+moved_again : (b d : Before) (s t : Bool) → t ≡ s → (b.some_page ≡ true → d.some_page ≡ true) → (b.some_page ≡ true → (d.link || d.moved) ≡ (b.link || b.moved))
+    → (if s then under_fault b.number b.some_page (b.link || b.moved) else Some (wrong.BadLine b.number)) ≡ None → (if t then under_fault d.number d.some_page (d.link || d.moved) else Some (wrong.BadLine d.number)) ≡ None
+moved_again b d true true e page same passes =
+    under_again b.number d.number b.some_page (b.link || b.moved) d.some_page (d.link || d.moved) passes page same
+moved_again b d true false e page same passes = absurd (cc)
+moved_again b d false t e page same passes = absurd (cc)
+
+said_again : (b d : Before) (said : Line (List ℕ)) → Passes b d said → said_fault b said ≡ None → said_fault d said ≡ None
+said_again b d (says.Page text) k passes =
+    page_again b.number d.number b.known d.known (canonical text) (λ u is new. k.known u (ap result_ok is) new) passes
+said_again b d (says.Link text) k passes =
+    under_again b.number d.number b.some_page b.moved d.some_page d.moved passes k.some_page k.moved
+said_again b d (says.Moved text) k passes =
+    moved_again b d b.second d.second k.second k.some_page (λ some i. k.link some i || k.moved some i) passes
+said_again b d says.Empty k passes = refl
+said_again b d says.Other k passes = absurd (cc)
+
+text_again : (b d : Before) (long utf8 : Bool) (line : List ℕ) → (b.number == 1) ≡ false → (d.number == 1) ≡ false → (said_fault b (if utf8 then line_of_text line else says.Other) ≡ None → said_fault d (if utf8 then line_of_text line else says.Other) ≡ None)
+    → text_fault b (if long then Err (TooLong b.number) else if utf8 then Ok line else Err (NotText b.number)) ≡ None → text_fault d (if long then Err (TooLong d.number) else if utf8 then Ok line else Err (NotText d.number)) ≡ None
+text_again b d true utf8 line first later said passes = absurd (cc)
+text_again b d false false line first later said passes = absurd (cc)
+text_again b d false true line first later said passes = rw later (said (rw first at passes))
+
+line_again : (b d : Before) (line : List ℕ) → (b.number == 1) ≡ false → (d.number == 1) ≡ false → Passes b d (line_of line) → line_fault b line ≡ None → line_fault d line ≡ None
+line_again b d line first later k passes =
+    text_again b d (nat_lt line_limit (length line)) (is_utf8 line) line first later (said_again b d (line_of line) k) passes
+
+-- ---- the lines of a part, behind the header alone and behind the part before
+
+no_page_at : (header url : List ℕ) → line_of header ≡ says.Other → is_page_at url header ≡ false
+no_page_at header url other = ap (λ said. option_map_or (λ own. bytes_eq own url) (url_said said) false) other
+
+under_behind : (xs ys : List (List ℕ)) → list_any is_page ys ≡ true → under_last_page (xs ++ ys) ≡ under_last_page ys
+under_behind [] ys page = refl
+under_behind (x ∷ xs) ys page =
+    let some : list_any is_page ((x ∷ xs) ++ ys) ≡ true = list_any-append is_page (x ∷ xs) ys ∙ or_true (list_any is_page (x ∷ xs)) (list_any is_page ys) page in
+    cond-true _ _ _ some ∙ under_behind xs ys page
+
+page_later : (header : List ℕ) (earlier : List (List ℕ)) → line_of header ≡ says.Other → list_any is_page (header ∷ earlier) ≡ true → list_any is_page earlier ≡ true
+page_later header earlier other some =
+    let first : false ≡ is_page header = sym (ap says_page other) in
+    ap (λ b. b || list_any is_page earlier) first ∙ some
+
+passes_behind : (header : List ℕ) (front earlier : List (List ℕ)) (line : List ℕ) → line_of header ≡ says.Other → ((url : List ℕ) → page_url line ≡ Some url → list_any (is_page_at url) front ≡ false)
+    → Passes (before (header ∷ earlier)) (before (header ∷ front ++ earlier)) (line_of line)
+passes_behind header front earlier line other apart =
+    let under : list_any is_page (header ∷ earlier) ≡ true → under_last_page (header ∷ front ++ earlier) ≡ under_last_page (header ∷ earlier) =
+    λ some. under_behind (header ∷ front) earlier (page_later header earlier other some) ∙ sym (under_behind (header ∷ []) earlier (page_later header earlier other some)) in
+    record {
+      second = refl;
+      some_page = λ some. list_any-append is_page (header ∷ front) earlier ∙ or_true (list_any is_page (header ∷ front)) (list_any is_page earlier) (page_later header earlier other some);
+      link = λ some. ap (list_any is_link) (under some);
+      moved = λ some. ap (list_any is_moved_line) (under some);
+      known = λ url is new.
+          let parts = or_parts (is_page_at url header) (list_any (is_page_at url) earlier) new in
+          (λ i. no_page_at header url other i || list_any-append (is_page_at url) front earlier i) ∙ (λ i. apart url is i || parts.1 i);
+    }
+
+page_here : (line url : List ℕ) → page_url line ≡ Some url → is_page_at url line ≡ true
+page_here line url is = ap (λ own. option_map_or (λ u. bytes_eq u url) own false) is ∙ (bytes_eq-Decides url url).1 refl
+
+sound_behind : (header : List ℕ) (front earlier more : List (List ℕ)) → line_of header ≡ says.Other → ((url : List ℕ) → list_any (is_page_at url) more ≡ true → list_any (is_page_at url) front ≡ false)
+    → SoundAfter fault_after (header ∷ earlier) more → SoundAfter fault_after (header ∷ front ++ earlier) more
+sound_behind header front earlier [] other apart sound = tt
+sound_behind header front earlier (line ∷ more) other apart sound =
+    let here = passes_behind header front earlier line other (λ url is. apart url (ap (λ b. b || list_any (is_page_at url) more) (page_here line url is))) in
+    let passes = line_again (before (header ∷ earlier)) (before (header ∷ front ++ earlier)) line (ne_eqb (length (header ∷ earlier) + 1) 1 (λ one. omega (arith, one))) (ne_eqb (length (header ∷ front ++ earlier) + 1) 1 (λ one. omega (arith, one))) here sound.0 in
+    let later = sound_behind header front (earlier ++ line ∷ []) more other (λ url there. apart url (or_true (is_page_at url line) (list_any (is_page_at url) more) there)) sound.1 in
+    (passes, subst (λ ls. SoundAfter fault_after (header ∷ ls) more) (sym (append_assoc front earlier (line ∷ []))) later)
+
+sound_append : (earlier xs ys : List (List ℕ)) → SoundAfter fault_after earlier xs → SoundAfter fault_after (earlier ++ xs) ys → SoundAfter fault_after earlier (xs ++ ys)
+sound_append earlier [] ys first later = subst (λ e. SoundAfter fault_after e ys) (append-nil earlier) later
+sound_append earlier (x ∷ xs) ys first later =
+    (first.0, sound_append (earlier ++ x ∷ []) xs ys first.1 (subst (λ e. SoundAfter fault_after e ys) (sym (append_assoc earlier (x ∷ []) xs)) later))
+
+-- ---- a part begins with no link of the page before
+
+abbrev Begins : List (List ℕ) → Type 0
+Begins lines = (link_texts lines ≡ []) × (moved_text lines ≡ None)
+
+at_begin : (b : Before) (said : Line (List ℕ)) (more : List (List ℕ)) → b.some_page ≡ false → said_fault b said ≡ None → (says_page said ≡ false → Begins more) → (put_link said (link_texts more) ≡ []) × (put_moved said (moved_text more) ≡ None)
+at_begin b (says.Page text) more none passes later = (refl, refl)
+at_begin b (says.Link text) more none passes later =
+    absurd (let parts = under_parts b.number b.some_page b.moved passes in let clash : true ≡ false = sym parts.0 ∙ none in cc)
+at_begin b (says.Moved text) more none passes later = absurd (by_version b.second passes)
+  where
+    by_version : (second : Bool) → (if second then under_fault b.number b.some_page (b.link || b.moved) else Some (wrong.BadLine b.number)) ≡ None → ⊥
+    by_version true passes = let parts = under_parts b.number b.some_page (b.link || b.moved) passes in let clash : true ≡ false = sym parts.0 ∙ none in cc
+    by_version false passes = cc
+at_begin b says.Empty more none passes later = later refl
+at_begin b says.Other more none passes later = absurd (cc)
+
+unlinked : (earlier more : List (List ℕ)) → 0 < length earlier → list_any is_page earlier ≡ false → SoundAfter fault_after earlier more → Begins more
+unlinked earlier [] some none sound = (refl, refl)
+unlinked earlier (line ∷ more) some none sound =
+    let passes = said_passes (before earlier) line (ne_eqb (length earlier + 1) 1 (λ one. omega (arith, one, some))) sound.0 in
+    at_begin (before earlier) (line_of line) more none passes
+    (λ other. unlinked (earlier ++ line ∷ []) more (omega (arith, length-append earlier (line ∷ []))) (list_any-append is_page earlier (line ∷ []) ∙ (λ i. none i || (other i || false))) sound.1)
+
+pub links_end : (xs ys : List (List ℕ)) → link_texts ys ≡ [] → link_texts (xs ++ ys) ≡ link_texts xs
+links_end [] ys none = none
+links_end (x ∷ xs) ys none = ap (put_link (line_of x)) (links_end xs ys none)
+
+moved_ends : (xs ys : List (List ℕ)) → moved_text ys ≡ None → moved_text (xs ++ ys) ≡ moved_text xs
+moved_ends [] ys none = none
+moved_ends (x ∷ xs) ys none = ap (put_moved (line_of x)) (moved_ends xs ys none)
+
+-- ---- the pages of both
+
+pub with_url-append : (ps qs : KnownPages) (url : List ℕ) → list.page_with (ps ++ qs) url ≡ option_or (list.page_with ps url) (list.page_with qs url)
+with_url-append [] qs url = refl
+with_url-append (p ∷ ps) qs url = by_first (bytes_eq p.url url) _ _ _ (with_url-append ps qs url)
+  where
+    by_first : (b : Bool) (all more later : Option PageRead) → all ≡ option_or more later → (if b then Some p else all) ≡ option_or (if b then Some p else more) later
+    by_first true all more later e = refl
+    by_first false all more later e = e
+
+some_or : (a b : Option PageRead) → is_some (option_or a b) ≡ (is_some a || is_some b)
+some_or (Some x) b = refl
+some_or None b = refl
+
+pub has-append : (ps qs : KnownPages) (url : List ℕ) → has (ps ++ qs) url ≡ (has ps url || has qs url)
+has-append ps qs url = ap is_some (with_url-append ps qs url) ∙ some_or (list.page_with ps url) (list.page_with qs url)
+
+first_of : (a b : Option PageRead) → is_some a ≡ true → option_or a b ≡ a
+first_of (Some x) b some = refl
+first_of None b some = absurd (cc)
+
+other_of : (a b : Option PageRead) → is_some a ≡ false → option_or a b ≡ b
+other_of (Some x) b none = absurd (cc)
+other_of None b none = refl
+
+told : Option PageRead → Option (List (List ℕ))
+told o = option_map (λ page. lines page.behind) o
+
+known_first : (ps qs : KnownPages) (url : List ℕ) → has ps url ≡ true → known_page (ps ++ qs) url ≡ known_page ps url
+unfolding told
+known_first ps qs url some = ap (λ o. page_behind url (told o)) (with_url-append ps qs url ∙ first_of (list.page_with ps url) (list.page_with qs url) some)
+
+known_later : (ps qs : KnownPages) (url : List ℕ) → has ps url ≡ false → known_page (ps ++ qs) url ≡ known_page qs url
+unfolding told
+known_later ps qs url none = ap (λ o. page_behind url (told o)) (with_url-append ps qs url ∙ other_of (list.page_with ps url) (list.page_with qs url) none)
+
+-- ---- the page of a URL in both
+
+behind_some : (url : List ℕ) (xs : List (List ℕ)) → is_some (lines_behind xs url) ≡ list_any (is_page_at url) xs
+behind_some url [] = refl
+behind_some url (x ∷ xs) = by_first (is_page_at url x) _ _ (behind_some url xs)
+  where
+    by_first : (b : Bool) (o : Option (List (List ℕ))) (any : Bool) → is_some o ≡ any → is_some (if b then Some xs else o) ≡ (b || any)
+    by_first true o any e = refl
+    by_first false o any e = e
+
+behind_first : (url : List ℕ) (xs ys behind : List (List ℕ)) → lines_behind xs url ≡ Some behind → lines_behind (xs ++ ys) url ≡ Some (behind ++ ys)
+behind_first url [] ys behind is = absurd (cc)
+behind_first url (x ∷ xs) ys behind is = by_first (is_page_at url x) is (behind_first url xs ys behind)
+  where
+    by_first : (b : Bool) → (if b then Some xs else lines_behind xs url) ≡ Some behind → (lines_behind xs url ≡ Some behind → lines_behind (xs ++ ys) url ≡ Some (behind ++ ys)) → (if b then Some (xs ++ ys) else lines_behind (xs ++ ys) url) ≡ Some (behind ++ ys)
+    by_first true is more = let same : xs ≡ behind = cc in ap (λ ls. Some (ls ++ ys)) same
+    by_first false is more = more is
+
+behind_later : (url : List ℕ) (xs ys : List (List ℕ)) → lines_behind xs url ≡ None → lines_behind (xs ++ ys) url ≡ lines_behind ys url
+behind_later url [] ys is = refl
+behind_later url (x ∷ xs) ys is = by_first (is_page_at url x) is (behind_later url xs ys)
+  where
+    by_first : (b : Bool) → (if b then Some xs else lines_behind xs url) ≡ None → (lines_behind xs url ≡ None → lines_behind (xs ++ ys) url ≡ lines_behind ys url) → (if b then Some (xs ++ ys) else lines_behind (xs ++ ys) url) ≡ lines_behind ys url
+    by_first true is more = absurd (cc)
+    by_first false is more = more is
+
+found_in_both : (header : List ℕ) (front back : List (List ℕ)) (ps qs : KnownPages) (url : List ℕ) → line_of header ≡ says.Other → AreRead (header ∷ front) ps → AreRead (header ∷ back) qs → Begins back → (first : Option (List (List ℕ))) → lines_behind (header ∷ front) url ≡ first → known_page (ps ++ qs) url ≡ page_of (header ∷ front ++ back) url
+found_in_both header front back ps qs url other p q begins (Some behind) is =
+    let some : has ps url ≡ true = p.known url ∙ sym (behind_some url (header ∷ front)) ∙ ap is_some is in
+    let both : page_of (header ∷ front ++ back) url ≡ page_behind url (Some (behind ++ back)) = ap (page_behind url) (behind_first url (header ∷ front) back behind is) in
+    let ends : page_behind url (Some (behind ++ back)) ≡ page_behind url (Some behind) = λ i. page_with url (moved_ends behind back begins.1 i) (links_end behind back begins.0 i) in
+    known_first ps qs url some ∙ p.found url ∙ ap (page_behind url) is ∙ sym (both ∙ ends)
+found_in_both header front back ps qs url other p q begins None is =
+    let none : has ps url ≡ false = p.known url ∙ sym (behind_some url (header ∷ front)) ∙ ap is_some is in
+    let both : page_of (header ∷ front ++ back) url ≡ page_of back url = ap (page_behind url) (behind_later url (header ∷ front) back is) in
+    let alone : page_of (header ∷ back) url ≡ page_of back url = ap (page_behind url) (cond-false _ _ _ (no_page_at header url other)) in
+    known_later ps qs url none ∙ q.found url ∙ alone ∙ sym both
+
+-- ---- two parts
+
+pub joined : (second : Bool) (header : List ℕ) (front back : List (List ℕ)) (ps qs : KnownPages) → IsHeader second header → AreRead (header ∷ front) ps → AreRead (header ∷ back) qs → ((url : List ℕ) → has qs url ≡ true → has ps url ≡ false) → AreRead (header ∷ front ++ back) (ps ++ qs)
+joined second header front back ps qs h p q apart =
+    let other = h.other in
+    let known_back : (url : List ℕ) → has qs url ≡ list_any (is_page_at url) back =
+    λ url. q.known url ∙ ap (λ b. b || list_any (is_page_at url) back) (no_page_at header url other) in
+    let apart_lines : (url : List ℕ) → list_any (is_page_at url) back ≡ true → list_any (is_page_at url) front ≡ false =
+    λ url there. (or_parts (is_page_at url header) (list_any (is_page_at url) front) (sym (p.known url) ∙ apart url (known_back url ∙ there))).1 in
+    let none : list_any is_page (header ∷ []) ≡ false = ap (λ said. says_page said || false) other in
+    let behind : SoundAfter fault_after (header ∷ front ++ []) back = sound_behind header front [] back other apart_lines q.sound.1 in
+    record {
+      sound = (h.sound, sound_append (header ∷ []) front back p.sound.1 (subst (λ ls. SoundAfter fault_after (header ∷ ls) back) (append-nil front) behind));
+      known = λ url. has-append ps qs url ∙ (λ i. p.known url i || known_back url i) ∙ sym (list_any-append (is_page_at url) (header ∷ front) back);
+      found = λ url. found_in_both header front back ps qs url other p q (unlinked (header ∷ []) back (omega arith) none q.sound.1) (lines_behind (header ∷ front) url) refl;
+    }
+
+-- what is read of two parts is read of both together
+pub both_read : (second : Bool) (all front back : List (List ℕ)) (ps qs : KnownPages) (both : Option KnownPages) → all ≡ front ++ back → AreReadBehind second front ps → AreReadBehind second back qs → IfSome both (λ web. web ≡ ps ++ qs) → IfSome both (λ _. (url : List ℕ) → has qs url ≡ true → has ps url ≡ false) → IfSome both (AreReadBehind second all)
+both_read second all front back ps qs None split first later whole apart = tt
+both_read second all front back ps qs (Some web) split first later whole apart = λ header h.
+    let read = joined second header front back ps qs h (first header h) (later header h) apart in
+    let P : List (List ℕ) → Type 0 = λ ls. AreRead (header ∷ ls) web in
+    subst P (sym split) (subst (AreRead (header ∷ front ++ back)) (sym whole) read)
+
+pub at_some : {X : Type 0} (P : X → Type 0) {r : Option X} {x : X} → r ≡ Some x → IfSome r P → P x
+at_some P is some = subst (λ o. IfSome o P) is some

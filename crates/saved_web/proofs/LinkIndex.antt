@@ -1,0 +1,26 @@
+-- Links by the index of their texts.
+use Rattle.std.proofs.Common.{◌≡◌, ℕ, ◌<◌, List, length, map, get_or, Some, sym, subst, ◌∙◌}
+use Rattle.std.specs.List.{Contains}
+use Rattle.std.proofs.lemmas.List.{get_or-map, length-map}
+use Rattle.std.proofs.lemmas.List.Elements.{Contains-get_or}
+use Rattle.std.proofs.lemmas.Option.{slice_get_within, get_or_from_slice_get}
+use Rattle.hash_index.specs.Lists.{index_of}
+use Rattle.hash_index.proofs.Listed.{found_at}
+use Rattle.saved_web.specs.KnownLinks.{TextLink}
+
+abbrev pub texts : List TextLink → List (List ℕ)
+texts known = map (λ link. link.0) known
+
+pub within_at : (known : List TextLink) (text : List ℕ) (k : ℕ) → Some k ≡ index_of (texts known) text → k < length known
+within_at known text k found =
+    subst (λ n. k < n) (length-map known (λ (link : TextLink). link.0)) (slice_get_within (texts known) k text (found_at (texts known) text k (sym found)))
+
+text_at : (known : List TextLink) (text : List ℕ) (k : ℕ) (d : TextLink) → Some k ≡ index_of (texts known) text → (get_or known k d).0 ≡ text
+text_at known text k d found =
+    sym (get_or-map (λ (link : TextLink). link.0) known k d d.0 (within_at known text k found))
+    ∙ get_or_from_slice_get (texts known) k text d.0 (found_at (texts known) text k (sym found))
+
+-- the text that is found is known, with the link at its index
+pub contains_at : (known : List TextLink) (text : List ℕ) (k : ℕ) (d : TextLink) → Some k ≡ index_of (texts known) text → Contains known (text, (get_or known k d).1)
+contains_at known text k d found =
+    subst (λ t. Contains known (t, (get_or known k d).1)) (text_at known text k d found) (Contains-get_or known k d (within_at known text k found))

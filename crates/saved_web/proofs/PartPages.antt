@@ -1,0 +1,86 @@
+-- Pages in parts, one after another.
+use Rattle.std.proofs.Common.{◌≡◌, ℕ, ◌+◌, ◌<◌, Bool, true, false, ◌||◌, List, [], ◌∷◌, ◌++◌, length, take, drop, get_or, Option, Some, None, is_some, refl, sym, ap, subst, ◌∙◌, append-nil}
+use Rattle.std.specs.Bool.{if◌then◌else◌}
+use Rattle.std.specs.List.{flat_map}
+use Rattle.std.specs.Option.{option_or}
+use Rattle.std.specs.Str.{bytes_eq}
+use Rattle.std.proofs.lemmas.Bool.{or_parts}
+use Rattle.std.proofs.lemmas.List.{drop_more, take_more}
+use Rattle.std.proofs.lemmas.List.Concat.{flat_map-append}
+use Rattle.std.proofs.lemmas.Slice.Eq.{bytes_eq-Decides}
+use Rattle.saved_web.proofs.JoinedParts.{with_url-append, has-append}
+use Rattle.saved_web.specs.PageLists.{PageRead, page_with, has}
+
+or_none : (o : Option PageRead) → o ≡ None → (later : Option PageRead) → option_or o later ≡ later
+or_none (Some x) is later = absurd (cc)
+or_none None is later = refl
+
+or_some : (o : Option PageRead) (x : PageRead) → o ≡ Some x → (later : Option PageRead) → option_or o later ≡ Some x
+or_some (Some y) x is later = is
+or_some None x is later = absurd (cc)
+
+at_part : (parts : List (List PageRead)) (i : ℕ) (part : List PageRead) (url : List ℕ) → i < length parts → part ≡ get_or parts i part → page_with (flat_map (λ p. p) (drop i parts)) url ≡ option_or (page_with part url) (page_with (flat_map (λ p. p) (drop (i + 1) parts)) url)
+at_part parts i part url below is =
+    let cut : drop i parts ≡ part ∷ drop (i + 1) parts = drop_more parts i part below ∙ ap (λ p. p ∷ drop (i + 1) parts) (sym is) in
+    ap (λ ps. page_with (flat_map (λ p. p) ps) url) cut ∙ with_url-append part (flat_map (λ p. p) (drop (i + 1) parts)) url
+
+-- a part without the URL is passed over
+pub passed_part : (parts : List (List PageRead)) (i : ℕ) (part : List PageRead) (url : List ℕ) → i < length parts → part ≡ get_or parts i part → page_with part url ≡ None → page_with (flat_map (λ p. p) (drop (i + 1) parts)) url ≡ page_with (flat_map (λ p. p) (drop i parts)) url
+passed_part parts i part url below is none =
+    sym (at_part parts i part url below is ∙ or_none (page_with part url) none (page_with (flat_map (λ p. p) (drop (i + 1) parts)) url))
+
+-- a part with the URL has the page
+pub found_part : (parts : List (List PageRead)) (i : ℕ) (part : List PageRead) (url : List ℕ) (x : PageRead) → i < length parts → part ≡ get_or parts i part → page_with part url ≡ Some x → page_with (flat_map (λ p. p) (drop i parts)) url ≡ Some x
+found_part parts i part url x below is some =
+    at_part parts i part url below is ∙ or_some (page_with part url) x some (page_with (flat_map (λ p. p) (drop (i + 1) parts)) url)
+
+-- one part more
+part_more : (parts : List (List PageRead)) (i : ℕ) (part : List PageRead) (url : List ℕ) → i < length parts → part ≡ get_or parts i part → has (flat_map (λ p. p) (take (i + 1) parts)) url ≡ (has (flat_map (λ p. p) (take i parts)) url || has part url)
+part_more parts i part url below is =
+    let cut : take (i + 1) parts ≡ take i parts ++ part ∷ [] = take_more parts i part below ∙ ap (λ p. take i parts ++ p ∷ []) (sym is) in
+    let pages : flat_map (λ p. p) (take (i + 1) parts) ≡ flat_map (λ p. p) (take i parts) ++ part =
+    ap (flat_map (λ p. p)) cut ∙ flat_map-append (λ p. p) (take i parts) (part ∷ []) ∙ ap (λ ps. flat_map (λ p. p) (take i parts) ++ ps) (append-nil part) in
+    ap (λ ps. has ps url) pages ∙ has-append (flat_map (λ p. p) (take i parts)) part url
+
+-- pages none of which has the URL, and one part more
+pub none_in_more : (parts : List (List PageRead)) (i : ℕ) (part other : List PageRead) → i < length parts → part ≡ get_or parts i part → ((url : List ℕ) → has other url ≡ true → has (flat_map (λ p. p) (take i parts)) url ≡ false) → ((url : List ℕ) → has other url ≡ true → has part url ≡ false) → (url : List ℕ) → has other url ≡ true → has (flat_map (λ p. p) (take (i + 1) parts)) url ≡ false
+none_in_more parts i part other below is before here url there =
+    part_more parts i part url below is ∙ (λ k. before url there k || here url there k)
+
+pub none_of_more : (parts : List (List PageRead)) (i : ℕ) (part others : List PageRead) → i < length parts → part ≡ get_or parts i part → ((url : List ℕ) → has (flat_map (λ p. p) (take i parts)) url ≡ true → has others url ≡ false) → ((url : List ℕ) → has part url ≡ true → has others url ≡ false) → (url : List ℕ) → has (flat_map (λ p. p) (take (i + 1) parts)) url ≡ true → has others url ≡ false
+none_of_more parts i part others below is before here url there =
+    by_part (has (flat_map (λ p. p) (take i parts)) url) (has part url) refl refl (sym (part_more parts i part url below is) ∙ there)
+  where
+    by_part : (a b : Bool) → has (flat_map (λ p. p) (take i parts)) url ≡ a → has part url ≡ b → (a || b) ≡ true → has others url ≡ false
+    by_part true b is_a is_b e = before url is_a
+    by_part false true is_a is_b e = here url is_b
+    by_part false false is_a is_b e = absurd (cc)
+
+-- one page more
+pub none_with_more : (list : List PageRead) (i : ℕ) (page : PageRead) (others : List PageRead) → i < length list → page ≡ get_or list i page → ((url : List ℕ) → has (take i list) url ≡ true → has others url ≡ false) → has others page.url ≡ false → (url : List ℕ) → has (take (i + 1) list) url ≡ true → has others url ≡ false
+none_with_more list i page others below is before here url there =
+    by_page (has (take i list) url) (bytes_eq page.url url) refl refl (sym more ∙ there)
+  where
+    one : (b : Bool) → is_some (if b then Some page else None) ≡ b
+    one true = refl
+    one false = refl
+
+    more : has (take (i + 1) list) url ≡ (has (take i list) url || bytes_eq page.url url)
+    more =
+        let cut : take (i + 1) list ≡ take i list ++ page ∷ [] = take_more list i page below ∙ ap (λ p. take i list ++ p ∷ []) (sym is) in
+        ap (λ ps. has ps url) cut ∙ has-append (take i list) (page ∷ []) url ∙ ap (λ b. has (take i list) url || b) (one (bytes_eq page.url url))
+
+    by_page : (a b : Bool) → has (take i list) url ≡ a → bytes_eq page.url url ≡ b → (a || b) ≡ true → has others url ≡ false
+    by_page true b is_a is_b e = before url is_a
+    by_page false true is_a is_b e = subst (λ u. has others u ≡ false) ((bytes_eq-Decides page.url url).0 is_b) here
+    by_page false false is_a is_b e = absurd (cc)
+
+-- two halves of a list
+pub none_in_halves : (list front back others : List PageRead) (first second : Bool) → front ++ back ≡ list → (first ≡ false → (url : List ℕ) → has front url ≡ true → has others url ≡ false) → (second ≡ false → (url : List ℕ) → has back url ≡ true → has others url ≡ false) → (first || second) ≡ false → (url : List ℕ) → has list url ≡ true → has others url ≡ false
+none_in_halves list front back others first second whole before behind none url there =
+    by_half (has front url) (has back url) refl refl (sym (has-append front back url) ∙ ap (λ ps. has ps url) whole ∙ there)
+  where
+    by_half : (a b : Bool) → has front url ≡ a → has back url ≡ b → (a || b) ≡ true → has others url ≡ false
+    by_half true b is_a is_b e = before (or_parts first second none).0 url is_a
+    by_half false true is_a is_b e = behind (or_parts first second none).1 url is_b
+    by_half false false is_a is_b e = absurd (cc)

@@ -1,0 +1,133 @@
+-- Under a page of a saved web stand links alone, or one moved line alone.
+use Rattle.std.proofs.Common.{◌≡◌, inl, inr, ℕ, ◌+◌, ◌<◌, Bool, true, false, ◌||◌, not, cond, List, [], ◌∷◌, ◌++◌, length, Some, None, refl, sym, ap, subst, ◌∙◌, arith, ne_eqb, length-append, append_assoc, append-nil}
+use Rattle.std.specs.Bool.{if◌then◌else◌}
+use Rattle.std.specs.List.{list_any, count_by}
+use Rattle.std.proofs.lemmas.Bool.{cases_Bool, cond-true, cond-false}
+use Rattle.std.proofs.lemmas.List.Sums.{sum_by-append, take_while-cons}
+use Rattle.saved_web.proofs.PassedLines.{said_passes}
+use Rattle.saved_web.proofs.ReadWeb.{under_more}
+use Rattle.text_lines.specs.LeastFault.{SoundAfter}
+use Rattle.saved_web.specs.SavedWeb.{lines_behind, up_to_page, IsUnmixed}
+use Rattle.saved_web.specs.WebChecks.{Before, under_fault, under_last_page, before, said_fault, fault_after}
+use Rattle.saved_web.specs.WebFaults.{IsSound}
+use Rattle.saved_web.specs.WebLines.{line_of, says_page, says_link, says_moved, url_said, is_page, is_link, is_moved_line, is_page_at}
+use Rattle.std.specs.Option.{option_map_or}
+use Rattle.std.specs.Str.{bytes_eq}
+use Rattle.saved_web.specs.declared.error.WebError.TheVariants as wrong
+use Rattle.saved_web.specs.declared.line.Line.{Line}
+use Rattle.saved_web.specs.declared.line.Line.TheVariants as says
+
+-- ---- counts
+
+or_parts : (a b : Bool) → (a || b) ≡ false → (a ≡ false) × (b ≡ false)
+or_parts true b e = absurd (cc)
+or_parts false b e = (refl, e)
+
+count_none : (p : List ℕ → Bool) (lines : List (List ℕ)) → list_any p lines ≡ false → count_by p lines ≡ 0
+count_none p [] none = refl
+count_none p (line ∷ more) none =
+    let parts = or_parts (p line) (list_any p more) none in
+    rw (parts.0, count_none p more parts.1) refl
+
+grows : (p : Line (List ℕ) → Bool) (lines : List (List ℕ)) (line : List ℕ) (said : Line (List ℕ)) → line_of line ≡ said → count_by (λ l. p (line_of l)) (lines ++ line ∷ []) ≡ count_by (λ l. p (line_of l)) lines + cond (p said) 1 0
+grows p lines line said is =
+    let more = sum_by-append (λ l. cond (p (line_of l)) 1 0) lines (line ∷ []) in
+    let one = ap {B = ℕ} (λ s. cond (p s) 1 0) is in
+    omega (arith, more, one)
+
+-- ---- one more line
+
+passes_under : (number : ℕ) (some mixed : Bool) → under_fault number some mixed ≡ None → mixed ≡ false
+passes_under number true true passes = absurd (cc)
+passes_under number true false passes = refl
+passes_under number false mixed passes = absurd (cc)
+
+passes_moved : (number : ℕ) (second some mixed : Bool) → (if second then under_fault number some mixed else Some (wrong.BadLine number)) ≡ None → mixed ≡ false
+passes_moved number true some mixed passes = passes_under number some mixed passes
+passes_moved number false some mixed passes = absurd (cc)
+
+stays : (under more : List (List ℕ)) → count_by is_moved_line more ≡ count_by is_moved_line under → count_by is_link more ≡ count_by is_link under → IsUnmixed under → IsUnmixed more
+stays under more moved link (inl none) = inl (moved ∙ none)
+stays under more moved link (inr one) = inr (moved ∙ one.0, link ∙ one.1)
+
+line_more : (b : Before) (under : List (List ℕ)) (line : List ℕ) (said : Line (List ℕ)) → line_of line ≡ said → b.link ≡ list_any is_link under → b.moved ≡ list_any is_moved_line under → said_fault b said ≡ None → says_page said ≡ false → IsUnmixed under → IsUnmixed (under ++ line ∷ [])
+line_more b under line (says.Page text) is link moved passes here unmixed = absurd (cc)
+line_more b under line (says.Link text) is link moved passes here unmixed =
+    let none = count_none is_moved_line under (sym moved ∙ passes_under b.number b.some_page b.moved passes) in
+    let more = grows says_moved under line (says.Link text) is in
+    inl (omega (arith, none, more))
+line_more b under line (says.Moved text) is link moved passes here unmixed =
+    let parts = or_parts b.link b.moved (passes_moved b.number b.second b.some_page (b.link || b.moved) passes) in
+    let no_move = count_none is_moved_line under (sym moved ∙ parts.1) in
+    let no_link = count_none is_link under (sym link ∙ parts.0) in
+    let moves = grows says_moved under line (says.Moved text) is in
+    let links = grows says_link under line (says.Moved text) is in
+    inr (omega (arith, no_move, moves), omega (arith, no_link, links))
+line_more b under line says.Empty is link moved passes here unmixed =
+    let moves = grows says_moved under line says.Empty is in
+    let links = grows says_link under line says.Empty is in
+    stays under (under ++ line ∷ []) (omega (arith, moves)) (omega (arith, links)) unmixed
+line_more b under line says.Other is link moved passes here unmixed = absurd (cc)
+
+-- ---- all lines up to the next page
+
+pub up_to_page-page : (line : List ℕ) (more : List (List ℕ)) → is_page line ≡ true → up_to_page (line ∷ more) ≡ []
+up_to_page-page line more page =
+    take_while-cons (λ l. not (is_page l)) line more ∙ cond-false _ _ _ (ap not page)
+
+pub up_to_page-other : (line : List ℕ) (more : List (List ℕ)) → is_page line ≡ false → up_to_page (line ∷ more) ≡ line ∷ up_to_page more
+up_to_page-other line more page =
+    take_while-cons (λ l. not (is_page l)) line more ∙ cond-true _ _ _ (ap not page)
+
+ends : (under : List (List ℕ)) → IsUnmixed under → IsUnmixed (under ++ [])
+ends under unmixed = let P : List (List ℕ) → Type 0 = IsUnmixed in subst P (sym (append-nil under)) unmixed
+
+unmixed_on : (earlier more : List (List ℕ)) → 0 < length earlier → SoundAfter fault_after earlier more → IsUnmixed (under_last_page earlier) → IsUnmixed (under_last_page earlier ++ up_to_page more)
+unmixed_on earlier [] some sound unmixed = ends (under_last_page earlier) unmixed
+unmixed_on earlier (line ∷ more) some sound unmixed =
+    let P : List (List ℕ) → Type 0 = λ ls. IsUnmixed (under_last_page earlier ++ ls) in
+    elim (cases_Bool (is_page line)) [
+      | inl page ↦
+          subst P (sym (up_to_page-page line more page)) (ends (under_last_page earlier) unmixed)
+      | inr other ↦
+          let Q : List (List ℕ) → Type 0 = λ ls. IsUnmixed (ls ++ up_to_page more) in
+          let U : List (List ℕ) → Type 0 = IsUnmixed in
+          let under = under_more earlier line ∙ cond-false _ _ _ other in
+          let passes = said_passes (before earlier) line (ne_eqb (length earlier + 1) 1 (λ one. omega (arith, one, some))) sound.0 in
+          let one_more = line_more (before earlier) (under_last_page earlier) line (line_of line) refl refl refl passes other unmixed in
+          let later : IsUnmixed (under_last_page (earlier ++ line ∷ []) ++ up_to_page more) =
+          unmixed_on (earlier ++ line ∷ []) more (omega (arith, length-append earlier (line ∷ []))) sound.1 (subst U (sym under) one_more) in
+          subst P (sym (up_to_page-other line more other))
+          (subst U (append_assoc (under_last_page earlier) (line ∷ []) (up_to_page more)) (subst Q under later))
+    ]
+
+-- ---- from the page's own line on
+
+page_here : (url line : List ℕ) (said : Line (List ℕ)) → option_map_or (λ own. bytes_eq own url) (url_said said) false ≡ true → says_page said ≡ true
+page_here url line (says.Page text) at = refl
+page_here url line (says.Link text) at = absurd (cc)
+page_here url line (says.Moved text) at = absurd (cc)
+page_here url line says.Empty at = absurd (cc)
+page_here url line says.Other at = absurd (cc)
+
+unmixed_from : (url : List ℕ) (earlier all behind : List (List ℕ)) → SoundAfter fault_after earlier all → lines_behind all url ≡ Some behind → IsUnmixed (up_to_page behind)
+unmixed_from url earlier [] behind sound found = absurd (cc)
+unmixed_from url earlier (line ∷ more) behind sound found =
+    elim (cases_Bool (is_page_at url line)) [
+      | inl at ↦
+          let page = page_here url line (line_of line) at in
+          let here : Some more ≡ Some behind = sym (cond-true _ _ _ at) ∙ found in
+          let same : more ≡ behind = cc in
+          let under = under_more earlier line ∙ cond-true _ _ _ page in
+          let P : List (List ℕ) → Type 0 = λ ls. IsUnmixed (up_to_page ls) in
+          let Q : List (List ℕ) → Type 0 = λ ls. IsUnmixed (ls ++ up_to_page more) in
+          let U : List (List ℕ) → Type 0 = IsUnmixed in
+          subst P same
+          (subst Q under
+          (unmixed_on (earlier ++ line ∷ []) more (omega (arith, length-append earlier (line ∷ []))) sound.1 (subst U (sym under) (inl refl))))
+      | inr other ↦
+          unmixed_from url (earlier ++ line ∷ []) more behind sound.1 (sym (cond-false _ _ _ other) ∙ found)
+    ]
+
+pub unmixed : (all : List (List ℕ)) (url : List ℕ) (behind : List (List ℕ)) → IsSound all → lines_behind all url ≡ Some behind → IsUnmixed (up_to_page behind)
+unmixed all url behind sound found = unmixed_from url [] all behind sound.sound found

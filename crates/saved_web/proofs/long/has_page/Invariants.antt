@@ -1,0 +1,13 @@
+use denote.Shadow.{shadow}
+use denote.Text.{Utf8}
+use Rattle.std.proofs.Common.{◌≡◌, length}
+use Rattle.std.specs.List.{list_any}
+use Rattle.std.specs.Str.Lines.{lines}
+use Rattle.saved_web.specs.WebLines.{is_page}
+use Rattle.saved_web.proofs.long.has_page.Given as goal
+
+abbrev pub invariant-loop-line : goal.invariant-loop-line
+invariant-loop-line l = shadow (Utf8 l.rest) × (list_any is_page (lines l.rest) ≡ list_any is_page (lines l.text))
+
+abbrev pub decreases-loop-line : goal.decreases-loop-line
+decreases-loop-line l = length l.rest

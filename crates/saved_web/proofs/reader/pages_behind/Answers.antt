@@ -1,0 +1,31 @@
+use Rattle.std.proofs.Common.{rules, arith}
+use Rattle.std.proofs.lemmas.Result.{err_from_is_err_and}
+use Rattle.saved_web.proofs.ReadWeb.{read_fault, found_on, all_read}
+use Rattle.saved_web.proofs.reader.pages_behind.Goals as goal
+
+pub loop-line-init : goal.loop-line-init
+loop-line-init c = record {
+  text = search rules;
+  few = omega arith;
+  read = λ all start. rw c.new-pages.ensures start;
+}
+
+pub loop-line-preserved : goal.loop-line-preserved
+loop-line-preserved c = record {
+  text = search rules;
+  few = omega (arith, c.in-Some.ensures.shorter, c.loop-line.invariant.few);
+  read = λ all start.
+      found_on all c.loop-line.rest.now c.loop-line.number c.loop-line.above c.loop-line.pages c.in-Some.line.now c.in-Some.more.now c.in_ok-above.above c.add_line.new.pages
+      c.in-Some.ensures.cut c.in-Some.ensures.behind c.in_ok-above.ensures.tells c.in_ok-above.ensures.adds c.in_ok-above.ensures.page c.in_ok-above.ensures.follows (c.loop-line.invariant.read all start);
+}
+
+pub returns-in_err-above-clause-fault : goal.returns-in_err-above-clause-fault
+returns-in_err-above-clause-fault c =
+    let p = err_from_is_err_and c.from_residual.result c.from_residual.ensures.1 in
+    rw (p.1, p.2) (λ all start.
+    read_fault all c.loop-line.rest.now c.loop-line.number c.loop-line.above c.loop-line.pages c.in-Some.line.now c.in-Some.more.now c.in_err-above.field-0.0 c.in-Some.ensures.cut c.in_err-above.ensures.tells
+    (c.loop-line.invariant.read all start).read)
+
+pub returns-clause-read : goal.returns-clause-read
+returns-clause-read c = λ all start.
+    all_read all c.loop-line.rest.now c.loop-line.number c.loop-line.above c.loop-line.pages c.in_default.ensures.cut (c.loop-line.invariant.read all start)

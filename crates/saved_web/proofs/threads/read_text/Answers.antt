@@ -1,0 +1,11 @@
+use Rattle.std.proofs.Common.{◌∷◌, sym, subst}
+use Rattle.std.specs.Str.Lines.{lines}
+use Rattle.saved_web.proofs.ReadWeb.{header_read}
+use Rattle.saved_web.specs.Reading.{AreRead}
+use Rattle.saved_web.proofs.threads.read_text.Goals as goal
+
+pub returns-in-Ok-one : goal.returns-in-Ok-one
+returns-in-Ok-one c = λ header h.
+    let behind = lines c.args.text.now in
+    subst (AreRead (header ∷ behind)) (sym c.in-Ok-one.ensures)
+    (c.in-Ok.ensures.read (header ∷ behind) (header_read c.args.second header behind h))

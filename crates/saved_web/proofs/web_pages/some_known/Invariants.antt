@@ -1,0 +1,8 @@
+use Rattle.std.proofs.Common.{◌≡◌, ℕ, List, true, false, take}
+use Rattle.std.specs.List.{flat_map}
+use Rattle.saved_web.specs.PageLists.{has}
+use Rattle.saved_web.proofs.web_pages.some_known.Given as goal
+
+abbrev pub invariant-loop-other : goal.invariant-loop-other
+invariant-loop-other g l =
+    (url : List ℕ) → has (flat_map (λ part. part) (take l.other-index l.others)) url ≡ true → has (flat_map (λ part. part) l.parts) url ≡ false

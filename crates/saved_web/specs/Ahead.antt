@@ -1,0 +1,37 @@
+-- The links of a web's pages that are found ahead: of each link the index of its URL.
+use Rattle.std.specs.Prelude.{◌≡◌, ℕ, ◌+◌, List, map, slice_get, Option, Some, None}
+use Rattle.std.specs.Str.Lines.{lines}
+use Rattle.saved_web.specs.PageLists.{PageRead}
+use Rattle.saved_web.specs.SavedWeb.{page_behind}
+use Rattle.crawl_pages.specs.declared.page.Page.{Page}
+use Rattle.crawl_pages.specs.declared.page.Page.TheVariants.{Found, Missing}
+use Rattle.saved_web.specs.declared.ahead.chunk.Chunk.{Chunk}
+use Rattle.saved_web.specs.declared.ahead.chunk.LinksAhead.{LinksAhead}
+use Rattle.saved_web.specs.declared.ahead.chunk.PageAhead.{PageAhead}
+
+-- the page that was read, or none
+abbrev pub shown_page : Option PageRead → Page
+shown_page None = Missing
+shown_page (Some page) = page_behind page.url (Some (lines page.behind))
+
+-- at the indices stand the links' URLs, in order
+abbrev pub LeadTo : List (List ℕ) → List ℕ → List (List ℕ) → Type 0
+LeadTo urls indices links = map (λ index. slice_get urls index) indices ≡ map (λ link. Some link) links
+
+-- each URL has its index still
+abbrev pub KeepIndices : List (List ℕ) → List (List ℕ) → Type 0
+KeepIndices old new = (index : ℕ) (url : List ℕ) → slice_get old index ≡ Some url → slice_get new index ≡ Some url
+
+-- the page has these links, by the indices of their URLs
+pub record IsAhead (page : Page) (urls : List (List ℕ)) (ahead : LinksAhead) : Type 0 where
+  pub links : List (List ℕ)
+  pub lead : LeadTo urls ahead.indices.items links
+  pub page_is : page ≡ Found links ahead.skipped
+
+-- the pages with these links are those that the web has there
+abbrev pub AreAhead : List PageRead → List PageAhead → List (List ℕ) → Type 0
+AreAhead web pages urls =
+    (k : ℕ) (page : PageAhead) → slice_get pages k ≡ Some page → IsAhead (shown_page (slice_get web page.index)) urls page.links
+
+abbrev pub IsChunk : List PageRead → Chunk → Type 0
+IsChunk web chunk = AreAhead web chunk.pages.items chunk.urls

@@ -1,0 +1,51 @@
+-- What is known of the lines of a saved web while they are read one by one, and once they are.
+use Rattle.std.specs.Prelude.{◌≡◌, ℕ, Bool, List, [], ◌∷◌, ◌++◌, length, codes, None}
+use Rattle.std.specs.List.{list_any}
+use Rattle.std.specs.Option.{option_or}
+use Rattle.std.specs.Str.{bytes_eq}
+use Rattle.saved_web.specs.KnownPages.{KnownPages, has_some, known_behind, known_page}
+use Rattle.text_lines.specs.LeastFault.{SoundAfter}
+use Rattle.saved_web.specs.PageLists.{has}
+use Rattle.saved_web.specs.SavedWeb.{lines_behind, page_of}
+use Rattle.saved_web.specs.WebChecks.{is_second, under_last_page, fault_after}
+use Rattle.saved_web.specs.WebLines.{line_of, is_page, is_link, is_moved_line, is_page_at}
+use Rattle.saved_web.specs.declared.add.Above.{Above}
+use Rattle.saved_web.specs.declared.line.Line.TheVariants as says
+
+-- of all these lines those before the rest are sound, and what the checks ask of them is known
+pub record ReadTo (all rest : List (List ℕ)) (number : ℕ) (above : Above) (pages : KnownPages) : Type 0 where
+  pub earlier : List (List ℕ)
+  pub cut : all ≡ earlier ++ rest
+  pub numbered : number ≡ length earlier
+  pub sound : SoundAfter fault_after [] earlier
+  pub second : above.second ≡ is_second earlier
+  pub link : above.link ≡ list_any is_link (under_last_page earlier)
+  pub moved : above.moved ≡ list_any is_moved_line (under_last_page earlier)
+  pub some_page : has_some pages ≡ list_any is_page earlier
+  pub known : (url : List ℕ) → has pages url ≡ list_any (is_page_at url) earlier
+
+-- each page of all these lines is known with the lines behind it, or stands among the rest
+abbrev pub AllFound : List (List ℕ) → List (List ℕ) → KnownPages → Type 0
+AllFound all rest pages =
+    (url : List ℕ) → lines_behind all url ≡ option_or (known_behind pages url) (lines_behind rest url)
+
+-- both: the lines before the rest are sound, and their pages are known
+pub record FoundTo (all rest : List (List ℕ)) (number : ℕ) (above : Above) (pages : KnownPages) : Type 0 where
+  pub read : ReadTo all rest number above pages
+  pub found : AllFound all rest pages
+
+-- all these lines are sound, and these are their pages
+pub record AreRead (all : List (List ℕ)) (pages : KnownPages) : Type 0 where
+  pub sound : SoundAfter fault_after [] all
+  pub known : (url : List ℕ) → has pages url ≡ list_any (is_page_at url) all
+  pub found : (url : List ℕ) → known_page pages url ≡ page_of all url
+
+-- the line is a header, of version 2 or else of version 1
+pub record IsHeader (second : Bool) (line : List ℕ) : Type 0 where
+  pub sound : fault_after [] line ≡ None
+  pub version : bytes_eq line (codes "savedweb 2") ≡ second
+  pub other : line_of line ≡ says.Other
+
+-- behind any header of this version these lines are sound, and these are their pages
+abbrev pub AreReadBehind : Bool → List (List ℕ) → KnownPages → Type 0
+AreReadBehind second lines pages = (header : List ℕ) → IsHeader second header → AreRead (header ∷ lines) pages

@@ -1,0 +1,118 @@
+//! The links of a web's pages, found ahead by threads.
+ghost use Rattle.std.specs.Prelude.{◌≡◌, List, All, slice_get, IfOk, IfSome};
+ghost use Rattle.saved_web.specs.Ahead.{IsChunk, shown_page};
+ghost use Rattle.saved_web.specs.KnownPages.{known_page};
+ghost use Rattle.saved_web.specs.PageLists.{PageRead};
+
+mod chunk;
+mod url_list;
+
+use crate::web_pages::WebPages;
+use chunk::Chunk;
+use crawl_keys::CanonUrl;
+use crawl_pages::Page;
+use std::alloc::{AllocError, Global};
+use std::marker::Model;
+use std::thread;
+use std::thread::Threads;
+
+/// A web with fewer bytes than this is not worth a thread.
+const LEAST: usize = 1 << 19;
+
+/// So many threads find links, each those of a chunk.
+const CHUNKS: usize = 4;
+
+/// The pages are cut into so many blocks, which the chunks have in turn: pages that cost much lie together.
+const BLOCKS: usize = 64;
+
+/// The pages of a web, and the links of most of them, or of none.
+#[derive(Drop)]
+pub struct Ahead<'w, 'a> {
+    web: &'w WebPages<'a>,
+    chunks: Vec<Chunk>,
+}
+
+// Contracts see the pages.
+impl<'w, 'a> Model for Ahead<'w, 'a> {
+    ghost use Rattle.std.specs.Prelude.{List, All};
+    ghost use Rattle.std.specs.Coded.{coded_list};
+    ghost use Rattle.saved_web.specs.Ahead.{IsChunk};
+    ghost use Rattle.saved_web.specs.PageLists.{PageRead, page_read_code};
+
+    ghost Value = { List PageRead };
+
+    ghost coded = { coded_list page_read_code };
+
+    ghost view = { λ ahead. ahead.web.now };
+
+    ghost invariant = { λ ahead. All (IsChunk ahead.web.now) ahead.chunks.items };
+}
+
+impl<'w, 'a> Ahead<'w, 'a> {
+    /// The links of all pages of a web of one host, by threads; of none where the web has other hosts or is small, or may not be
+    /// looked at by threads. One worker has all pages of a host, so it would find their links alone.
+    pub fn new<R: Threads + Sync>(
+        rt: &R,
+        alloc: Global,
+        web: &'w WebPages<'a>,
+        in_threads: bool,
+    ) -> Ahead<'w, 'a>
+        ensures { result ≡ web.now }
+    {
+        if !in_threads || web.bytes() < LEAST || !web.has_one_host() {
+            return Ahead::of_none(alloc, web);
+        }
+        match chunks_of(rt, alloc, web) {
+            Ok(chunks) => Ahead { web, chunks },
+            Err(_) => Ahead::of_none(alloc, web),
+        }
+    }
+
+    fn of_none(alloc: Global, web: &'w WebPages<'a>) -> Ahead<'w, 'a>
+        ensures { result ≡ web.now }
+    {
+        Ahead {
+            web,
+            chunks: Vec::new(alloc),
+        }
+    }
+
+    /// The page at the URL; nothing where its links were not found, or there is no room.
+    pub fn page(&self, alloc: Global, url: &CanonUrl) -> Option<Page>
+        ensures { IfSome result (λ page. page ≡ known_page self.now url.now) }
+    {
+        if self.chunks.is_empty() {
+            return None;
+        }
+        let index = self.web.find(url)?;
+        page_among(alloc, &self.chunks, index)
+    }
+}
+
+/// The links of all pages, chunk by chunk.
+fn chunks_of<R: Threads + Sync>(
+    rt: &R,
+    alloc: Global,
+    web: &WebPages<'_>,
+) -> Result<Vec<Chunk>, AllocError>
+    ensures { IfOk result (λ chunks. All (IsChunk web.now) chunks.items) }
+{
+    thread::map_indices(
+        rt,
+        alloc,
+        CHUNKS,
+        &|number: usize| { Chunk::new(alloc, web, number) },
+    )
+}
+
+/// The page of the web at the index; nothing where no chunk has its links, or there is no room.
+fn page_among(alloc: Global, chunks: &[Chunk], index: usize) -> Option<Page>
+    ensures { (web : List PageRead) → All (IsChunk web) chunks.now → IfSome result (λ page. page ≡ shown_page (slice_get web index)) }
+{
+    for chunk in chunks {
+        if let Some(page) = chunk.page(alloc, index) {
+            return Some(page);
+        }
+    }
+    None
+}

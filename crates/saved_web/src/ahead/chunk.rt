@@ -1,0 +1,200 @@
+//! The links of some pages of a web, found ahead.
+ghost use Rattle.std.specs.Prelude.{◌≡◌, ◌+◌, List, Some, length, slice_get, IfOk, IfSome};
+ghost use Rattle.saved_web.specs.Ahead.{IsAhead, IsChunk, KeepIndices, LeadTo, shown_page};
+ghost use Rattle.saved_web.specs.PageLists.{PageRead};
+ghost use Rattle.crawl_pages.specs.declared.page.Page.{Page};
+
+use crate::ahead::url_list::UrlList;
+use crate::ahead::{BLOCKS, CHUNKS};
+use crate::known_page::KnownPage;
+use crate::link_cache::LinkCache;
+use crate::links::page_behind;
+use crate::long;
+use crate::web_pages::WebPages;
+use crawl_keys::{Base, CanonUrl};
+use crawl_pages::{FetchError, Links, Page};
+use std::alloc::{AllocError, Global};
+
+/// Some pages of a web, and the links of most of them.
+#[derive(Drop)]
+pub struct Chunk {
+    /// In the order of the web.
+    pages: Vec<PageAhead>,
+    urls: UrlList,
+}
+
+/// A page whose links were found.
+#[derive(Drop)]
+struct PageAhead {
+    /// Its index among the pages of the web.
+    index: usize,
+    links: LinksAhead,
+}
+
+/// The links of a page.
+#[derive(Drop)]
+struct LinksAhead {
+    /// The index of the URL of each link, in order.
+    indices: Vec<u32>,
+    /// How many links there are besides that lead to no URL.
+    skipped: u64,
+}
+
+impl Chunk {
+    /// The links of the pages in this block, and in each that is so many chunks behind, as far as there is room.
+    pub fn new(alloc: Global, web: &WebPages<'_>, first: usize) -> Chunk
+        ensures { IsChunk web.now result }
+    {
+        let mut cache = LinkCache::new(alloc, CHUNKS as u32);
+        let mut chunk = Chunk {
+            pages: Vec::new(alloc),
+            urls: UrlList::new(alloc),
+        };
+        for round in 0..BLOCKS / CHUNKS {
+            let block = first.saturating_add(round * CHUNKS);
+            match chunk.add_block(alloc, web, block, &mut cache) {
+                Ok(()) => {}
+                Err(_) => return chunk,
+            }
+        }
+        chunk
+    }
+
+    /// Finds the links of the pages of a block: all have as many bytes, about.
+    fn add_block<'a>(
+        &mut self,
+        alloc: Global,
+        web: &WebPages<'a>,
+        block: usize,
+        cache: &mut LinkCache<'a>,
+    ) -> Result<(), FetchError>
+        requires { IsChunk web.now self.old }
+        ensures { IsChunk web.now self.new }
+    {
+        let bytes = web.bytes();
+        let first = web.index_behind(bytes.saturating_mul(block) / BLOCKS);
+        let end = web.index_behind(bytes.saturating_mul(block.saturating_add(1)) / BLOCKS);
+        for index in first..end {
+            self.add_page(alloc, web, index, cache)?;
+        }
+        Ok(())
+    }
+
+    /// Finds the links of the page at the index, which comes behind the others.
+    fn add_page<'a>(
+        &mut self,
+        alloc: Global,
+        web: &WebPages<'a>,
+        index: usize,
+        cache: &mut LinkCache<'a>,
+    ) -> Result<(), FetchError>
+        requires { IsChunk web.now self.old }
+        ensures { IsChunk web.now self.new }
+    {
+        let Some(links) = links_at(alloc, web, index, cache, &mut self.urls)? else {
+            return Ok(());
+        };
+        self.pages.push(PageAhead { index, links })?;
+        Ok(())
+    }
+
+    /// The page of the web at the index; nothing where its links are not here, or there is no room.
+    pub fn page(&self, alloc: Global, index: usize) -> Option<Page>
+        ensures { (web : List PageRead) → IsChunk web self.now → IfSome result (λ page. page ≡ shown_page (slice_get web index)) }
+    {
+        let number = self.pages.partition_point(|page| page.index < index);
+        match self.pages.get(number) {
+            Some(page) if page.index == index => page.links.page(alloc, &self.urls),
+            Some(_) | None => None,
+        }
+    }
+}
+
+impl LinksAhead {
+    /// The page with these links.
+    fn page(&self, alloc: Global, urls: &UrlList) -> Option<Page>
+        ensures { (page : Page) → IsAhead page urls.now self.now → IfSome result (λ told. told ≡ page) }
+    {
+        let links = copies(alloc, urls, &self.indices)?;
+        Some(Page::Found {
+            links: Links::from(links),
+            skipped: self.skipped,
+        })
+    }
+}
+
+/// The URLs with these indices, sharing their texts; nothing where there is no room.
+fn copies(alloc: Global, urls: &UrlList, indices: &[u32]) -> Option<Vec<CanonUrl>>
+    ensures { IfSome result (λ links. LeadTo urls.now indices.now links.items) }
+{
+    let Ok(mut links) = Vec::with_capacity(alloc, indices.len()) else {
+        return None;
+    };
+    for index in indices {
+        let link = urls.copy_at(*index)?;
+        match links.push(link) {
+            Ok(()) => {}
+            Err(_) => return None,
+        }
+    }
+    Some(links)
+}
+
+/// The links of the page at the index; nothing where there is none, or where its links are not to be found ahead: it has moved,
+/// or threads look at it when it is fetched.
+fn links_at<'a>(
+    alloc: Global,
+    web: &WebPages<'a>,
+    index: usize,
+    cache: &mut LinkCache<'a>,
+    urls: &mut UrlList,
+) -> Result<Option<LinksAhead>, FetchError>
+    ensures links { IfOk result (λ links. IfSome links (IsAhead (shown_page (slice_get web.now index)) urls.new)) }
+    ensures keep { KeepIndices urls.old urls.new }
+{
+    let Some(page) = web.page(index) else {
+        return Ok(None);
+    };
+    if page.bytes_before(web.page(index.saturating_add(1))) >= long::LEAST {
+        return Ok(None);
+    }
+    links_of(alloc, page, cache, urls)
+}
+
+/// The links of the page; nothing where it has moved.
+fn links_of<'a>(
+    alloc: Global,
+    page: &KnownPage<'a>,
+    cache: &mut LinkCache<'a>,
+    urls: &mut UrlList,
+) -> Result<Option<LinksAhead>, FetchError>
+    ensures links { IfOk result (λ links. IfSome links (IsAhead (shown_page (Some page.now)) urls.new)) }
+    ensures keep { KeepIndices urls.old urls.new }
+{
+    let Ok(base) = Base::canonical(alloc, page.url()) else {
+        return Ok(None);
+    };
+    if base.as_str() != page.url() {
+        return Ok(None);
+    }
+    match page_behind(alloc, cache, base, page.behind())? {
+        Page::Found { links, skipped } => Ok(Some(LinksAhead {
+            indices: indices_of(alloc, urls, links.as_slice())?,
+            skipped,
+        })),
+        Page::Moved { .. } | Page::Missing => Ok(None),
+    }
+}
+
+/// The indices of the URLs of links, which are put to the others.
+fn indices_of(alloc: Global, urls: &mut UrlList, links: &[CanonUrl]) -> Result<Vec<u32>, AllocError>
+    ensures lead { IfOk result (λ indices. LeadTo urls.new indices.items links.now) }
+    ensures keep { KeepIndices urls.old urls.new }
+{
+    let mut indices = Vec::with_capacity(alloc, links.len())?;
+    for link in links {
+        let index = urls.find_or_insert(link)?;
+        indices.push(index)?;
+    }
+    Ok(indices)
+}

@@ -1,0 +1,78 @@
+//! URLs, each once, by their indices.
+ghost use Rattle.std.specs.Prelude.{◌≡◌, [], Some, slice_get, IfOk, IfSome};
+ghost use Rattle.saved_web.specs.Ahead.{KeepIndices};
+
+use crawl_keys::CanonUrl;
+use hash_index::HashIndex;
+use std::alloc::{AllocError, Global};
+use std::marker::Model;
+
+/// URLs, each once, in the order in which they came.
+#[derive(Drop)]
+pub struct UrlList {
+    urls: Vec<CanonUrl>,
+    /// Where each of these stands.
+    index: HashIndex,
+}
+
+// Contracts see the list.
+impl Model for UrlList {
+    ghost use Rattle.std.specs.Prelude.{ℕ, List, map};
+    ghost use Rattle.hash_order.specs.HashOrder.{hash_of};
+    ghost use Rattle.hash_index.specs.Index.{IsIndexOf};
+
+    ghost Value = { List (List ℕ) };
+
+    ghost view = { λ list. list.urls.items };
+
+    ghost invariant = { λ list. IsIndexOf hash_of (map (λ url. url) list.urls.items) list.index };
+}
+
+impl UrlList {
+    /// None.
+    pub fn new(alloc: Global) -> UrlList
+        ensures { result ≡ [] }
+    {
+        UrlList {
+            urls: Vec::new(alloc),
+            index: HashIndex::new(alloc),
+        }
+    }
+
+    /// The index of the URL, which comes to the end where it is new.
+    pub fn find_or_insert(&mut self, url: &CanonUrl) -> Result<u32, AllocError>
+        ensures there { IfOk result (λ index. slice_get self.new index ≡ Some url.now) }
+        // Whatever comes of it.
+        ensures keep { KeepIndices self.old self.new }
+    {
+        let found = self.index.find_or_insert(&self.urls, url)?;
+        if let Some(index) = found {
+            return short(index);
+        }
+        let last = self.urls.len();
+        let copy = url.clone()?;
+        self.urls.push(copy)?;
+        short(last)
+    }
+
+    /// The URL at the index, sharing the text; nothing where there is none, or no room.
+    pub fn copy_at(&self, index: u32) -> Option<CanonUrl>
+        ensures { IfSome result (λ url. slice_get self.now index ≡ Some url) }
+    {
+        let url = self.urls.get(index as usize)?;
+        match url.clone() {
+            Ok(copy) => Some(copy),
+            Err(_) => None,
+        }
+    }
+}
+
+/// The index in four bytes.
+fn short(index: usize) -> Result<u32, AllocError>
+    ensures { IfOk result (λ short. short ≡ index) }
+{
+    match u32::try_from(index) {
+        Ok(short) => Ok(short),
+        Err(_) => Err(AllocError),
+    }
+}

@@ -1,0 +1,103 @@
+//! What is known of the links on the pages of a folder.
+ghost use Rattle.std.specs.Prelude.{◌≡◌, true, IfOk, IfErr, IfSome};
+ghost use Rattle.crawl_keys.specs.Folders as spec;
+ghost use Rattle.saved_web.specs.SavedWeb.{link_url};
+
+use crate::known_links::KnownLinks;
+use crate::link_text::LinkText;
+use crawl_keys::{Base, CanonUrl};
+use crawl_pages::FetchError;
+use std::alloc::Global;
+use std::marker::Model;
+
+/// A page, and where links with some texts lead from each page of its folder.
+#[derive(Drop)]
+pub struct Folder<'a> {
+    page: Base,
+    known: KnownLinks<'a>,
+    // Another page of the folder came before this one, so that there may be more; and texts came again where that was so.
+    again: bool,
+}
+
+// Contracts see the URL of the page.
+impl<'a> Model for Folder<'a> {
+    ghost use Rattle.std.specs.Prelude.{◌≡◌, ℕ, List};
+    ghost use Rattle.saved_web.specs.KnownLinks.{AreLinks, AreOfFolder};
+
+    ghost Value = { List ℕ };
+
+    ghost view = { λ folder. folder.page };
+
+    ghost invariant = { λ folder. AreLinks folder.page folder.known × AreOfFolder folder.known };
+}
+
+impl<'a> Folder<'a> {
+    /// The folder of this page, of which nothing is known, and whether it comes again.
+    pub fn new(alloc: Global, page: Base, again: bool) -> Folder<'a>
+        ensures { result ≡ page }
+    {
+        Folder {
+            page,
+            known: KnownLinks::new(alloc),
+            again,
+        }
+    }
+
+    /// The folder of the next page. What is known stays known where the page is in the same folder.
+    pub fn turn_to(self, alloc: Global, page: Base) -> Folder<'a>
+        ensures { result ≡ page }
+    {
+        let Folder {
+            page: last,
+            known,
+            ..
+        } = self;
+        if last.is_beside(&page) {
+            Folder {
+                page,
+                known,
+                again: true,
+            }
+        } else {
+            Folder::new(alloc, page, false)
+        }
+    }
+
+    /// The page.
+    pub fn page(&self) -> &Base
+        ensures { result.now ≡ self.now }
+    {
+        &self.page
+    }
+
+    /// Whether another page of it came before, so that it is worth to learn of each link where it leads.
+    pub fn comes_again(&self) -> bool {
+        self.again
+    }
+
+    /// How many texts are known.
+    pub fn len(&self) -> usize {
+        self.known.len()
+    }
+
+    /// Where a link with this text leads, if that is known.
+    pub fn find(&self, text: &LinkText<'a>) -> Option<&Option<CanonUrl>>
+        ensures { IfSome result (λ link. link.now ≡ link_url self.now text.now) }
+    {
+        self.known.find(text)
+    }
+
+    /// Where a link with this text leads, which is known from now on.
+    pub fn link(
+        &mut self,
+        alloc: Global,
+        text: &LinkText<'a>,
+    ) -> Result<Option<CanonUrl>, FetchError>
+        requires { spec.is_of_folder text.now ≡ true }
+        ensures link { IfOk result (λ link. link ≡ link_url self.old text.now) }
+        ensures page { self.new ≡ self.old }
+        ensures refused { IfErr result (λ e. e ≡ FetchError.NoMemory) }
+    {
+        self.known.link(alloc, &self.page, text)
+    }
+}

@@ -1,0 +1,174 @@
+//! Texts of links, and where links with them lead.
+ghost use Rattle.std.specs.Prelude.{◌≡◌, ◌<◌, true, [], length, get_or, IfOk, IfErr, IfSome};
+ghost use Rattle.std.specs.List.{Contains};
+ghost use Rattle.crawl_keys.specs.Folders.{is_of_folder};
+ghost use Rattle.saved_web.specs.KnownLinks.{AreLinks, AreOfFolder};
+ghost use Rattle.saved_web.specs.SavedWeb.{link_url};
+
+use crate::known_link::{copy_of, link_of};
+use crate::link_text::LinkText;
+use crawl_keys::{Base, CanonUrl};
+use crawl_pages::FetchError;
+use hash_index::{HashIndex, Keyed};
+use hash_order::hash_of;
+use std::alloc::Global;
+use std::marker::Model;
+
+/// Of so many texts, or fewer, the room is used again.
+const FEW_TEXTS: usize = 64;
+
+/// Where so many texts are known, no more are: who has more links on a page has most of them once.
+const MOST_TEXTS: usize = 4_096;
+
+/// A text, and where a link with it leads.
+#[derive(Drop)]
+pub struct KnownLink<'a> {
+    text: &'a str,
+    link: Option<CanonUrl>,
+}
+
+// Contracts see a pair.
+impl<'a> Model for KnownLink<'a> {
+    ghost use Rattle.std.specs.Prelude.{ℕ, List, Option};
+
+    ghost Value = { List ℕ × Option (List ℕ) };
+
+    ghost view = { λ known. (known.text.now, known.link) };
+}
+
+impl Keyed for KnownLink<'_> {
+    ghost use Rattle.hash_order.specs.HashOrder.{hash_of};
+
+    ghost text = { λ known. known.0 };
+
+    ghost hash = { hash_of };
+
+    fn text(&self) -> &str {
+        self.text
+    }
+
+    // Growth alone asks for it.
+    fn text_hash(&self) -> u64 {
+        hash_of(self.text)
+    }
+}
+
+/// Texts of links, and where links with them lead, each found by its text.
+#[derive(Drop)]
+pub struct KnownLinks<'a> {
+    links: Vec<KnownLink<'a>>,
+    index: HashIndex,
+}
+
+// Contracts see the list.
+impl<'a> Model for KnownLinks<'a> {
+    ghost use Rattle.std.specs.Prelude.{ℕ, List, Option, map};
+    ghost use Rattle.hash_order.specs.HashOrder.{hash_of};
+    ghost use Rattle.hash_index.specs.Index.{IsIndexOf};
+
+    ghost Value = { List (List ℕ × Option (List ℕ)) };
+
+    ghost view = { λ known. known.links.items };
+
+    ghost invariant = { λ known. IsIndexOf hash_of (map (λ link. link.0) known.links.items) known.index };
+}
+
+impl<'a> KnownLinks<'a> {
+    /// No text is known.
+    pub fn new(alloc: Global) -> KnownLinks<'a>
+        ensures { result ≡ [] }
+    {
+        KnownLinks {
+            links: Vec::new(alloc),
+            index: HashIndex::new(alloc),
+        }
+    }
+
+    /// Forgets all texts. The room for a few is kept.
+    pub fn clear(&mut self, alloc: Global)
+        ensures { self.new ≡ [] }
+    {
+        if self.links.is_empty() {
+            return;
+        }
+        if self.links.len() > FEW_TEXTS {
+            *self = KnownLinks::new(alloc);
+            return;
+        }
+        self.links.clear();
+        self.index = HashIndex::new(alloc);
+    }
+
+    /// How many texts are known.
+    pub fn len(&self) -> usize {
+        self.links.len()
+    }
+
+    /// Where a link with this text leads, if that is known.
+    pub fn find(&self, text: &LinkText<'a>) -> Option<&Option<CanonUrl>>
+        ensures { IfSome result (λ link. Contains self.now (text.now, link.now)) }
+    {
+        match self.index.find(&self.links, text) {
+            Some(index) => Some(link_at(&self.links, index)),
+            None => None,
+        }
+    }
+
+    /// Where a link with this text leads, which is known from now on, unless many are: the links with one text share the text of
+    /// their URL. A refused growth of what is known is `NoMemory`, as any other.
+    pub fn link(
+        &mut self,
+        alloc: Global,
+        base: &Base,
+        text: &LinkText<'a>,
+    ) -> Result<Option<CanonUrl>, FetchError>
+        requires { AreLinks base.now self.old }
+        ensures link { IfOk result (λ link. link ≡ link_url base.now text.now) }
+        ensures known { AreLinks base.now self.new }
+        ensures of_folder { is_of_folder text.now ≡ true → AreOfFolder self.old → AreOfFolder self.new }
+        ensures refused { IfErr result (λ e. e ≡ FetchError.NoMemory) }
+    {
+        if self.links.len() < MOST_TEXTS {
+            return self.learn(alloc, base, text);
+        }
+        match self.find(text) {
+            Some(link) => Ok(copy_of(link)?),
+            None => link_of(alloc, base, text.as_str()),
+        }
+    }
+
+    // The same, which is known from now on.
+    fn learn(
+        &mut self,
+        alloc: Global,
+        base: &Base,
+        text: &LinkText<'a>,
+    ) -> Result<Option<CanonUrl>, FetchError>
+        requires { AreLinks base.now self.old }
+        ensures link { IfOk result (λ link. link ≡ link_url base.now text.now) }
+        ensures known { AreLinks base.now self.new }
+        ensures of_folder { is_of_folder text.now ≡ true → AreOfFolder self.old → AreOfFolder self.new }
+        ensures refused { IfErr result (λ e. e ≡ FetchError.NoMemory) }
+    {
+        let found = self.index.find_or_insert(&self.links, text)?;
+        if let Some(index) = found {
+            return Ok(copy_of(link_at(&self.links, index))?);
+        }
+        let link = link_of(alloc, base, text.as_str())?;
+        let known = KnownLink {
+            text: text.as_str(),
+            link: copy_of(&link)?,
+        };
+        self.links.push(known)?;
+        Ok(link)
+    }
+}
+
+/// Where links with the text at the index lead.
+fn link_at<'l>(links: &'l [KnownLink<'_>], index: usize) -> &'l Option<CanonUrl>
+    requires { index < length links.now }
+    ensures { result.now ≡ (get_or links.now index ([], None)).1 }
+{
+    let known = &links[index];
+    &known.link
+}

@@ -1,0 +1,165 @@
+//! A page of a saved web, as it is kept.
+ghost use Rattle.std.specs.Prelude.{◌≡◌, IfOk};
+ghost use Rattle.text_lines.specs.FirstLine.{behind_line, line_in};
+
+use crawl_keys::CanonUrl;
+use hash_index::Keyed;
+use hash_order::hash_of;
+use std::alloc::{AllocError, Global};
+use std::marker::Model;
+use std::mem::size_of;
+use text_lines::split_line;
+
+/// So many bytes a processor reads from memory at once, mostly.
+const LINE: usize = 64;
+
+/// So many of these lines are read ahead of a page.
+const LINES_AHEAD: usize = 5;
+
+/// A page of a saved web: its URL, and all that is behind its line.
+#[derive(Drop)]
+pub struct KnownPage<'a> {
+    text: PageText<'a>,
+}
+
+// What a page takes beside the input, but for its place in the index.
+const _: () = prove!(size_of::<KnownPage<'static>>() == 24);
+
+/// Where a page stands.
+#[derive(Drop)]
+enum PageText<'a> {
+    /// In the input, from its URL on: most are written as they are.
+    Written(&'a str),
+    /// Its line spells its URL otherwise.
+    Made(Box<MadePage<'a>>),
+}
+
+/// A page whose line spells its URL otherwise.
+#[derive(Drop)]
+struct MadePage<'a> {
+    url: CanonUrl,
+    behind: &'a str,
+}
+
+// Contracts see the text of the URL and what is behind the line.
+impl<'a> Model for KnownPage<'a> {
+    ghost use Rattle.saved_web.specs.PageLists.{PageRead, page_read_code};
+
+    ghost Value = { PageRead };
+
+    ghost coded = { page_read_code };
+
+    ghost use Rattle.saved_web.specs.PageTexts.{page_in};
+
+    ghost view = { λ page. page_in page.text };
+}
+
+impl<'a> KnownPage<'a> {
+    /// The page with this URL, which is spelled in the first line of this text.
+    pub fn new(alloc: Global, url: CanonUrl, text: &'a str) -> Result<KnownPage<'a>, AllocError>
+        ensures { IfOk result (λ page. page ≡ record { url = url; behind = behind_line text.now }) }
+    {
+        let (spelled, behind) = split_line(text);
+        if url.as_str() == spelled {
+            return Ok(KnownPage {
+                text: PageText::Written(text),
+            });
+        }
+        match Box::new(alloc, MadePage { url, behind }) {
+            Ok(page) => Ok(KnownPage {
+                text: PageText::Made(page),
+            }),
+            Err(_) => Err(AllocError),
+        }
+    }
+
+    /// The page whose URL is the first line of this text.
+    pub fn written(text: &'a str) -> KnownPage<'a>
+        ensures { result ≡ record { url = line_in text.now; behind = behind_line text.now } }
+    {
+        KnownPage {
+            text: PageText::Written(text),
+        }
+    }
+
+    /// The text of its URL.
+    pub fn url(&self) -> &str
+        ensures { result.now ≡ self.now.url }
+    {
+        match &self.text {
+            PageText::Written(text) => split_line(*text).0,
+            PageText::Made(page) => page.url.as_str(),
+        }
+    }
+
+    /// The lines behind its own, to the end.
+    pub fn behind(&self) -> &'a str
+        ensures { result.now ≡ self.now.behind }
+    {
+        match &self.text {
+            PageText::Written(text) => split_line(*text).1,
+            PageText::Made(page) => page.behind,
+        }
+    }
+}
+
+impl KnownPage<'_> {
+    /// How many bytes are left of the input where its own begin, about.
+    pub fn bytes_left(&self) -> usize {
+        match &self.text {
+            PageText::Written(text) => text.len(),
+            PageText::Made(page) => page.behind.len(),
+        }
+    }
+
+    /// Reads a byte of each of its first lines of memory. The answer says nothing.
+    pub fn read_ahead(&self) -> u64 {
+        let bytes = match &self.text {
+            PageText::Written(text) => text.as_bytes(),
+            PageText::Made(page) => page.behind.as_bytes(),
+        };
+        let mut sum: u64 = 0;
+        for line in 0..LINES_AHEAD {
+            if let Some(byte) = bytes.get(LINE * line) {
+                sum = sum.wrapping_add(u64::from(*byte));
+            }
+        }
+        sum
+    }
+
+    /// How many bytes are its own, about, where this page is the next one, if any is.
+    pub fn bytes_before(&self, next: Option<&KnownPage<'_>>) -> usize {
+        let left = self.bytes_left();
+        let behind = match next {
+            Some(next) => next.bytes_left(),
+            None => 0,
+        };
+        // The next page of other bytes tells nothing.
+        if behind < left { left - behind } else { left }
+    }
+
+    /// The host of its URL, with the port.
+    pub fn host(&self) -> &str {
+        match self.url().split('/').nth(2) {
+            Some(host) => host,
+            None => "",
+        }
+    }
+}
+
+impl Keyed for KnownPage<'_> {
+    ghost use Rattle.hash_order.specs.HashOrder.{hash_of};
+
+    ghost text = { λ page. page.url };
+
+    ghost hash = { hash_of };
+
+    fn text(&self) -> &str {
+        self.url()
+    }
+
+    // Growth alone asks for it.
+    fn text_hash(&self) -> u64 {
+        hash_of(self.url())
+    }
+}

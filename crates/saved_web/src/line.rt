@@ -1,0 +1,51 @@
+//! What a line of a saved web says.
+ghost use Rattle.std.specs.Prelude.{◌≡◌};
+ghost use Rattle.saved_web.specs.WebLines.{pointed, line_of_text, line_of};
+
+use text_lines::split_space;
+
+/// What a line after the first says.
+#[derive(Clone, Copy)]
+pub enum Line<T> {
+    /// `page URL`: a page, with the text of its URL.
+    Page(T),
+    /// `link TEXT`: a link of the last page, with its text, which may be empty.
+    Link(T),
+    /// `moved TEXT`: where the last page moved to, with its text, which may be empty.
+    Moved(T),
+    /// Nothing stands there.
+    Empty,
+    /// Anything else.
+    Other,
+}
+
+/// What a line says that has this text.
+pub fn line_of_text(text: &str) -> Line<&str>
+    ensures { pointed result ≡ line_of_text text.now }
+{
+    // Most lines are links, so nothing is searched for in them.
+    match text.strip_prefix("link ") {
+        Some(link) => Line::Link(link),
+        None => by_first_word(text),
+    }
+}
+
+/// What a line says that has this text, by what stands before its first space.
+fn by_first_word(text: &str) -> Line<&str>
+    ensures { pointed result ≡ line_of_text text.now }
+{
+    match split_space(text) {
+        Some(("page", url)) => Line::Page(url),
+        Some(("link", link)) => Line::Link(link),
+        Some(("moved", to)) => Line::Moved(to),
+        None if text.is_empty() => Line::Empty,
+        _ => Line::Other,
+    }
+}
+
+/// What a line says, as the definition has it of any bytes.
+pub fn line_of(line: &str) -> Line<&str>
+    ensures { pointed result ≡ line_of line.now }
+{
+    line_of_text(line)
+}

@@ -1,0 +1,207 @@
+//! What stands under a page of a saved web, read from the text behind the page's line.
+ghost use Rattle.std.specs.Prelude.{◌≡◌, ◌<◌, ℕ, List, ◌∷◌, [], None, Some, length, OnOk, IfOk, IfErr, IfSome, MatchOption, count_by, is_none};
+ghost use Rattle.std.specs.List.{filter_map};
+ghost use Rattle.std.specs.Option.{option_map};
+ghost use Rattle.std.specs.Str.Lines.{lines};
+ghost use Rattle.saved_web.specs.KnownLinks.{AreLinks};
+ghost use Rattle.saved_web.specs.SavedWeb.{link_texts, link_url, moved_text, found_page, page_behind};
+ghost use Rattle.crawl_pages.specs.declared.page.Page.TheVariants.{Moved};
+
+use crate::folder::Folder;
+use crate::known_link::{copy_of, link_of};
+use crate::known_links::KnownLinks;
+use crate::line::{Line, line_of};
+use crate::link_cache::{LinkCache, folder_hash};
+use crate::link_text::LinkText;
+use crawl_keys::{Base, CanonUrl, is_of_folder};
+use crawl_pages::{FetchError, Links, Page};
+use std::alloc::{AllocError, Global};
+use std::mem;
+use text_lines::first_text;
+
+/// So many links of a page of which the folder does not come again are not known from then on: of many folders there is one page,
+/// with few links.
+const FEW_TEXTS: u64 = 8;
+
+/// A list of so many links, or fewer, has room for just these.
+const FEW_LINKS: usize = 1_024;
+
+/// The page with this base, and these lines under its own, up to the next page or to the end.
+pub fn page_behind<'a>(
+    alloc: Global,
+    cache: &mut LinkCache<'a>,
+    base: Base,
+    behind: &'a str,
+) -> Result<Page, FetchError>
+    ensures page { IfOk result (λ page. page ≡ page_behind base (Some (lines behind.now))) }
+    ensures refused { IfErr result (λ e. e ≡ FetchError.NoMemory) }
+{
+    match moved_text(behind) {
+        Some(text) => moved_page(alloc, &base, text),
+        None => remembering(alloc, cache, base, behind),
+    }
+}
+
+/// The page that has moved to where this text leads.
+fn moved_page(alloc: Global, base: &Base, text: &str) -> Result<Page, FetchError>
+    ensures page { IfOk result (λ page. page ≡ Moved (link_url base.now text.now)) }
+    ensures refused { IfErr result (λ e. e ≡ FetchError.NoMemory) }
+{
+    let to = link_of(alloc, base, text)?;
+    Ok(Page::Moved { to })
+}
+
+/// The page with the links among these lines, by what the cache has of its folder.
+fn remembering<'a>(
+    alloc: Global,
+    cache: &mut LinkCache<'a>,
+    base: Base,
+    behind: &'a str,
+) -> Result<Page, FetchError>
+    ensures page { IfOk result (λ page. page ≡ found_page base (link_texts (lines behind.now))) }
+    ensures refused { IfErr result (λ e. e ≡ FetchError.NoMemory) }
+{
+    let hash = folder_hash(&base);
+    let mut folder = cache.take(alloc, hash, base);
+    let knew = folder.len();
+    let page = found_page(
+        alloc,
+        &mut folder,
+        &mut cache.known,
+        &mut cache.links,
+        behind,
+    )?;
+    cache.weigh(&folder, knew, count_of(&page));
+    cache.put(alloc, hash, folder);
+    Ok(page)
+}
+
+/// How many links the page has, those that lead to no URL too.
+fn count_of(page: &Page) -> u64 {
+    match page {
+        Page::Found { links, skipped } => skipped.saturating_add(links.as_slice().len() as u64),
+        Page::Moved { .. } | Page::Missing => 0,
+    }
+}
+
+/// The page with the links among these lines, up to the next page. The buffer has them until they are all found.
+fn found_page<'a>(
+    alloc: Global,
+    folder: &mut Folder<'a>,
+    known: &mut KnownLinks<'a>,
+    buffer: &mut Vec<CanonUrl>,
+    behind: &'a str,
+) -> Result<Page, FetchError>
+    ensures page { IfOk result (λ page. page ≡ found_page folder.old (link_texts (lines behind.now))) }
+    ensures refused { IfErr result (λ e. e ≡ FetchError.NoMemory) }
+{
+    let skipped = find_links(alloc, folder, known, buffer, behind)?;
+    let urls = take_links(alloc, buffer)?;
+    Ok(Page::Found {
+        links: Links::from(urls),
+        skipped,
+    })
+}
+
+/// Puts the links among these lines, up to the next page, in place of those before, and tells how many lead to no URL.
+pub fn find_links<'a>(
+    alloc: Global,
+    folder: &mut Folder<'a>,
+    known: &mut KnownLinks<'a>,
+    links: &mut Vec<CanonUrl>,
+    behind: &'a str,
+) -> Result<u64, FetchError>
+    ensures links { OnOk result (links.new.items ≡ filter_map (link_url folder.old) (link_texts (lines behind.now))) }
+    ensures skipped { IfOk result (λ skipped. skipped ≡ count_by (λ text. is_none (link_url folder.old text)) (link_texts (lines behind.now))) }
+    ensures refused { IfErr result (λ e. e ≡ FetchError.NoMemory) }
+{
+    links.clear();
+    known.clear(alloc);
+    let mut skipped: u64 = 0;
+    let mut rest = behind;
+    while let Some((text, more)) = next_link(rest) {
+        rest = more;
+        let before = skipped.saturating_add(links.len() as u64);
+        match link_on(alloc, folder, known, text, before)? {
+            Some(link) => links.push(link)?,
+            None => skipped += 1,
+        }
+    }
+    Ok(skipped)
+}
+
+/// All links of the buffer. Few are moved to a list with room for just these; of many the buffer itself is the list.
+fn take_links(alloc: Global, buffer: &mut Vec<CanonUrl>) -> Result<Vec<CanonUrl>, AllocError>
+    ensures { IfOk result (λ links. links.items ≡ buffer.old.items) }
+{
+    if buffer.len() > FEW_LINKS {
+        return Ok(mem::replace(buffer, Vec::new(alloc)));
+    }
+    let mut links = Vec::with_capacity(alloc, buffer.len())?;
+    links.append(buffer)?;
+    Ok(links)
+}
+
+/// Where a link with this text leads, before which the page has so many: what is of the folder is known to it from now on, and what
+/// is not to this page. The first of a page are not, where its folder was not met before or texts do not come again.
+fn link_on<'a>(
+    alloc: Global,
+    folder: &mut Folder<'a>,
+    known: &mut KnownLinks<'a>,
+    text: &'a str,
+    before: u64,
+) -> Result<Option<CanonUrl>, FetchError>
+    requires { AreLinks folder.old known.old }
+    ensures link { IfOk result (λ link. link ≡ link_url folder.old text.now) }
+    ensures page { folder.new ≡ folder.old }
+    ensures known { AreLinks folder.new known.new }
+    ensures refused { IfErr result (λ e. e ≡ FetchError.NoMemory) }
+{
+    if before < FEW_TEXTS && !folder.comes_again() {
+        return link_of(alloc, folder.page(), text);
+    }
+    // Most texts are known as they stand, so nothing is searched for in them.
+    let whole = LinkText::new(text);
+    if let Some(link) = folder.find(&whole) {
+        return Ok(copy_of(link)?);
+    }
+    let front = whole.before_fragment();
+    if is_of_folder(front.as_str()) {
+        folder.link(alloc, &front)
+    } else {
+        known.link(alloc, folder.page(), &front)
+    }
+}
+
+/// The text of the first link before the next page, and what follows that line.
+fn next_link(behind: &str) -> Option<(&str, &str)>
+    ensures first { MatchOption result (link_texts (lines behind.now) ≡ []) (λ x. link_texts (lines behind.now) ≡ x.0.now ∷ link_texts (lines x.1.now)) }
+    ensures shorter { IfSome result (λ x. length x.1.now < length behind.now) }
+{
+    let mut rest = behind;
+    while let Some((line, more)) = first_text(rest) {
+        rest = more;
+        match line_of(line) {
+            Line::Page(_) => return None,
+            Line::Link(text) => return Some((text, rest)),
+            Line::Moved(_) | Line::Empty | Line::Other => {}
+        }
+    }
+    None
+}
+
+/// The text of the moved line, where one comes before any page or link.
+pub fn moved_text(behind: &str) -> Option<&str>
+    ensures { option_map (λ text. text.now) result ≡ moved_text (lines behind.now) }
+{
+    let mut rest = behind;
+    while let Some((line, more)) = first_text(rest) {
+        rest = more;
+        match line_of(line) {
+            Line::Page(_) | Line::Link(_) => return None,
+            Line::Moved(text) => return Some(text),
+            Line::Empty | Line::Other => {}
+        }
+    }
+    None
+}

@@ -1,0 +1,53 @@
+//! The lines of a saved web, read one by one.
+ghost use Rattle.std.specs.Prelude.{◌≡◌, ◌≤◌, ℕ, List, [], IfOk, IfErr};
+ghost use Rattle.std.specs.Str.Lines.{lines};
+ghost use Rattle.saved_web.specs.Reading.{FoundTo, AreRead};
+ghost use Rattle.saved_web.specs.WebFaults.{IsWebRefusal};
+
+use crate::add::{Above, add_line};
+use crate::error::WebError;
+use crate::pages::Pages;
+use std::alloc::Global;
+use text_lines::first_text;
+
+/// How many bytes are looked at to tell how many pages a text may have.
+const SAMPLE: usize = 1 << 14;
+
+/// A text is not taken to have more pages than one to so many bytes, so that no index is made that is large beside it.
+const LEAST_PAGE: usize = 32;
+
+/// The pages that the lines of this text are. So many lines come before them, and this is what their checks ask of those.
+pub fn pages_behind(
+    alloc: Global,
+    text: &str,
+    before: u64,
+    above: Above,
+) -> Result<Pages<'_>, WebError>
+    requires { before ≤ 1 }
+    // Whatever the lines before were, where no page is among them.
+    ensures read { IfOk result (λ pages. (all : List (List ℕ)) → FoundTo all (lines text.now) before above [] → AreRead all pages) }
+    ensures fault { IfErr result (λ told. (all : List (List ℕ)) → FoundTo all (lines text.now) before above [] → IsWebRefusal all told) }
+{
+    let mut pages = Pages::new(alloc, likely_pages(text));
+    let mut rest = text;
+    let mut number = before;
+    let mut above = above;
+    while let Some((line, more)) = first_text(rest) {
+        number += 1;
+        above = add_line(alloc, &mut pages, number, above, line, rest)?;
+        rest = more;
+    }
+    Ok(pages)
+}
+
+/// How many pages the text may have, if it goes on as it begins. An index with slots for them has not to grow.
+fn likely_pages(text: &str) -> usize {
+    let bytes = text.as_bytes();
+    let front = &bytes[..bytes.len().min(SAMPLE)];
+    let pages = front
+        .split(|byte| *byte == b'\n')
+        .filter(|line| line.starts_with(b"page "))
+        .count();
+    let samples = bytes.len() / SAMPLE + 1;
+    pages.saturating_mul(samples).min(bytes.len() / LEAST_PAGE)
+}

@@ -1,0 +1,152 @@
+//! A saved web read by threads: each reads a part of its lines, and the parts are put together.
+ghost use Rattle.std.specs.Prelude.{◌≡◌, ◌++◌, ◌<◌, ◌≤◌, length, IfSome};
+ghost use Rattle.std.specs.Str.Lines.{lines};
+ghost use Rattle.saved_web.specs.Reading.{AreRead, AreReadBehind, IsHeader};
+
+use crate::add::{Above, header};
+use crate::reader::pages_behind;
+use crate::web_pages::WebPages;
+use simdutf8::compat::from_utf8;
+use std::alloc::Global;
+use std::thread::{Threads, join};
+use text_lines::{cut_line, first_line, text_of};
+
+/// Fewer bytes than this are not worth a thread.
+const LEAST: usize = 1 << 19;
+
+/// How often the lines are halved, so that as many threads read a part as two to this power.
+const HALVINGS: u32 = 2;
+
+/// Some of the lines behind the header of a saved web.
+#[derive(Clone, Copy)]
+struct Part<'a> {
+    /// The web has version 2.
+    second: bool,
+    bytes: &'a [u8],
+}
+
+impl<'a> Part<'a> {
+    /// Half of the lines each, about. The second half begins with a page, where there is one.
+    fn halves(self) -> (Part<'a>, Part<'a>)
+        ensures second { (result.0.second ≡ self.entry.second) × (result.1.second ≡ self.entry.second) }
+        ensures lines { lines self.entry.bytes.now ≡ lines result.0.bytes.now ++ lines result.1.bytes.now }
+    {
+        let second = self.second;
+        let (front, back) = cut_before_page(self.bytes, self.bytes.len() / 2);
+        (
+            Part {
+                second,
+                bytes: front,
+            },
+            Part {
+                second,
+                bytes: back,
+            },
+        )
+    }
+}
+
+/// The pages of the saved web that the bytes are, read by four threads; nothing where one thread has to look at them: where there
+/// is a fault, or no room, or too little to do.
+pub fn pages_in_threads<'a, R: Threads + Sync>(
+    rt: &R,
+    alloc: Global,
+    bytes: &'a [u8],
+) -> Option<WebPages<'a>>
+    ensures some { IfSome result (λ _. 0 < length (lines bytes.now)) }
+    ensures read { IfSome result (λ pages. AreRead (lines bytes.now) pages) }
+{
+    if bytes.len() < LEAST {
+        return None;
+    }
+    let (line, more) = first_line(bytes)?;
+    let second = version(line)?;
+    let behind = Part {
+        second,
+        bytes: more,
+    };
+    pages_of_part(rt, alloc, HALVINGS, behind)
+}
+
+/// Whether the header, this line, says version 2; nothing where it is none.
+fn version(line: &[u8]) -> Option<bool>
+    ensures { IfSome result (λ second. IsHeader second line.now) }
+{
+    let Ok(text) = text_of(1, line) else {
+        return None;
+    };
+    match header(text) {
+        Ok(second) => Some(second),
+        Err(_) => None,
+    }
+}
+
+/// The pages of the part, by a thread for each half of it, as often as it is halved. Where none can be started this one reads
+/// both.
+fn pages_of_part<'a, R: Threads + Sync>(
+    rt: &R,
+    alloc: Global,
+    halvings: u32,
+    part: Part<'a>,
+) -> Option<WebPages<'a>>
+    ensures { IfSome result (AreReadBehind part.entry.second (lines part.entry.bytes.now)) }
+{
+    if halvings == 0 {
+        return read_part(alloc, part);
+    }
+    let fewer = halvings - 1;
+    let (front, back) = part.halves();
+    let of_front = move || -> Option<WebPages<'_>>
+        ensures { IfSome result (AreReadBehind front.entry.second (lines front.entry.bytes.now)) }
+    { pages_of_part(rt, alloc, fewer, front) };
+    let of_back = move || -> Option<WebPages<'_>>
+        ensures { IfSome result (AreReadBehind back.entry.second (lines back.entry.bytes.now)) }
+    { pages_of_part(rt, alloc, fewer, back) };
+    let (first, second) = join(rt, of_front, of_back);
+    let first = first?;
+    let second = second?;
+    first.and(rt, second)
+}
+
+/// The pages of the part; nothing where it is no text.
+fn read_part(alloc: Global, part: Part<'_>) -> Option<WebPages<'_>>
+    ensures { IfSome result (AreReadBehind part.entry.second (lines part.entry.bytes.now)) }
+{
+    match from_utf8(part.bytes) {
+        Ok(text) => read_text(alloc, part.second, text),
+        Err(_) => None,
+    }
+}
+
+/// The pages of a part that is this text.
+fn read_text(alloc: Global, second: bool, text: &str) -> Option<WebPages<'_>>
+    ensures { IfSome result (AreReadBehind second (lines text.now)) }
+{
+    let above = Above {
+        second,
+        link: false,
+        moved: false,
+    };
+    let Ok(pages) = pages_behind(alloc, text, 1, above) else {
+        return None;
+    };
+    match WebPages::one(alloc, pages) {
+        Ok(web) => Some(web),
+        Err(_) => None,
+    }
+}
+
+/// The bytes, cut at the end of a line: of the first that ends behind so many bytes and is followed by a page.
+pub fn cut_before_page(bytes: &[u8], from: usize) -> (&[u8], &[u8])
+    requires { from ≤ length bytes.now }
+    ensures { lines bytes.now ≡ lines result.0.now ++ lines result.1.now }
+{
+    let mut from = from;
+    while let Some((front, back)) = cut_line(bytes, from) {
+        if back.starts_with(b"page ") {
+            return (front, back);
+        }
+        from = front.len();
+    }
+    (bytes, &[])
+}

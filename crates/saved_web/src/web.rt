@@ -1,0 +1,181 @@
+//! A saved web: pages and their links, as lines of a text file.
+ghost use Rattle.std.specs.Prelude.{◌≡◌, ℕ, List, Ok, Err, IfOk, IfErr, IsUtf8};
+ghost use Rattle.crawl_keys.specs.Outcome.{Gives};
+ghost use Rattle.std.specs.Str.Lines.{lines};
+ghost use Rattle.saved_web.specs.SavedWeb.{page_of};
+ghost use Rattle.saved_web.specs.KnownPages.{known_page, page_at};
+ghost use Rattle.saved_web.specs.WebFaults.{IsSound, IsWebFault, IsWebRefusal};
+
+use crate::add::{Above, check_line};
+use crate::error::WebError;
+use crate::link_cache::LinkCache;
+use crate::links::page_behind;
+use crate::pages::Pages;
+use crate::reader::pages_behind;
+use crate::threads::pages_in_threads;
+use crate::web_pages::WebPages;
+use crawl_keys::{Base, CanonUrl};
+use crawl_pages::{Fetch, FetchError, Page, SessionFetch};
+use simdutf8::compat::from_utf8;
+use std::alloc::Global;
+use std::thread::Threads;
+use text_lines::first_line;
+
+/// The pages of a saved web, each with its links. It borrows the bytes that it was read from.
+#[derive(Drop)]
+pub struct SavedWeb<'a> {
+    pages: WebPages<'a>,
+}
+
+impl<'a> SavedWeb<'a> {
+    /// The saved web that the bytes are.
+    ///
+    /// # Errors
+    /// That of the first line that fails a check, and there the first of the checks, in the order of [`WebError`];
+    /// `NoMemory` where a growth was refused.
+    pub fn read(alloc: Global, bytes: &'a [u8]) -> Result<SavedWeb<'a>, WebError>
+        ensures sound { IfOk result (λ web. IsSound (lines bytes.now)) }
+        // At every URL it has the page that the lines say.
+        ensures pages { IfOk result (λ web. (url : List ℕ) → page_at web url ≡ page_of (lines bytes.now) url) }
+        // An error is the fault of the first line that has one, unless a growth was refused.
+        ensures fault { IfErr result (λ told. IsWebRefusal (lines bytes.now) told) }
+        // The other way round: sound lines are read, and lines with a fault are refused for it.
+        ensures reads { IsSound (lines bytes.now) → Gives WebError.NoMemory page_at result (Ok (page_of (lines bytes.now))) }
+        ensures tells { (fault : WebError) → IsWebFault (lines bytes.now) fault → Gives WebError.NoMemory page_at result (Err fault) }
+    {
+        let pages = known_pages(alloc, bytes)?;
+        Ok(SavedWeb {
+            pages: WebPages::one(alloc, pages)?,
+        })
+    }
+
+    /// As [`SavedWeb::read`], by four threads where there is enough to read. Bytes with a fault are then read once more by one
+    /// thread, which tells it.
+    ///
+    /// # Errors
+    /// Those of [`SavedWeb::read`]. A thread that cannot be started is none: its part is read by the thread that wanted it.
+    pub fn read_in_threads<R: Threads + Sync>(
+        rt: &R,
+        alloc: Global,
+        bytes: &'a [u8],
+    ) -> Result<SavedWeb<'a>, WebError>
+        ensures sound { IfOk result (λ web. IsSound (lines bytes.now)) }
+        // At every URL it has the page that the lines say.
+        ensures pages { IfOk result (λ web. (url : List ℕ) → page_at web url ≡ page_of (lines bytes.now) url) }
+        // An error is the fault of the first line that has one, unless a growth was refused.
+        ensures fault { IfErr result (λ told. IsWebRefusal (lines bytes.now) told) }
+        // The other way round: sound lines are read, and lines with a fault are refused for it.
+        ensures reads { IsSound (lines bytes.now) → Gives WebError.NoMemory page_at result (Ok (page_of (lines bytes.now))) }
+        ensures tells { (fault : WebError) → IsWebFault (lines bytes.now) fault → Gives WebError.NoMemory page_at result (Err fault) }
+    {
+        match pages_in_threads(rt, alloc, bytes) {
+            Some(pages) => Ok(SavedWeb { pages }),
+            None => SavedWeb::read(alloc, bytes),
+        }
+    }
+}
+
+/// The pages that the lines are.
+fn known_pages(alloc: Global, bytes: &[u8]) -> Result<Pages<'_>, WebError>
+    ensures sound { IfOk result (λ _. IsSound (lines bytes.now)) }
+    ensures pages { IfOk result (λ pages. (url : List ℕ) → known_page pages url ≡ page_of (lines bytes.now) url) }
+    ensures fault { IfErr result (λ told. IsWebRefusal (lines bytes.now) told) }
+{
+    match from_utf8(bytes) {
+        Ok(text) => pages_in(alloc, text),
+        Err(_) => Err(fault_in(alloc, bytes)),
+    }
+}
+
+/// The pages that the lines of a text are.
+fn pages_in(alloc: Global, text: &str) -> Result<Pages<'_>, WebError>
+    ensures sound { IfOk result (λ _. IsSound (lines text.now)) }
+    ensures pages { IfOk result (λ pages. (url : List ℕ) → known_page pages url ≡ page_of (lines text.now) url) }
+    ensures fault { IfErr result (λ told. IsWebRefusal (lines text.now) told) }
+{
+    if text.is_empty() {
+        return Err(WebError::BadHeader);
+    }
+    pages_behind(alloc, text, 0, Above::nothing())
+}
+
+/// The fault of bytes that are not UTF-8.
+fn fault_in(alloc: Global, bytes: &[u8]) -> WebError
+    requires { ¬ (IsUtf8 bytes.now) }
+    ensures { IsWebRefusal (lines bytes.now) result }
+{
+    let mut pages = Pages::new(alloc, 0);
+    let mut rest = bytes;
+    let mut number: u64 = 0;
+    let mut above = Above::nothing();
+    while let Some((line, more)) = first_line(rest) {
+        rest = more;
+        number += 1;
+        match check_line(alloc, &mut pages, number, above, line) {
+            Ok(next) => above = next,
+            Err(fault) => return fault,
+        }
+    }
+    unreachable!()
+}
+
+impl Fetch for SavedWeb<'_> {
+    ghost use Rattle.saved_web.specs.KnownPages.{page_at};
+
+    ghost meaning = { page_at };
+
+    fn fetch(&self, alloc: Global, url: &CanonUrl) -> Result<Page, FetchError>
+        ensures meaning { IfOk result (λ page. page ≡ page_at self.now url.now) }
+        // It never fails of itself.
+        ensures refused { IfErr result (λ e. e ≡ FetchError.NoMemory) }
+    {
+        let mut cache = LinkCache::without_slots(alloc);
+        self.fetch_in(alloc, &mut cache, url)
+    }
+}
+
+impl<'a> SessionFetch for SavedWeb<'a> {
+    ghost use Rattle.saved_web.specs.KnownPages.{page_at};
+
+    type Session = LinkCache<'a>;
+
+    ghost meaning = { page_at };
+
+    // What a folder knows is right of links, whatever web they are of.
+    ghost is_of = { λ _ _. Unit {0} };
+
+    fn open_session(&self, alloc: Global, among: u32) -> LinkCache<'a> {
+        LinkCache::new(alloc, among)
+    }
+
+    fn expect(&self, hashes: &[u64]) -> u64 {
+        self.pages.read_ahead(hashes)
+    }
+
+    fn fetch_in(
+        &self,
+        alloc: Global,
+        session: &mut LinkCache<'a>,
+        url: &CanonUrl,
+    ) -> Result<Page, FetchError>
+        ensures meaning { IfOk result (λ page. page ≡ page_at self.now url.now) }
+        // It never fails of itself.
+        ensures refused { IfErr result (λ e. e ≡ FetchError.NoMemory) }
+    {
+        match self.pages.get(url) {
+            Some(page) => page_behind(alloc, session, base_of(alloc, url)?, page.behind()),
+            None => Ok(Page::Missing),
+        }
+    }
+}
+
+/// The base for the links of the page at this URL.
+pub(crate) fn base_of(alloc: Global, url: &CanonUrl) -> Result<Base, FetchError>
+    ensures base { IfOk result (λ base. base ≡ url.now) }
+    ensures refused { IfErr result (λ e. e ≡ FetchError.NoMemory) }
+{
+    match Base::new(alloc, url) {
+        Ok(base) => Ok(base),
+        Err(_) => Err(FetchError::NoMemory),
+    }
+}

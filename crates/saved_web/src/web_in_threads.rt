@@ -1,0 +1,84 @@
+//! A saved web whose pages are looked at by threads.
+ghost use Rattle.std.specs.Prelude.{◌≡◌, IfOk, IfErr};
+ghost use Rattle.saved_web.specs.KnownPages.{page_at};
+
+use crate::ahead::Ahead;
+use crate::link_cache::LinkCache;
+use crate::long::{LEAST, page_in_threads};
+use crate::web::SavedWeb;
+use crawl_keys::CanonUrl;
+use crawl_pages::{FetchError, Page, SessionFetch};
+use std::alloc::Global;
+use std::thread::Threads;
+
+/// A saved web as a source of the same pages. Threads find the links of all pages ahead where these have one host, and else those
+/// of a page that is long.
+#[derive(Drop)]
+pub struct WebInThreads<'w, 'a, R: Threads> {
+    web: &'w SavedWeb<'a>,
+    rt: &'w R,
+    /// Some page is long, and may be looked at by threads.
+    long: bool,
+    ahead: Ahead<'w, 'a>,
+    ghost own: { ahead ≡ web.now.pages },
+}
+
+impl<'w, 'a, R: Threads + Sync> WebInThreads<'w, 'a, R> {
+    /// The web, and whether threads may look at its pages.
+    pub fn new(
+        rt: &'w R,
+        alloc: Global,
+        web: &'w SavedWeb<'a>,
+        in_threads: bool,
+    ) -> WebInThreads<'w, 'a, R>
+        ensures { result.web.now ≡ web.now }
+    {
+        let pages = &web.pages;
+        WebInThreads {
+            web,
+            rt,
+            long: in_threads && pages.has_long_page(LEAST),
+            ahead: Ahead::new(rt, alloc, pages, in_threads),
+        }
+    }
+}
+
+impl<'w, 'a, R: Threads> SessionFetch for WebInThreads<'w, 'a, R> {
+    ghost use Rattle.saved_web.specs.KnownPages.{page_at};
+
+    type Session = LinkCache<'a>;
+
+    ghost meaning = { λ source. page_at source.web.now };
+
+    ghost is_of = { λ _ _. Unit {0} };
+
+    fn open_session(&self, alloc: Global, among: u32) -> LinkCache<'a> {
+        LinkCache::new(alloc, among)
+    }
+
+    fn expect(&self, hashes: &[u64]) -> u64 {
+        self.web.expect(hashes)
+    }
+
+    fn fetch_in(
+        &self,
+        alloc: Global,
+        session: &mut LinkCache<'a>,
+        url: &CanonUrl,
+    ) -> Result<Page, FetchError>
+        ensures meaning { IfOk result (λ page. page ≡ page_at self.now.web.now url.now) }
+        // It never fails of itself.
+        ensures refused { IfErr result (λ e. e ≡ FetchError.NoMemory) }
+    {
+        if let Some(page) = self.ahead.page(alloc, url) {
+            return Ok(page);
+        }
+        if !self.long {
+            return self.web.fetch_in(alloc, session, url);
+        }
+        match self.web.pages.get(url) {
+            Some(page) => page_in_threads(self.rt, alloc, session, url, page.behind()),
+            None => Ok(Page::Missing),
+        }
+    }
+}

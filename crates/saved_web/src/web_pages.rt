@@ -1,0 +1,216 @@
+//! The pages of a saved web, in the parts in which they were read.
+ghost use Rattle.std.specs.Prelude.{◌≡◌, ◌++◌, ℕ, List, Some, true, false, slice_get, IfOk, IfSome};
+ghost use Rattle.std.specs.List.{flat_map};
+ghost use Rattle.std.specs.Option.{option_map};
+ghost use Rattle.saved_web.specs.PageLists.{page_with, has};
+
+use crate::known_page::KnownPage;
+use crate::pages::Pages;
+use crawl_keys::CanonUrl;
+use std::alloc::{AllocError, Global};
+use std::marker::Model;
+use std::thread::Threads;
+
+/// So many pages are looked at, about, to tell whether all have one host.
+const SAMPLES: usize = 1_024;
+
+/// The pages of a saved web: in one part, or in as many as threads have read, each with its own index.
+#[derive(Drop)]
+pub struct WebPages<'a> {
+    parts: Vec<Pages<'a>>,
+}
+
+// Contracts see the pages of all parts, in order.
+impl<'a> Model for WebPages<'a> {
+    ghost use Rattle.std.specs.Prelude.{List};
+    ghost use Rattle.std.specs.Coded.{coded_list};
+    ghost use Rattle.std.specs.List.{flat_map};
+    ghost use Rattle.saved_web.specs.PageLists.{PageRead, page_read_code};
+
+    ghost Value = { List PageRead };
+
+    ghost coded = { coded_list page_read_code };
+
+    ghost view = { λ pages. flat_map (λ part. part) pages.parts.items };
+}
+
+impl<'a> WebPages<'a> {
+    /// Pages in one part.
+    pub fn one(alloc: Global, pages: Pages<'a>) -> Result<WebPages<'a>, AllocError>
+        ensures { IfOk result (λ web. web ≡ pages.entry) }
+    {
+        let mut parts = Vec::with_capacity(alloc, 1)?;
+        parts.push(pages)?;
+        Ok(WebPages { parts })
+    }
+
+    /// The page with the URL.
+    pub fn get(&self, url: &CanonUrl) -> Option<&KnownPage<'a>>
+        ensures page { option_map (λ page. page.now) result ≡ page_with self.now url.now }
+        ensures same { IfSome result (λ page. page.now.url ≡ url.now) }
+    {
+        first_with(&self.parts, url)
+    }
+
+    /// The index of the page with the URL.
+    pub fn find(&self, url: &CanonUrl) -> Option<usize>
+        ensures { IfSome result (λ index. slice_get self.now index ≡ page_with self.now url.now) }
+    {
+        index_with(&self.parts, url)
+    }
+
+    /// The page at the index.
+    pub fn page(&self, index: usize) -> Option<&KnownPage<'a>>
+        ensures { IfSome result (λ page. slice_get self.now index ≡ Some page.now) }
+    {
+        page_at(&self.parts, index)
+    }
+
+    /// Reads what look-ups of URLs with these hashes read, and what stands first on their pages: the slots of all, then what these
+    /// lead to. The answer says nothing.
+    pub fn read_ahead(&self, hashes: &[u64]) -> u64 {
+        let mut sum: u64 = 0;
+        for part in &self.parts {
+            sum = sum.wrapping_add(part.read_slots(hashes));
+        }
+        for part in &self.parts {
+            sum = sum.wrapping_add(part.read_list(hashes));
+        }
+        for part in &self.parts {
+            sum = sum.wrapping_add(part.read_texts(hashes));
+        }
+        sum
+    }
+
+    /// How many bytes of the input are theirs, about.
+    pub fn bytes(&self) -> usize {
+        let mut bytes: usize = 0;
+        for part in &self.parts {
+            bytes = bytes.saturating_add(part.bytes());
+        }
+        bytes
+    }
+
+    /// The index of the first page behind so many of these bytes.
+    pub fn index_behind(&self, bytes: usize) -> usize {
+        let mut bytes = bytes;
+        let mut before: usize = 0;
+        for part in &self.parts {
+            let own = part.bytes();
+            if bytes < own {
+                return before.saturating_add(part.index_behind(bytes));
+            }
+            bytes -= own;
+            before = before.saturating_add(part.len());
+        }
+        before
+    }
+
+    /// Whether all pages have one host, as far as those tell that are looked at.
+    pub fn has_one_host(&self) -> bool {
+        let Some(first) = self.page(0) else {
+            return false;
+        };
+        let count = self.index_behind(self.bytes());
+        let step = count / SAMPLES + 1;
+        for sample in 1..SAMPLES {
+            match self.page(step.saturating_mul(sample)) {
+                Some(page) if page.host() != first.host() => return false,
+                Some(_) => {}
+                None => return true,
+            }
+        }
+        true
+    }
+
+    /// Whether some page has so many bytes, about.
+    pub fn has_long_page(&self, bytes: usize) -> bool {
+        for part in &self.parts {
+            if part.has_long_page(bytes) {
+                return true;
+            }
+        }
+        false
+    }
+
+    /// The pages of both, these first; nothing where a page of each has one URL, or there is no room.
+    pub fn and<R: Threads + Sync>(self, rt: &R, more: WebPages<'a>) -> Option<WebPages<'a>>
+        ensures both { IfSome result (λ web. web ≡ self.entry ++ more.entry) }
+        ensures apart { IfSome result (λ _. (url : List ℕ) → has more.entry url ≡ true → has self.entry url ≡ false) }
+    {
+        if some_known(rt, &self.parts, &more.parts) {
+            return None;
+        }
+        let WebPages { mut parts } = self;
+        let WebPages { parts: mut others } = more;
+        match parts.append(&mut others) {
+            Ok(()) => Some(WebPages { parts }),
+            Err(_) => None,
+        }
+    }
+}
+
+/// The page with the URL in the first part that has one.
+fn first_with<'p, 'a>(parts: &'p [Pages<'a>], url: &CanonUrl) -> Option<&'p KnownPage<'a>>
+    ensures page { option_map (λ page. page.now) result ≡ page_with (flat_map (λ part. part) parts.now) url.now }
+    ensures same { IfSome result (λ page. page.now.url ≡ url.now) }
+{
+    for part in parts {
+        if let Some(page) = part.get(url) {
+            return Some(page);
+        }
+    }
+    None
+}
+
+/// The index of the page with the URL among those of the parts.
+fn index_with(parts: &[Pages<'_>], url: &CanonUrl) -> Option<usize>
+    ensures { IfSome result (λ index. slice_get (flat_map (λ part. part) parts.now) index ≡ page_with (flat_map (λ part. part) parts.now) url.now) }
+{
+    let mut before: usize = 0;
+    for part in parts {
+        if let Some(index) = part.find(url) {
+            return before.checked_add(index);
+        }
+        before = before.checked_add(part.len())?;
+    }
+    None
+}
+
+/// The page at the index among those of the parts.
+fn page_at<'p, 'a>(parts: &'p [Pages<'a>], index: usize) -> Option<&'p KnownPage<'a>>
+    ensures { IfSome result (λ page. slice_get (flat_map (λ part. part) parts.now) index ≡ Some page.now) }
+{
+    let mut index = index;
+    for part in parts {
+        if index < part.len() {
+            return part.at(index);
+        }
+        index -= part.len();
+    }
+    None
+}
+
+/// Whether a page of each has one URL.
+fn some_known<R: Threads + Sync>(rt: &R, parts: &[Pages<'_>], others: &[Pages<'_>]) -> bool
+    ensures { result ≡ false → (url : List ℕ) → has (flat_map (λ part. part) others.now) url ≡ true → has (flat_map (λ part. part) parts.now) url ≡ false }
+{
+    for other in others {
+        if is_known(rt, parts, other) {
+            return true;
+        }
+    }
+    false
+}
+
+/// Whether a page of the parts and one of the other have one URL.
+fn is_known<R: Threads + Sync>(rt: &R, parts: &[Pages<'_>], other: &Pages<'_>) -> bool
+    ensures { result ≡ false → (url : List ℕ) → has other.now url ≡ true → has (flat_map (λ part. part) parts.now) url ≡ false }
+{
+    for part in parts {
+        if part.shares_url(rt, other) {
+            return true;
+        }
+    }
+    false
+}

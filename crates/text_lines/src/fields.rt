@@ -1,0 +1,11 @@
+//! The fields of a line.
+ghost use Rattle.std.specs.Prelude.{◌≡◌};
+ghost use Rattle.std.specs.Option.{option_map};
+ghost use Rattle.text_lines.specs.Fields.{at_space};
+
+/// What is before the first space of a text, and what is after it, or `None` if it has no space.
+pub fn split_space(text: &str) -> Option<(&str, &str)>
+    ensures { option_map (λ x. (x.0.now, x.1.now)) result ≡ at_space text.now }
+{
+    text.split_once(' ')
+}
