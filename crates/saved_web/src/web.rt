@@ -24,7 +24,7 @@ use text_lines::first_line;
 /// The pages of a saved web, each with its links. It borrows the bytes that it was read from.
 #[derive(Drop)]
 pub struct SavedWeb<'a> {
-    pages: WebPages<'a>,
+    pub(crate) pages: WebPages<'a>,
 }
 
 impl<'a> SavedWeb<'a> {
