@@ -1,4 +1,4 @@
-pub mod Ahead
+pub mod AheadLinks
 pub mod FirstVersion
 pub mod JoinedParts
 pub mod LeastLine

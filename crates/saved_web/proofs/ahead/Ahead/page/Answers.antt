@@ -1,5 +1,5 @@
 use Rattle.std.proofs.Common.{rules}
-use Rattle.saved_web.proofs.Ahead.{known_there}
+use Rattle.saved_web.proofs.AheadLinks.{known_there}
 use Rattle.saved_web.proofs.ahead.Ahead.page.Goals as goal
 
 pub returns : goal.returns

@@ -1,5 +1,5 @@
 use Rattle.std.proofs.Common.{rules}
-use Rattle.saved_web.proofs.Ahead.{copied_page}
+use Rattle.saved_web.proofs.AheadLinks.{copied_page}
 use Rattle.saved_web.proofs.ahead.chunk.LinksAhead.page.Goals as goal
 
 pub returns : goal.returns

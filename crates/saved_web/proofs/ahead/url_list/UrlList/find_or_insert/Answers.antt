@@ -2,7 +2,7 @@ use Rattle.std.proofs.Common.{rules, ◌≡◌, ℕ, List, [], ◌∷◌, ◌++�
 use Rattle.hash_order.specs.HashOrder.{hash_of}
 use Rattle.hash_index.specs.Lists.{index_of}
 use Rattle.hash_index.proofs.Keeping.{pushed_item}
-use Rattle.saved_web.proofs.Ahead.{found_there, pushed_there, keep_pushed}
+use Rattle.saved_web.proofs.AheadLinks.{found_there, pushed_there, keep_pushed}
 use Rattle.saved_web.proofs.ahead.url_list.UrlList.find_or_insert.Goals as goal
 
 pub returns-in-Some-clause-there : goal.returns-in-Some-clause-there
