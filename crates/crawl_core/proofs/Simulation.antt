@@ -1,5 +1,5 @@
 -- A move of what is kept is the step of each state that it shows.
-use Rattle.std.proofs.Common.{eqb-true, unwrap_or, subst, ◌≡◌, ℕ, zero, suc, Bool, true, false, cond, ◌||◌, not, nat_eq, ◌+◌, ◌-◌, List, [], ◌∷◌, ◌++◌, map, drop, replicate, slice_get, slice_set, Option, Some, None, refl, sym, ap, ◌∙◌, arith, IfOk, Result, MatchOption}
+use Rattle.std.proofs.Common.{eqb-true, unwrap_or, subst, ◌≡◌, ℕ, zero, suc, Bool, true, false, cond, ◌||◌, not, nat_eq, ◌+◌, ◌-◌, List, [], ◌∷◌, ◌++◌, map, drop, replicate, slice_get, slice_set, Option, Some, None, refl, sym, ap, ◌∙◌, arith, MatchOption}
 use Rattle.std.specs.Bool.{if◌then◌else◌}
 use Rattle.std.specs.List.{AllZip, sum_by}
 use Rattle.std.specs.Ordering.{nat_cmp}
@@ -197,10 +197,6 @@ makes old event reply new moves = record {
         subst after kept (record { gate = refl; queues = moved.shown }),
       );
 }
-
--- what holds of a value follows from what implies it
-pub IfOk-weaker : {A E : Type 0} (r : Result A E) (P Q : A → Type 0) → ((a : A) → P a → Q a) → IfOk r P → IfOk r Q
-IfOk-weaker r P Q weaker p = grind arith
 
 -- an empty machine shows the first state
 pub shows_start : (workers max : ℕ) → Shows (record { gate = new_gate max; queues = replicate workers empty_queue }) (start workers max)

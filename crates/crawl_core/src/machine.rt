@@ -5,7 +5,6 @@ ghost use Rattle.crawl_core.specs.Growth.{needs_memory};
 ghost use Rattle.crawl_limits.specs.Limits.{AreLimits, worker_limit, pending_limit};
 ghost use Rattle.crawl_core.specs.State.{start};
 ghost use Rattle.crawl_core.specs.Shows.{Shows, Makes};
-ghost use Rattle.crawl_core.specs.Moves.{Moves};
 ghost use Rattle.crawl_core.specs.declared.error.CoreError.{CoreError};
 
 use crate::error::{CoreError, NoMemory};
@@ -82,16 +81,9 @@ impl Core {
     ///
     /// # Errors
     /// Out of memory, where a growth was refused; the machine is then as it was. Only `Look`, `Enter` and `Admit` need memory.
+    #[tactic(auto, using(crate::proofs::Simulation::makes))]
     pub fn step(&mut self, event: &Event) -> Result<Reply, NoMemory>
         ensures step { IfOk result (λ reply. Makes self.old event.now reply self.new) }
-        ensures succeeds { needs_memory event.now ≡ false → IsOk result }
-        ensures err { OnErr result (self.new ≡ self.old) }
-    {
-        self.advance(event)
-    }
-
-    fn advance(&mut self, event: &Event) -> Result<Reply, NoMemory>
-        ensures moves { IfOk result (λ reply. Moves self.old event.now reply self.new) }
         ensures succeeds { needs_memory event.now ≡ false → IsOk result }
         ensures err { OnErr result (self.new ≡ self.old) }
     {
