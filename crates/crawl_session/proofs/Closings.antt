@@ -1,39 +1,27 @@
 -- A session that was told that the frontier is closed.
-use Rattle.std.proofs.Common.{◌≡◌, ℕ, suc, Bool, true, if◌then◌else◌, List, [], ◌∷◌, ◌++◌, length, map, slice_get, Option, Some, None, Result, Ok, Err, refl, sym, ap, subst, ◌∙◌, arith, append_assoc, append-nil}
-use Rattle.std.proofs.lemmas.Grind.{common_steps}
+use Rattle.std.proofs.Common.{◌≡◌, ℕ, suc, Bool, if◌then◌else◌, List, [], ◌∷◌, ◌++◌, slice_get, Option, Some, None, Result, Ok, Err, sym, ap, subst, ◌∙◌, arith, append_assoc, append-nil}
 use Rattle.std.proofs.lemmas.Bool.Decides.{nat_tests}
-use Rattle.std.proofs.lemmas.List.Elements.{filter_map-append}
-use Rattle.std.proofs.lemmas.List.Sums.{sum_by-append}
 use Rattle.crawl_core.specs.declared.event.Event.{Event}
 use Rattle.crawl_core.specs.declared.event.Event.TheVariants as event
 use Rattle.crawl_core.specs.declared.reply.Reply.{Reply}
 use Rattle.crawl_core.specs.declared.reply.Reply.TheVariants as told
 use Rattle.crawl_core.specs.Fetching.{in_fetch}
-use Rattle.crawl_core.specs.History.{accepted_by, accepted_in, accepted_urls, taken_by, taken_urls, done_in, is_quiet, was_closed}
-use Rattle.crawl_core.specs.Messages.{Message}
-use Rattle.crawl_core.specs.Run.{Run}
 use Rattle.crawl_core.specs.Handing.{can_hand_over}
 use Rattle.crawl_core.specs.declared.reply.Refusal.TheVariants as why
 use Rattle.crawl_core.specs.State.{State}
 use Rattle.crawl_core.specs.Step.{turn}
-use Rattle.crawl_core.proofs.RunLaws.{drained, all_done}
-use Rattle.crawl_core.proofs.RunParts.{run_sound, closed_of}
-use Rattle.crawl_core.proofs.Sound.{Sound, gate_effect}
 use Rattle.crawl_session.specs.declared.answer.Answer.TheVariants.{Told}
 use Rattle.crawl_session.specs.declared.request.Request.{Request}
 use Rattle.crawl_session.specs.declared.request.Request.TheVariants.{Offer, Next, Again, Later, Done, EndSeeds}
 use Rattle.crawl_session.specs.declared.request.RequestError.{RequestError}
-use Rattle.crawl_session.specs.Clients.{asked, accepted_of, taken_of, AllDone}
 use Rattle.crawl_session.specs.declared.deferrals.Deferred.{Deferred}
 use Rattle.crawl_session.specs.Exchanges.{Exchange, Outcome, by_machine, deferring, deferring_taken, ends, exchange, finishing, handing, is_due, offering, put_back, replies, retaking, taking, taking_again, taking_next, told_again}
-use Rattle.crawl_session.specs.Frontiers.{Frontier, deferrals_at, start}
+use Rattle.crawl_session.specs.Frontiers.{Frontier, deferrals_at}
 use Rattle.crawl_session.specs.Parts.{request_for}
 use Rattle.crawl_session.specs.Sessions.{answered, line_exchange, history_of, state_after}
 use Rattle.crawl_session.specs.Settings.{Settings}
 use Rattle.crawl_session.proofs.Choices.{either_way}
 use Rattle.crawl_session.proofs.Lines.{history_of-append}
-use Rattle.crawl_session.proofs.Runs.{session_runs}
-use Rattle.crawl_session.proofs.Sees.{sees_accepted, sees_taken, sees_done}
 
 -- ---- where the frontier was found closed
 

@@ -1,32 +1,28 @@
 -- What waited in a queue, and then what joined it, is what was taken from it, and then what waits.
-use Rattle.std.proofs.Common.{◌≡◌, ℕ, zero, suc, ◌+◌, ◌≤◌, Bool, true, false, cond, not, ◌&&◌, ◌||◌, if◌then◌else◌, is_some, nat_eq, List, [], ◌∷◌, ◌++◌, length, map, get_or, replicate, slice_get, Option, Some, None, Result, Ok, Err, refl, sym, ap, subst, ◌∙◌, arith, append_assoc, append-nil, true≢false}
-use Rattle.std.proofs.lemmas.Bool.Decides.{nat_tests}
+use Rattle.std.proofs.Common.{◌≡◌, ℕ, zero, suc, ◌+◌, Bool, true, false, cond, ◌||◌, if◌then◌else◌, is_some, List, [], ◌∷◌, ◌++◌, length, get_or, replicate, slice_get, Option, Some, None, Result, Ok, Err, refl, sym, ap, subst, ◌∙◌, arith, append_assoc, append-nil, true≢false}
 use Rattle.std.specs.List.{cons_option}
 use Rattle.std.specs.Option.{option_or, option_to_list}
 use Rattle.std.proofs.lemmas.List.{length-replicate}
 use Rattle.std.proofs.lemmas.List.Sums.{sum_by-cons}
 use Rattle.crawl_core.specs.declared.event.Event.{Event}
 use Rattle.crawl_core.specs.declared.reply.Reply.{Reply}
-use Rattle.crawl_core.specs.declared.reply.Reply.TheVariants as told
 use Rattle.crawl_core.specs.Flags.{one_if}
 use Rattle.crawl_core.specs.Run.{Run}
 use Rattle.crawl_core.specs.State.{State}
 use Rattle.crawl_core.specs.Subqueue.{Subqueue, empty_subqueue}
-use Rattle.crawl_core.proofs.RunParts.{start_sound}
 use Rattle.crawl_core.proofs.Sound.{Sound, gate_effect}
 use Rattle.crawl_session.specs.declared.answer.Answer.{Answer}
-use Rattle.crawl_session.specs.declared.answer.Answer.TheVariants.{Told}
 use Rattle.crawl_session.specs.declared.request.Request.{Request}
 use Rattle.crawl_session.specs.declared.request.Request.TheVariants.{Offer, Next, Again, Later, Done, EndSeeds}
 use Rattle.crawl_session.specs.declared.request.RequestError.{RequestError}
-use Rattle.crawl_session.specs.Clients.{Asked, accepted_of, accepts, asked, busy_after, done_of, finishes, joined_from, joined_of, joins, put_back_of, puts_back, taken_of, takes}
+use Rattle.crawl_session.specs.Clients.{Asked, accepted_of, accepts, asked, busy_after, done_of, finishes, joined_from, joins, put_back_of, puts_back, taken_of, takes}
 use Rattle.crawl_session.specs.Frontiers.{Deferrals, Frontier, deferrals_at, no_deferrals, start}
 use Rattle.crawl_session.specs.Parts.{request_for}
-use Rattle.crawl_session.specs.Sessions.{answered, line_exchange, state_after}
+use Rattle.crawl_session.specs.Sessions.{line_exchange, state_after}
 use Rattle.crawl_session.specs.Settings.{Settings}
 use Rattle.crawl_session.proofs.Flows.{answered_passes}
-use Rattle.crawl_session.proofs.Joined.{Fine, Flow, busy_at, line_at}
-use Rattle.crawl_session.proofs.Queues.{Passes, Settled, busy_of, queue_at}
+use Rattle.crawl_session.proofs.Joined.{Fine, busy_at, line_at}
+use Rattle.crawl_session.proofs.Queues.{Settled, busy_of, queue_at}
 use Rattle.crawl_session.proofs.Runs.{answered_runs}
 
 -- what waits in a queue, in order

@@ -1,5 +1,5 @@
 -- A session that was told that the frontier is closed: all is done, and nothing comes after.
-use Rattle.std.proofs.Common.{◌≡◌, ℕ, zero, suc, ◌+◌, ◌-◌, ◌≤◌, ◌<◌, Bool, true, false, cond, nat_eq, if◌then◌else◌, is_some, List, [], ◌∷◌, ◌++◌, length, map, drop, get_or, slice_get, slice_set, Option, Some, None, Result, Ok, Err, refl, sym, ap, subst, ◌∙◌, arith, append-nil, true≢false}
+use Rattle.std.proofs.Common.{◌≡◌, ℕ, ◌+◌, ◌≤◌, ◌<◌, Bool, true, false, cond, is_some, List, [], ◌∷◌, ◌++◌, length, map, Option, Some, None, Result, Ok, Err, refl, sym, ap, subst, ◌∙◌, arith, append-nil}
 use Rattle.std.specs.BTreeMap.{is_at}
 use Rattle.std.specs.Ordering.{nat_cmp}
 use Rattle.std.specs.List.{cons_option, list_any, sum_by}
@@ -12,11 +12,11 @@ use Rattle.crawl_core.specs.declared.reply.Reply.{Reply}
 use Rattle.crawl_core.specs.declared.reply.Reply.TheVariants as told
 use Rattle.crawl_core.specs.Flags.{one_if}
 use Rattle.crawl_core.specs.GateSide.{holds}
-use Rattle.crawl_core.specs.History.{accepted_by, accepted_in, taken_by, taken_urls, is_quiet}
+use Rattle.crawl_core.specs.History.{accepted_by, accepted_in, is_quiet}
 use Rattle.crawl_core.specs.Messages.{Message}
 use Rattle.crawl_core.specs.Run.{Run}
 use Rattle.crawl_core.specs.State.{State, count_of}
-use Rattle.crawl_core.specs.Subqueue.{Subqueue, unfinished, waiting}
+use Rattle.crawl_core.specs.Subqueue.{Subqueue}
 use Rattle.std.proofs.lemmas.Bool.Decides.{nat_tests}
 use Rattle.crawl_core.proofs.RunParts.{eqb_same, start_sound}
 use Rattle.crawl_core.proofs.Sound.{Sound, gate_effect, none_unfinished}
@@ -26,10 +26,10 @@ use Rattle.crawl_session.specs.declared.deferrals.Deferred.{Deferred}
 use Rattle.crawl_session.specs.declared.request.Request.{Request}
 use Rattle.crawl_session.specs.declared.request.Request.TheVariants.{Offer, Next, Again, Later, Done, EndSeeds}
 use Rattle.crawl_session.specs.declared.request.RequestError.{RequestError}
-use Rattle.crawl_session.specs.Clients.{AllDone, Asked, accepted_of, asked, done_of, joined_from, joined_of, joins, put_back_of, taken_of, takes}
+use Rattle.crawl_session.specs.Clients.{AllDone, accepted_of, asked, busy_in, done_of, joined_from, joined_of, joins, put_back_of, taken_of, takes, times}
 use Rattle.crawl_session.specs.Frontiers.{Deferrals, Frontier, deferrals_at, no_deferrals, start}
 use Rattle.crawl_session.specs.Parts.{request_for}
-use Rattle.crawl_session.specs.Sessions.{answered, history_of, line_exchange, state_after}
+use Rattle.crawl_session.specs.Sessions.{history_of, line_exchange, state_after}
 use Rattle.crawl_session.specs.Settings.{Settings}
 use Rattle.crawl_session.proofs.Closings.{session_closes}
 use Rattle.crawl_session.proofs.Compactions.{closes_run, stays_closed}
@@ -39,6 +39,7 @@ use Rattle.crawl_session.proofs.Joined.{busy_at, idle_fetch, line_at}
 use Rattle.crawl_session.proofs.Onces.{joined_is}
 use Rattle.crawl_session.proofs.Owned.{Owned, answered_owned, fetched_units, has_sender, starts_owned, units_in, units_of}
 use Rattle.crawl_session.proofs.Queues.{Settled, busy_of, queue_at}
+use Rattle.crawl_session.proofs.Returns.{busy_is, sums}
 use Rattle.crawl_session.proofs.Runs.{answered_runs, session_runs}
 use Rattle.crawl_session.proofs.Sees.{sees_accepted}
 
@@ -127,7 +128,7 @@ empties state queue sound settled owned none = by_queue (queue_at state queue) r
 
 -- ---- all is done
 
-owned_after_lines : (settings : Settings) (state : Frontier) (lines : List (List ℕ)) → Sound state.machine → Settled state → Owned state → Owned (state_after settings state lines)
+pub owned_after_lines : (settings : Settings) (state : Frontier) (lines : List (List ℕ)) → Sound state.machine → Settled state → Owned state → Owned (state_after settings state lines)
 owned_after_lines settings state [] sound settled owned = owned
 owned_after_lines settings state (line ∷ more) sound settled owned =
     let r = request_for settings line in
@@ -181,6 +182,13 @@ all_is_done settings max front line closed =
           let same = ap length (taken queue) in
           let over = ended queue in
           omega (arith, joined, same, over);
+      each = λ queue url.
+          let sum = sums settings max all queue url in
+          let none_now : times url (option_to_list (busy_in queue told_all)) ≡ 0 = ap (λ (o : Option (List ℕ)). times url (option_to_list o)) (busy_is settings begun all queue None fresh settled (sym (starts_free settings.workers max queue)) ∙ (empty queue).busy) in
+          let same = ap (times url) (taken queue) in
+          let joined = sum.joined in
+          let over = sum.ended in
+          omega (arith, joined, same, over, none_now);
     }
 
 -- ---- and nothing comes after

@@ -1,6 +1,5 @@
 -- In each queue happens what the client is told.
-use Rattle.std.proofs.Common.{◌≡◌, ◌⊎◌, inl, inr, ℕ, zero, suc, ◌≤◌, Bool, true, false, not, ◌&&◌, ◌||◌, if◌then◌else◌, is_some, nat_eq, List, [], ◌∷◌, ◌++◌, length, slice_get, slice_set, Option, Some, None, Result, Ok, Err, refl, sym, ap, subst, ◌∙◌, arith, true≢false}
-use Rattle.std.specs.Option.{option_map}
+use Rattle.std.proofs.Common.{◌≡◌, ◌⊎◌, inl, inr, ℕ, zero, suc, ◌≤◌, Bool, true, false, not, ◌&&◌, ◌||◌, if◌then◌else◌, is_some, nat_eq, List, [], ◌∷◌, length, slice_get, slice_set, Option, Some, None, Result, Ok, Err, refl, sym, ap, subst, ◌∙◌, arith, true≢false}
 use Rattle.std.proofs.Math.ListN.{get_or-eq_default}
 use Rattle.crawl_core.specs.declared.event.Event.TheVariants as event
 use Rattle.crawl_core.specs.declared.reply.Reply.{Reply}
@@ -8,8 +7,7 @@ use Rattle.crawl_core.specs.declared.reply.Reply.TheVariants as told
 use Rattle.crawl_core.specs.declared.reply.Refusal.TheVariants as why
 use Rattle.crawl_core.specs.Fetching.{fetch_of, in_fetch}
 use Rattle.crawl_core.specs.GateSide.{GateTurn, gave_back, holds, let_go, turned_away, units_out}
-use Rattle.crawl_core.specs.Handing.{can_hand_over, is_fetching, lets_in}
-use Rattle.crawl_core.specs.Invariants.{SubqueueInvariant}
+use Rattle.crawl_core.specs.Handing.{can_hand_over, is_fetching}
 use Rattle.crawl_core.specs.Messages.{Message, has_url}
 use Rattle.crawl_core.specs.State.{State, count_of, unfinished_in}
 use Rattle.crawl_core.specs.Step.{Turn, turn, admit_to, counted, done_with, put, refused, take_from, take_oldest, with_subqueue}
@@ -23,7 +21,7 @@ use Rattle.crawl_session.specs.declared.deferrals.Deferred.{Deferred}
 use Rattle.crawl_session.specs.declared.request.Request.{Request}
 use Rattle.crawl_session.specs.declared.request.Request.TheVariants.{Offer, Next, Again, Later, Done, EndSeeds}
 use Rattle.crawl_session.specs.declared.request.RequestError.{RequestError}
-use Rattle.crawl_session.specs.Clients.{Asked, accepts, finishes, joins, puts_back, takes}
+use Rattle.crawl_session.specs.Clients.{finishes, joins, puts_back, takes}
 use Rattle.crawl_session.specs.Exchanges as exchanges
 use Rattle.crawl_session.specs.Exchanges.{Exchange, Outcome, accepted_at, admitting, after, by_machine, client, deferring, deferring_taken, ends, entering, exchange, finishing, handing, is_count, is_due, is_empty, is_entered, is_seen, offering, put_back, replies, retaking, seeds_ended, taking, taking_again, taking_next, told_again}
 use Rattle.crawl_session.specs.Frontiers.{Deferrals, Frontier, deferrals_at, no_deferrals, waits_again, with_deferrals}

@@ -1,9 +1,7 @@
 -- A queue gives out the URLs that joined it, in order: each when it was accepted, and each time that it was put back.
-use Rattle.std.proofs.Common.{◌≡◌, ◌⊎◌, inl, inr, ℕ, zero, suc, ◌+◌, ◌-◌, ◌≤◌, ◌<◌, Bool, true, false, not, ◌&&◌, ◌||◌, if◌then◌else◌, is_some, nat_eq, nat_lt, List, [], ◌∷◌, ◌++◌, length, map, take, drop, get_or, slice_get, slice_set, Option, Some, None, refl, sym, ap, subst, ◌∙◌, arith, append_assoc, append-nil, eqb-true, ltb-true, ltb-false, true≢false}
-use Rattle.std.specs.List.{cons_option}
+use Rattle.std.proofs.Common.{◌≡◌, ℕ, zero, suc, ◌+◌, ◌-◌, ◌<◌, Bool, true, false, not, ◌&&◌, if◌then◌else◌, is_some, nat_lt, List, [], ◌∷◌, ◌++◌, length, map, drop, slice_get, Option, Some, None, refl, sym, ap, ◌∙◌, arith, append-nil, ltb-true, ltb-false, true≢false}
 use Rattle.std.specs.Option.{option_map, option_or, option_to_list}
 use Rattle.std.proofs.lemmas.List.{length-map, length-drop, map-append, drop-append-le, length_push}
-use Rattle.std.proofs.lemmas.Bool.Decides.{nat_tests}
 use Rattle.crawl_core.specs.Flags.{one_if}
 use Rattle.crawl_core.specs.Handing.{is_fetching}
 use Rattle.crawl_core.specs.Messages.{Message}
@@ -14,7 +12,7 @@ use Rattle.crawl_core.proofs.Simulation.{drop-slice_get}
 use Rattle.crawl_session.specs.declared.deferrals.Deferred.{Deferred}
 use Rattle.crawl_session.specs.Exchanges.{accepted_at, is_due}
 use Rattle.crawl_session.specs.Frontiers.{Deferrals, waits_again}
-use Rattle.crawl_session.proofs.InLine.{Within, in_line, line_accepts, line_defers, line_retakes, line_takes, within_more, within_push}
+use Rattle.crawl_session.proofs.InLine.{Within, in_line, line_accepts, line_defers, line_retakes, line_takes, within_more}
 
 -- ---- one queue
 

@@ -21,6 +21,8 @@ pub mod PartLaws
 pub mod Placed
 pub mod Queues
 pub mod Rests
+pub mod Returns
+pub mod Rooms
 pub mod Runs
 pub mod Sees
 pub mod Steps

@@ -1,7 +1,6 @@
 -- From what the machine does to what a session does.
-use Rattle.std.proofs.Common.{◌≡◌, ℕ, suc, ◌+◌, ◌<◌, ◌≤◌, Bool, true, false, not, ◌&&◌, if◌then◌else◌, is_some, nat_lt, List, [], ◌∷◌, drop, get_or, length, slice_get, slice_set, Option, Some, None, Result, Ok, Err, IfOk, OnErr, refl, sym, ap, subst, ◌∙◌, arith, true≢false}
+use Rattle.std.proofs.Common.{◌≡◌, ℕ, suc, ◌+◌, Bool, true, false, not, ◌&&◌, if◌then◌else◌, is_some, nat_lt, List, [], ◌∷◌, drop, get_or, slice_get, slice_set, Option, Some, None, Result, Ok, Err, IfOk, OnErr, refl, sym, ap, subst, ◌∙◌, arith, true≢false}
 use Rattle.std.specs.Option.{option_map}
-use Rattle.crawl_core.specs.declared.event.Event.{Event}
 use Rattle.crawl_core.specs.declared.event.Event.TheVariants as event
 use Rattle.crawl_core.specs.declared.machine.handing.Progress.{Progress}
 use Rattle.crawl_core.specs.declared.reply.Reply.{Reply}
@@ -17,9 +16,9 @@ use Rattle.crawl_core.specs.Subqueue.{Subqueue}
 use Rattle.crawl_session.specs.declared.answer.Answer.{Answer}
 use Rattle.crawl_session.specs.declared.answer.Answer.TheVariants.{Told}
 use Rattle.crawl_session.specs.declared.deferrals.Deferred.{Deferred}
-use Rattle.crawl_session.specs.Exchanges.{Exchange, Outcome, accepted_at, accepted_in, by_machine, deferring, deferring_first, deferring_taken, finishing, finishing_again, handing, is_count, is_due, put_back, replies, retaking, taking, taking_again, taking_first, taking_next}
+use Rattle.crawl_session.specs.Exchanges.{Exchange, Outcome, accepted_at, accepted_in, by_machine, deferring, deferring_first, deferring_taken, finishing, finishing_again, handing, is_count, is_due, put_back, replies, retaking, taking, taking_next}
 use Rattle.crawl_session.specs.Frontiers.{Deferrals, Frontier, KeptFrontier, Shows, deferrals_at, no_deferrals, waits_again, with_deferrals}
-use Rattle.crawl_session.specs.Serving.{Comes, GivesUp, GivenUp}
+use Rattle.crawl_session.specs.Serving.{Comes, GivesUp}
 use Rattle.crawl_session.specs.Steps as steps
 use Rattle.crawl_core.proofs.Sound.{some_is}
 use Rattle.crawl_session.proofs.Steps as machine_steps

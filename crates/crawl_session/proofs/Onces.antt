@@ -1,12 +1,11 @@
 -- Each URL once, in order, by its host's subqueue, as a client is told.
-use Rattle.std.proofs.Common.{◌≡◌, ◌≤◌, ℕ, zero, suc, ◌+◌, Bool, true, false, if◌then◌else◌, is_some, List, [], ◌∷◌, ◌++◌, length, slice_get, Option, Some, None, refl, sym, ap, subst, ◌∙◌, arith}
+use Rattle.std.proofs.Common.{◌≡◌, ◌≤◌, ℕ, zero, suc, Bool, true, false, if◌then◌else◌, is_some, List, [], ◌∷◌, ◌++◌, slice_get, Option, Some, None, refl, sym, ap, subst, ◌∙◌, arith}
 use Rattle.std.specs.List.{cons_option}
 use Rattle.crawl_core.specs.Flags.{one_if}
 use Rattle.crawl_core.specs.History.{accepted_urls, AcceptsOnce}
-use Rattle.crawl_core.specs.State as machine_state
 use Rattle.crawl_core.proofs.QueueHistory.{accepts_once}
 use Rattle.crawl_core.proofs.RunParts.{start_sound}
-use Rattle.crawl_session.specs.Clients.{Asked, asked, accepted_of, accepts, busy_after, done_of, joined_from, joined_of, joins, put_back_of, puts_back, taken_of, EachOnceInOrder}
+use Rattle.crawl_session.specs.Clients.{Asked, asked, accepted_of, accepts, busy_after, joined_from, joined_of, put_back_of, taken_of, EachOnceInOrder}
 use Rattle.crawl_session.specs.Frontiers.{start}
 use Rattle.crawl_session.specs.Sessions.{history_of, state_after}
 use Rattle.crawl_session.specs.Settings.{Settings}

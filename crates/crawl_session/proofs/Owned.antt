@@ -1,26 +1,23 @@
 -- A URL that was put back has its sender's unit until it is done.
-use Rattle.std.proofs.Common.{◌≡◌, ℕ, zero, suc, ◌+◌, ◌≤◌, ◌<◌, Bool, true, false, cond, not, ◌&&◌, ◌||◌, if◌then◌else◌, is_some, nat_eq, List, [], ◌∷◌, ◌++◌, length, get_or, replicate, slice_get, slice_set, Option, Some, None, Result, Ok, Err, refl, sym, ap, subst, ◌∙◌, arith, eqb-true, true≢false}
+use Rattle.std.proofs.Common.{◌≡◌, ℕ, zero, suc, ◌+◌, ◌≤◌, ◌<◌, Bool, true, false, cond, ◌&&◌, ◌||◌, if◌then◌else◌, nat_eq, List, [], ◌∷◌, length, replicate, slice_get, slice_set, Option, Some, None, Result, Ok, Err, refl, sym, ap, subst, ◌∙◌, arith, eqb-true, ne_eqb, true≢false}
 use Rattle.std.proofs.lemmas.Bool.Decides.{nat_tests}
-use Rattle.std.specs.List.{list_any, sum_by}
+use Rattle.std.specs.List.{sum_by}
 use Rattle.std.specs.Ordering.{nat_cmp}
 use Rattle.std.specs.BTreeMap.{is_at}
-use Rattle.std.specs.BTreeSet.{insert_key}
 use Rattle.std.proofs.lemmas.Cmp.{nat_cmp_total}
 use Rattle.std.proofs.lemmas.List.Sums.{sum_by-cons, sum_by-set, sum_by_push}
 use Rattle.std.proofs.lemmas.Option.{slice_get_within}
-use Rattle.crawl_core.specs.declared.event.Event.{Event}
 use Rattle.crawl_core.specs.declared.event.Event.TheVariants as event
 use Rattle.crawl_core.specs.declared.reply.Reply.{Reply}
 use Rattle.crawl_core.specs.declared.reply.Reply.TheVariants as told
 use Rattle.crawl_core.specs.declared.reply.Refusal.TheVariants as why
 use Rattle.crawl_core.specs.Fetching.{fetch_of, in_fetch}
 use Rattle.crawl_core.specs.Flags.{one_if}
-use Rattle.crawl_core.specs.GateSide.{GateTurn, back, gave_back, holds, let_go, turned_away}
+use Rattle.crawl_core.specs.GateSide.{GateTurn, gave_back, holds, let_go, turned_away}
 use Rattle.crawl_core.specs.Handing.{can_hand_over, handed_over, has_room, is_fetching, lets_in}
 use Rattle.crawl_core.specs.History.{holds_after}
-use Rattle.crawl_core.specs.Invariants.{SubqueueInvariant}
 use Rattle.crawl_core.specs.State.{State, count_of, unfinished_in}
-use Rattle.crawl_core.specs.Step.{Turn, turn, with_subqueue}
+use Rattle.crawl_core.specs.Step.{turn, with_subqueue}
 use Rattle.crawl_core.specs.Subqueue.{Subqueue, after_finishing, unfinished}
 use Rattle.crawl_core.proofs.Counts.{there}
 use Rattle.crawl_core.proofs.GateHistory as gate_history
@@ -28,7 +25,6 @@ use Rattle.crawl_core.proofs.GateHistory.{holds_less}
 use Rattle.crawl_core.proofs.Handing.{handed_is, is_free}
 use Rattle.crawl_core.proofs.Places.{sum_at}
 use Rattle.crawl_core.proofs.Effects.{cond_both}
-use Rattle.crawl_core.proofs.RunParts.{eqb_same}
 use Rattle.crawl_core.proofs.Sets.{list_any-insert_key}
 use Rattle.crawl_core.proofs.Sound.{Sound, gate_effect}
 use Rattle.crawl_session.specs.declared.deferrals.Deferred.{Deferred}
@@ -57,10 +53,11 @@ units_in sender deferrals = sum_by (has_sender sender) deferrals.waiting + fetch
 abbrev pub units_of : ℕ → Frontier → ℕ
 units_of sender state = sum_by (units_in sender) state.deferrals
 
--- none has the client as its sender; and each sender has as many as it holds units, at most
+-- none has the client as its sender; each sender has as many as it holds units, at most; and the senders that come next hold none
 pub record Owned (state : Frontier) : Type 0 where
   pub mine : units_of client state ≡ 0
   pub held : (sender : ℕ) → units_of sender state ≤ one_if (holds state.machine.gate sender)
+  pub fresh : (n : ℕ) → state.senders ≤ n → holds state.machine.gate (suc n) ≡ false
 
 -- ---- the machine alone
 
@@ -116,7 +113,7 @@ taking_others state named sound =
     (λ n. (gate_history.held done.state effect.sound event.Close).holders (suc n) ∙ first n) first
 
 owned_machine : (state : Frontier) (new : State) → Others state.machine new → Owned state → Owned (record state { machine = new })
-owned_machine state new others owned = record { mine = owned.mine; held = by_sender }
+owned_machine state new others owned = record { mine = owned.mine; held = by_sender; fresh = λ n past. others n ∙ owned.fresh n past }
   where
     by_sender : (sender : ℕ) → units_of sender state ≤ one_if (holds new.gate sender)
     by_sender zero = let none = owned.mine in omega (arith, none)
@@ -136,6 +133,7 @@ owned_same : (state : Frontier) (named : ℕ) (deferrals : Deferrals) (found : S
 owned_same state named deferrals found settled at same owned = record {
   mine = let sum = units_after state named deferrals found settled at client in let is = same client in let none = owned.mine in omega (arith, sum, is, none);
   held = λ sender. let sum = units_after state named deferrals found settled at sender in let is = same sender in let few = owned.held sender in omega (arith, sum, is, few);
+  fresh = owned.fresh;
 }
 
 -- ---- requests
@@ -185,7 +183,12 @@ given_owned state named d found at is sound settled owned =
       mine = let sum = sums client in let none = owned.mine in omega (arith, sum, none);
       held = λ sender. subst (λ b. sum_by (units_in sender) (slice_set state.deferrals named new) ≤ one_if b) (sym (holds_less state.machine.gate.holders d.sender sender sound.holders))
           (less_held (nat_eq d.sender sender) (holds state.machine.gate sender) (units_of sender state) (sum_by (units_in sender) (slice_set state.deferrals named new)) (sums sender) (owned.held sender));
+      fresh = λ n past. holds_less state.machine.gate.holders d.sender (suc n) sound.holders ∙ stays_free (nat_eq d.sender (suc n)) (holds state.machine.gate (suc n)) (owned.fresh n past);
     }
+  where
+    stays_free : (b h : Bool) → h ≡ false → (if b then false else h) ≡ false
+    stays_free true h free = refl
+    stays_free false h free = free
 
 finish_again_owned : (state : Frontier) (named : ℕ) (d : Deferred) (found : Subqueue) → queue_at state named ≡ Some found → (deferrals_at state named).fetched ≡ Some d → Sound state.machine → Settled state → Owned state → Owned (finishing state named (Some d)).state
 finish_again_owned state named d found at is sound settled owned =
@@ -247,6 +250,9 @@ defer_owned state named url found at fetched none sound settled owned can =
       mine = let total = sums client in let none_mine = owned.mine in let apart : cond (nat_eq (suc state.senders) client) 1 0 ≡ 0 = ap {B = ℕ} (λ b. cond b 1 0) (suc_apart state.senders) in omega (arith, total, none_mine, apart);
       held = λ sender. subst (λ b. sum_by (units_in sender) (slice_set state.deferrals named new) ≤ one_if b) (sym (holds_now sender))
           (more_held (nat_eq s sender) (holds machine.gate sender) (units_of sender state) _ (sums sender) (owned.held sender) (λ same. ap (holds machine.gate) (sym (eqb-true s sender same)) ∙ free));
+      fresh = λ n past. holds_now (suc n)
+          ∙ ap (λ b. b || holds machine.gate (suc n)) (ne_eqb s (suc n) (λ (same : s ≡ suc n). omega (arith, past, same)))
+          ∙ owned.fresh n (omega (arith, past));
     }
   where
     suc_apart : (n : ℕ) → nat_eq (suc n) client ≡ false
@@ -297,4 +303,5 @@ pub starts_owned : (workers max : ℕ) → Owned (start workers max)
 starts_owned workers max = record {
   mine = none_new workers client;
   held = λ sender. let none = none_new workers sender in omega (arith, none);
+  fresh = λ n past. refl;
 }

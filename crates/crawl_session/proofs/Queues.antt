@@ -1,32 +1,19 @@
 -- What each request does to each queue: a URL joins its end, one is taken, or a fetch ends.
-use Rattle.std.proofs.Common.{◌≡◌, ◌⊎◌, inl, inr, ℕ, zero, suc, ◌+◌, ◌≤◌, ◌<◌, Bool, true, false, not, ◌&&◌, ◌||◌, if◌then◌else◌, is_some, nat_eq, List, [], ◌∷◌, ◌++◌, length, get_or, slice_get, slice_set, Option, Some, None, Result, Ok, Err, refl, sym, ap, subst, ◌∙◌, arith, eqb-true, ne_eqb, true≢false}
-use Rattle.std.specs.Option.{option_map, option_or, option_to_list}
+use Rattle.std.proofs.Common.{◌≡◌, ℕ, ◌<◌, Bool, true, false, ◌||◌, nat_eq, List, length, slice_get, slice_set, Option, Some, None, Result, refl, sym, ap, subst, ◌∙◌, eqb-true}
 use Rattle.std.proofs.lemmas.Bool.{eqb-false}
 use Rattle.std.proofs.lemmas.List.{get_or-set_same, get_or-set_other}
 use Rattle.std.proofs.lemmas.Option.{slice_get_within}
-use Rattle.crawl_core.specs.declared.event.Event.TheVariants as event
 use Rattle.crawl_core.specs.declared.reply.Reply.{Reply}
-use Rattle.crawl_core.specs.declared.reply.Reply.TheVariants as told
-use Rattle.crawl_core.specs.declared.reply.Refusal.TheVariants as why
-use Rattle.crawl_core.specs.Fetching.{fetch_of, in_fetch}
-use Rattle.crawl_core.specs.Handing.{can_hand_over, handed_over, is_fetching, lets_in}
-use Rattle.crawl_core.specs.Messages.{Message}
 use Rattle.crawl_core.specs.State.{State}
-use Rattle.crawl_core.specs.Step.{turn}
-use Rattle.crawl_core.specs.Subqueue.{Subqueue, after_accepting, after_finishing, after_taking, oldest}
+use Rattle.crawl_core.specs.Subqueue.{Subqueue}
 use Rattle.crawl_core.proofs.Places.{get_set_same, get_set_other, length-slice_set}
-use Rattle.crawl_core.proofs.RunParts.{eqb_same}
 use Rattle.crawl_session.specs.declared.answer.Answer.{Answer}
 use Rattle.crawl_session.specs.declared.answer.Answer.TheVariants.{Told}
-use Rattle.crawl_session.specs.declared.deferrals.Deferred.{Deferred}
 use Rattle.crawl_session.specs.declared.request.Request.{Request}
-use Rattle.crawl_session.specs.declared.request.Request.TheVariants.{Offer, Next, Again, Later, Done, EndSeeds}
 use Rattle.crawl_session.specs.declared.request.RequestError.{RequestError}
-use Rattle.crawl_session.specs.Clients.{Asked, accepts, busy_after, finishes, joins, puts_back, takes}
-use Rattle.crawl_session.specs.Exchanges.{Exchange, Outcome, accepted_at, by_machine, exchange, replies}
-use Rattle.crawl_session.specs.Frontiers.{Deferrals, Frontier, deferrals_at, no_deferrals, waits_again, with_deferrals}
-use Rattle.crawl_session.specs.Sessions.{answered}
-use Rattle.crawl_session.proofs.InLine.{Within}
+use Rattle.crawl_session.specs.Clients.{Asked, finishes, joins, puts_back, takes}
+use Rattle.crawl_session.specs.Exchanges.{Exchange, Outcome, by_machine, replies}
+use Rattle.crawl_session.specs.Frontiers.{Deferrals, Frontier, deferrals_at, no_deferrals, with_deferrals}
 use Rattle.crawl_session.proofs.Joined.{Fine, Flow, busy_at, flow_still}
 
 -- ---- all queues

@@ -25,7 +25,7 @@ use Rattle.crawl_session.specs.declared.request.RequestError.{RequestError}
 use Rattle.crawl_session.specs.declared.deferrals.Deferred.{Deferred}
 use Rattle.crawl_session.specs.Clients.{Asked, asked, accepts, takes, finishes, puts_back, accepted_of, taken_of, done_of, put_back_of, NonePutBack}
 use Rattle.crawl_session.specs.Exchanges.{Exchange, Outcome, after, again, by_machine, client, deferring, deferring_taken, done_with, ends, exchange, finishing, handing, is_due, is_seen, offering, put_back, replies, retaking, seeds_ended, taking, taking_again, taking_next, told_again}
-use Rattle.crawl_session.specs.Frontiers.{Deferrals, Frontier, NoneDeferred, deferrals_at, no_deferrals}
+use Rattle.crawl_session.specs.Frontiers.{Deferrals, Frontier, NoneDeferred, deferrals_at}
 use Rattle.crawl_session.specs.Parts.{request_for}
 use Rattle.crawl_session.specs.Sessions.{answered, line_exchange, history_of}
 use Rattle.crawl_session.specs.Settings.{Settings}

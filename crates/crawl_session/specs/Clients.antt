@@ -1,7 +1,8 @@
 -- What the client of a session is told of URLs, by its requests and their answers alone.
 use Rattle.std.specs.Prelude.{◌≡◌, ℕ, suc, ◌+◌, ◌≤◌, Bool, false, ◌||◌, List, [], ◌∷◌, ◌++◌, length, nat_eq, slice_get, if◌then◌else◌, Option, Some, None, Result, Ok}
 use Rattle.std.specs.List.{cons_option, count_by, filter_map}
-use Rattle.std.specs.Option.{option_or}
+use Rattle.std.specs.Option.{option_or, option_to_list}
+use Rattle.std.specs.Str.{bytes_eq}
 use Rattle.crawl_core.specs.declared.reply.Reply.TheVariants as told
 use Rattle.crawl_core.specs.Kept.{has_text}
 use Rattle.crawl_keys.specs.Assignment.{subqueue_of}
@@ -86,6 +87,30 @@ joined_from queue busy (x ∷ more) = cons_option (joins queue busy x) (joined_f
 abbrev pub joined_of : ℕ → List Asked → List (List ℕ)
 joined_of queue asked = joined_from queue None asked
 
+-- the URL that the subqueue is busy with after all lines
+abbrev pub busy_from : ℕ → Option (List ℕ) → List Asked → Option (List ℕ)
+busy_from queue busy [] = busy
+busy_from queue busy (x ∷ more) = busy_from queue (busy_after queue busy x) more
+
+abbrev pub busy_in : ℕ → List Asked → Option (List ℕ)
+busy_in queue asked = busy_from queue None asked
+
+-- the URLs that the subqueue was busy with before the lines that pass a test
+abbrev pub busy_before : (Asked → Bool) → ℕ → Option (List ℕ) → List Asked → List (List ℕ)
+busy_before test queue busy [] = []
+busy_before test queue busy (x ∷ more) = cons_option (if test x then busy else None) (busy_before test queue (busy_after queue busy x) more)
+
+-- the URLs whose fetches were done, in order, and those that were put back
+abbrev pub done_urls : ℕ → List Asked → List (List ℕ)
+done_urls queue asked = busy_before (λ x. finishes queue x.request x.answer) queue None asked
+
+abbrev pub put_back_urls : ℕ → List Asked → List (List ℕ)
+put_back_urls queue asked = busy_before (λ x. puts_back queue x.request x.answer) queue None asked
+
+-- how often these have the URL
+abbrev pub times : List ℕ → List (List ℕ) → ℕ
+times url urls = count_by (λ u. bytes_eq u url) urls
+
 -- the URL that another part has
 abbrev pub told_elsewhere : Answer → Option (List ℕ)
 told_elsewhere (Unasked (wrong.Elsewhere part url)) = Some url
@@ -110,9 +135,18 @@ pub record EachOnceInOrder (workers : ℕ) (asked : List Asked) : Type 0 where
   pub assigned : (queue k : ℕ) (url : List ℕ) → slice_get (accepted_of queue asked) k ≡ Some url → queue ≡ subqueue_of url workers
   pub one_at_a_time : (queue : ℕ) → (done_of queue asked + put_back_of queue asked ≤ length (taken_of queue asked)) × (length (taken_of queue asked) ≤ suc (done_of queue asked + put_back_of queue asked))
 
+-- a URL is taken only from the subqueue that its host key is assigned to, and at most once more than it was put back; each time
+-- that it was taken, it is done or put back before it is taken again; and it is done at most once
+pub record AgainIfPutBack (workers : ℕ) (asked : List Asked) : Type 0 where
+  pub own : (queue k : ℕ) (url : List ℕ) → slice_get (taken_of queue asked) k ≡ Some url → queue ≡ subqueue_of url workers
+  pub taken : (queue : ℕ) (url : List ℕ) → times url (taken_of queue asked) ≤ suc (times url (put_back_urls queue asked))
+  pub ended : (queue : ℕ) (url : List ℕ) → times url (taken_of queue asked) ≡ times url (done_urls queue asked) + times url (put_back_urls queue asked) + times url (option_to_list (busy_in queue asked))
+  pub done : (queue : ℕ) (url : List ℕ) → times url (done_urls queue asked) ≤ 1
+
 -- every URL that joined a subqueue was taken, and each that was accepted is done: each fetch was ended by `done`, but for those
 -- after which the URL was put back
 pub record AllDone (asked : List Asked) : Type 0 where
   pub taken : (queue : ℕ) → taken_of queue asked ≡ joined_of queue asked
   pub ended : (queue : ℕ) → done_of queue asked + put_back_of queue asked ≡ length (taken_of queue asked)
   pub done : (queue : ℕ) → done_of queue asked ≡ length (accepted_of queue asked)
+  pub each : (queue : ℕ) (url : List ℕ) → times url (done_urls queue asked) ≡ times url (accepted_of queue asked)

@@ -15,7 +15,7 @@ use Rattle.crawl_session.specs.declared.answer.Answer.TheVariants.{Told}
 use Rattle.crawl_session.specs.declared.request.Request.{Request}
 use Rattle.crawl_session.specs.declared.request.Request.TheVariants.{Offer, Next, Again, Later, Done, EndSeeds}
 use Rattle.crawl_session.specs.declared.deferrals.Deferred.{Deferred}
-use Rattle.crawl_session.specs.Frontiers.{Deferrals, Frontier, deferrals_at, waits_again, with_deferrals}
+use Rattle.crawl_session.specs.Frontiers.{Frontier, deferrals_at, waits_again, with_deferrals}
 
 -- the one sender of a session's offers: its client
 abbrev pub client : ℕ

@@ -11,10 +11,10 @@ use crate::serving::ServeError;
 use crate::session::Session;
 use crate::texts::Texts;
 use crawl_core::{NoMemory, Reply};
-use text_lines::first_line;
 use std::alloc::{AllocError, Global};
 use std::io::Write;
 use std::marker::Model;
+use text_lines::first_line;
 
 /// Picks the lines of a log that a new session needs to come to the same state, and remembers what it has to of the others.
 #[derive(Drop)]

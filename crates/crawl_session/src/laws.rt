@@ -1,17 +1,18 @@
 //! Laws of sessions: what holds of any lines and their answers. None does anything when it is called.
-ghost use Rattle.std.specs.Prelude.{◌≡◌, ◌≢◌, ◌≤◌, ℕ, List, [], ◌∷◌, ◌++◌, slice_get, ◌<◌, ◌^◌, true, not, Option, Some, None, IfSome, Ok};
+ghost use Rattle.std.specs.Prelude.{◌≡◌, ◌≢◌, ◌≤◌, ℕ, List, [], ◌∷◌, ◌++◌, slice_get, ◌<◌, ◌^◌, true, is_some, not, Option, Some, None, IfSome, Ok};
 ghost use Rattle.std.specs.List.{All, list_all};
 ghost use Rattle.std.specs.Str.Lines.{lines};
 ghost use Rattle.crawl_core.specs.History.{accepted_urls, taken_urls, done_in};
+ghost use Rattle.crawl_core.specs.Invariants.{HasRoom};
 ghost use Rattle.crawl_core.specs.Run.{Run};
 ghost use Rattle.crawl_core.specs.declared.reply.Reply.TheVariants as told;
 ghost use Rattle.crawl_core.specs.declared.word.Word.{Word};
-ghost use Rattle.crawl_session.specs.Clients.{AllDone, EachOnceInOrder, NonePutBack, accepted_of, asked, done_of, elsewhere_of, first_of_each, taken_of};
+ghost use Rattle.crawl_session.specs.Clients.{AgainIfPutBack, AllDone, EachOnceInOrder, NonePutBack, accepted_of, asked, busy_in, done_of, elsewhere_of, first_of_each, puts_back, taken_of};
 ghost use Rattle.crawl_session.specs.Compacting.{had_none, log_text, needed};
 ghost use Rattle.crawl_keys.specs.Assignment.{subqueue_of};
 ghost use Rattle.crawl_session.specs.Exchanges.{exchange};
 ghost use Rattle.crawl_session.specs.Frontiers.{Frontier, NoneDeferred, start};
-ghost use Rattle.crawl_session.specs.Parts.{part_with};
+ghost use Rattle.crawl_session.specs.Parts.{part_with, request_for};
 ghost use Rattle.crawl_session.specs.Requests.{request_of};
 ghost use Rattle.crawl_session.specs.LogStarts.{read_start, start_text};
 ghost use Rattle.crawl_session.specs.Logs.{settings_line};
@@ -22,7 +23,7 @@ ghost use Rattle.crawl_session.specs.Settings.{Settings};
 ghost use Rattle.crawl_session.specs.Tables.{CanBeAnswered};
 ghost use Rattle.crawl_session.specs.declared.answer.Answer.TheVariants.{Told, Unasked};
 ghost use Rattle.crawl_session.specs.declared.part.Part.{Part};
-ghost use Rattle.crawl_session.specs.declared.request.Request.TheVariants.{Offer};
+ghost use Rattle.crawl_session.specs.declared.request.Request.TheVariants.{Later, Offer};
 ghost use Rattle.crawl_session.specs.declared.request.RequestError.TheVariants as wrong;
 
 /// The events of a session are a run of the machine, from whatever state it begins in. So the laws of `crawl_core` hold of them.
@@ -68,6 +69,18 @@ pub fn clients_see_the_events()
 /// Each URL once, in order, by its host's subqueue.
 pub fn each_once_in_order()
     ensures { (settings : Settings) (max : ℕ) (lines : List (List ℕ)) → EachOnceInOrder settings.workers (asked settings (start settings.workers max) lines) }
+{}
+
+/// A URL is taken again only if it was put back: only from its host's subqueue, once more than it was put back, at most, and
+/// never while a fetch of it is on. It is done at most once.
+pub fn taken_again_if_put_back()
+    ensures { (settings : Settings) (max : ℕ) (lines : List (List ℕ)) → AgainIfPutBack settings.workers (asked settings (start settings.workers max) lines) }
+{}
+
+/// `later` puts a URL back if and only if its subqueue is busy, as the client was told. So a busy subqueue's is never refused.
+pub fn later_needs_a_busy_queue()
+    ensures { (settings : Settings) (max : ℕ) (front : List (List ℕ)) (line : List ℕ) (queue : ℕ) → HasRoom max → request_for settings line ≡ Ok (Later queue)
+        → puts_back queue (Ok (Later queue)) (line_exchange settings (state_after settings (start settings.workers max) front) line).answer ≡ is_some (busy_in queue (asked settings (start settings.workers max) front)) }
 {}
 
 /// A request has one of the answers that the table names for it, and a line that asks nothing is told why.

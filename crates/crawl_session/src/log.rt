@@ -13,9 +13,9 @@ ghost use Rattle.crawl_session.specs.Logs.{Reruns};
 use crate::session::Session;
 use crawl_core::NoMemory;
 use crawl_replay::{Header, header_of};
-use text_lines::{first_line, split_space};
 use memchr::memrchr;
 use std::alloc::Global;
+use text_lines::{first_line, split_space};
 
 /// Gives the session the lines of these bytes, and drops their answers.
 ///

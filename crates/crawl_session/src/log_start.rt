@@ -5,8 +5,8 @@ ghost use Rattle.crawl_session.specs.LogStarts as spec;
 
 use crawl_core::NoMemory;
 use crawl_replay::number32;
-use text_lines::split_space;
 use std::alloc::Global;
+use text_lines::split_space;
 
 /// `part I of K` for a part with its number and how many there are, and `identity TEXT`, each with a space behind it.
 ///

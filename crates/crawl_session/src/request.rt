@@ -10,8 +10,8 @@ ghost use Rattle.crawl_session.specs.declared.request.RequestError.TheVariants a
 use crawl_core::Text;
 use crawl_keys::{Base, CanonUrl, Filter, KeyError, canonical};
 use crawl_replay::number32;
-use text_lines::{LineError, split_space, text_of};
 use std::alloc::{AllocError, Global};
+use text_lines::{LineError, split_space, text_of};
 
 /// What a line asks of the frontier.
 #[derive(Debug, PartialEq, Eq, Drop)]

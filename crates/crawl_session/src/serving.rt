@@ -9,9 +9,9 @@ ghost use Rattle.crawl_session.specs.declared.serving.ServeError.TheVariants as 
 use crate::log::whole_len;
 use crate::session::Session;
 use crawl_core::NoMemory;
-use text_lines::{LINE_LIMIT, first_line};
 use std::alloc::{AllocError, AllocFailed, Global};
 use std::io::{ErrorKind, Read, Write};
+use text_lines::{LINE_LIMIT, first_line};
 
 /// The most bytes that a read asks for.
 const READ_SIZE: usize = 65_536;

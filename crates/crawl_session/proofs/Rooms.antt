@@ -1,0 +1,95 @@
+-- A busy queue can put its URL back.
+use Rattle.std.proofs.Common.{◌≡◌, ℕ, suc, ◌≤◌, Bool, true, false, not, ◌&&◌, if◌then◌else◌, is_some, List, slice_get, Option, Some, None, Ok, refl, sym, ap, ◌∙◌, arith, ne_eqb}
+use Rattle.std.specs.Option.{option_map}
+use Rattle.crawl_core.specs.declared.reply.Reply.TheVariants as told
+use Rattle.crawl_core.specs.declared.reply.Refusal.TheVariants as why
+use Rattle.crawl_core.specs.Fetching.{fetch_of}
+use Rattle.crawl_core.specs.Flags.{one_if}
+use Rattle.crawl_core.specs.GateSide.{holds}
+use Rattle.crawl_core.specs.Handing.{can_hand_over, has_room, is_fetching, lets_in}
+use Rattle.crawl_core.specs.Invariants.{HasRoom}
+use Rattle.crawl_core.specs.State.{count_of}
+use Rattle.crawl_core.specs.Subqueue.{Subqueue}
+use Rattle.crawl_core.proofs.RunLaws.{gate_invariant}
+use Rattle.crawl_core.proofs.RunParts.{eqb_same, start_sound}
+use Rattle.crawl_core.proofs.Sound.{Sound, none_unfinished}
+use Rattle.crawl_session.specs.declared.deferrals.Deferred.{Deferred}
+use Rattle.crawl_session.specs.declared.request.Request.TheVariants.{Later}
+use Rattle.crawl_session.specs.Clients.{asked, busy_in, puts_back}
+use Rattle.crawl_session.specs.Exchanges.{Outcome, by_machine, deferring, deferring_taken, handing, put_back, replies}
+use Rattle.crawl_session.specs.Frontiers.{Frontier, deferrals_at, start}
+use Rattle.crawl_session.specs.Parts.{request_for}
+use Rattle.crawl_session.specs.Sessions.{answered, history_of, line_exchange, state_after}
+use Rattle.crawl_session.specs.Settings.{Settings}
+use Rattle.crawl_session.proofs.Conserved.{settled_after_lines, starts_free, starts_settled}
+use Rattle.crawl_session.proofs.Emptied.{owned_after_lines}
+use Rattle.crawl_session.proofs.Flows.{fetches_busy}
+use Rattle.crawl_session.proofs.Joined.{busy_at}
+use Rattle.crawl_session.proofs.Owned.{Owned, starts_owned}
+use Rattle.crawl_session.proofs.Queues.{queue_at}
+use Rattle.crawl_session.proofs.Returns.{busy_is}
+use Rattle.crawl_session.proofs.Runs.{session_runs}
+
+-- a queue that fetches a URL, in a state whose gate has room for what is out, can hand its unit to the next sender
+all_set : (a b c : Bool) → a ≡ true → b ≡ true → c ≡ true → (a && (b && c)) ≡ true
+all_set a b c first second third = grind arith
+
+both_unset : (a b : Bool) → a ≡ false → b ≡ false → (not a && not b) ≡ true
+both_unset a b first second = grind arith
+
+stays_open : (state : Frontier) (named : ℕ) (found : Subqueue) → Sound state.machine → queue_at state named ≡ Some found → found.busy ≡ true → state.machine.gate.closed ≡ false
+stays_open state named found sound at busy = by_gate state.machine.gate.closed refl
+  where
+    by_gate : (b : Bool) → state.machine.gate.closed ≡ b → b ≡ false
+    by_gate false is = refl
+    by_gate true is =
+        let inv = sound.queues named found at in
+        let left = none_unfinished state.machine named found at (sound.empty is) in
+        let one : one_if found.busy ≡ 1 = ap one_if busy in
+        absurd (omega (arith, left, one, inv.begun, inv.within))
+
+can_defer : (state : Frontier) (named : ℕ) (url : List ℕ) (found : Subqueue) → Sound state.machine → Owned state → count_of state.machine ≤ state.machine.gate.max → queue_at state named ≡ Some found → fetch_of found ≡ Some url → can_hand_over state.machine named (suc state.senders) ≡ true
+can_defer state named url found sound owned within at fetched =
+    let machine = state.machine in
+    let s = suc state.senders in
+    let busy = fetches_busy found url fetched in
+    let free : holds machine.gate s ≡ false = owned.fresh state.senders (omega arith) in
+    all_set (is_fetching (slice_get machine.subqueues named)) (lets_in machine.gate s) (has_room machine)
+    (ap is_fetching at ∙ busy)
+    (both_unset machine.gate.closed (holds machine.gate s) (stays_open state named found sound at busy) free)
+    (ap not (ne_eqb (count_of machine) (suc machine.gate.max) (λ (full : count_of machine ≡ suc machine.gate.max). omega (arith, within, full))))
+
+-- ---- what `later` is answered
+
+abbrev PutsBack : ℕ → Outcome → Bool → Type 0
+PutsBack named x busy = puts_back named (Ok (Later named)) x.answer ≡ busy
+
+fetch_back : (state : Frontier) (named : ℕ) (found : Subqueue) → queue_at state named ≡ Some found → Sound state.machine → Owned state → count_of state.machine ≤ state.machine.gate.max → (fetched : Option (List ℕ)) → fetch_of found ≡ fetched → PutsBack named (deferring_taken state named (Some fetched)) (is_some fetched)
+fetch_back state named found at sound owned within None is = refl
+fetch_back state named found at sound owned within (Some url) is =
+    let sender = suc state.senders in
+    let can = can_defer state named url found sound owned within at is in
+    ap (λ b. puts_back named (Ok (Later named)) (if b then by_machine (record (put_back state named url sender) { senders = sender }) (handing state.machine named sender) else replies (told.Refused why.Nothing) state).answer) can
+    ∙ eqb_same named
+
+taken_back : (state : Frontier) (named : ℕ) (queue : Option Subqueue) → queue_at state named ≡ queue → Sound state.machine → Owned state → count_of state.machine ≤ state.machine.gate.max → PutsBack named (deferring_taken state named (option_map fetch_of queue)) (is_some (busy_at queue None))
+taken_back state named None at sound owned within = refl
+taken_back state named (Some found) at sound owned within = fetch_back state named found at sound owned within (fetch_of found) refl
+
+deferring_back : (state : Frontier) (named : ℕ) (fetched : Option Deferred) → Sound state.machine → Owned state → count_of state.machine ≤ state.machine.gate.max → PutsBack named (deferring state named fetched) (is_some (busy_at (queue_at state named) fetched))
+deferring_back state named None sound owned within = taken_back state named (queue_at state named) refl sound owned within
+deferring_back state named (Some d) sound owned within = eqb_same named
+
+pub later_if_busy : (settings : Settings) (max : ℕ) (front : List (List ℕ)) (line : List ℕ) (queue : ℕ) → HasRoom max → request_for settings line ≡ Ok (Later queue)
+    → puts_back queue (Ok (Later queue)) (line_exchange settings (state_after settings (start settings.workers max) front) line).answer ≡ is_some (busy_in queue (asked settings (start settings.workers max) front))
+later_if_busy settings max front line queue room asks =
+    let begun = start settings.workers max in
+    let state = state_after settings begun front in
+    let fresh = start_sound settings.workers max in
+    let settled = starts_settled settings.workers max in
+    let both = settled_after_lines settings begun front fresh settled in
+    let owned = owned_after_lines settings begun front fresh settled (starts_owned settings.workers max) in
+    let within = (gate_invariant settings.workers max (history_of settings begun front) state.machine room (session_runs settings begun front)).within in
+    ap (λ r. puts_back queue (Ok (Later queue)) (answered state r).answer) asks
+    ∙ deferring_back state queue (deferrals_at state queue).fetched both.0 owned within
+    ∙ ap is_some (sym (busy_is settings begun front queue None fresh settled (sym (starts_free settings.workers max queue))))
