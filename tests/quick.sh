@@ -12,7 +12,7 @@ cd "$(dirname "$0")/.." || exit 1
 # shellcheck source=tests/parts.sh
 . tests/parts.sh
 
-parts=(format documents definitions mercator_tests crawl_run_tests crawl_text_tests frontier cases command_line manual_page drawn check serve bell_model site_to_web)
+parts=(format documents definitions character_names mercator_tests crawl_run_tests crawl_text_tests frontier cases command_line manual_page drawn check serve bell_model site_to_web)
 kept=tests/out/quick
 # A test of crawl_text_tests that no time limit fits. tests/run.sh runs it.
 too_long=tests::indices::finds_what_a_plain_search_finds
@@ -23,6 +23,7 @@ command_of() {
     format) words=(format) ;;
     documents) words=(docs/check.py) ;;
     definitions) words=(docs/definitions.py --check) ;;
+    character_names) words=(tools/character_names.py --check) ;;
     *_tests) words=(tests_of "$1") ;;
     frontier) words=(tests/frontier.py --count 1 --jobs 2) ;;
     cases) words=(tests/cases.py --quick --seconds 300) ;;
@@ -54,7 +55,7 @@ reads() {
     local crates
     read -ra crates < <(programs "$1")
     case $1 in
-    format | documents | definitions) return ;;
+    format | documents | definitions | character_names) return ;;
     *_tests)
         crates+=("$1")
         echo tests/quick.sh

@@ -33,4 +33,5 @@ part tests/manual_page.py
 part tests/site_to_web.py
 part docs/check.py
 part docs/definitions.py --check
+part tools/character_names.py --check
 total

@@ -16,5 +16,4 @@ pub mod Marking
 pub mod Sources
 pub mod Linking
 pub mod Refreshing
-pub mod Naming
 pub mod Styling

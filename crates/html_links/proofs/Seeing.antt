@@ -1,5 +1,5 @@
 -- What a reader of links sees, tag by tag.
-use Rattle.std.proofs.Common.{◌≡◌, ◌∙◌, ◌<◌, ◌≤◌, sym, ap, refl, arith, ℕ, false, List, [], ◌∷◌, length, map, Option, None, Some}
+use Rattle.std.proofs.Common.{◌≡◌, ◌∙◌, ◌<◌, sym, ap, refl, arith, ℕ, false, List, [], ◌∷◌, length, map, Option, None, Some}
 use Rattle.html_links.specs.declared.element.Element.{Element}
 use Rattle.html_links.specs.Tags.{Tag, BeforeName, tag_of}
 use Rattle.html_links.specs.Document.{StartTag, InTag, behind_tag, read}

@@ -3,7 +3,6 @@ use Rattle.std.specs.Prelude.{◌≡◌, ℕ, ◌==◌, ◌||◌, not, Bool, Lis
 use Rattle.std.specs.Char.{is_digit, encode_utf8}
 use Rattle.html_links.specs.declared.references.Decoded.{Decoded}
 use Rattle.html_links.specs.declared.references.Decoded.TheVariants as decoded
-use Rattle.html_links.specs.Names.{meaning_text}
 use Rattle.html_links.specs.References.{State, Text, read}
 
 -- an `&` or a NUL
@@ -21,7 +20,7 @@ in_base radix c = is_digit c radix
 abbrev pub decoded_text : Decoded → List ℕ
 decoded_text (decoded.Itself bytes) = 38 ∷ bytes.now
 decoded_text (decoded.Character c) = encode_utf8 c
-decoded_text (decoded.Named meaning) = meaning_text meaning
+decoded_text (decoded.Named text) = text.now
 
 -- the text of the bytes in a state, cut behind what was decoded
 abbrev pub Decodes : State → List ℕ → Decoded → List ℕ → Type 0

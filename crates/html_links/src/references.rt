@@ -2,13 +2,13 @@
 ghost use Rattle.std.specs.Prelude.{◌≡◌, ◌==◌, ◌≤◌, ◌<◌, ◌∷◌, ◌++◌, [], length, take, OnOk, MatchOption, false};
 ghost use Rattle.std.specs.List.{take_while, position_or_len};
 ghost use Rattle.std.specs.Char.{is_ascii_alphanumeric, encode_utf8};
-ghost use Rattle.html_links.specs.Names.{meaning_text, texts_at};
+ghost use Rattle.html_links.specs.Names.{bytes_at};
 ghost use Rattle.html_links.specs.Shown.{front, behind, Stopped};
 ghost use Rattle.html_links.specs.References.{Text, Reference, Name, Hash, Start, Number, read, text_of, character_of, number_after, digit_in, or_itself};
 ghost use Rattle.html_links.specs.Decoding.{is_mark, is_plain, in_base, decoded_text, Decodes};
 
 use crate::bytes::{behind_byte, parts};
-use crate::names::{Meaning, named};
+use crate::names::named;
 use memchr::memchr2;
 use std::alloc::AllocError;
 use std::simd::prelude::*;
@@ -21,7 +21,7 @@ const LANES: usize = 16;
 pub(crate) enum Decoded<'a> {
     Itself(&'a [u8]),
     Character(char),
-    Named(Meaning),
+    Named(&'static [u8]),
 }
 
 /// Whether the value is not its own text: it has an `&` or a NUL. The last bytes are looked at with some before them.
@@ -100,18 +100,7 @@ fn push_decoded(found: Decoded<'_>, out: &mut Vec<u8>) -> Result<(), AllocError>
             out.extend_from_slice(bytes)
         }
         Decoded::Character(character) => push_character(character, out),
-        Decoded::Named(meaning) => push_meaning(meaning, out),
-    }
-}
-
-fn push_meaning(meaning: Meaning, out: &mut Vec<u8>) -> Result<(), AllocError>
-    ensures { OnOk result (out.new.items ≡ out.old.items ++ meaning_text meaning) }
-{
-    push_character(meaning.first, out)?;
-    if meaning.second == '\0' {
-        Ok(())
-    } else {
-        push_character(meaning.second, out)
+        Decoded::Named(text) => out.extend_from_slice(text),
     }
 }
 
@@ -296,7 +285,7 @@ fn closed_name<'a>(name: &'a [u8], rest: &'a [u8], last: &'a [u8]) -> (Decoded<'
     ensures leaves { length result.1.now ≤ length rest.now }
 {
     match named(true, name) {
-        Some(meaning) => (Decoded::Named(meaning), last),
+        Some(text) => (Decoded::Named(text), last),
         None => (Decoded::Itself(name), rest),
     }
 }
@@ -314,11 +303,11 @@ fn open_name<'a>(name: &'a [u8], rest: &'a [u8]) -> (Decoded<'a>, &'a [u8])
     }
 }
 
-fn or_itself(name: &[u8], meaning: Option<Meaning>) -> Decoded<'_>
-    ensures { decoded_text result ≡ or_itself name.now (texts_at meaning) }
+fn or_itself<'a>(name: &'a [u8], text: Option<&'static [u8]>) -> Decoded<'a>
+    ensures { decoded_text result ≡ or_itself name.now (bytes_at text.entry) }
 {
-    match meaning {
-        Some(meaning) => Decoded::Named(meaning),
+    match text {
+        Some(text) => Decoded::Named(text),
         None => Decoded::Itself(name),
     }
 }
