@@ -181,7 +181,7 @@ class Site:
     def ready_at(self, url: str, retries: int, pause: float) -> float:
         """Return when a URL may be fetched. If robots.txt could not be read, try again first."""
         while 0 < self.failures <= retries:
-            again = self.failed_at + pause * 2 ** (self.failures - 1)
+            again: float = self.failed_at + pause * 2 ** (self.failures - 1)
             if again > time.monotonic():
                 return again
             self.read_robots()

@@ -39,10 +39,13 @@ class Visit(NamedTuple):
 
 
 class Failure(NamedTuple):
-    """How often a URL has failed, and when it may be tried again, by time.monotonic()."""
+    """How many tries of a URL have failed, and when it may be tried again, by time.monotonic()."""
 
-    count: int
+    tries: int
     again_at: float
+
+
+NONE = Failure(0, 0.0)
 
 
 class Crawl:
@@ -185,8 +188,8 @@ class Fetcher(threading.Thread):
             url = None
 
     def ready_at(self, url: str) -> float:
-        failure = self.failures.get(url, Failure(0, 0.0))
-        return max(failure.again_at, self.crawl.ready_at(self.queue, url))
+        again_at = self.failures.get(url, NONE).again_at
+        return max(again_at, self.crawl.ready_at(self.queue, url))
 
     def wait_until(self, at: float) -> None:
         """Wait until a time, or until a URL is accepted into the queue."""
@@ -196,10 +199,10 @@ class Fetcher(threading.Thread):
     def visit(self, url: str) -> None:
         """Fetch a URL, and finish it or put it back."""
         visit = self.crawl.fetch(self.queue, url)
-        count = self.failures.pop(url, Failure(0, 0.0)).count
-        if visit.status in TEMPORARY and count < self.crawl.retries:
-            again_at = time.monotonic() + self.crawl.pause * 2 ** count
-            self.failures[url] = Failure(count + 1, again_at)
+        tries = self.failures.pop(url, NONE).tries
+        if visit.status in TEMPORARY and tries < self.crawl.retries:
+            again_at = time.monotonic() + self.crawl.pause * 2 ** tries
+            self.failures[url] = Failure(tries + 1, again_at)
             self.frontier.later(self.queue)
         else:
             self.crawl.finish(self.queue, url, visit)
