@@ -8,7 +8,7 @@ Start each part with the same arguments, except for its number I, from 0, and it
     crawl_cluster.py --part 1/2 --log part1.log --within example.org http://example.org/
 
 For each URL that a part fetched, it prints a line with the status, the number of links, and the
-URL. It fetches like crawl_http.py, and obeys robots.txt.
+URL. It fetches like crawl_http.py, and obeys robots.txt, but does not try a page again.
 
 To resume a part, however it ended, run its command again. To begin a new crawl, use new logs and
 another --name. If Redis does not answer, the part prints one message, tries to connect for ten
@@ -25,6 +25,7 @@ from __future__ import annotations
 import argparse
 import logging
 import sys
+import time
 from collections import defaultdict
 from contextlib import suppress
 from pathlib import Path
@@ -58,6 +59,7 @@ def options_of_command_line() -> argparse.Namespace:
            help="most URLs of a part waiting or in progress at a time, at least 2"
            " (default: 1048576)")
     crawl_http.add_options_to(parser)
+    parser.set_defaults(retries=2, pause=1.0)  # of a robots.txt
     return parser.parse_args()
 
 
@@ -96,6 +98,8 @@ def main() -> int:
         )
 
     def fetch(queue: int, url: str) -> Tuple[str, List[str]]:
+        while (wait := known[queue].ready_at(url, options) - time.monotonic()) > 0:
+            time.sleep(wait)
         status, base, texts = crawl_http.visited(url, known[queue], options)
         sys.stdout.write(f"{status} {len(texts)} {url}\n")
         sys.stdout.flush()

@@ -7,8 +7,12 @@ forbids the URL, `no-robots` if robots.txt cannot be read, and `failed` if the h
 or the response cannot be read.
 
 - The crawler obeys robots.txt. Between two requests to a host it waits --delay seconds, or the
-  Crawl-delay of robots.txt if that is longer. It skips a host if its robots.txt asks for a delay of
-  more than a day, or if three requests for it fail: there is no response, or its status is 5xx.
+  Crawl-delay of robots.txt if that is longer. Meanwhile it fetches from other hosts, so the URLs of
+  a host are not always fetched in the order in which they were found.
+- If there is no response, or its status is 408, 429, 500, 502, 503 or 504, the URL is tried again
+  after --pause seconds, at most --retries times. The pause doubles each time, and other URLs are
+  fetched meanwhile. A robots.txt is tried again in the same way. A restart counts the tries anew.
+- It skips a host if its robots.txt cannot be read, or asks for a delay of more than a day.
 - It reads at most --largest bytes of a page, for at most 30 seconds, and cuts a request off after
   60 seconds. If a page takes too much CPU time (more than 1 second plus 5 per million bytes),
   its links are lost. An error in a page is printed, and the crawl continues.
@@ -29,21 +33,20 @@ import socket
 import sys
 import threading
 import time
-from collections import deque
 from contextlib import closing, contextmanager, suppress
 from pathlib import Path
-from typing import Callable, Deque, Dict, Iterator, List, NamedTuple, Optional, Tuple
+from typing import Dict, Iterator, NamedTuple, Optional, Tuple
 from urllib.parse import SplitResult, urljoin, urlsplit
 from urllib.robotparser import RobotFileParser
 
+from fetchers import Crawl, Visit
 from page_links import links_of
 
 sys.path.insert(0, str(Path(__file__).resolve().parent.parent / "clients" / "python"))
-from mercator_frontier import Frontier, FrontierError, Pending, Refusal
+from mercator_frontier import Frontier, FrontierError
 
 SECONDS = 30
 DAY = 86_400
-ATTEMPTS = 3  # requests for a robots.txt that fail
 HOPS = 5  # redirects of a robots.txt
 PORTS = {"http": 80, "https": 443}
 REDIRECTS = (301, 302, 303, 307, 308)
@@ -149,25 +152,42 @@ class Site:
         self.host, self.asked = urlsplit(site).hostname, asked
         self.agent, self.delay = agent, delay
         self.robots = RobotFileParser()
+        self.robots_url = site + "/robots.txt"
         # The status of all URLs if none may be fetched. A robots.txt that cannot be read might
         # forbid everything.
-        self.refusal: Optional[str] = "no-robots"
-        url = site + "/robots.txt"
-        try:
-            self.refusal = self.read_robots(url)
-        except Exception as error:
-            report(url, error)
+        self.refusal: Optional[str] = None
+        # How often robots.txt was requested without success, and when last. 0 if trying again is no
+        # use.
+        self.failures, self.failed_at = 0, 0.0
+        self.read_robots()
 
-    def read_robots(self, url: str) -> Optional[str]:
-        """Read robots.txt. Return the status of all URLs if none may be fetched."""
-        for _ in range(ATTEMPTS):
-            body, refusal = self.fetch_robots(url)
-            if refusal is None:
-                self.robots.parse(body.decode("utf-8", "replace").splitlines())
-                wanted = int(self.robots.crawl_delay(self.agent) or 0)
-                self.delay = max(self.delay, wanted)
-                return "robots" if wanted > DAY else None
-        return refusal
+    def read_robots(self) -> None:
+        """Read robots.txt."""
+        failures, self.failures = self.failures, 0
+        self.refusal = "no-robots"
+        try:
+            body, refusal = self.fetch_robots(self.robots_url)
+            if refusal is not None:
+                self.refusal = refusal
+                self.failures, self.failed_at = failures + 1, time.monotonic()
+                return
+            self.robots.parse(body.decode("utf-8", "replace").splitlines())
+            wanted = int(self.robots.crawl_delay(self.agent) or 0)
+            self.delay = max(self.delay, wanted)
+            self.refusal = "robots" if wanted > DAY else None
+        except Exception as error:
+            report(self.robots_url, error)
+
+    def ready_at(self, url: str, retries: int, pause: float) -> float:
+        """Return when a URL may be fetched. If robots.txt could not be read, try again first."""
+        while 0 < self.failures <= retries:
+            again: float = self.failed_at + pause * 2 ** (self.failures - 1)
+            if again > time.monotonic():
+                return again
+            self.read_robots()
+        if self.host not in self.asked or self.refusal_of(url):
+            return 0.0
+        return self.asked[self.host] + self.delay
 
     def fetch_robots(self, url: str) -> Tuple[bytes, Optional[str]]:
         """Return robots.txt, or if it cannot be read, the status of all URLs."""
@@ -206,13 +226,19 @@ class Known:
         self.sites: Dict[str, Site] = {}
         self.asked: Dict[Optional[str], float] = {}
 
+    def site_of(self, url: str, options: argparse.Namespace) -> Site:
+        """Return the site of a URL. If it is new, its robots.txt is requested."""
+        name = "{0.scheme}://{0.netloc}".format(urlsplit(url))
+        if name not in self.sites:
+            self.sites[name] = Site(name, self.asked, options.agent, options.delay)
+        return self.sites[name]
 
-class Visit(NamedTuple):
-    """The result of fetching a URL."""
-
-    status: str
-    base: str  # the URL that the links are resolved against
-    texts: List[str]  # the links as they are written in the page
+    def ready_at(self, url: str, options: argparse.Namespace) -> float:
+        """Return when a URL may be fetched, by time.monotonic(); 0 if that needs no request."""
+        try:
+            return self.site_of(url, options).ready_at(url, options.retries, options.pause)
+        except Exception:
+            return 0.0  # `visited` raises it again, and reports it
 
 
 def visited(url: str, known: Known, options: argparse.Namespace) -> Visit:
@@ -235,10 +261,7 @@ def report(url: str, error: object) -> None:
 
 def visited_or_raised(url: str, known: Known, options: argparse.Namespace) -> Visit:
     """Fetch a URL like `visited`, but let exceptions pass."""
-    name = "{0.scheme}://{0.netloc}".format(urlsplit(url))
-    if name not in known.sites:
-        known.sites[name] = Site(name, known.asked, options.agent, options.delay)
-    site = known.sites[name]
+    site = known.site_of(url, options)
     refusal = site.refusal_of(url)
     reply = Reply(refusal) if refusal else site.fetch(url, options.largest)
     if reply.kind not in PAGES:
@@ -249,91 +272,6 @@ def visited_or_raised(url: str, known: Known, options: argparse.Namespace) -> Vi
     return Visit(reply.status, links.base, links.texts)
 
 
-class Crawl:
-    """A crawl by several fetchers, each in a thread.
-
-    Links that are refused because too many URLs are unfinished are kept, and are offered again when
-    a URL is done. The crawl can end when the seeds have ended, so these end only after all accepted
-    URLs are done and nothing is kept. This requires a `max_pending` of at least 2.
-    """
-
-    def __init__(
-        self, frontier: Frontier, fetch: Callable[[int, str], Visit], pages: int = 0
-    ) -> None:
-        """Create a crawl that fetches with `fetch(queue, url)`, and stops after `pages` URLs."""
-        self.frontier, self.fetch, self.left = frontier, fetch, pages
-        self.lock = threading.Lock()
-        self.kept: Deque[Tuple[str, str]] = deque()  # the base and the text of each link
-        self.stopped = threading.Event()
-        self.failed: Optional[Exception] = None
-
-    def run(self, seeds: List[str]) -> None:
-        """Crawl until no URL is left or the crawl is stopped."""
-        for seed, offer in zip(seeds, self.frontier.offer_all(seeds)):
-            if offer is Refusal.FULL:
-                self.kept.append((seed, ""))
-            # A resumed crawl has seen its seeds before, or is over.
-            elif isinstance(offer, Refusal) and offer not in (Refusal.SEEN, Refusal.CLOSED):
-                print(f"crawl_http: seed {seed}: {offer.value}", file=sys.stderr)
-        fetchers = [
-            threading.Thread(target=self.work, args=(queue,), daemon=True)
-            for queue in range(self.frontier.workers)
-        ]
-        for fetcher in fetchers:
-            fetcher.start()
-        try:
-            while any(fetcher.is_alive() for fetcher in fetchers) and not self.stopped.wait(0.1):
-                pass
-        except KeyboardInterrupt:
-            self.stopped.set()
-        if self.kept and not self.failed:
-            print(f"crawl_http: {len(self.kept)} links lost, the frontier is full", file=sys.stderr)
-
-    def work(self, queue: int) -> None:
-        """Fetch the URLs of one queue."""
-        try:
-            first = self.frontier.try_take(queue)
-            if isinstance(first, Pending):
-                with self.lock:
-                    self.end_seeds_if_over(first.left)
-            url = first if isinstance(first, str) else self.frontier.take(queue)
-            while url is not None:
-                self.visit(queue, url)
-                url = self.frontier.take(queue)
-        except Exception as error:  # stop, since the other fetchers would wait for this one forever
-            if not self.stopped.is_set():
-                self.failed = error
-            self.stopped.set()
-
-    def visit(self, queue: int, url: str) -> None:
-        """Fetch a URL, offer its links, print a line, and finish the URL."""
-        status, base, texts = self.fetch(queue, url)
-        offers = self.frontier.links(base, texts)
-        with self.lock:
-            print(status, sum(map(bool, offers)), url, flush=True)
-            refused = [text for text, offer in zip(texts, offers) if offer is Refusal.FULL]
-            self.kept += [(base, text) for text in refused]
-            self.end_seeds_if_over(self.offer_kept(self.frontier.done(queue)))
-            self.left -= 1
-            if self.left == 0:
-                self.stopped.set()
-
-    def offer_kept(self, left: int) -> int:
-        """Offer what was kept until there is no room. Return the number of unfinished URLs."""
-        while self.kept:
-            offer = self.frontier.link(*self.kept[0])
-            if offer is Refusal.FULL:
-                break
-            left += bool(offer)
-            self.kept.popleft()
-        return left
-
-    def end_seeds_if_over(self, left: int) -> None:
-        """End the seeds if nothing else is left. They count as one unfinished URL."""
-        if left == 1 and not self.kept:
-            self.frontier.end_seeds()
-
-
 def options_of_command_line() -> argparse.Namespace:
     parser = argparse.ArgumentParser(
         description=__doc__, formatter_class=argparse.RawDescriptionHelpFormatter
@@ -342,6 +280,10 @@ def options_of_command_line() -> argparse.Namespace:
     option("--workers", type=int, default=4, metavar="N", help="number of fetchers (default: 4)")
     option("--log", metavar="FILE", help="log file; run again with it to resume")
     option("--pages", type=int, default=0, metavar="N", help="stop after N URLs")
+    option("--retries", type=int, default=2, metavar="N",
+           help="most times that a URL is tried again (default: 2)")
+    option("--pause", type=float, default=5, metavar="S",
+           help="seconds before a URL is tried again, doubled each time (default: 5)")
     add_options_to(parser)
     return parser.parse_args()
 
@@ -370,7 +312,9 @@ def main() -> int:
         with Frontier(options.workers, **settings) as frontier:
             known = [Known() for _ in range(options.workers)]
             crawl = Crawl(
-                frontier, lambda queue, url: visited(url, known[queue], options), options.pages
+                frontier, lambda queue, url: visited(url, known[queue], options), options.pages,
+                ready_at=lambda queue, url: known[queue].ready_at(url, options),
+                retries=options.retries, pause=options.pause,
             )
             crawl.run(options.seed)
     except FrontierError as error:

@@ -1,8 +1,8 @@
 #!/bin/bash
 # Tests the clients of `mercator serve` in Python, Node and Go: the conformance suite of clients/conformance over each of them, with
-# its own test, the kill test over the program, the tests of the Node and Go clients, and the examples in their READMEs. If Node 18
-# or Go 1.19, or a later version, is not installed, a line says that its client is skipped. The script prints a line per part, with
-# the output of one that fails, and at last `N passed, M failed`.
+# its own test, the kill test over the program, the tests of the Node and Go clients, those of `later` in Python, and the examples in
+# the READMEs of the clients. If Node 18 or Go 1.19, or a later version, is not installed, a line says that its client is skipped. The
+# script prints a line per part, with the output of one that fails, and at last `N passed, M failed`.
 #
 # Usage: tests/clients.sh. PROGRAM in the environment is another program than crates/mercator_cli/out/mercator_cli (which
 # `rt run` in that folder makes), and KILLS is the number of kills of each kill test; 25.
@@ -39,7 +39,7 @@ client() {
 
 # notices MISTAKE TEXT: the kill test fails with this text.
 notices() {
-    $suite/kill_test.py --kills 4 $suite/crawlers/crawl_mistakes.py "$1" | tee "$scratch/told"
+    $suite/kill_test.py --kills 12 $suite/crawlers/crawl_mistakes.py "$1" | tee "$scratch/told"
     grep -q "^FAILED: .*$2" "$scratch/told"
 }
 
@@ -98,7 +98,9 @@ part "the conformance suite's own test" $suite/conformance.py --self-test
 part "the kill test of a crawler without mistakes" $suite/kill_test.py --kills 4 $suite/crawlers/crawl_mistakes.py none
 part "the kill test of one that finishes what was in progress" notices again_is_done "never requested"
 part "the kill test of one that does not ask what was in progress" notices no_again "refused busy"
+part "the kill test of one that finishes pages that are refused" notices done_after_503 "never requested"
 client Python $suite/crawlers/crawl_python.py
+part "the Python client and its crawler put URLs back" tests/later.py
 if is_node_here; then
     client Node $suite/crawlers/crawl_node.mjs
     part "the example of the Node client" node_example

@@ -90,6 +90,27 @@ class Page(NamedTuple):
     redirect: Optional[str] = None
     is_dropped: bool = False
     delay: float = 0.0
+    refusals: int = 0  # the number of requests that are answered with status 503 first
+
+
+class Request(NamedTuple):
+    """A request for a page."""
+
+    at: float
+    url: str
+    is_refused: bool  # by status 503
+
+
+class Given(NamedTuple):
+    """A URL that was given out, and from when to when it was in progress."""
+
+    url: str
+    start: float
+    end: float = float("inf")
+    is_put_back: bool = False
+
+    def is_of(self, request: Request) -> bool:
+        return self.url == request.url and self.start <= request.at <= self.end
 
 
 class Event(NamedTuple):
@@ -131,10 +152,11 @@ class Trap:
             setattr(self, word, int(rest))
         elif word in ("hold", "locked", "limit"):
             setattr(self, word, float(rest))
-        elif word in ("page", "drop", "redirect"):
+        elif word in ("page", "drop", "redirect", "refuse"):
             target = words[1] if word == "redirect" else None
             delay = float(words[1]) if word == "page" and len(words) > 1 else 0.0
-            page = self.pages[words[0]] = Page([], target, word == "drop", delay)
+            refusals = int(words[1]) if word == "refuse" else 0
+            page = self.pages[words[0]] = Page([], target, word == "drop", delay, refusals)
             return page.lines
         elif word == "log":
             self.log = []
@@ -185,18 +207,18 @@ class Web:
 
     def __init__(self) -> None:
         self.pages: Dict[str, Page] = {}
-        self.requests: List[Tuple[float, str]] = []
+        self.refusals: Dict[str, int] = {}  # how many requests of each URL are still refused
+        self.requests: List[Request] = []
         self.lock, self.open = threading.Lock(), 0
         web = self
 
         class Handler(http.server.BaseHTTPRequestHandler):
             def do_GET(self) -> None:
                 url = f"http://{self.connection.getsockname()[0]}:{web.port}{self.path}"
-                if self.path != MARKER:
-                    web.requests.append((time.monotonic(), url))
+                is_refused = self.path != MARKER and web.request(url)
                 page = web.pages.get(url)
-                if page is None:
-                    self.send_error(404)
+                if page is None or is_refused:
+                    self.send_error(503 if is_refused else 404)
                     return
                 time.sleep(page.delay)
                 if page.is_dropped:
@@ -240,7 +262,19 @@ class Web:
             threading.Thread(target=server.serve_forever, args=(0.05,), daemon=True).start()
 
     def serve(self, pages: Dict[str, Page]) -> None:
+        """Serves these pages. If they are served already, only the list of requests is cleared."""
+        if pages is not self.pages:
+            self.refusals = {url: page.refusals for url, page in pages.items()}
         self.pages, self.requests = pages, []
+
+    def request(self, url: str) -> bool:
+        """Notes a request, and returns whether it is refused."""
+        with self.lock:
+            is_refused = self.refusals.get(url, 0) > 0
+            if is_refused:
+                self.refusals[url] -= 1
+            self.requests.append(Request(time.monotonic(), url, is_refused))
+        return is_refused
 
     def settle(self) -> None:
         """Waits until the requests of a crawler that has ended are in `requests`."""
@@ -341,29 +375,37 @@ class Run:
         self.judge_fetches(facts)
 
     def judge_fetches(self, facts: List[Dict[str, object]]) -> None:
-        """Each URL is fetched once each time that it is given out, and at no other time."""
-        given: List[Tuple[float, float, str]] = []
+        """Each URL is fetched once each time that it is given out, and at no other time.
+
+        It need not be fetched if it is put back.
+        """
+        given: List[Given] = []
         for fact in facts:
+            at = float(str(fact["at"]))
             if "taken" in fact:
-                given.append((float(str(fact["at"])), float("inf"), str(fact["taken"])))
-            if "done" in fact:
-                last = max(i for i, (_, _, url) in enumerate(given) if url == fact["done"])
-                given[last] = (given[last][0], float(str(fact["at"])), given[last][2])
+                given.append(Given(str(fact["taken"]), at))
+            url = fact.get("done", fact.get("put_back"))
+            last = [i for i, one in enumerate(given) if one.url == url][-1:]
+            for i in last:
+                given[i] = given[i]._replace(end=at, is_put_back="put_back" in fact)
         left = list(given)
-        for when, url in self.web.requests:
-            mine = [one for one in left if one[2] == url and one[0] <= when <= one[1]]
-            if mine:
+        for request in self.web.requests:
+            mine = [one for one in given if one.is_of(request)]
+            if not mine:
+                self.violations.append(f"{request.url} was requested while it was not given out")
+            elif mine[0] in left:
                 left.remove(mine[0])
-            elif any(one[2] == url and one[0] <= when <= one[1] for one in given):
-                self.violations.append(f"{url} was requested twice")
             else:
-                self.violations.append(f"{url} was requested while it was not given out")
+                self.violations.append(f"{request.url} was requested twice")
         if self.trap.expected == "closed":
-            self.violations += [f"{url} was given out, but not requested" for _, _, url in left]
-            fetched = {url for _, url in self.web.requests}
+            unfetched = [one.url for one in left if not one.is_put_back]
+            self.violations += [f"{url} was given out, but not requested" for url in unfetched]
+            fetched = {url for _, url, is_refused in self.web.requests if not is_refused}
             done = {str(fact["was_done"]) for fact in facts if "was_done" in fact}
-            lost = sorted(self.trap.reached() - fetched - done)
-            self.violations += [f"{url} was never requested" for url in lost]
+            for url in sorted(self.trap.reached() - fetched - done):
+                is_requested = any(request.url == url for request in self.web.requests)
+                how = "was not requested again after status 503" if is_requested else "was never requested"
+                self.violations.append(f"{url} {how}")
 
 
 def is_running(pid: int) -> bool:

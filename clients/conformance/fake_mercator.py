@@ -4,7 +4,7 @@
 conformance.py starts it through the environment variable MERCATOR. It answers as `mercator serve`
 does, as far as traps need it: URLs are those of traps, and host 127.0.0.K belongs to queue K - 1
 modulo the number of workers. In FOLDER, `trap` names the trap, and `facts` gets what happens: which
-URL was given out and done at which time, and what the client does wrong.
+URL was given out, and done or put back, at which time, and what the client does wrong.
 """
 
 from __future__ import annotations
@@ -70,10 +70,11 @@ class Frontier:
             return self.offer(rest, base)
         if text == "endseeds":
             return self.end_seeds()
-        if word in ("next", "done", "again") and re.fullmatch("[0-9]{1,20}", rest):
+        of_queue = {"next": self.next, "done": self.done, "later": self.later, "again": self.again}
+        if word in of_queue and re.fullmatch("[0-9]{1,20}", rest):
             queue = int(rest)
             if queue < self.trap.workers:
-                return {"next": self.next, "done": self.done, "again": self.again}[word](queue)
+                return of_queue[word](queue)
             answer = "refused nosuch"
         else:
             answer = "bad line"
@@ -136,6 +137,7 @@ class Frontier:
             self.violation(f"`done {queue}` was sent, but no URL is in progress")
             return "refused nothing"
         url = self.in_progress.pop(queue)
+        self.resumed.discard(queue)
         if self.is_replaying:
             self.note(was_done=url)
         else:
@@ -143,6 +145,17 @@ class Frontier:
             for target in sorted(set(self.trap.targets(url)) - self.offered):
                 self.violation(f"{url} was done before {target} was offered")
         return self.lower()
+
+    def later(self, queue: int) -> str:
+        if queue not in self.in_progress:
+            self.violation(f"`later {queue}` was sent, but no URL is in progress")
+            return "refused nothing"
+        url = self.in_progress.pop(queue)
+        self.resumed.discard(queue)
+        self.waiting[queue].append(url)
+        if not self.is_replaying:
+            self.note(put_back=url)
+        return f"count {self.count}"
 
     def again(self, queue: int) -> str:
         url = self.in_progress.get(queue)

@@ -6,11 +6,12 @@ Usage: kill_test.py [--kills N] [--pages N] [--seed N] COMMAND [WORD..]
 COMMAND is a crawler as conformance.py runs it, here over the real program, which MERCATOR in the
 environment names. It crawls generated webs on 127.0.0.1 and the following addresses, with a log.
 It is killed (`kill -9`) after a random number of pages; each fourth time the program is killed
-instead, and the crawler has to end by itself. In the end:
+instead, and the crawler has to end by itself. After each third kill the log is compacted. In the
+end:
 
 - the URLs that were requested are those that a search of this script finds;
-- within one run no URL is requested twice;
-- after a kill at most one URL per worker is requested again.
+- within one run no URL is requested twice, unless it was refused with status 503;
+- after a kill at most one URL per worker is requested again that was not refused.
 """
 
 from __future__ import annotations
@@ -45,17 +46,18 @@ class Site:
         self.pages: Dict[str, Page] = {}
         targets: List[List[int]] = []
         for number in range(count):
-            kinds = ["page"] * 6 + ["redirect", "drop", "missing"] if number else ["page"]
+            kinds = ["page"] * 6 + ["refuse", "redirect", "drop", "missing"] if number else ["page"]
             kind = draw.choice(kinds)
             mine = [draw.randrange(count) for _ in range(draw.randrange(1, 6))]
             delay = 0.005 + draw.random() / 100
-            page = Page([self.spelled(number, target) for target in mine], None, False, delay)
+            lines = [self.spelled(number, target) for target in mine]
+            page = Page(lines, None, False, delay, draw.randrange(1, 4) * (kind == "refuse"))
             if kind == "redirect":
                 mine = mine[:1]
                 page = Page([], self.url(mine[0]))
             if kind == "drop":
                 page = Page([], None, True)
-            targets.append(mine if kind in ("page", "redirect") else [])
+            targets.append(mine if kind in ("page", "refuse", "redirect") else [])
             if kind != "missing":
                 self.pages[self.url(number)] = page
         reached = [0]
@@ -81,14 +83,17 @@ class Killer:
         self.words, self.program, self.folder = words, program, folder
         self.draw = Random(words.seed)
         self.web = Web()
-        self.kills = self.again = self.urls = 0
+        self.kills = self.again = self.urls = self.refused = self.compactions = 0
 
     def run(self) -> str:
         while self.kills < self.words.kills:
             self.log = self.folder / f"crawl-{self.urls}.log"
             self.site = Site(self.draw, self.words.pages, self.web.port)
             self.crawl_site()
-        return f"{self.kills} kills, {self.urls} URLs, {self.again} of them requested again"
+        return (
+            f"{self.kills} kills, {self.urls} URLs, {self.again} of them requested again, "
+            f"{self.refused} requests refused, {self.compactions} compactions"
+        )
 
     def crawl_site(self) -> None:
         """Crawls a web until a run ends by itself."""
@@ -98,7 +103,8 @@ class Killer:
             self.web.serve(self.site.pages)
             status = self.crawl()
             self.web.settle()
-            counts = Counter(url for _, url in self.web.requests)
+            # A request that was refused does not count: its URL is put back, and given out again.
+            counts = Counter(url for _, url, is_refused in self.web.requests if not is_refused)
             twice = [url for url, count in counts.items() if count > 1]
             repeated = set(counts) & seen
             if twice:
@@ -106,10 +112,13 @@ class Killer:
             if len(repeated) > (WORKERS if self.kills > before else 0):
                 raise Violation(f"{len(repeated)} URLs were requested again after a kill")
             self.again += len(repeated)
+            self.refused += len(self.web.requests) - sum(counts.values())
             seen |= set(counts)
             if status is not None:
                 break
             self.kills += 1
+            if self.kills % 3 == 0:
+                self.compact()
         if status != 0:
             stderr = (self.folder / "stderr").read_text("utf-8", "replace").strip()
             raise Violation(f"status {status}: {stderr[-500:]}")
@@ -119,6 +128,21 @@ class Killer:
         if more:
             raise Violation(f"{len(more)} URLs should not be requested, such as {more[0]}")
         self.urls += len(seen)
+
+    def compact(self) -> None:
+        """Compacts the log, once the program of the crawler has ended."""
+        new = self.folder / "compacted.log"
+        words = [self.program, "serve", f"--workers={WORKERS}", f"--log={self.log}", f"--compact={new}"]
+        end = time.monotonic() + SECONDS
+        while True:
+            ended = subprocess.run(words, stderr=subprocess.PIPE, text=True, check=False)
+            if ended.returncode == 0:
+                break
+            if ": in use" not in ended.stderr or time.monotonic() > end:
+                raise Violation(f"the log cannot be compacted: {ended.stderr.strip()}")
+            time.sleep(0.05)
+        new.replace(self.log)
+        self.compactions += 1
 
     def crawl(self) -> Optional[int]:
         """One run: its exit status, or None if something was killed."""

@@ -2,7 +2,7 @@
 //
 // A crawler fetches pages, and asks the frontier what to fetch next. The frontier runs as a process
 // of its own, with one queue per worker, numbered from 0. All URLs of a host are in one queue. Each
-// URL is given out once, however it is spelled. When all URLs are done, the crawl is over.
+// URL is given out once, however spelled, and again after Later. When all are done, the crawl ends.
 //
 // With Options.Log, a crawl that was killed resumes: run it again with the same options. URLs that
 // are refused because too many are unfinished are kept in memory, and are offered again when there
@@ -31,14 +31,16 @@ var (
 	ErrLogInUse      = errors.New("frontier: the log is in use")
 	ErrNoSuchQueue   = errors.New("frontier: no such queue")
 	ErrNothingTaken  = errors.New("frontier: the queue is not working on a URL")
-	ErrQueueBusy     = errors.New("frontier: the last URL of the queue is not done")
+	ErrQueueBusy     = errors.New("frontier: the last URL of the queue is in progress")
 	ErrUnknownAnswer = errors.New("frontier: unknown answer")
+	ErrLater         = errors.New("frontier: put the URL back") // a visit returns this
 )
 
 var refusals = map[string]error{
 	"refused busy":    ErrQueueBusy,
 	"refused nosuch":  ErrNoSuchQueue,
 	"refused nothing": ErrNothingTaken,
+	"closed":          io.EOF,
 }
 
 // Options are the options of a frontier. A crawl resumes only with the options that it began with.
@@ -91,49 +93,45 @@ func Open(ctx context.Context, options Options) (*Frontier, error) {
 		if err != nil {
 			return nil, fmt.Errorf("frontier: cannot start the program: %w", err)
 		}
-		if _, err = f.exchange([]string{"again 0"}); err == nil {
+		_, err = f.exchange([]string{"again 0"})
+		switch {
+		case err == nil:
 			return f, nil
-		}
-		if !strings.Contains(err.Error(), ": in use") {
+		case !strings.Contains(err.Error(), ": in use"):
 			return nil, err
-		}
-		if time.Since(begun)+wait > 10*time.Second {
+		case time.Since(begun)+wait > 10*time.Second:
 			return nil, fmt.Errorf("%w: %v", ErrLogInUse, err)
 		}
 		select {
 		case <-time.After(wait):
-		case <-ctx.Done():
-			return nil, ctx.Err()
+		case <-ctx.Done(): // so the next start fails
 		}
 	}
 }
 
 func start(ctx context.Context, options Options) (*Frontier, error) {
-	workers, program := options.Workers, options.Program
-	if workers == 0 {
-		workers = 4
+	if options.Workers == 0 {
+		options.Workers = 4
 	}
-	if program == "" {
-		program = os.Getenv("MERCATOR")
+	if options.Program == "" {
+		options.Program = os.Getenv("MERCATOR")
 	}
-	if program == "" {
-		program = "mercator"
+	if options.Program == "" {
+		options.Program = "mercator"
 	}
-	args := []string{"serve", fmt.Sprint("--workers=", workers)}
-	if options.MaxPending != 0 {
-		args = append(args, fmt.Sprint("--max-pending=", options.MaxPending))
+	args := []string{"serve", fmt.Sprint("--workers=", options.Workers)}
+	add := func(isGiven bool, words ...any) {
+		if isGiven {
+			args = append(args, fmt.Sprint(words...))
+		}
 	}
-	if options.Within != "" {
-		args = append(args, "--within="+options.Within)
-	}
-	if options.Log != "" {
-		args = append(args, "--log="+options.Log)
-	}
-	if options.Sync {
-		args = append(args, "--sync")
-	}
-	f := &Frontier{ctx: ctx, cmd: exec.CommandContext(ctx, program, args...), begun: map[int]bool{}}
-	for len(f.wakes) < workers {
+	add(options.MaxPending != 0, "--max-pending=", options.MaxPending)
+	add(options.Within != "", "--within=", options.Within)
+	add(options.Log != "", "--log=", options.Log)
+	add(options.Sync, "--sync")
+	f := &Frontier{ctx: ctx, begun: map[int]bool{}}
+	f.cmd = exec.CommandContext(ctx, options.Program, args...)
+	for len(f.wakes) < options.Workers {
 		f.wakes = append(f.wakes, make(chan struct{}))
 	}
 	// In a session of its own, so that Ctrl-C reaches only the crawler.
@@ -168,8 +166,7 @@ func (f *Frontier) Links(base string, texts ...string) ([]Status, error) {
 func (f *Frontier) offer(word string, texts []string) ([]Status, error) {
 	requests := make([]string, len(texts))
 	for i, text := range texts {
-		// A request is one line: the URL Standard removes each line feed. Longer texts are cut:
-		// above 4,096 bytes, all are answered "line too long".
+		// The URL Standard removes line feeds. Above 4,096 bytes, all texts have the same answer.
 		requests[i] = fmt.Sprintf("%s%.5000s", word, strings.ReplaceAll(text, "\n", ""))
 	}
 	f.mu.Lock()
@@ -180,8 +177,6 @@ func (f *Frontier) offer(word string, texts []string) ([]Status, error) {
 // EndSeeds says that all seeds were offered, so that the crawl can end. If the seeds had ended
 // before, as they may have in a crawl that resumes, it does nothing.
 func (f *Frontier) EndSeeds() error {
-	f.mu.Lock()
-	defer f.mu.Unlock()
 	if _, err := f.lower("endseeds"); err != ErrNothingTaken {
 		return err
 	}
@@ -201,10 +196,7 @@ func (f *Frontier) Take(ctx context.Context, queue int) (string, error) {
 		}
 	}
 	for ctx.Err() == nil {
-		word, url, err := f.ask(fmt.Sprint("next ", uint32(queue)), "taken", "pending", "closed")
-		if word == "closed" {
-			return "", io.EOF
-		}
+		word, url, err := f.ask(fmt.Sprint("next ", uint32(queue)), "taken", "pending")
 		if word != "pending" {
 			return url, err
 		}
@@ -220,16 +212,18 @@ func (f *Frontier) Take(ctx context.Context, queue int) (string, error) {
 	return "", ctx.Err()
 }
 
-// Done says that the URL of a queue is finished, fetched or not. It returns the number of URLs that
-// are unfinished.
+// Done says that a queue's URL is finished, fetched or not. It returns how many are unfinished.
 func (f *Frontier) Done(queue int) (int, error) {
-	f.mu.Lock()
-	defer f.mu.Unlock()
 	return f.lower(fmt.Sprint("done ", uint32(queue)))
 }
 
-// Run calls visit for each URL until the crawl is over: for several URLs at a time, but for only
-// one of each queue, and so of each host. When visit returns nil, the URL is done. If visit fails,
+// Later puts a queue's URL back to the end of the queue. If no other waits, Take returns it again.
+func (f *Frontier) Later(queue int) (int, error) {
+	return f.lower(fmt.Sprint("later ", uint32(queue)))
+}
+
+// Run calls visit for each URL until the crawl is over, for one URL at a time of each queue, and so
+// of each host. If visit returns nil, the URL is done; if ErrLater, it is put back. If visit fails,
 // or ctx is done, Run cancels the context of the visits, waits for them, and returns the first
 // error. A URL whose visit failed stays in progress: with a log, the next crawl begins with it.
 func (f *Frontier) Run(
@@ -243,10 +237,14 @@ func (f *Frontier) Run(
 			if url, err = f.Take(ctx, queue); err != nil {
 				return err
 			}
-			if err = visit(ctx, queue, url); err != nil {
+			switch err = visit(ctx, queue, url); err {
+			case nil:
+				_, err = f.Done(queue)
+			case ErrLater:
+				_, err = f.Later(queue)
+			default:
 				return fmt.Errorf("frontier: visit of %s: %w", url, err)
 			}
-			_, err = f.Done(queue)
 		}
 		return err
 	}
@@ -277,9 +275,11 @@ func (f *Frontier) Close() error {
 	return nil
 }
 
-// lower sends a request that finishes something, and then offers what was kept. No other request is
-// sent meanwhile, so the crawl cannot end without the URLs that were kept.
+// lower sends a request that may finish something, and then offers what was kept. No other request
+// is sent meanwhile, so the crawl cannot end without the URLs that were kept.
 func (f *Frontier) lower(request string) (int, error) {
+	f.mu.Lock()
+	defer f.mu.Unlock()
 	_, count, err := f.ask(request, "count")
 	if err != nil {
 		return 0, err
@@ -288,7 +288,7 @@ func (f *Frontier) lower(request string) (int, error) {
 		f.wake(queue)
 	}
 	unfinished, err := strconv.Atoi(count)
-	// The loop ends when an offer is refused again, and so kept.
+	// The loop ends when an offer is refused again, and so kept. After Later, that is the first.
 	for left := len(f.kept); err == nil && left > 0 && left == len(f.kept); left-- {
 		offer := f.kept[:1]
 		f.kept = f.kept[1:]

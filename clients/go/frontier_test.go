@@ -116,6 +116,8 @@ func TestAnswers(t *testing.T) {
 		checkError(t, "a URL of no queue", err, ErrNoSuchQueue)
 		_, err = f.Done(queue)
 		checkError(t, "done of no queue", err, ErrNoSuchQueue)
+		_, err = f.Later(queue)
+		checkError(t, "later of no queue", err, ErrNoSuchQueue)
 	}
 	// The URL that was kept takes the room.
 	check(t, "unfinished", done(t, f, 0), 2)
@@ -146,6 +148,35 @@ func TestAnswers(t *testing.T) {
 	checkError(t, "links of a long base", err, nil)
 	check(t, "links of a long base", links, []Status{TooLong, TooLong})
 	checkError(t, "close", f.Close(), nil)
+}
+
+// A URL that is put back is taken after those that wait, and before what is offered later. There is
+// no room for it to be refused, and none for the URL that was kept.
+func TestLater(t *testing.T) {
+	f := open(t, Options{Workers: 1, MaxPending: 4})
+	_, err := f.Later(0)
+	checkError(t, "later of nothing", err, ErrNothingTaken)
+	offer(t, f, "http://a.test/1", "http://b.test/2", "http://c.test/3", "http://d.test/4")
+	for _, url := range []string{"http://a.test/1", "http://b.test/2", "http://c.test/3", "http://a.test/1"} {
+		check(t, "a URL", take(t, f, 0), url)
+		left, err := f.Later(0)
+		checkError(t, "later", err, nil)
+		check(t, "unfinished", left, 4)
+	}
+	checkError(t, "the end of the seeds", f.EndSeeds(), nil)
+	var urls []string
+	checkError(t, "the crawl", f.Run(timed(t), func(_ context.Context, _ int, url string) error {
+		if urls = append(urls, url); len(urls) <= 2 {
+			return ErrLater
+		}
+		return nil
+	}), nil)
+	check(t, "the URLs", urls, []string{
+		"http://b.test/2", "http://c.test/3", "http://a.test/1", "http://d.test/4", "http://b.test/2",
+		"http://c.test/3",
+	})
+	_, err = f.Later(0)
+	checkError(t, "later after the end", err, ErrNothingTaken)
 }
 
 // Each of two goroutines takes what the other one offers, so that each wait is soon over.
@@ -469,7 +500,8 @@ func TestLog(t *testing.T) {
 	check(t, "the URL that was in progress", take(t, second, 0), "http://a.test/")
 	_, err := second.Take(ctx, 0)
 	checkError(t, "a URL too soon", err, ErrQueueBusy)
-	done(t, second, 0)
+	_, err = second.Later(0)
+	checkError(t, "later", err, nil)
 	check(t, "the next URL", take(t, second, 0), "http://a.test/2")
 	second.Close()
 
@@ -480,7 +512,7 @@ func TestLog(t *testing.T) {
 		urls = append(urls, url)
 		return nil
 	}), nil)
-	check(t, "URLs", urls, []string{"http://a.test/2", "http://a.test/3"})
+	check(t, "URLs", urls, []string{"http://a.test/2", "http://a.test/3", "http://a.test/"})
 
 	short, cancel := context.WithTimeout(ctx, 200*time.Millisecond)
 	defer cancel()

@@ -4,7 +4,8 @@
  * shows how to use it, and docs/SESSION.md describes the protocol.
  *
  * - There is one queue per worker, numbered from 0. All URLs of a host are in one queue.
- * - Each URL is given out once, however it is spelled. The crawl is over when all of them are done.
+ * - Each URL is given out once, however it is spelled, and once more each time it is put back. The
+ *   crawl is over when all of them are done.
  * - With `log`, a crawl that was killed resumes: run it again with the same options.
  * - URLs that are refused because too many are unfinished are kept in memory, and are offered again
  *   when there is room. A kill loses them.
@@ -18,8 +19,7 @@ import { setTimeout as sleep } from 'node:timers/promises';
  * was not accepted. After `refused full`, the client offers the URL again by itself.
  * @typedef {{accepted: true, queue: number, number: number}
  *   | {accepted: false, reason: Refusal}} Offer
- * @typedef {'seen' | 'filtered' | 'not a URL' | 'not http or https' | 'line too long' | 'not UTF-8'
- *   | 'refused closed' | 'refused full'} Refusal
+ * @typedef {(typeof REFUSALS)[number]} Refusal
  *
  * @typedef {object} Options
  * @property {number} [workers] Number of workers and queues, 1 to 512; 4 by default.
@@ -30,12 +30,12 @@ import { setTimeout as sleep } from 'node:timers/promises';
  * @property {string} [program] The program; by default $MERCATOR, or `mercator` on the PATH.
  */
 
-const PIECE = 32_768; // requests are sent in pieces of this size, each after the last one's answers
+const PIECE = 32_768; // a piece of requests ends here, and is sent after the last one's answers
 const LONGEST = 5_000; // longer texts are cut: above 4,096 bytes, all are answered `line too long`
 const KEPT = 64; // at most this many of the URLs that are kept are offered at a time
 const EXIT_MS = 10_000; // how long the program may take to exit
-const REFUSALS = new Set(['seen', 'filtered', 'not a URL', 'not http or https', 'line too long',
-  'not UTF-8', 'refused closed', 'refused full']);
+const REFUSALS = /** @type {const} */ (['seen', 'filtered', 'not a URL', 'not http or https',
+  'line too long', 'not UTF-8', 'refused closed', 'refused full']);
 
 /** The base class of all errors of this module. */
 export class FrontierError extends Error {
@@ -46,7 +46,7 @@ export class FrontierError extends Error {
 export class ProgramMissing extends FrontierError {}
 /** Another program uses the log. */
 export class LogInUse extends FrontierError {}
-/** A URL was taken from a queue whose last URL is not done. */
+/** A URL was taken from a queue whose last URL is still in progress. */
 export class QueueBusy extends FrontierError {}
 /** The queue is not working on a URL. */
 export class NothingTaken extends FrontierError {}
@@ -149,8 +149,9 @@ export class Frontier {
   #channel;
   /** @type {{ask: () => void, fail: (error: Error) => void}[][]} who waits in each queue */
   #waiting;
-  /** @type {Map<number, string>} what was in progress when the log ended */
+  /** @type {Map<number, string | null>} what was in progress when the log ended */
   #resumed = new Map();
+  #putBack = new Set(); // the queues whose last URL was put back
   /** @type {string[]} requests that were refused for lack of room */
   #kept = [];
   #mayHaveRoom = false;
@@ -179,7 +180,8 @@ export class Frontier {
     for (let wait = 50, end = Date.now() + 10_000; ; wait *= 1.5) {
       const frontier = new Frontier(options);
       try {
-        await frontier.#resume();
+        const urls = await Promise.all(frontier.#waiting.map((_, queue) => frontier.again(queue)));
+        urls.forEach((url, queue) => frontier.#resumed.set(queue, url));
         return frontier;
       } catch (error) {
         await frontier.close();
@@ -215,21 +217,21 @@ export class Frontier {
    * unfinished, or null if the seeds had already ended, as they may have before a restart.
    */
   async endSeeds() {
-    const asked = this.#ask(['endseeds']);
+    const asked = this.#askFor('count', 'endseeds');
     this.#offerKept();
-    const [answer] = await asked;
-    return answer === 'refused nothing' ? null : this.#countOf(answer);
+    const count = await asked;
+    return count === null ? null : Number(count);
   }
 
   /**
    * Takes the URL that has waited longest in a queue. If there is none, waits until there is one,
    * or until the crawl is over: then it returns null.
-   * @param {number} queue
-   * @returns {Promise<string | null>}
+   * @param {number} queue @returns {Promise<string | null>}
    */
   take(queue) {
     return new Promise((resolve, reject) => {
       this.#check(queue);
+      this.#putBack.delete(queue);
       const ask = /** @type {() => void} */ (() => {
         // The crawl must not end while URLs that were refused are offered again.
         if (this.#offering) return void this.#offering.then(ask);
@@ -237,48 +239,47 @@ export class Frontier {
           if (answer.startsWith('taken ')) return resolve(answer.slice(6));
           if (answer === 'closed') return resolve(null);
           if (!answer.startsWith('pending ')) return reject(this.#errorOf(answer));
-          // It waits from here on, not from when a promise is fulfilled: the next answer, which may
-          // have been read already, may be the one that ends the wait.
+          // It waits from here on: the next answer may have been read already, and end the wait.
           this.#waiting[queue].push({ ask, fail: reject });
         }, reject);
       });
-      const url = this.#resumed.get(queue);
+      const url = this.#resumed.get(queue) ?? null;
       this.#resumed.delete(queue);
-      if (url === undefined) ask(); else resolve(url);
+      if (url === null) ask(); else resolve(url);
     });
   }
 
   /** Says that a queue's URL is finished, fetched or not. Returns how many URLs are unfinished. */
-  async done(/** @type {number} */ queue) {
-    this.#check(queue);
-    this.#resumed.delete(queue);
-    const asked = this.#ask([`done ${queue}`]);
-    this.#offerKept();
-    return this.#countOf((await asked)[0]);
-  }
+  done(/** @type {number} */ queue) { return this.#release('done', queue); }
+
+  /**
+   * Puts a queue's URL back to the end of the queue, to be taken again after all that wait there
+   * now. If no other waits, `take` returns it immediately. Returns how many URLs are unfinished.
+   */
+  later(/** @type {number} */ queue) { return this.#release('later', queue); }
 
   /** The URL that a queue is working on, or null. */
   async again(/** @type {number} */ queue) {
     this.#check(queue);
-    return this.#urlOf((await this.#ask([`again ${queue}`]))[0]);
+    return this.#askFor('taken', `again ${queue}`);
   }
 
   /**
-   * The URLs of a queue, for `for await`. A URL is done when the loop asks for the next one. If the
-   * loop is left early, its URL stays in progress: with a log, the next run gets it again.
+   * The URLs of a queue, for `for await`. Unless it was put back, a URL is done when the loop asks
+   * for the next one. If the loop is left early, its URL stays in progress: with a log, the next
+   * run gets it again.
    */
   async* queue(/** @type {number} */ queue) {
-    let url = await this.take(queue);
-    while (url !== null) {
+    for (let url = await this.take(queue); url !== null;) {
       yield url;
-      [, url] = await Promise.all([this.done(queue), this.take(queue)]);
+      [, url] = await Promise.all([this.#putBack.has(queue) || this.done(queue), this.take(queue)]);
     }
   }
 
   /**
    * Calls `handler` for each URL, for one at a time per queue, until the crawl is over. A URL is
-   * done when its handler returns. If one throws, the frontier is closed, and after the other
-   * handlers have ended `run` throws that error.
+   * done when its handler returns, unless that has put it back by `later`. If one throws, the
+   * frontier is closed, and after the other handlers have ended `run` throws that error.
    */
   async run(/** @type {(url: string, queue: number) => unknown} */ handler) {
     const errors = /** @type {unknown[]} */ ([]);
@@ -296,12 +297,14 @@ export class Frontier {
   /** Ends the program. Calls that wait, and later ones, throw `FrontierEnded`. */
   close() { return this.#channel.close(); }
 
-  async #resume() {
-    const answers = await this.#ask(this.#waiting.map((_, queue) => `again ${queue}`));
-    for (const [queue, answer] of answers.entries()) {
-      const url = this.#urlOf(answer);
-      if (url !== null) this.#resumed.set(queue, url);
-    }
+  async #release(/** @type {'done' | 'later'} */ word, /** @type {number} */ queue) {
+    this.#check(queue);
+    this.#resumed.delete(queue);
+    const asked = this.#askFor('count', `${word} ${queue}`);
+    if (word === 'done') this.#offerKept(); else this.#putBack.add(queue);
+    const count = await asked;
+    if (count === null) throw new NothingTaken('the queue is not working on a URL');
+    return Number(count);
   }
 
   async #offerEach(/** @type {string} */ word, /** @type {Iterable<string>} */ texts) {
@@ -347,6 +350,14 @@ export class Frontier {
     });
   }
 
+  /** Sends a request. Returns what follows this word in its answer; null if that is refused. */
+  async #askFor(/** @type {string} */ word, /** @type {string} */ request) {
+    const [answer] = await this.#ask([request]);
+    if (answer === 'refused nothing') return null;
+    if (!answer.startsWith(`${word} `)) throw this.#errorOf(answer);
+    return answer.slice(word.length + 1);
+  }
+
   #wake(/** @type {number} */ queue) {
     for (const { ask } of this.#waiting[queue]?.splice(0) ?? []) ask();
   }
@@ -359,24 +370,13 @@ export class Frontier {
   #offerOf(answer) {
     const [, queue, number] = /^accepted (\d+) (\d+)$/.exec(answer) ?? [];
     if (number) return { accepted: true, queue: Number(queue), number: Number(number) };
-    if (!REFUSALS.has(answer)) throw this.#errorOf(answer);
-    return { accepted: false, reason: /** @type {Refusal} */ (answer) };
-  }
-
-  #countOf(/** @type {string} */ answer) {
-    if (!answer.startsWith('count ')) throw this.#errorOf(answer);
-    return Number(answer.slice(6));
-  }
-
-  #urlOf(/** @type {string} */ answer) {
-    if (answer === 'refused nothing') return null;
-    if (!answer.startsWith('taken ')) throw this.#errorOf(answer);
-    return answer.slice(6);
+    const reason = REFUSALS.find((refusal) => refusal === answer);
+    if (!reason) throw this.#errorOf(answer);
+    return { accepted: false, reason };
   }
 
   #errorOf(/** @type {string} */ answer) {
-    if (answer === 'refused busy') return new QueueBusy('the last URL of the queue is not done');
-    if (answer === 'refused nothing') return new NothingTaken('the queue is not working on a URL');
+    if (answer === 'refused busy') return new QueueBusy('its last URL is in progress');
     const error = new UnknownAnswer(`unknown answer: ${answer}`);
     this.#channel.kill(error); // nobody knows what the program means
     return error;
@@ -389,12 +389,11 @@ function* piecesOf(/** @type {string} */ word, /** @type {Iterable<string>} */ t
   for (const text of texts) {
     // A request is one line. The URL Standard removes each LF.
     const line = word + text.replace(/\n/g, '').slice(0, LONGEST);
-    size += line.length;
-    if (size > PIECE && lines.length) {
-      yield lines;
-      [lines, size] = [[], line.length];
-    }
     lines.push(line);
+    size += line.length;
+    if (size < PIECE) continue;
+    yield lines;
+    [lines, size] = [[], 0];
   }
   if (lines.length) yield lines;
 }

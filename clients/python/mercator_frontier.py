@@ -12,12 +12,13 @@ page, and reports that the URL is done::
             frontier.links(url, texts_of(fetch(url)))
             frontier.done(queue)
 
-- Each URL is given out once, however it is spelled.
+- Each URL is given out once, however it is spelled, and once more each time it is put back.
 - All URLs of a host are in one queue, so no two fetchers visit a host at the same time.
 - A URL is *unfinished* from the moment it is accepted until its `done`. When no URL is unfinished
   and the seeds have ended, `take` returns None, and from then on always does.
 - `take` does not return None while a URL is unfinished, so a fetcher that gives up must close the
   frontier. Otherwise the other fetchers wait forever.
+- `later` puts a URL back to the end of its queue, to fetch it again after the others of the queue.
 - With `log`, an interrupted crawl resumes when it is started again with the same arguments.
 
 In asyncio, call `take` in a thread pool with one thread per queue: a call blocks while it waits,
@@ -110,11 +111,11 @@ class FrontierEnded(FrontierError):
 
 
 class QueueBusy(FrontierError):
-    """Raised by `take` and `try_take` when the last URL of the queue is not done."""
+    """Raised by `take` and `try_take` when the last URL of the queue is still in progress."""
 
 
 class NothingTaken(FrontierError):
-    """Raised by `done` when the queue has no URL in progress."""
+    """Raised by `done` and `later` when the queue has no URL in progress."""
 
 
 class NoSuchQueue(FrontierError):
@@ -155,7 +156,7 @@ Offer = Union[Accepted, Refusal]
 _REFUSALS = {refusal.value.encode(): refusal for refusal in Refusal}
 _ACCEPTED = re.compile(rb"accepted [0-9]+ [0-9]+")
 _ERRORS: Dict[bytes, Tuple[Type[FrontierError], str]] = {
-    b"refused busy": (QueueBusy, "the last URL taken from this queue is not done"),
+    b"refused busy": (QueueBusy, "the last URL taken from this queue is still in progress"),
     b"refused nothing": (NothingTaken, "this queue has no URL in progress"),
     b"refused nosuch": (NoSuchQueue, "there is no such queue"),
 }
@@ -288,8 +289,8 @@ class Frontier:
         Wait until there is a URL or the crawl is over. In a resumed crawl, the first call for a
         queue returns the URL that was in progress when the crawl was interrupted, if there was one.
 
-        Raise `QueueBusy` if the last URL of the queue is not done, and `NoSuchQueue` if there is no
-        such queue.
+        Raise `QueueBusy` if the last URL of the queue is still in progress, and `NoSuchQueue` if
+        there is no such queue.
         """
         with self._lock:
             while True:
@@ -321,11 +322,20 @@ class Frontier:
         Return the number of unfinished URLs. Raise `NothingTaken` if the queue has no URL in
         progress, and `NoSuchQueue` if there is no such queue.
         """
-        with self._lock:
-            self._check(queue)
-            count = self._count_in(self._ask(b"done %d\n" % queue))
-            self._cut_off.pop(queue, None)
-            return count
+        return self._release(b"done %d\n", queue)
+
+    def later(self, queue: int) -> int:
+        """Put the URL that was last taken from the queue back to the end of the queue.
+
+        It is taken again after all URLs that wait in the queue now, and before those that are
+        accepted later. Call it to try a fetch again, or to visit other hosts of the queue until
+        this URL's host may be visited. The frontier does not wait: if the queue has no other URL,
+        `take` returns this one immediately.
+
+        Return the number of unfinished URLs, which does not change. Raise the same exceptions as
+        `done`.
+        """
+        return self._release(b"later %d\n", queue)
 
     def again(self, queue: int) -> Optional[str]:
         """Return the URL in progress of the queue, or None if there is none.
@@ -361,6 +371,13 @@ class Frontier:
         trace: Optional[TracebackType],
     ) -> None:
         self.close()
+
+    def _release(self, request: bytes, queue: int) -> int:
+        with self._lock:
+            self._check(queue)
+            count = self._count_in(self._ask(request % queue))
+            self._cut_off.pop(queue, None)
+            return count
 
     # ---- called with the lock held
 

@@ -23,27 +23,30 @@ var client = http.Client{
 	},
 }
 
-// get returns the target of a redirect, or the lines of a page.
-func get(ctx context.Context, url string) []string {
+// get returns the target of a redirect, or the lines of a page. If the page is refused, the error is
+// frontier.ErrLater.
+func get(ctx context.Context, url string) ([]string, error) {
 	request, err := http.NewRequestWithContext(ctx, http.MethodGet, url, nil)
 	if err != nil {
-		return nil
+		return nil, nil
 	}
 	response, err := client.Do(request)
 	if err != nil {
-		return nil
+		return nil, nil
 	}
 	defer response.Body.Close()
 	switch response.StatusCode {
+	case http.StatusServiceUnavailable:
+		return nil, frontier.ErrLater
 	case http.StatusFound:
-		return []string{response.Header.Get("Location")}
+		return []string{response.Header.Get("Location")}, nil
 	case http.StatusOK:
 		if body, err := io.ReadAll(response.Body); err == nil {
 			lines := strings.Split(string(body), "\n")
-			return lines[:len(lines)-1]
+			return lines[:len(lines)-1], nil
 		}
 	}
-	return nil
+	return nil, nil
 }
 
 func crawl(workers int, log string, seeds []string) error {
@@ -65,15 +68,19 @@ func crawl(workers int, log string, seeds []string) error {
 	}
 	return f.Run(ctx, func(ctx context.Context, queue int, url string) error {
 		base := url
+		lines, err := get(ctx, url)
+		if err != nil {
+			return err
+		}
 		var texts []string
-		for _, line := range get(ctx, url) {
+		for _, line := range lines {
 			if strings.HasPrefix(line, "base ") {
 				base = line[len("base "):]
 			} else {
 				texts = append(texts, strings.ReplaceAll(line, `\n`, "\n"))
 			}
 		}
-		_, err := f.Links(base, texts...)
+		_, err = f.Links(base, texts...)
 		return err
 	})
 }

@@ -13,7 +13,7 @@ import http.client
 import os
 import sys
 from collections import deque
-from typing import Deque, Dict, List, Optional, Tuple
+from typing import Deque, Dict, List, Optional, Set, Tuple
 from urllib.parse import urljoin, urlsplit
 
 MISTAKE, WORKERS, LOG, SEEDS = sys.argv[1], int(sys.argv[2]), sys.argv[3], sys.argv[4:]
@@ -31,6 +31,7 @@ class Client:
         self.owed: Deque[Tuple[str, asyncio.Future[str]]] = deque()
         self.waiting: Dict[int, asyncio.Future[None]] = {}
         self.kept: List[str] = []
+        self.known: Set[str] = set()
         self.end: Optional[str] = None
         self.reader = asyncio.ensure_future(self.read())
 
@@ -113,6 +114,15 @@ class Client:
             await self.ask("endseeds")
 
 
+    async def later(self, queue: int) -> None:
+        await self.ask(f"later {queue}")
+        if MISTAKE == "later_and_done":
+            await self.done(queue)
+        if MISTAKE == "room_after_later":
+            await asyncio.gather(*map(self.ask, self.kept))
+            self.kept.clear()
+
+
 def accepted(offer: asyncio.Future[str]) -> bool:
     return offer.result().startswith("accepted")
 
@@ -145,8 +155,26 @@ def fetch_again(url: str) -> Tuple[int, List[str]]:
     return 0, []
 
 
-async def links(client: Client, url: str) -> None:
+async def visit(client: Client, queue: int, url: str) -> None:
+    """Fetches a page and offers its links. Then its URL is done, or put back."""
+    if MISTAKE == "skip_known" and url in client.known:
+        return await client.done(queue)
+    client.known.add(url)
     status, lines = await asyncio.to_thread(fetch, url)
+    while status == 503 and MISTAKE == "retry_after_503":
+        status, lines = await asyncio.to_thread(fetch, url)
+    if status == 503 and MISTAKE == "offer_after_503":
+        await client.ask(f"offer {url}")
+    elif status == 503 and MISTAKE != "done_after_503":
+        return await client.later(queue)
+    if MISTAKE == "done_first":
+        await client.done(queue)
+    await links(client, url, status, lines)
+    if MISTAKE != "done_first":
+        await client.done(queue)
+
+
+async def links(client: Client, url: str, status: int, lines: List[str]) -> None:
     if status in (301, 302) and MISTAKE == "no_redirect":
         return
     if status in (301, 302) and MISTAKE == "follow":
@@ -182,12 +210,7 @@ async def work(client: Client, queue: int) -> None:
     if url is None:
         url = await client.take(queue)
     while url is not None:
-        if MISTAKE == "done_first":
-            await client.done(queue)
-            await links(client, url)
-        else:
-            await links(client, url)
-            await client.done(queue)
+        await visit(client, queue, url)
         url = await client.take(queue)
 
 

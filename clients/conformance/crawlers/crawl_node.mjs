@@ -5,7 +5,7 @@ import http from 'node:http';
 
 import { Frontier } from '../../node/mercator_frontier.mjs';
 
-/** The target of a redirect, and the lines of a page. */
+/** The status, the target of a redirect, and the lines of a page. */
 function get(url) {
   return new Promise((resolve) => {
     const fail = () => resolve({ lines: [] });
@@ -17,21 +17,22 @@ function get(url) {
         return fail();
       }
       const lines = response.statusCode === 200 ? body.split('\n').slice(0, -1) : [];
-      return resolve({ target: response.headers.location, lines });
+      return resolve({ status: response.statusCode, target: response.headers.location, lines });
     });
     request.on('error', fail).on('timeout', () => request.destroy());
   });
 }
 
-async function visit(frontier, url) {
-  const { target, lines } = await get(url);
+async function visit(frontier, url, queue) {
+  const { status, target, lines } = await get(url);
+  if (status === 503) return frontier.later(queue);
   let base = url;
   const texts = target === undefined ? [] : [target];
   for (const line of lines) {
     if (line.startsWith('base ')) base = line.slice(5);
     else texts.push(line.replaceAll('\\n', '\n'));
   }
-  await frontier.links(base, texts);
+  return frontier.links(base, texts);
 }
 
 const [workers, log, ...seeds] = process.argv.slice(2);
@@ -41,7 +42,7 @@ try {
   try {
     await frontier.offerAll(seeds);
     await frontier.endSeeds();
-    await frontier.run((url) => visit(frontier, url));
+    await frontier.run((url, queue) => visit(frontier, url, queue));
   } finally {
     await frontier.close();
   }

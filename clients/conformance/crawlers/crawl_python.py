@@ -1,7 +1,8 @@
 #!/usr/bin/env python3
 """A crawler over the Python client, for the suite: crawl_python.py WORKERS LOG SEED..
 
-Its fetchers are those of `examples/crawl_http.py`, which keep links that are refused.
+Its fetchers are those of `examples/crawl_http.py`, which keep links that are refused, and put back
+URLs whose pages are refused.
 """
 
 from __future__ import annotations
@@ -14,42 +15,43 @@ from urllib.parse import urlsplit
 
 TOP = Path(__file__).resolve().parents[3]
 sys.path[:0] = [str(TOP / "clients/python"), str(TOP / "examples")]
-from crawl_http import Crawl, Visit
+from fetchers import Crawl, Visit
 from mercator_frontier import Frontier, FrontierError
 
 
-def get(url: str) -> Tuple[Optional[str], List[str]]:
-    """The target of a redirect, and the lines of a page."""
+def get(url: str) -> Tuple[int, Optional[str], List[str]]:
+    """The status, the target of a redirect, and the lines of a page."""
     host = urlsplit(url).netloc
     connection = http.client.HTTPConnection(host, timeout=10)
     try:
         connection.request("GET", url[len(f"http://{host}"):])
         reply = connection.getresponse()
         if reply.status == 302:
-            return reply.getheader("Location"), []
-        return None, reply.read().decode().split("\n")[:-1] if reply.status == 200 else []
+            return reply.status, reply.getheader("Location"), []
+        lines = reply.read().decode().split("\n")[:-1] if reply.status == 200 else []
+        return reply.status, None, lines
     except (OSError, http.client.HTTPException):
-        return None, []
+        return 0, None, []
     finally:
         connection.close()
 
 
 def fetch(queue: int, url: str) -> Visit:
-    target, lines = get(url)
+    status, target, lines = get(url)
     base, texts = url, [] if target is None else [target]
     for line in lines:
         if line.startswith("base "):
             base = line[5:]
         else:
             texts.append(line.replace("\\n", "\n"))
-    return Visit("", base, texts)
+    return Visit(str(status), base, texts)
 
 
 def main() -> int:
     workers, log, seeds = int(sys.argv[1]), sys.argv[2], sys.argv[3:]
     try:
         with Frontier(workers, log=None if log == "-" else log) as frontier:
-            crawl = Crawl(frontier, fetch)
+            crawl = Crawl(frontier, fetch, retries=10, pause=0.01)
             crawl.run(seeds)
             if crawl.failed:
                 raise crawl.failed

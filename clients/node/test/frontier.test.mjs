@@ -92,6 +92,43 @@ withFrontier('every answer', { workers: 1, within: 'test', maxPending: 3 }, asyn
   assert.deepEqual(await frontier.offer('http://a.test/late'), refused('refused closed'));
 });
 
+withFrontier('a URL that is put back', { workers: 1, maxPending: 4 }, async (frontier) => {
+  const urls = ['http://a.test/1', 'http://b.test/2', 'http://c.test/3', 'http://d.test/4'];
+  await assert.rejects(frontier.later(0), NothingTaken);
+  await assert.rejects(frontier.later(1), NoSuchQueue);
+  await frontier.offerAll(urls);
+  assert.equal(frontier.kept, 1);
+  // It is taken after those that wait. No room is needed, and none is made.
+  for (const index of [0, 1, 2, 0]) {
+    assert.equal(await frontier.take(0), urls[index]);
+    assert.equal(await frontier.later(0), 4);
+  }
+  assert.equal(frontier.kept, 1);
+  await frontier.endSeeds();
+  assert.equal(frontier.kept, 0);
+  const taken = [];
+  await frontier.run(async (url, queue) => {
+    taken.push(url);
+    if (taken.length <= 2) await frontier.later(queue);
+  });
+  assert.deepEqual(taken, [1, 2, 0, 3, 1, 2].map((index) => urls[index]));
+  await assert.rejects(frontier.later(0), NothingTaken);
+});
+
+withFrontier('a URL that is put back, and the only one', { workers: 1 }, async (frontier) => {
+  await frontier.offer('http://a.test/');
+  await frontier.endSeeds();
+  let count = 0;
+  for await (const url of frontier.queue(0)) {
+    assert.equal(url, 'http://a.test/');
+    count += 1;
+    if (count < 5) await frontier.later(0);
+  }
+  assert.equal(count, 5);
+  // It was not put back the last time.
+  await assert.rejects(frontier.done(0), NothingTaken);
+});
+
 withFrontier('no wake-up is lost', { workers: 2 }, async (frontier) => {
   // All requests are in the pipe before the first answer is read.
   const taken = [frontier.take(0), frontier.take(1)];
@@ -236,13 +273,16 @@ inFolder('a log: resumed, in use, and not a log', async (folder) => {
   const urls = [];
   for await (const url of frontier.queue(0)) {
     urls.push(url);
+    if (urls.length === 1) await frontier.later(0);
     if (urls.length === 2) break; // so that it stays in progress
   }
   await frontier.close();
   const third = await Frontier.open({ workers: 1, log });
   await third.endSeeds();
   for await (const url of third.queue(0)) urls.push(url);
-  assert.deepEqual(urls, ['http://a.test/', 'http://a.test/2', 'http://a.test/2', 'http://a.test/3']);
+  assert.deepEqual(urls, [
+    'http://a.test/', 'http://a.test/2', 'http://a.test/2', 'http://a.test/3', 'http://a.test/',
+  ]);
   await assert.rejects(Frontier.open({ workers: 1, log }), LogInUse);
   await third.close();
   await assert.rejects(Frontier.open({ workers: 2, log }), (error) => error instanceof FrontierEnded && error.status === 1);
