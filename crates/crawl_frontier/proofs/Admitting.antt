@@ -1,5 +1,6 @@
 -- What follows from a shard's answer, under its lock and once that is given back.
 use Rattle.std.proofs.Common.{◌≡◌, ◌⊎◌, ℕ, true, List, [], ◌∷◌, ◌++◌, length, Some, slice_get, refl, sym, ap, ◌∙◌, subst, ⊎_elim}
+use Rattle.std.specs.Prelude.{slice_set}
 use Rattle.crawl_gate.specs.Seat.{SeatId}
 use Rattle.crawl_frontier.specs.declared.entry.Entry.{Entry}
 use Rattle.crawl_frontier.specs.declared.log.LogLine.{LogLine}
@@ -7,14 +8,28 @@ use Rattle.crawl_frontier.specs.declared.shard.Admit.{Admit}
 use Rattle.crawl_frontier.specs.declared.shard.Admit.TheVariants.{Admitted, Crossed, Seen, TooFar, NoMemory}
 use Rattle.crawl_frontier.specs.QueueId.{QueueId}
 use Rattle.crawl_frontier.specs.Entries.{has_url, count_of, entry}
-use Rattle.crawl_frontier.specs.Known.{KnownList}
-use Rattle.crawl_frontier.specs.Logs.{items_of, lists_of, log_of, AreKnown}
+use Rattle.crawl_frontier.specs.Known.{KnownList, begins_with}
+use Rattle.crawl_frontier.specs.Logs.{items_of, lists_of, log_of, ListsAre, AreKnown}
 use Rattle.crawl_frontier.specs.Parts.{ShardId}
 use Rattle.crawl_frontier.specs.Admits.{Admits}
-use Rattle.crawl_frontier.specs.Offers.{Replies, IsTrueOf, Raises, IsKnown}
+use Rattle.crawl_frontier.specs.Growing.{Stays}
+use Rattle.crawl_frontier.specs.Offers.{Replies, IsKnown}
 use Rattle.crawl_frontier.specs.Finishing.{AreRaised}
 use Rattle.crawl_frontier.proofs.Gets.{get_last, get_set_same}
 use Rattle.crawl_frontier.proofs.Logging.{at_map, has_url_at, raised_at, raised_log, raised_known}
+
+-- the index that the shard told is true of this list
+abbrev pub IsTrueOf : List Entry → List ℕ → ℕ → ℕ → Admit → Type 0
+IsTrueOf es url id hops (Admitted n i) = slice_get es i ≡ Some (entry url id n hops)
+IsTrueOf es url id hops (Crossed found u) = Unit {0}
+IsTrueOf es url id hops (Seen there i u) = (e : Entry) × (slice_get es i ≡ Some e) × (e.url ≡ url)
+IsTrueOf es url id hops (TooFar u) = Unit {0}
+IsTrueOf es url id hops (NoMemory u) = Unit {0}
+
+-- what is known of queue q's list has grown, and the index is true of it
+abbrev pub Raises : List KnownList → List KnownList → ℕ → List ℕ → ℕ → ℕ → Admit → Type 0
+Raises before after q url id hops answer =
+    (t u : KnownList) × (slice_get before q ≡ Some t) × (u.list ≡ t.list) × Stays t.items u.items × (after ≡ slice_set before q u) × IsTrueOf u.items url id hops answer
 
 -- the answer where the entry at an index has the URL
 pub answered : (s t : ShardId) (url : List ℕ) (id own hops : ℕ) (unit : SeatId) (there : Entry) (k : ℕ) (a : Admit)
@@ -51,6 +66,20 @@ module _ (s t : ShardId) (url : List ℕ) (id own hops : ℕ) (unit : SeatId) wh
   true_of (Seen there i u) is = (is.5.0, subst (λ (es : List Entry). slice_get es i ≡ Some is.5.0) (sym (ap (λ (x : ShardId). x.sent) is.3)) is.5.1, is.5.2)
   true_of (TooFar u) is = tt
   true_of (NoMemory u) is = tt
+
+  -- what is known of the queue's list becomes the list that the shard has then
+  pub raises : (queues : List QueueId) (told : List KnownList) (q : ℕ) (queue : QueueId) (k u : KnownList) (a : Admit)
+      → ListsAre queues told → slice_get queues q ≡ Some queue → slice_get told q ≡ Some k → u ≡ begins_with queue.list t.sent → Stays k.items u.items → Admits s t url id own hops unit a
+      → Raises told (slice_set told q u) q url id hops a
+  raises queues told q queue k u a are there at is stays admits = (
+    k,
+    u,
+    at,
+    ap (λ (x : KnownList). x.list) is ∙ sym (are q queue k there at),
+    stays,
+    refl,
+    subst (λ (es : List Entry). IsTrueOf es url id hops a) (sym (ap (λ (x : KnownList). x.items) is)) (true_of a admits),
+  )
 
 known_of : (lists : List (List Entry)) (es : List Entry) (q : ℕ) (url : List ℕ) (id hops : ℕ) (a : Admit) → slice_get lists q ≡ Some es → IsTrueOf es url id hops a → IsKnown lists q url id hops a
 known_of lists es q url id hops (Admitted n i) at is = (es, at, is)

@@ -1,12 +1,14 @@
 -- When the books of a part agree with the list of a subqueue.
-use Rattle.std.proofs.Common.{◌≡◌, ℕ, zero, suc, ◌+◌, ◌<◌, ◌≤◌, Bool, true, false, cond, eqb, List, [], ◌∷◌, ◌++◌, length, Some, refl, sym, ap, ◌∙◌, subst, ⊎_elim, arith}
+use Rattle.std.proofs.Common.{◌≡◌, ℕ, zero, suc, ◌+◌, ◌<◌, ◌≤◌, Bool, true, false, cond, eqb, List, [], ◌∷◌, ◌++◌, length, map, Some, refl, sym, ap, ◌∙◌, subst, ⊎_elim, arith}
 use Rattle.std.proofs.lemmas.Bool.{cases_lt}
+use Rattle.std.proofs.lemmas.List.{append_assoc, map-append}
 use Rattle.std.proofs.lemmas.Bool.Decides.{nat_tests}
 use Rattle.crawl_frontier.specs.declared.entry.Entry.{Entry}
 use Rattle.crawl_frontier.specs.declared.book.Logged.{Logged}
 use Rattle.crawl_frontier.specs.declared.book.Logged.TheVariants.{Accepted, Seen}
 use Rattle.crawl_frontier.specs.Entries.{KeepsRule, count_of, entries_of}
-use Rattle.crawl_frontier.specs.Books.{BookId, sent_to, Numbered, IsBook, queue_of}
+use Rattle.crawl_frontier.specs.declared.book.Book.{Book}
+use Rattle.crawl_frontier.specs.Books.{BookId, sent_to, Numbered, IsBook, book_of, queue_of}
 use Rattle.crawl_frontier.specs.Accounts.{At}
 use Rattle.crawl_frontier.specs.Finishing.{Stands, LogStands, CountsStand, CountFails, AgreesBelow, DisagreesAt, OneDisagrees, AgreeTo, KeepRuleBelow}
 use Rattle.crawl_frontier.proofs.Entries.{count_of-snoc}
@@ -148,3 +150,11 @@ agree_first lists b bs settled old new (within, agree, differ) le one differs =
 pub second_half : {X : Type 0} (xs ys : List X) (j : ℕ) (x : X) → At ys j x → (i : ℕ) × At (xs ++ ys) i x
 second_half [] ys j x at = (j, at)
 second_half (z ∷ zs) ys j x at = let r = second_half zs ys j x at in (suc r.0, r.1)
+
+-- the last of the books that are left is one of all
+pub last_one : (all : List BookId) (books left : List Book) (b : Book) (bs : List BookId) → all ≡ map book_of books ++ bs → books ≡ left ++ b ∷ [] → all ≡ map book_of left ++ book_of b ∷ bs
+last_one all books left b bs is last =
+    is ∙ (ap (λ xs. map book_of xs ++ bs) last ∙ (ap (λ xs. xs ++ bs) (map-append book_of left (b ∷ [])) ∙ append_assoc (map book_of left) (book_of b ∷ []) bs))
+
+pub is_one : (all : List BookId) (left : List BookId) (b : BookId) (bs : List BookId) → all ≡ left ++ b ∷ bs → (j : ℕ) × At all j b
+is_one all left b bs is = let here = second_half left (b ∷ bs) 0 b refl in (here.0, subst (λ xs. At xs here.0 b) (sym is) here.1)

@@ -14,8 +14,6 @@ use Rattle.crawl_frontier.specs.declared.error.OfferError.{OfferError}
 use Rattle.crawl_frontier.specs.declared.error.OfferError.TheVariants.{Filtered, Closed, Full, Crossed, TooFar, NoMemory}
 use Rattle.crawl_frontier.specs.Limits.{hops_limit}
 use Rattle.crawl_frontier.specs.Entries.{entry}
-use Rattle.crawl_frontier.specs.Growing.{Stays}
-use Rattle.crawl_frontier.specs.Known.{KnownList}
 use Rattle.crawl_frontier.specs.Logs.{Has}
 use Rattle.crawl_frontier.specs.Units.{GaveBack}
 use Rattle.crawl_frontier.specs.Books.{BookId, book_accepting, book_seeing}
@@ -28,20 +26,7 @@ Replies url own hops unit (admit.Seen there i u) = (there ≡ url) × (u ≡ uni
 Replies url own hops unit (admit.TooFar u) = (hops_limit < hops) × (u ≡ unit)
 Replies url own hops unit (admit.NoMemory u) = u ≡ unit
 
--- the index that the shard told is true of this list
-abbrev pub IsTrueOf : List Entry → List ℕ → ℕ → ℕ → Admit → Type 0
-IsTrueOf es url id hops (admit.Admitted n i) = slice_get es i ≡ Some (entry url id n hops)
-IsTrueOf es url id hops (admit.Crossed found u) = Unit {0}
-IsTrueOf es url id hops (admit.Seen there i u) = (e : Entry) × (slice_get es i ≡ Some e) × (e.url ≡ url)
-IsTrueOf es url id hops (admit.TooFar u) = Unit {0}
-IsTrueOf es url id hops (admit.NoMemory u) = Unit {0}
-
--- what is known of queue q's list has become more, and the index is true of it
-abbrev pub Raises : List KnownList → List KnownList → ℕ → List ℕ → ℕ → ℕ → Admit → Type 0
-Raises before after q url id hops answer =
-    (t u : KnownList) × (slice_get before q ≡ Some t) × (u.list ≡ t.list) × Stays t.items u.items × (after ≡ slice_set before q u) × IsTrueOf u.items url id hops answer
-
--- and of the lists as they are known
+-- the index that the shard told is true of the lists as they are known
 abbrev pub IsKnown : List (List Entry) → ℕ → List ℕ → ℕ → ℕ → Admit → Type 0
 IsKnown lists q url id hops (admit.Admitted n i) = Has lists q i (entry url id n hops)
 IsKnown lists q url id hops (admit.Crossed found u) = Unit {0}

@@ -16,7 +16,6 @@ use crate::name::Name;
 use crate::sender::Sender;
 use compare::books_agree;
 use settled::{Settled, account_of, settle_run};
-use std::thread::Threads;
 
 impl<K: Name> Frontier<K> {
     /// Ends a run: returns the account of all accepted URLs, from the closed workers and the senders, in any order.
@@ -40,19 +39,5 @@ impl<K: Name> Frontier<K> {
         } = settle_run(self, closed, senders)?;
         let least = books_agree(lists.as_slice(), books, settled);
         account_of(workers, lists, least)
-    }
-
-    /// Like [`Frontier::finish`]. It starts no thread, since no line of a log is left to compare.
-    pub fn finish_in_threads<R: Threads + Sync>(
-        self,
-        _rt: &R,
-        closed: Vec<ClosedWorker<K>>,
-        senders: Vec<Sender<K>>,
-    ) -> Result<Account, FinishError>
-        ensures { MatchResult result
-            (λ a. (a.workers ≡ K.workers) × Accounts K.workers closed.items senders.items a.queues)
-            (λ e. FinishFails K.workers closed.items senders.items e) }
-    {
-        self.finish(closed, senders)
     }
 }

@@ -1,19 +1,16 @@
 //! The results of an offer, and what an offer does after it has entered the gate.
-ghost use Rattle.std.specs.Prelude.{◌≡◌, ◌↔◌, ◌<◌, false, IfSome, Some, length, slice_get};
+ghost use Rattle.std.specs.Prelude.{◌≡◌, ◌↔◌, ◌<◌, false, IfSome};
 ghost use Rattle.crawl_keys.specs.Assignment.{subqueue_of};
 ghost use Rattle.crawl_keys.specs.HostFilter.{allows};
 ghost use Rattle.crawl_gate.specs.Seat.{IsSeatOf};
-ghost use Rattle.crawl_frontier.specs.QueueId.{QueueId};
-ghost use Rattle.crawl_frontier.specs.Growing.{Stays};
-ghost use Rattle.crawl_frontier.specs.Logs.{ListsAre, lists_of};
+ghost use Rattle.crawl_frontier.specs.Logs.{lists_of};
 ghost use Rattle.crawl_frontier.specs.Books.{IsBook, HasRoom, Knows, book_of};
-ghost use Rattle.crawl_frontier.specs.Offers.{Replies, IsTrueOf, Raises, IsKnown, OfferBooks, OfferWordsBeside, Delivers, IsFiltered};
+ghost use Rattle.crawl_frontier.specs.Offers.{Replies, IsKnown, OfferBooks, OfferWordsBeside, Delivers, IsFiltered};
 ghost use Rattle.crawl_frontier.specs.Units.{GaveBack};
 
 use crate::book::Book;
 use crate::error::OfferError;
 use crate::frontier::Frontier;
-use crate::growing::Beginning;
 use crate::name::Name;
 use crate::shard::{Admit, Offered};
 use crawl_gate::{Enter, Pass, Unit};
@@ -54,59 +51,10 @@ pub(crate) fn give_back<K: Name>(frontier: &Frontier<K>, unit: Unit) -> Pass
     pass
 }
 
-// Admits the URL under the lock of its queue. `told` becomes what the list is then. A type cannot say to which queue a lock
-// belongs: if another shard is found there, the lock is released and taken again. Only the call of `admit` knows what was
-// there.
-fn admit_at<K: Name, R: Wait>(
-    rt: &R,
-    frontier: &Frontier<K>,
-    queue: u32,
-    offered: &Offered<'_>,
-    unit: Unit,
-    told: &mut Beginning,
-) -> Admit
-    requires queue { queue ≡ subqueue_of offered.now.url.now K.workers }
-    requires within { queue < K.workers }
-    requires unit { IsSeatOf K.gate unit }
-    requires told { (s : QueueId) → slice_get K.queues queue ≡ Some s → told.old.list ≡ s.list }
-    ensures replies { Replies offered.now.url.now offered.now.own offered.now.hops unit result }
-    ensures list { told.new.list ≡ told.old.list }
-    ensures stays { Stays told.old.items told.new.items }
-    ensures index { IsTrueOf told.new.items offered.now.url.now offered.now.id offered.now.hops result }
-{
-    let subqueue = frontier.subqueue(queue);
-    for _ in rt.forever() {
-        let mut shard = frontier.lock(rt, queue);
-        if shard.queue() == queue {
-            return shard.admit_telling(rt, subqueue, offered, unit, told);
-        }
-    }
-    unreachable!()
-}
-
-// Admits the URL, with what is known of its queue's list. This becomes what the list is then.
-fn admit_in<K: Name, R: Wait>(
-    rt: &R,
-    frontier: &Frontier<K>,
-    queue: u32,
-    offered: &Offered<'_>,
-    unit: Unit,
-    told: &mut Vec<Beginning>,
-) -> Admit
-    requires queue { queue ≡ subqueue_of offered.now.url.now K.workers }
-    requires within { queue < K.workers }
-    requires unit { IsSeatOf K.gate unit }
-    requires len { length told.old.items ≡ K.workers }
-    requires lists { ListsAre K.queues told.old.items }
-    ensures replies { Replies offered.now.url.now offered.now.own offered.now.hops unit result }
-    ensures raises { Raises told.old.items told.new.items queue offered.now.url.now offered.now.id offered.now.hops result }
-{
-    let told = &mut told[queue as usize];
-    admit_at(rt, frontier, queue, offered, unit, told)
-}
-
-// Admits the URL, with the books of its part. These say the same as before.
-fn admit_by<K: Name, R: Wait>(
+// Admits the URL under the lock of its queue, and extends what the book knows of this queue's list to what the list is then.
+// The book says the same as before. A type cannot say to which queue a lock belongs: if another shard is found there, the
+// lock is released and taken again.
+fn admit<K: Name, R: Wait>(
     rt: &R,
     frontier: &Frontier<K>,
     queue: u32,
@@ -124,7 +72,16 @@ fn admit_by<K: Name, R: Wait>(
     ensures known { Knows K.queues K.workers book.new }
     ensures index { IsKnown (lists_of book.new.told.items) queue offered.now.url.now offered.now.id offered.now.hops result }
 {
-    admit_in(rt, frontier, queue, offered, unit, &mut book.told)
+    let subqueue = frontier.subqueue(queue);
+    for _ in rt.forever() {
+        let mut shard = frontier.lock(rt, queue);
+        if shard.queue() == queue {
+            let admit = shard.admit(rt, subqueue, offered, unit);
+            shard.tell(subqueue, &mut book.told[queue as usize]);
+            return admit;
+        }
+    }
+    unreachable!()
 }
 
 /// Offers a URL with the unit that it entered by. The log has room for one line more, so nothing of the part grows
@@ -154,7 +111,7 @@ pub(crate) fn deliver<K: Name, R: Wait>(
     let own = book.counts[queue as usize];
     let id = book.id;
     let offered = Offered { url, id, own, hops };
-    match admit_by(rt, frontier, queue, &offered, unit, book) {
+    match admit(rt, frontier, queue, &offered, unit, book) {
         Admit::Admitted { number, index } => {
             frontier.subqueue(queue).ring();
             book.accept(queue, index, number);

@@ -9,7 +9,6 @@ ghost use Rattle.crawl_frontier.specs.Admits.{Admits};
 ghost use Rattle.crawl_frontier.specs.Growing.{Stays};
 ghost use Rattle.crawl_frontier.specs.Known.{begins_with};
 ghost use Rattle.crawl_frontier.specs.Limits.{hops_limit};
-ghost use Rattle.crawl_frontier.specs.Offers.{IsTrueOf, Replies};
 ghost use Rattle.crawl_frontier.specs.Parts.{shard};
 ghost use Rattle.crawl_frontier.specs.Rule.{pushing, home};
 ghost use Rattle.crawl_frontier.specs.Tables.{count_in};
@@ -239,29 +238,6 @@ impl<K: Name> Shard<K> {
             return seen(&self.sent[index], index as u32, unit);
         }
         Admit::TooFar { unit }
-    }
-
-    /// Admits the URL. `told` becomes the list as it is then, so the index in the result is true of it.
-    pub(crate) fn admit_telling<R: Wait>(
-        &mut self,
-        rt: &R,
-        subqueue: &Subqueue,
-        offered: &Offered<'_>,
-        unit: Unit,
-        told: &mut Beginning,
-    ) -> Admit
-        requires queue { subqueue_of offered.now.url.now K.workers ≡ self.old.queue }
-        requires subqueue { slice_get K.queues self.old.queue ≡ Some subqueue.now }
-        requires unit { IsSeatOf K.gate unit }
-        requires told { told.old.list ≡ subqueue.now.list }
-        ensures replies { Replies offered.now.url.now offered.now.own offered.now.hops unit result }
-        ensures list { told.new.list ≡ told.old.list }
-        ensures stays { Stays told.old.items told.new.items }
-        ensures index { IsTrueOf told.new.items offered.now.url.now offered.now.id offered.now.hops result }
-    {
-        let admit = self.admit(rt, subqueue, offered, unit);
-        self.tell(subqueue, told);
-        admit
     }
 
     /// Extends the beginning to the list as it is now, which still has all its entries.

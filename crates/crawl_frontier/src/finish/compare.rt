@@ -4,7 +4,7 @@ ghost use Rattle.std.specs.BTreeSet as sets;
 ghost use Rattle.crawl_frontier.specs.declared.entry.Entry.{Entry};
 ghost use Rattle.crawl_frontier.specs.Books.{IsBook, book_of};
 ghost use Rattle.crawl_frontier.specs.Accounts.{At};
-ghost use Rattle.crawl_frontier.specs.Finishing.{LogStands, LogsStand, CountsStand, CountFails, AgreesBelow, DisagreesAt, AgreeTo, KeepRuleBelow, AllAre, IdsOf, SendersIn, Stranger};
+ghost use Rattle.crawl_frontier.specs.Finishing.{LogsStand, CountsStand, CountFails, AgreeTo, KeepRuleBelow, AllAre, IdsOf, SendersIn, Stranger};
 
 use crate::accepted::AcceptedList;
 use crate::book::Book;
@@ -79,21 +79,8 @@ fn counts_stand(lists: &[AcceptedList], book: &Book, least: u32) -> u32
     least
 }
 
-// The first queue for which the books disagree, or `least` if that is less. Each line of the log is true, so equal counts are
-// enough.
-fn book_agrees(lists: &[AcceptedList], book: Book, least: u32) -> u32
-    requires least { least ≤ length lists.now }
-    requires book { IsBook (length lists.now) (book_of book) }
-    requires log { LogStands least lists.now (book_of book).log }
-    requires rule { KeepRuleBelow (length lists.now) least lists.now }
-    ensures below { result ≤ least }
-    ensures agrees { AgreesBelow result lists.now (book_of book) }
-    ensures differs { result < least → DisagreesAt result lists.now (book_of book) }
-{
-    counts_stand(lists, &book, least)
-}
-
-/// The first queue for which some part's books disagree with the list, or `least` if that is less. No line of a log is read.
+/// The first queue for which some part's books disagree with the list, or `least` if that is less. Each line of a log is true,
+/// so equal counts are enough, and no line is read.
 pub fn books_agree(lists: &[AcceptedList], mut books: Vec<Book>, mut least: u32) -> u32
     requires least { least ≤ length lists.now }
     requires books { AllAre (IsBook (length lists.now)) (map book_of books.items) }
@@ -102,7 +89,7 @@ pub fn books_agree(lists: &[AcceptedList], mut books: Vec<Book>, mut least: u32)
     ensures { AgreeTo result least lists.now (map book_of books.items) }
 {
     while let Some(book) = books.pop() {
-        least = book_agrees(lists, book, least);
+        least = counts_stand(lists, &book, least);
     }
     least
 }

@@ -66,7 +66,7 @@ fn found_by<K: Name + Send + Sync, F: Fetch + Sync, R: Threads + Wait + Sync>(
     let sender = seeded(rt, alloc, &frontier, seeder, run.seeds);
     let ends = run_by(rt, alloc, &frontier, workers, run.how, fetcher);
     let found = found_in(&ends, run)?;
-    if finishes(rt, alloc, frontier, sender, ends) {
+    if finishes(alloc, frontier, sender, ends) {
         Some(found)
     } else {
         None
@@ -167,9 +167,8 @@ fn found_in<K: Name>(ends: &[WorkerEnd<K>], run: Run<'_>) -> Option<Found> {
     Some((lost, results, listed))
 }
 
-// Whether the frontier has an account, by threads where there was more than one worker.
-pub fn finishes<K: Name, R: Threads + Sync>(
-    rt: &R,
+// Whether the frontier has an account.
+pub fn finishes<K: Name>(
     alloc: Global,
     frontier: Frontier<K>,
     sender: Sender<K>,
@@ -178,12 +177,7 @@ pub fn finishes<K: Name, R: Threads + Sync>(
     let closed = closed_of(alloc, ends);
     let mut senders = Vec::new(alloc);
     let _ = senders.push(sender);
-    let account = if closed.len() > 1 {
-        frontier.finish_in_threads(rt, closed, senders)
-    } else {
-        frontier.finish(closed, senders)
-    };
-    account.is_ok()
+    frontier.finish(closed, senders).is_ok()
 }
 
 fn closed_of<K: Name>(alloc: Global, ends: Vec<WorkerEnd<K>>) -> Vec<ClosedWorker<K>> {

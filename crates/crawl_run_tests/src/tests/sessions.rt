@@ -103,7 +103,7 @@ fn results_of<K: Name + Send + Sync, F: SessionFetch + Sync, R: Threads + Wait +
     for end in ends.iter() {
         results = results.saturating_add(end.results.len());
     }
-    if finishes(rt, alloc, frontier, sender, ends) {
+    if finishes(alloc, frontier, sender, ends) {
         Some(results)
     } else {
         None

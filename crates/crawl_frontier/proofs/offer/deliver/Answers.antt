@@ -9,7 +9,7 @@ use Rattle.crawl_frontier.proofs.offer.deliver.Goals as goal
 
 pub accept-requires-clause-within : goal.accept-requires-clause-within
 accept-requires-clause-within g c =
-    let same : vec_len c.admit_by.new.book.counts ≡ vec_len c.args.book.now.counts = ap vec_len c.in-Admitted.ensures.rest.1 in
+    let same : vec_len c.admit.new.book.counts ≡ vec_len c.args.book.now.counts = ap vec_len c.in-Admitted.ensures.rest.1 in
     omega (arith, same, c.subqueue-queue.ensures.below, c.workers.ensures.0, c.requires.book.len, c.args.book.now.counts.ok.0)
 
 pub accept-requires-clause-narrow : goal.accept-requires-clause-narrow

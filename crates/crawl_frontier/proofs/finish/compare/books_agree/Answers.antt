@@ -1,48 +1,40 @@
-use Rattle.std.proofs.Common.{◌≡◌, ◌+◌, ◌∙◌, ◌∷◌, ◌++◌, [], None, map, vec_len, refl, sym, ap, subst, arith, rules}
-use Rattle.std.proofs.lemmas.List.{append_assoc, map-append, nil_from_length}
+use Rattle.std.proofs.Common.{◌≡◌, ◌<◌, ◌+◌, ◌∷◌, ◌++◌, ◌∙◌, [], None, length, map, vec_len, sym, ap, subst, arith, rules}
+use Rattle.std.proofs.lemmas.List.{nil_from_length}
 use Rattle.std.specs.Prelude.{MatchOption}
 use Rattle.crawl_frontier.specs.Books.{book_of}
-use Rattle.crawl_frontier.specs.Finishing.{AgreeTo}
-use Rattle.crawl_frontier.proofs.Agreeing.{agree_first, second_half}
-use Rattle.crawl_frontier.specs.Accounts.{At}
+use Rattle.crawl_frontier.specs.Finishing.{AgreesBelow, DisagreesAt, AgreeTo}
+use Rattle.crawl_frontier.proofs.Agreeing.{agrees, count_disagrees, agree_first, last_one, is_one}
 use Rattle.crawl_frontier.proofs.finish.compare.books_agree.Goals as goal
 
-pub book_agrees-least-requires-clause-least : goal.book_agrees-least-requires-clause-least
-book_agrees-least-requires-clause-least c = omega (arith, c.requires.least, c.loop-book.invariant.2.0)
+pub counts_stand-least-requires-clause-lists : goal.counts_stand-least-requires-clause-lists
+counts_stand-least-requires-clause-lists c = omega (arith, c.requires.least, c.loop-book.invariant.2.0)
 
-pub book_agrees-least-requires-clause-book : goal.book_agrees-least-requires-clause-book
-book_agrees-least-requires-clause-book c =
+pub counts_stand-least-requires-clause-counts : goal.counts_stand-least-requires-clause-counts
+counts_stand-least-requires-clause-counts c =
     let b = c.in-Some.book in
     let left = c.pop.new.self.items in
-    let bs = c.loop-book.invariant.0 in
-    let all : map book_of c.args.books.items ≡ map book_of left ++ book_of b ∷ bs =
-    c.loop-book.invariant.1 ∙ (ap (λ xs. map book_of xs ++ bs) c.in-Some.ensures.items ∙ (ap (λ xs. xs ++ bs) (map-append book_of left (b ∷ [])) ∙ append_assoc (map book_of left) (book_of b ∷ []) bs)) in
-    let here = second_half (map book_of left) (book_of b ∷ bs) 0 (book_of b) refl in
-    c.requires.books here.0 (book_of b) (subst (λ xs. At xs here.0 (book_of b)) (sym all) here.1)
-
-pub book_agrees-least-requires-clause-log : goal.book_agrees-least-requires-clause-log
-book_agrees-least-requires-clause-log c = λ k l at lt.
-    let b = c.in-Some.book in
-    let left = c.pop.new.self.items in
-    let bs = c.loop-book.invariant.0 in
-    let all : map book_of c.args.books.items ≡ map book_of left ++ book_of b ∷ bs =
-    c.loop-book.invariant.1 ∙ (ap (λ xs. map book_of xs ++ bs) c.in-Some.ensures.items ∙ (ap (λ xs. xs ++ bs) (map-append book_of left (b ∷ [])) ∙ append_assoc (map book_of left) (book_of b ∷ []) bs)) in
-    let here = second_half (map book_of left) (book_of b ∷ bs) 0 (book_of b) refl in
-    c.requires.logs here.0 (book_of b) (subst (λ xs. At xs here.0 (book_of b)) (sym all) here.1) k l at (omega (arith, lt, c.loop-book.invariant.2.0))
-
-pub book_agrees-least-requires-clause-rule : goal.book_agrees-least-requires-clause-rule
-book_agrees-least-requires-clause-rule c = λ q es lt at. c.requires.rule q es (omega (arith, lt, c.loop-book.invariant.2.0)) at
+    let inv = c.loop-book.invariant in
+    let all = last_one (map book_of c.args.books.items) c.loop-book.books.items left b inv.0 inv.1 c.in-Some.ensures.items in
+    let here = is_one (map book_of c.args.books.items) (map book_of left) (book_of b) inv.0 all in
+    let is = c.requires.books here.0 (book_of b) here.1 in
+    omega (arith, is.len, c.requires.least, inv.2.0)
 
 pub loop-book-preserved : goal.loop-book-preserved
 loop-book-preserved c =
     let b = c.in-Some.book in
     let left = c.pop.new.self.items in
-    let bs = c.loop-book.invariant.0 in
-    let one = c.book_agrees-least.ensures in (
-      book_of b ∷ bs,
-      c.loop-book.invariant.1 ∙ (ap (λ xs. map book_of xs ++ bs) c.in-Some.ensures.items ∙ (ap (λ xs. xs ++ bs) (map-append book_of left (b ∷ [])) ∙ append_assoc (map book_of left) (book_of b ∷ []) bs)),
-      agree_first c.args.lists.now (book_of b) bs c.args.least c.loop-book.least c.book_agrees-least.result c.loop-book.invariant.2 one.below one.agrees one.differs,
-    )
+    let lists = c.args.lists.now in
+    let old = c.loop-book.least in
+    let inv = c.loop-book.invariant in
+    let all = last_one (map book_of c.args.books.items) c.loop-book.books.items left b inv.0 inv.1 c.in-Some.ensures.items in
+    let here = is_one (map book_of c.args.books.items) (map book_of left) (book_of b) inv.0 all in
+    let is = c.requires.books here.0 (book_of b) here.1 in
+    let count = c.counts_stand-least.ensures in
+    let next = c.counts_stand-least.result in
+    let agree : AgreesBelow next lists (book_of b) = agrees (length lists) old old lists (book_of b) is (omega (arith, c.requires.least, inv.2.0)) (λ q es lt at. c.requires.rule q es (omega (arith, lt, inv.2.0)) at) (omega arith)
+    (λ k l at lt. c.requires.logs here.0 (book_of b) here.1 k l at (omega (arith, lt, inv.2.0))) next count.below count.stands in
+    let differ : next < old → DisagreesAt next lists (book_of b) = λ lt. count_disagrees (length lists) next lists (book_of b) is (omega (arith, lt, c.requires.least, inv.2.0)) (count.fails lt) in
+    (book_of b ∷ inv.0, all, agree_first lists (book_of b) inv.0 c.args.least old next inv.2 count.below agree differ)
 
 pub returns : goal.returns
 returns c =
