@@ -66,6 +66,7 @@ part tests/site.py
 part tests/cluster_model.py
 part tests/cluster.sh
 part tests/clients.sh
+part tests/service.py
 part tests/install.sh
 wait "$mutants_job"
 mutants_job=

@@ -2,7 +2,8 @@
 
 This is the build backend of `pyproject.toml`. It needs only the standard library, so pip needs no
 network. Each client is a single file here; in the wheel it is a package with that file, because
-only a package can have `py.typed`, the mark of a package with types.
+only a package can have `py.typed`, the mark of a package with types. `python3 -m mercator_service`
+runs the service.
 
 As a script, `make_wheel.py FOLDER` unpacks the wheel into FOLDER.
 """
@@ -19,7 +20,7 @@ from typing import Any, Dict, Optional
 
 HERE = Path(__file__).resolve().parent
 NAME, VERSION = "mercator_clients", "0.1"
-CLIENTS = ("mercator_frontier", "mercator_cluster", "mercator_scrapy")
+CLIENTS = ("mercator_frontier", "mercator_service", "mercator_cluster", "mercator_scrapy")
 INFO = f"{NAME}-{VERSION}.dist-info"
 
 METADATA = f"""\
@@ -47,6 +48,7 @@ def contents() -> Dict[str, bytes]:
     for client in CLIENTS:
         files[f"{client}/__init__.py"] = (HERE / f"{client}.py").read_bytes()
         files[f"{client}/py.typed"] = b""
+    files["mercator_service/__main__.py"] = b"from . import main\n\nraise SystemExit(main())\n"
     files[f"{INFO}/METADATA"] = METADATA.encode() + (HERE / "README.md").read_bytes()
     files[f"{INFO}/WHEEL"] = WHEEL.encode()
     record = [f"{name},sha256={digest(data)},{len(data)}" for name, data in files.items()]

@@ -58,7 +58,7 @@ from typing import (
 __all__ = [
     "Accepted", "Channel", "Closed", "Frontier", "FrontierEnded", "FrontierError", "LogInUse",
     "NoSuchQueue", "NothingTaken", "Offer", "Pending", "ProgramMissing", "QueueBusy", "Refusal",
-    "UnknownAnswer", "link_word", "request_lines",
+    "UnknownAnswer", "link_word", "request_lines", "wait_for_log",
 ]
 
 # Requests are sent in pieces of at most this many bytes. A piece is sent while the answers to the
@@ -231,6 +231,15 @@ class Frontier:
         command += [] if within is None else [f"--within={within}"]
         command += [] if log is None else [f"--log={os.fsdecode(log)}"]
         command += ["--sync"] if sync else []
+        self._use(Channel(command, log), workers)
+        if log is not None:
+            try:
+                self._cut_off.update(self._ask_again())
+            except BaseException:
+                self.close()
+                raise
+
+    def _use(self, channel: Channel, workers: int) -> None:
         self.workers = workers
         # One lock for the whole process. Each queue has a condition that uses this lock, and `take`
         # waits on it. The lock is reentrant, since a signal handler may close the frontier while
@@ -239,14 +248,8 @@ class Frontier:
         self._asking: Optional[int] = None  # the thread that waits for answers
         self._changed = [threading.Condition(self._lock) for _ in range(workers)]
         self._waiting = 0
-        self._channel = Channel(command, log)
+        self._channel = channel
         self._cut_off: Dict[int, str] = {}
-        if log is not None:
-            try:
-                self._cut_off = self._ask_again()
-            except BaseException:
-                self.close()
-                raise
 
     # ---- the methods that a crawler calls
 
@@ -465,7 +468,7 @@ class Channel:
         """
         self._program = command[0]
         if log is not None:
-            _wait_for(log)
+            wait_for_log(log)
         # Standard error goes to a file, since a pipe that nobody reads could fill up.
         self._told = tempfile.TemporaryFile()
         try:
@@ -506,7 +509,7 @@ class Channel:
         except BaseException:
             # The answers to these requests would be read as answers to later ones.
             if not self._end:
-                self._process.kill()
+                self._kill()
                 self._ended("an interrupted call ended the frontier")
             raise
         answers = b"".join(self._received).split(b"\n")
@@ -570,6 +573,9 @@ class Channel:
         self._received.append(answers)
         self._owed -= answers.count(b"\n")
 
+    def _kill(self) -> None:
+        self._process.kill()
+
     def _ended(self, why: str = "") -> FrontierEnded:
         """Wait until the process has ended, and return the exception that says how."""
         assert self._process.stdin and self._process.stdout
@@ -604,7 +610,7 @@ def _leave_all() -> None:
 os.register_at_fork(after_in_child=_leave_all)
 
 
-def _wait_for(log: Union[str, os.PathLike[str]]) -> None:
+def wait_for_log(log: Union[str, os.PathLike[str]]) -> None:
     """Wait until no program uses the log.
 
     After a crawler was killed, its program keeps the log for a moment.
