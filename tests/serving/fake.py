@@ -18,7 +18,7 @@ import sys
 from collections import deque
 from functools import lru_cache
 from pathlib import Path
-from typing import Deque, List, NamedTuple, NoReturn, Optional, Set, Tuple
+from typing import Deque, Iterable, List, NamedTuple, NoReturn, Optional, Set, Tuple
 
 sys.path.insert(0, str(Path(__file__).resolve().parent.parent))
 
@@ -52,6 +52,7 @@ class Frontier:
         self.settings, self.is_part = settings, is_part
         self.first = settings.part * settings.workers
         self.waiting: List[Deque[str]] = [deque() for _ in range(settings.workers)]
+        self.put_back: List[Set[str]] = [set() for _ in range(settings.workers)]
         self.in_hand: List[Optional[str]] = [None] * settings.workers
         self.numbers = [0] * settings.workers
         self.seen: Set[str] = set()
@@ -73,7 +74,9 @@ class Frontier:
         if word == "link" and " " in rest:
             base, _, rest = rest.partition(" ")
             return self.offer(rest, base)
-        if word in ("next", "done", "again", "later") and re.fullmatch("[0-9]{1,20}", rest):
+        if text == "stats":
+            return self.stats(range(self.settings.workers))
+        if word in ("next", "done", "again", "later", "stats") and re.fullmatch("[0-9]{1,20}", rest):
             return self.of_queue(word, int(rest)) if int(rest) < 2**32 else "bad line"
         if text == "endseeds":
             if not self.has_seeds:
@@ -90,6 +93,8 @@ class Frontier:
         own = queue - self.first
         if not 0 <= own < self.settings.workers:
             return "refused nosuch"
+        if word == "stats":
+            return self.stats((own,))
         url = self.in_hand[own]
         if word == "again":
             return "refused nothing" if url is None else f"taken {url}"
@@ -100,14 +105,26 @@ class Frontier:
             if word == "done":
                 return self.lower()
             self.waiting[own].append(url)
+            self.put_back[own].add(url)
             return f"count {self.count}"
         if url is not None:
             return "refused busy"
         if self.waiting[own]:
             url = self.in_hand[own] = self.waiting[own].popleft()
+            self.put_back[own].discard(url)
             return f"taken {url}"
         self.is_closed = self.count == 0
         return "closed" if self.is_closed else f"pending {self.count}"
+
+    def stats(self, queues: Iterable[int]) -> str:
+        accepted = busy = waiting = put_back = 0
+        for own in queues:
+            accepted += self.numbers[own]
+            busy += self.in_hand[own] is not None
+            waiting += len(self.waiting[own])
+            put_back += len(self.put_back[own])
+        done = accepted - busy - waiting
+        return f"stats accepted {accepted} done {done} in-progress {busy} waiting {waiting} put-back {put_back}"
 
     def lower(self) -> str:
         self.count -= 1

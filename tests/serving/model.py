@@ -4,7 +4,7 @@ from __future__ import annotations
 
 import re
 from random import Random
-from typing import Dict, List, Optional, Sequence, Set, Tuple
+from typing import Dict, Iterable, List, Optional, Sequence, Set, Tuple
 
 import drawn
 
@@ -20,6 +20,7 @@ class Session:
         self.part, parts = part or (0, 1)
         self.is_part, self.workers, self.most, self.suffix = part is not None, workers, most, suffix
         self.waiting: List[List[str]] = [[] for _ in range(workers * parts)]
+        self.put_back: List[Set[str]] = [set() for _ in range(workers * parts)]
         self.accepted = [0] * (workers * parts)
         self.busy: Dict[int, str] = {}
         self.seen: Set[str] = set()
@@ -46,7 +47,9 @@ class Session:
             return "synced"
         if text == "endseeds":
             return self.end_seeds()
-        if word in ("next", "done", "again", "later") and re.fullmatch("[0-9]{1,20}", rest) and int(rest) < 2**32:
+        if text == "stats":
+            return self.stats(range(len(self.waiting)))
+        if word in ("next", "done", "again", "later", "stats") and re.fullmatch("[0-9]{1,20}", rest) and int(rest) < 2**32:
             return self.of_queue(word, int(rest))
         return "bad line"
 
@@ -61,6 +64,8 @@ class Session:
             return "refused nosuch"
         if word == "next":
             return self.next(queue)
+        if word == "stats":
+            return self.stats((queue,))
         if queue not in self.busy:
             return "refused nothing"
         if word == "again":
@@ -68,13 +73,22 @@ class Session:
         url = self.busy.pop(queue)
         if word == "later":
             self.waiting[queue].append(url)
+            self.put_back[queue].add(url)
         return f"count {self.count()}"
+
+    def stats(self, queues: Iterable[int]) -> str:
+        """How many URLs of these queues were accepted, are done, in progress, and waiting; and how many of the last were put back."""
+        rows = [(self.accepted[q], q in self.busy, len(self.waiting[q]), len(self.put_back[q])) for q in queues]
+        accepted, busy, waiting, put_back = map(sum, zip(*rows))
+        done = accepted - busy - waiting
+        return f"stats accepted {accepted} done {done} in-progress {busy} waiting {waiting} put-back {put_back}"
 
     def next(self, queue: int) -> str:
         if queue in self.busy:
             return "refused busy"
         if self.waiting[queue]:
             self.busy[queue] = self.waiting[queue].pop(0)
+            self.put_back[queue].discard(self.busy[queue])
             return f"taken {self.busy[queue]}"
         self.closed = self.closed or self.count() == 0
         return "closed" if self.closed else f"pending {self.count()}"
@@ -109,7 +123,8 @@ ODD_LINES = (
     b"done +1", b"next 4294967296", b"next 4294967295", b"again", b"again x", b"endseeds ", b"end", b"link", b"look 0",
     b"link http://a.test/", b"enter 0", b"close", b"offer \xff", b"\xc3", b"offer http://\xe2\x82", b"\r", b"next 0\r",
     b"done 00000000000000000000", b"done 000000000000000000000", b"offer ", b"link  x", b"link  http://a.test/",
-    b"later", b"later ", b"later x", b"later -1", b"later 4294967296", b"later 4294967295", b"sync", b"sync ", b"sync 0", b"identity x", b"synced",
+    b"later", b"later ", b"later x", b"later -1", b"later 4294967296", b"later 4294967295", b"stats ", b"stats x", b"stats  0",
+    b"stats 4294967296", b"stats 4294967295", b"stats 0 0", b"Stats", b"sync", b"sync ", b"sync 0", b"identity x", b"synced",
 )
 
 
@@ -129,8 +144,10 @@ def drawn_line(draw: Random, first: int, workers: int, has_link: bool, hosts: Se
         return b"done %d" % queue
     if kind < 92:
         return b"later %d" % queue
-    if kind < 95 and has_link:
+    if kind < 94 and has_link:
         return b"again %d" % queue
+    if kind < 95 and has_link:
+        return draw.choice((b"stats", b"stats %d" % queue))
     if kind < 97:
         return draw.choice(ODD_LINES)
     if kind < 98:

@@ -29,7 +29,7 @@ PARTS: Tuple[Tuple[str, ...], ...] = (
 )
 ANSWERS = {
     "accepted", "seen", "filtered", "not a URL", "not http or https", "taken", "pending", "closed", "count", "refused busy",
-    "refused closed", "refused full", "refused nothing", "refused nosuch", "bad line", "line too long", "not UTF-8",
+    "refused closed", "refused full", "refused nothing", "refused nosuch", "bad line", "line too long", "not UTF-8", "stats",
 }
 
 
@@ -94,7 +94,7 @@ def drawn_sessions(trial: Trial) -> None:
     for number, words in enumerate(SETTINGS):
         draw = trial.draw(f"session {number}")
         data, wanted = drawn_session(draw, trial.lines, words, trial.has_link)
-        came.update(re.sub(r"^(accepted|taken|pending|count) .*", r"\1", line) for line in wanted)
+        came.update(re.sub(r"^(accepted|taken|pending|count|stats) .*", r"\1", line) for line in wanted)
         session = Serve(trial.program, words)
         compare(data, wanted, session.exchange(random_pieces(draw, data)))
         expect(session.end() == (0, ""), "it did not end like at the end of its input")

@@ -23,7 +23,7 @@ use Rattle.text_lines.specs.declared.lines.LineError.{LineError}
 use Rattle.crawl_session.specs.declared.answer.Answer.{Answer}
 use Rattle.crawl_session.specs.declared.answer.Answer.TheVariants.{Told}
 use Rattle.crawl_session.specs.declared.request.Request.{Request}
-use Rattle.crawl_session.specs.declared.request.Request.TheVariants.{Offer, Next, Again, Later, Done, EndSeeds}
+use Rattle.crawl_session.specs.declared.request.Request.TheVariants.{Offer, Next, Again, Later, Done, EndSeeds, Stats}
 use Rattle.crawl_session.specs.declared.request.RequestError.{RequestError}
 use Rattle.crawl_session.specs.declared.request.RequestError.TheVariants as wrong
 use Rattle.crawl_session.specs.Clients.{asked, accepts, accepted_of}
@@ -95,16 +95,24 @@ unfolding AssignsUrl
 assigns_done workers None = tt
 assigns_done workers (Some n) = tt
 
+assigns_stats : (workers : ℕ) (number : Option ℕ) → AssignsUrl workers (ok_or (option_map (λ queue. Stats (Some queue)) number) wrong.BadLine)
+unfolding AssignsUrl
+assigns_stats workers None = tt
+assigns_stats workers (Some n) = tt
+
 assigns_from : (workers : ℕ) (suffixes : List (List ℕ)) (text : List ℕ) (parts : Option (List ℕ × List ℕ)) → AssignsUrl workers (request_from workers suffixes text parts)
 unfolding AssignsUrl
-assigns_from workers suffixes text None = assigns_other (bytes_eq text (codes "endseeds")) workers (Some EndSeeds) None tt tt
+assigns_from workers suffixes text None =
+    assigns_other (bytes_eq text (codes "endseeds")) workers (Some EndSeeds) _ tt
+    (assigns_other (bytes_eq text (codes "stats")) workers (Some (Stats None)) None tt tt)
 assigns_from workers suffixes text (Some p) =
     assigns_if (bytes_eq p.0 (codes "offer")) workers _ _ (assigns_offer workers suffixes (canonical p.1))
     (assigns_if (bytes_eq p.0 (codes "link")) workers _ _ (assigns_link workers suffixes (at_space p.1))
     (assigns_other (bytes_eq p.0 (codes "next")) workers _ _ (assigns_next workers (number_of 32 p.1))
     (assigns_other (bytes_eq p.0 (codes "again")) workers _ _ (assigns_again workers (number_of 32 p.1))
     (assigns_other (bytes_eq p.0 (codes "later")) workers _ _ (assigns_later workers (number_of 32 p.1))
-    (assigns_other (bytes_eq p.0 (codes "done")) workers _ None (assigns_done workers (number_of 32 p.1)) tt)))))
+    (assigns_other (bytes_eq p.0 (codes "done")) workers _ _ (assigns_done workers (number_of 32 p.1))
+    (assigns_other (bytes_eq p.0 (codes "stats")) workers _ None (assigns_stats workers (number_of 32 p.1)) tt))))))
 
 assigns_in : (workers : ℕ) (suffixes : List (List ℕ)) (text : Result (List ℕ) LineError) → AssignsUrl workers (request_in workers suffixes text)
 unfolding AssignsUrl
@@ -172,6 +180,7 @@ accepted_here P queue state url (Ok (Again named)) holds is = absurd (cc (is))
 accepted_here P queue state url (Ok (Later named)) holds is = absurd (cc (is))
 accepted_here P queue state url (Ok (Done named)) holds is = absurd (cc (is))
 accepted_here P queue state url (Ok EndSeeds) holds is = absurd (cc (is))
+accepted_here P queue state url (Ok (Stats named)) holds is = absurd (cc (is))
 accepted_here P queue state url (Err why) holds is = absurd (cc (is))
 
 -- what holds of each offer's URL and queue, holds of what was accepted

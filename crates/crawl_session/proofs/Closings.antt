@@ -12,14 +12,16 @@ use Rattle.crawl_core.specs.State.{State}
 use Rattle.crawl_core.specs.Step.{turn}
 use Rattle.crawl_session.specs.declared.answer.Answer.TheVariants.{Told}
 use Rattle.crawl_session.specs.declared.request.Request.{Request}
-use Rattle.crawl_session.specs.declared.request.Request.TheVariants.{Offer, Next, Again, Later, Done, EndSeeds}
+use Rattle.crawl_session.specs.declared.request.Request.TheVariants.{Offer, Next, Again, Later, Done, EndSeeds, Stats}
 use Rattle.crawl_session.specs.declared.request.RequestError.{RequestError}
 use Rattle.crawl_session.specs.declared.deferrals.Deferred.{Deferred}
-use Rattle.crawl_session.specs.Exchanges.{Exchange, Outcome, by_machine, deferring, deferring_taken, ends, exchange, finishing, handing, is_due, offering, put_back, replies, retaking, taking, taking_again, taking_next, told_again}
+use Rattle.crawl_session.specs.Exchanges.{Exchange, Outcome, by_machine, counting, deferring, deferring_taken, ends, exchange, finishing, handing, is_due, offering, put_back, replies, retaking, stats_answer, taking, taking_again, taking_next, told_again}
 use Rattle.crawl_session.specs.Frontiers.{Frontier, deferrals_at}
 use Rattle.crawl_session.specs.Parts.{request_for}
 use Rattle.crawl_session.specs.Sessions.{answered, line_exchange, history_of, state_after}
 use Rattle.crawl_session.specs.Settings.{Settings}
+use Rattle.crawl_session.specs.Stats.{stats_for}
+use Rattle.crawl_session.specs.declared.stats.Stats as counts
 use Rattle.crawl_session.proofs.Choices.{either_way}
 use Rattle.crawl_session.proofs.Lines.{history_of-append}
 
@@ -89,12 +91,20 @@ finishing_closes : (state : Frontier) (named : ℕ) (fetched : Option Deferred) 
 finishing_closes state named None = λ closed. closes_at (event.Done named) (turn state.machine (event.Done named)).reply (told_is closed)
 finishing_closes state named (Some url) = λ closed. closes_at (event.Back url.sender) (turn state.machine (event.Back url.sender)).reply (told_is closed)
 
+counting_closes : (state : Frontier) (queue : Option ℕ) → ClosesSo (counting state queue)
+counting_closes state queue = λ closed. never_counted (stats_for state queue) closed
+  where
+    never_counted : {X : Type 0} (found : Option counts.Stats) → stats_answer found ≡ Told told.Closed → X
+    never_counted None closed = absurd (cc (closed))
+    never_counted (Some stats) closed = absurd (cc (closed))
+
 exchange_closes : (state : Frontier) (request : Request) → ClosesSo (exchange state request)
 exchange_closes state (Offer url named) = offering_closes state.machine url named
 exchange_closes state (Next named) = next_closes state named (deferrals_at state named).waiting (deferrals_at state named).fetched
 exchange_closes state (Again named) = again_closes state named (deferrals_at state named).fetched
 exchange_closes state (Later named) = deferring_closes state named (deferrals_at state named).fetched
 exchange_closes state (Done named) = finishing_closes state named (deferrals_at state named).fetched
+exchange_closes state (Stats queue) = counting_closes state queue
 exchange_closes state EndSeeds = λ closed. closes_at event.EndSeeds (turn state.machine event.EndSeeds).reply (told_is closed)
 
 pub answered_closes : (state : Frontier) (asks : Result Request RequestError) → (answered state asks).answer ≡ Told told.Closed → Closes (answered state asks).history

@@ -22,9 +22,9 @@ use Rattle.crawl_core.specs.Step.{Turn, turn, admit_to, counted, done_with, put,
 use Rattle.crawl_core.specs.Subqueue.{Subqueue, after_finishing, empty_subqueue, oldest}
 use Rattle.crawl_core.proofs.Sound.{Sound, gate_effect}
 use Rattle.crawl_session.specs.declared.answer.Answer.{Answer}
-use Rattle.crawl_session.specs.declared.answer.Answer.TheVariants.{Told, Unasked}
+use Rattle.crawl_session.specs.declared.answer.Answer.TheVariants.{Told, Counted, Unasked}
 use Rattle.crawl_session.specs.declared.request.Request.{Request}
-use Rattle.crawl_session.specs.declared.request.Request.TheVariants.{Offer, Next, Again, Later, Done, EndSeeds}
+use Rattle.crawl_session.specs.declared.request.Request.TheVariants.{Offer, Next, Again, Later, Done, EndSeeds, Stats}
 use Rattle.crawl_session.specs.declared.request.RequestError.{RequestError}
 use Rattle.crawl_session.specs.Compacting.{Had, had_none, having, says_closed, changes, asks_again, is_needed, needed, log_text}
 use Rattle.crawl_session.specs.declared.deferrals.Deferred.{Deferred}
@@ -128,6 +128,7 @@ admits had state url named queue held =
 
 abbrev Quiet : Had → Answer → Type 0
 Quiet had (Told reply) = changes had reply ≡ false
+Quiet had (Counted stats) = Unit {0}
 Quiet had (Unasked why) = Unit {0}
 
 record Stays (had : Had) (state : State) (x : Exchange) : Type 0 where
@@ -256,6 +257,7 @@ request_stays had workers state (Next named) assigned some rest known = next_kee
 request_stays had workers state (Again named) assigned some rest known = again_keeps had state named (deferrals_at state named).fetched
 request_stays had workers state (Later named) assigned some rest known = deferring_keeps had state named (deferrals_at state named).fetched
 request_stays had workers state (Done named) assigned some rest known = finishing_keeps had state named (deferrals_at state named).fetched
+request_stays had workers state (Stats queue) assigned some rest known = record { same = λ quiet. (state.machine.gate.remembered, refl) }
 request_stays had workers state EndSeeds assigned some rest known =
     keeps_machine had state (seeds_ended state.machine) (record { same = λ quiet. as_it_was state.machine _ (ap (λ (g : GateSide). record state.machine { gate = g }) ((end_idle had state.machine.gate (unfinished_in state.machine)).same quiet)) })
 
@@ -264,6 +266,7 @@ request_stays had workers state EndSeeds assigned some rest known =
 quiet_of : (had : Had) (request : Request) (answer : Answer) → asks_again request ≡ false → is_needed had (Ok request) answer ≡ false → Quiet had answer
 quiet_of had request (Told reply) other is = ap (λ b. not b && changes had reply) (sym other) ∙ is
 quiet_of had request (Unasked why) other is = tt
+quiet_of had request (Counted stats) other is = tt
 
 again_same : (state : Frontier) (named : ℕ) (fetched : Option Deferred) → Same state (taking_again state named fetched).state
 again_same state named None = (state.machine.gate.remembered, refl)
@@ -296,6 +299,7 @@ closes_run old (x ∷ xs) last new sound run = closes_run run.0 xs last new (sub
 closed_is : (answer : Answer) → says_closed answer ≡ true → answer ≡ Told told.Closed
 closed_is (Told told.Closed) is = refl
 closed_is (Told _) is = absurd (true≢false (sym is))
+closed_is (Counted stats) is = absurd (true≢false (sym is))
 closed_is (Unasked why) is = absurd (true≢false (sym is))
 
 knows : (had : Had) (state : Frontier) (r : Result Request RequestError) → Sound state.machine → (had.closed ≡ true → state.machine.gate.closed ≡ true) → (having had (answered state r).answer).closed ≡ true → (answered state r).state.machine.gate.closed ≡ true

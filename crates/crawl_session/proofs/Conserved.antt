@@ -13,7 +13,7 @@ use Rattle.crawl_core.specs.Subqueue.{Subqueue, empty_subqueue}
 use Rattle.crawl_core.proofs.Sound.{Sound, gate_effect}
 use Rattle.crawl_session.specs.declared.answer.Answer.{Answer}
 use Rattle.crawl_session.specs.declared.request.Request.{Request}
-use Rattle.crawl_session.specs.declared.request.Request.TheVariants.{Offer, Next, Again, Later, Done, EndSeeds}
+use Rattle.crawl_session.specs.declared.request.Request.TheVariants.{Offer, Next, Again, Later, Done, EndSeeds, Stats}
 use Rattle.crawl_session.specs.declared.request.RequestError.{RequestError}
 use Rattle.crawl_session.specs.Clients.{Asked, accepted_of, accepts, asked, busy_after, done_of, finishes, joined_from, joins, put_back_of, puts_back, taken_of, takes}
 use Rattle.crawl_session.specs.Frontiers.{Deferrals, Frontier, deferrals_at, no_deferrals, start}
@@ -124,6 +124,7 @@ counts_line queue (Ok (Later named)) answer busy next is was free =
     omega (arith, ended)
 counts_line queue (Ok (Offer url named)) answer busy next is was free = begins None busy next is (λ e. absurd (true≢false (sym e)))
 counts_line queue (Ok (Again named)) answer busy next is was free = begins None busy next is (λ e. absurd (true≢false (sym e)))
+counts_line queue (Ok (Stats named)) answer busy next is was free = begins None busy next is (λ e. absurd (true≢false (sym e)))
 counts_line queue (Ok EndSeeds) answer busy next is was free = begins None busy next is (λ e. absurd (true≢false (sym e)))
 counts_line queue (Err why) answer busy next is was free = begins None busy next is (λ e. absurd (true≢false (sym e)))
 
@@ -164,6 +165,7 @@ join_counts queue (Ok (Offer url named)) answer busy was = plus_zero (one_if (is
     plus_zero n = omega arith
 join_counts queue (Ok (Again named)) answer busy was = omega arith
 join_counts queue (Ok EndSeeds) answer busy was = omega arith
+join_counts queue (Ok (Stats named)) answer busy was = omega arith
 join_counts queue (Err why) answer busy was = omega arith
 
 pub counted_joins : (settings : Settings) (state : Frontier) (lines : List (List ℕ)) (queue : ℕ) → Sound state.machine → Settled state

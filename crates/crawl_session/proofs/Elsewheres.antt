@@ -7,7 +7,7 @@ use Rattle.crawl_core.specs.Kept.{has_text}
 use Rattle.crawl_session.specs.declared.answer.Answer.{Answer}
 use Rattle.crawl_session.specs.declared.answer.Answer.TheVariants.{Unasked}
 use Rattle.crawl_session.specs.declared.request.Request.{Request}
-use Rattle.crawl_session.specs.declared.request.Request.TheVariants.{Offer, Next, Again, Later, Done, EndSeeds}
+use Rattle.crawl_session.specs.declared.request.Request.TheVariants.{Offer, Next, Again, Later, Done, EndSeeds, Stats}
 use Rattle.crawl_session.specs.declared.request.RequestError.{RequestError}
 use Rattle.crawl_session.specs.declared.request.RequestError.TheVariants as wrong
 use Rattle.crawl_session.specs.Clients.{asked, elsewhere_of, first_of_each, told_elsewhere}
@@ -17,11 +17,13 @@ use Rattle.crawl_core.specs.declared.reply.Reply.TheVariants as told
 use Rattle.crawl_core.specs.declared.reply.Refusal.TheVariants as why
 use Rattle.crawl_core.specs.Fetching.{in_fetch}
 use Rattle.crawl_core.specs.Handing.{can_hand_over}
-use Rattle.crawl_session.specs.Exchanges.{Outcome, by_machine, deferring, deferring_taken, exchange, finishing, handing, is_due, offering, put_back, replies, retaking, taking, taking_again, taking_next}
+use Rattle.crawl_session.specs.Exchanges.{Outcome, by_machine, deferring, deferring_taken, exchange, finishing, handing, is_due, offering, put_back, replies, retaking, stats_answer, taking, taking_again, taking_next}
 use Rattle.crawl_session.specs.Frontiers.{Frontier, deferrals_at, start}
 use Rattle.crawl_session.specs.Parts.{request_for}
 use Rattle.crawl_session.specs.Sessions.{answered, line_exchange}
 use Rattle.crawl_session.specs.Settings.{Settings}
+use Rattle.crawl_session.specs.Stats.{stats_for}
+use Rattle.crawl_session.specs.declared.stats.Stats as counts
 use Rattle.crawl_session.proofs.Choices.{either_way}
 use Rattle.crawl_session.proofs.CompactText.{needed_stands}
 
@@ -68,6 +70,10 @@ deferring_told : (state : Frontier) (queue : ℕ) (fetched : Option Deferred) �
 deferring_told state queue None = taken_told state queue (in_fetch state.machine queue)
 deferring_told state queue (Some url) = refl
 
+counted_told : (found : Option counts.Stats) → told_elsewhere (stats_answer found) ≡ None
+counted_told None = refl
+counted_told (Some stats) = refl
+
 request_told : (state : Frontier) (request : Request) → IsTold (exchange state request)
 request_told state (Offer url queue) = offering_told state url queue
 request_told state (Next queue) = next_told state queue (deferrals_at state queue).waiting (deferrals_at state queue).fetched
@@ -75,6 +81,7 @@ request_told state (Again queue) = again_told state queue (deferrals_at state qu
 request_told state (Later queue) = deferring_told state queue (deferrals_at state queue).fetched
 request_told state (Done queue) = finishing_told state queue (deferrals_at state queue).fetched
 request_told state EndSeeds = refl
+request_told state (Stats queue) = counted_told (stats_for state queue)
 
 answer_tells : (state : Frontier) (r : Result Request RequestError) → told_elsewhere (answered state r).answer ≡ told_by r
 answer_tells state r = grind (arith, request_told)

@@ -24,7 +24,7 @@ use Rattle.crawl_session.specs.declared.answer.Answer.{Answer}
 use Rattle.crawl_session.specs.declared.answer.Answer.TheVariants.{Told}
 use Rattle.crawl_session.specs.declared.deferrals.Deferred.{Deferred}
 use Rattle.crawl_session.specs.declared.request.Request.{Request}
-use Rattle.crawl_session.specs.declared.request.Request.TheVariants.{Offer, Next, Again, Later, Done, EndSeeds}
+use Rattle.crawl_session.specs.declared.request.Request.TheVariants.{Offer, Next, Again, Later, Done, EndSeeds, Stats}
 use Rattle.crawl_session.specs.declared.request.RequestError.{RequestError}
 use Rattle.crawl_session.specs.Clients.{AllDone, accepted_of, asked, busy_in, done_of, joined_from, joined_of, joins, put_back_of, taken_of, takes, times}
 use Rattle.crawl_session.specs.Frontiers.{Deferrals, Frontier, deferrals_at, no_deferrals, start}
@@ -213,6 +213,7 @@ takes_none queue (Ok (Again named)) answer busy same = refl
 takes_none queue (Ok (Later named)) answer busy same = refl
 takes_none queue (Ok (Done named)) answer busy same = refl
 takes_none queue (Ok EndSeeds) answer busy same = refl
+takes_none queue (Ok (Stats named)) answer busy same = refl
 takes_none queue (Err why) answer busy same = refl
 
 closed_takes : (settings : Settings) (state : Frontier) (lines : List (List ℕ)) (queue : ℕ) → Sound state.machine → Settled state → Owned state → state.machine.gate.closed ≡ true → taken_of queue (asked settings state lines) ≡ []

@@ -19,7 +19,7 @@ use Rattle.crawl_session.specs.declared.answer.Answer.{Answer}
 use Rattle.crawl_session.specs.declared.answer.Answer.TheVariants.{Told}
 use Rattle.crawl_session.specs.declared.deferrals.Deferred.{Deferred}
 use Rattle.crawl_session.specs.declared.request.Request.{Request}
-use Rattle.crawl_session.specs.declared.request.Request.TheVariants.{Offer, Next, Again, Later, Done, EndSeeds}
+use Rattle.crawl_session.specs.declared.request.Request.TheVariants.{Offer, Next, Again, Later, Done, EndSeeds, Stats}
 use Rattle.crawl_session.specs.declared.request.RequestError.{RequestError}
 use Rattle.crawl_session.specs.Clients.{finishes, joins, puts_back, takes}
 use Rattle.crawl_session.specs.Exchanges as exchanges
@@ -349,6 +349,7 @@ request_passes state (Next named) sound settled = next_passes state named (defer
 request_passes state (Again named) sound settled = again_passes state named (deferrals_at state named).fetched settled
 request_passes state (Later named) sound settled = deferring_passes state named (deferrals_at state named).fetched refl sound settled
 request_passes state (Done named) sound settled = finishing_passes state named (deferrals_at state named).fetched refl sound settled
+request_passes state (Stats named) sound settled = record { settled = settled; flow = λ queue. flow_still (queue_at state queue) (deferrals_at state queue) }
 request_passes state EndSeeds sound settled = passes_gate state (Ok EndSeeds) (seeds_ended state.machine) settled refl (λ queue busy. (refl, (refl, refl)))
 
 pub answered_passes : (state : Frontier) (r : Result Request RequestError) → Sound state.machine → Settled state → Passes state r (answered state r)

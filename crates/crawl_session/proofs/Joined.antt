@@ -20,7 +20,7 @@ abbrev pub taken_at : Option Subqueue → ℕ
 taken_at None = 0
 taken_at (Some queue) = queue.taken
 
-abbrev url_of : Message → List ℕ
+abbrev pub url_of : Message → List ℕ
 url_of m = m.url
 
 abbrev pub urls_at : Option Subqueue → List (List ℕ)
@@ -176,7 +176,7 @@ flow_retakes queue d more deferrals waits none due =
     both_set : (b c : Bool) → (not b && not c) ≡ true → (b ≡ false) × (c ≡ false)
     both_set b c e = grind arith
 
-some_fetch : (queue : Subqueue) → SubqueueInvariant queue → queue.busy ≡ true → is_some (fetch_of queue) ≡ true
+pub some_fetch : (queue : Subqueue) → SubqueueInvariant queue → queue.busy ≡ true → is_some (fetch_of queue) ≡ true
 some_fetch queue inv busy =
     let one : one_if queue.busy ≡ 1 = ap one_if busy in
     let below : queue.taken - 1 < length queue.accepted = omega (arith, one, inv.begun, inv.within) in

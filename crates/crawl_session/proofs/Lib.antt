@@ -4,6 +4,7 @@ pub mod CompactText
 pub mod Compacted
 pub mod Compactions
 pub mod Conserved
+pub mod Counting
 pub mod Cuts
 pub mod Elsewheres
 pub mod Emptied

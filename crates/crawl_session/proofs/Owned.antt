@@ -29,7 +29,7 @@ use Rattle.crawl_core.proofs.Sets.{list_any-insert_key}
 use Rattle.crawl_core.proofs.Sound.{Sound, gate_effect}
 use Rattle.crawl_session.specs.declared.deferrals.Deferred.{Deferred}
 use Rattle.crawl_session.specs.declared.request.Request.{Request}
-use Rattle.crawl_session.specs.declared.request.Request.TheVariants.{Offer, Next, Again, Later, Done, EndSeeds}
+use Rattle.crawl_session.specs.declared.request.Request.TheVariants.{Offer, Next, Again, Later, Done, EndSeeds, Stats}
 use Rattle.crawl_session.specs.declared.request.RequestError.{RequestError}
 use Rattle.crawl_session.specs.Exchanges as exchanges
 use Rattle.crawl_session.specs.Exchanges.{Exchange, Outcome, accepted_at, admitting, after, by_machine, client, deferring, deferring_taken, ends, exchange, finishing, handing, is_count, is_due, is_empty, is_entered, is_seen, offering, put_back, replies, retaking, seeds_ended, taking, taking_again, taking_next}
@@ -284,6 +284,7 @@ request_owned state (Next named) sound settled owned = next_owned state named (d
 request_owned state (Again named) sound settled owned = again_owned state named (deferrals_at state named).fetched owned
 request_owned state (Later named) sound settled owned = deferring_owned state named (deferrals_at state named).fetched refl sound settled owned
 request_owned state (Done named) sound settled owned = finishing_owned state named (deferrals_at state named).fetched refl sound settled owned
+request_owned state (Stats named) sound settled owned = owned
 request_owned state EndSeeds sound settled owned = owned_machine state (seeds_ended state.machine).state (λ n. (gate_history.held state.machine sound event.EndSeeds).holders (suc n)) owned
 
 pub answered_owned : (state : Frontier) (r : Result Request RequestError) → Sound state.machine → Settled state → Owned state → Owned (answered state r).state

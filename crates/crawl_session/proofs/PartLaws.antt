@@ -10,7 +10,7 @@ use Rattle.text_lines.specs.declared.lines.LineError.TheVariants.{NotText, TooLo
 use Rattle.crawl_session.specs.declared.answer.Answer.TheVariants.{Unasked}
 use Rattle.crawl_session.specs.declared.part.Part.{Part}
 use Rattle.crawl_session.specs.declared.request.Request.{Request}
-use Rattle.crawl_session.specs.declared.request.Request.TheVariants.{Offer, Next, Again, Later, Done, EndSeeds}
+use Rattle.crawl_session.specs.declared.request.Request.TheVariants.{Offer, Next, Again, Later, Done, EndSeeds, Stats}
 use Rattle.crawl_session.specs.declared.request.RequestError.{RequestError}
 use Rattle.crawl_session.specs.declared.request.RequestError.TheVariants as wrong
 use Rattle.crawl_session.specs.Clients.{asked, accepted_of}
@@ -39,6 +39,8 @@ placed_owns part (Again queue) = either (is_own part queue) (OffersWhere (Owns p
 placed_owns part (Later queue) = either (is_own part queue) (OffersWhere (Owns part)) (Ok (Later queue)) (Err wrong.OtherQueue) tt tt
 placed_owns part (Done queue) = either (is_own part queue) (OffersWhere (Owns part)) (Ok (Done queue)) (Err wrong.OtherQueue) tt tt
 placed_owns part EndSeeds = tt
+placed_owns part (Stats None) = tt
+placed_owns part (Stats (Some queue)) = either (is_own part queue) (OffersWhere (Owns part)) (Ok (Stats (Some queue))) (Err wrong.OtherQueue) tt tt
 
 if_owns : (part : Part) (r : Result Request RequestError) → IfOk (placed_if part r) (OffersWhere (Owns part))
 if_owns part (Ok request) = placed_owns part request

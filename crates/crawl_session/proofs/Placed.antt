@@ -1,10 +1,12 @@
 -- What a line asks of a frontier that may be a part: what it asks of any, or nothing.
-use Rattle.std.proofs.Common.{ℕ, Bool, if◌then◌else◌, List, Option, Result, IfOk, arith}
+use Rattle.std.proofs.Common.{◌≡◌, inl, ℕ, Bool, if◌then◌else◌, List, Option, Result, Ok, Err, IfOk, refl, sym, ap, subst, ◌∙◌, arith}
+use Rattle.crawl_keys.specs.Outcome.{Gives}
 use Rattle.crawl_session.specs.declared.part.Part.{Part}
 use Rattle.crawl_session.specs.declared.request.Request.{Request}
 use Rattle.crawl_session.specs.declared.request.Request.TheVariants.{Offer}
 use Rattle.crawl_session.specs.declared.request.RequestError.{RequestError}
-use Rattle.crawl_session.specs.Parts.{asked_by, asked_of, placed_if, request_for}
+use Rattle.crawl_session.specs.declared.request.RequestError.TheVariants as wrong
+use Rattle.crawl_session.specs.Parts.{asked_by, asked_of, placed, placed_if, request_for}
 use Rattle.crawl_session.specs.Requests.{request_of}
 use Rattle.crawl_session.specs.Settings.{Settings}
 
@@ -33,3 +35,12 @@ for_keeps P settings line holds = asked_keeps P settings.part line (request_of s
 abbrev pub OffersWhere : (ℕ → List ℕ → Type 0) → Request → Type 0
 OffersWhere P (Offer url queue) = P queue url
 OffersWhere P _ = Unit {0}
+
+-- ---- what a part makes of a request
+
+gives_itself : (asks : Asked) → Gives wrong.NoMemory (λ (r : Request). r) asks asks
+gives_itself (Ok request) = refl
+gives_itself (Err why) = inl refl
+
+pub placed_gives : (part : Part) (asks own : Asked) (request : Request) → asks ≡ Ok request → own ≡ placed part request → Gives wrong.NoMemory (λ (r : Request). r) own (placed_if part asks)
+placed_gives part asks own request is same = subst (λ (r : Asked). Gives wrong.NoMemory (λ (q : Request). q) own r) (same ∙ ap (placed_if part) (sym is)) (gives_itself own)

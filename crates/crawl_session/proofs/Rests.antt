@@ -31,16 +31,18 @@ use Rattle.crawl_core.proofs.RunParts.{eqb_same, start_sound}
 use Rattle.crawl_core.proofs.Sets.{list_any-insert_key, lookup-insert_entry}
 use Rattle.crawl_core.proofs.Sound.{Sound, gate_effect}
 use Rattle.crawl_session.specs.declared.request.Request.{Request}
-use Rattle.crawl_session.specs.declared.request.Request.TheVariants.{Offer, Next, Again, Later, Done, EndSeeds}
+use Rattle.crawl_session.specs.declared.request.Request.TheVariants.{Offer, Next, Again, Later, Done, EndSeeds, Stats}
 use Rattle.crawl_session.specs.declared.request.RequestError.{RequestError}
 use Rattle.crawl_session.specs.Clients.{Asked, asked}
 use Rattle.crawl_session.specs.declared.deferrals.Deferred.{Deferred}
 use Rattle.crawl_session.specs.Exchanges as exchanges
-use Rattle.crawl_session.specs.Exchanges.{Exchange, Outcome, by_machine, client, after, deferring, deferring_taken, ends, admitting, entering, exchange, finishing, handing, is_count, is_due, is_entered, is_seen, is_empty, offering, put_back, replies, retaking, seeds_ended, taking, taking_again, taking_next, told_again}
+use Rattle.crawl_session.specs.Exchanges.{Exchange, Outcome, by_machine, client, after, deferring, deferring_taken, ends, admitting, entering, exchange, finishing, handing, is_count, is_due, is_entered, is_seen, is_empty, offering, put_back, replies, retaking, seeds_ended, stats_answer, taking, taking_again, taking_next, told_again}
 use Rattle.crawl_session.specs.Frontiers.{Frontier, deferrals_at, start, with_deferrals}
 use Rattle.crawl_session.specs.Parts.{request_for}
 use Rattle.crawl_session.specs.Sessions.{answered}
 use Rattle.crawl_session.specs.Settings.{Settings}
+use Rattle.crawl_session.specs.Stats.{stats_at, stats_for}
+use Rattle.crawl_session.specs.declared.stats.Stats as counts
 use Rattle.crawl_session.specs.Tables.{can_be_told, CanBeAnswered}
 use Rattle.crawl_session.proofs.Choices.{either_way}
 use Rattle.crawl_session.proofs.Assigned.{IsAssigned, as_asked, assigns_for, assigned_below}
@@ -315,6 +317,14 @@ seeds_fit workers state rest =
     let keeps = end_keeps state.gate (unfinished_in state) in
     record { rests = rests_after workers state event.EndSeeds rest.sound rest.shape (ap has_client keeps.same ∙ rest.nobody); told = keeps.passes }
 
+stats_told : (frontier : Frontier) (queue : Option ℕ) → CanBeAnswered (Ok (Stats queue)) (stats_answer (stats_for frontier queue))
+stats_told frontier None = tt
+stats_told frontier (Some queue) = by_queue (stats_at frontier queue)
+  where
+    by_queue : (found : Option counts.Stats) → CanBeAnswered (Ok (Stats (Some queue))) (stats_answer found)
+    by_queue None = refl
+    by_queue (Some stats) = tt
+
 request_suits : (workers : ℕ) (frontier : Frontier) (request : Request) → IfOk (as_asked request) (IsAssigned workers) → 1 ≤ workers → AtRest workers frontier.machine → Suits workers request (exchange frontier request)
 request_suits workers frontier (Offer url named) assigned some rest =
     suits_machine workers (Offer url named) frontier (offering frontier.machine url named) (offer_fits workers url named frontier.machine (assigned_below workers url named some assigned) rest)
@@ -322,6 +332,7 @@ request_suits workers frontier (Next named) assigned some rest = next_suits work
 request_suits workers frontier (Again named) assigned some rest = again_suits workers named frontier (deferrals_at frontier named).fetched rest
 request_suits workers frontier (Later named) assigned some rest = deferring_suits workers named frontier (deferrals_at frontier named).fetched rest
 request_suits workers frontier (Done named) assigned some rest = finishing_suits workers named frontier (deferrals_at frontier named).fetched rest
+request_suits workers frontier (Stats queue) assigned some rest = record { rests = rest; told = stats_told frontier queue }
 request_suits workers frontier EndSeeds assigned some rest = suits_machine workers EndSeeds frontier (seeds_ended frontier.machine) (seeds_fit workers frontier.machine rest)
 
 -- ---- lines

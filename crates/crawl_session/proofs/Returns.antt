@@ -11,7 +11,7 @@ use Rattle.crawl_core.proofs.Sound.{Sound}
 use Rattle.crawl_keys.specs.Assignment.{subqueue_of}
 use Rattle.crawl_session.specs.declared.answer.Answer.{Answer}
 use Rattle.crawl_session.specs.declared.request.Request.{Request}
-use Rattle.crawl_session.specs.declared.request.Request.TheVariants.{Offer, Next, Again, Later, Done, EndSeeds}
+use Rattle.crawl_session.specs.declared.request.Request.TheVariants.{Offer, Next, Again, Later, Done, EndSeeds, Stats}
 use Rattle.crawl_session.specs.declared.request.RequestError.{RequestError}
 use Rattle.crawl_session.specs.Clients.{AgainIfPutBack, Asked, accepted_of, accepts, asked, busy_after, busy_before, busy_from, busy_in, done_urls, finishes, joined_from, joined_of, joins, put_back_urls, puts_back, taken_of, takes, times}
 use Rattle.crawl_session.specs.Frontiers.{Frontier, start}
@@ -85,6 +85,7 @@ join_times url queue (Ok (Next named)) answer busy = omega arith
 join_times url queue (Ok (Again named)) answer busy = omega arith
 join_times url queue (Ok (Done named)) answer busy = omega arith
 join_times url queue (Ok EndSeeds) answer busy = omega arith
+join_times url queue (Ok (Stats named)) answer busy = omega arith
 join_times url queue (Err why) answer busy = omega arith
 
 abbrev was_put_back : ℕ → Asked → Bool
@@ -144,6 +145,7 @@ line_times url queue (Ok (Later named)) answer busy next is free =
     omega (arith, ended)
 line_times url queue (Ok (Offer u named)) answer busy next is free = begins url None busy next is (λ e. absurd (true≢false (sym e)))
 line_times url queue (Ok (Again named)) answer busy next is free = begins url None busy next is (λ e. absurd (true≢false (sym e)))
+line_times url queue (Ok (Stats named)) answer busy next is free = begins url None busy next is (λ e. absurd (true≢false (sym e)))
 line_times url queue (Ok EndSeeds) answer busy next is free = begins url None busy next is (λ e. absurd (true≢false (sym e)))
 line_times url queue (Err why) answer busy next is free = begins url None busy next is (λ e. absurd (true≢false (sym e)))
 

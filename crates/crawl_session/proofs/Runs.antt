@@ -14,7 +14,7 @@ use Rattle.crawl_core.specs.Handing.{can_hand_over}
 use Rattle.crawl_core.specs.State.{State, count_of, start}
 use Rattle.crawl_core.specs.Step.{turn}
 use Rattle.crawl_session.specs.declared.request.Request.{Request}
-use Rattle.crawl_session.specs.declared.request.Request.TheVariants.{Offer, Next, Again, Later, Done, EndSeeds}
+use Rattle.crawl_session.specs.declared.request.Request.TheVariants.{Offer, Next, Again, Later, Done, EndSeeds, Stats}
 use Rattle.crawl_session.specs.declared.request.RequestError.{RequestError}
 use Rattle.crawl_session.specs.declared.deferrals.Deferred.{Deferred}
 use Rattle.crawl_session.specs.Exchanges.{Exchange, Outcome, by_machine, client, after, deferring, deferring_taken, ends, entering, exchange, finishing, handing, is_count, is_due, offering, put_back, replies, retaking, taking, taking_again, taking_next}
@@ -90,6 +90,7 @@ exchange_runs frontier (Next queue) = next_runs frontier queue (deferrals_at fro
 exchange_runs frontier (Again queue) = again_runs frontier queue (deferrals_at frontier queue).fetched
 exchange_runs frontier (Later queue) = deferring_runs frontier queue (deferrals_at frontier queue).fetched (in_fetch frontier.machine queue) refl
 exchange_runs frontier (Done queue) = finishing_runs frontier queue (deferrals_at frontier queue).fetched
+exchange_runs frontier (Stats queue) = refl
 exchange_runs frontier EndSeeds = runs_after frontier.machine event.EndSeeds ends (λ _ ended. refl)
 
 pub answered_runs : (frontier : Frontier) (asked : Result Request RequestError) → RunsTo frontier (answered frontier asked)

@@ -20,7 +20,7 @@ use Rattle.crawl_core.specs.Subqueue.{Subqueue}
 use Rattle.crawl_core.proofs.RunParts.{eqb_same}
 use Rattle.crawl_session.specs.declared.answer.Answer.TheVariants.{Told}
 use Rattle.crawl_session.specs.declared.request.Request.{Request}
-use Rattle.crawl_session.specs.declared.request.Request.TheVariants.{Offer, Next, Again, Later, Done, EndSeeds}
+use Rattle.crawl_session.specs.declared.request.Request.TheVariants.{Offer, Next, Again, Later, Done, EndSeeds, Stats}
 use Rattle.crawl_session.specs.declared.request.RequestError.{RequestError}
 use Rattle.crawl_session.specs.declared.deferrals.Deferred.{Deferred}
 use Rattle.crawl_session.specs.Clients.{Asked, asked, accepts, takes, finishes, puts_back, accepted_of, taken_of, done_of, put_back_of, NonePutBack}
@@ -130,6 +130,7 @@ answered_accepts queue frontier (Ok (Again named)) = again_accepts queue named f
 answered_accepts queue frontier (Ok (Later named)) = later_accepts queue named frontier (deferrals_at frontier named).fetched (in_fetch frontier.machine named) refl
 answered_accepts queue frontier (Ok (Done named)) = done_accepts queue named frontier (deferrals_at frontier named).fetched
 answered_accepts queue frontier (Ok EndSeeds) = refl
+answered_accepts queue frontier (Ok (Stats named)) = refl
 
 -- ---- what was taken and done, where nothing is put back
 
@@ -178,6 +179,7 @@ request_agrees frontier (Done named) none quiet =
     let done = turn frontier.machine (event.Done named) in
     let made = agrees_by_machine (Ok (Done named)) frontier (done_with frontier.machine named) none (λ queue. done_agrees queue named done.reply done.state) in
     subst (λ (d : Deferrals). AgreesOn (Ok (Done named)) (finishing frontier named d.fetched)) (sym (none named)) made
+request_agrees frontier (Stats named) none quiet = record { agree = λ queue. record { accepted = refl; taken = refl; done = refl }; none = none }
 request_agrees frontier EndSeeds none quiet = agrees_by_machine (Ok EndSeeds) frontier (seeds_ended frontier.machine) none (λ queue. record { accepted = refl; taken = refl; done = refl })
 
 answered_agrees : (frontier : Frontier) (r : Result Request RequestError) → NoneDeferred frontier → ((queue : ℕ) → puts_back queue r (answered frontier r).answer ≡ false) → AgreesOn r (answered frontier r)

@@ -1,5 +1,5 @@
 -- No answer depends on the words that senders remember from before.
-use Rattle.std.proofs.Common.{◌≡◌, ℕ, suc, Bool, true, false, cond, if◌then◌else◌, List, [], ◌∷◌, slice_get, Option, Some, None, Result, Ok, Err, refl, sym, ap, ◌∙◌, arith}
+use Rattle.std.proofs.Common.{◌≡◌, ℕ, zero, suc, length, unwrap_or, Bool, true, false, cond, if◌then◌else◌, List, [], ◌∷◌, slice_get, Option, Some, None, Result, Ok, Err, refl, sym, ap, ◌∙◌, arith}
 use Rattle.std.proofs.lemmas.Bool.Decides.{nat_tests}
 use Rattle.std.specs.BTreeMap.{is_at, insert_entry}
 use Rattle.std.specs.Map.{lookup}
@@ -20,18 +20,20 @@ use Rattle.crawl_core.specs.Step.{Turn, turn, admit_to, by_gate, done_with, take
 use Rattle.crawl_core.specs.Subqueue.{Subqueue, oldest}
 use Rattle.crawl_core.proofs.Sets.{lookup-insert_entry}
 use Rattle.crawl_session.specs.declared.request.Request.{Request}
-use Rattle.crawl_session.specs.declared.request.Request.TheVariants.{Offer, Next, Again, Later, Done, EndSeeds}
+use Rattle.crawl_session.specs.declared.request.Request.TheVariants.{Offer, Next, Again, Later, Done, EndSeeds, Stats}
 use Rattle.crawl_session.specs.declared.request.RequestError.{RequestError}
 use Rattle.crawl_session.specs.declared.answer.Answer.TheVariants.{Told}
 use Rattle.crawl_session.specs.declared.deferrals.Deferred.{Deferred}
 use Rattle.crawl_session.specs.Exchanges as exchanges
-use Rattle.crawl_session.specs.Exchanges.{Exchange, Outcome, by_machine, client, after, deferring, deferring_taken, ends, admitting, entering, exchange, finishing, handing, is_count, is_due, is_entered, is_seen, is_empty, offering, put_back, replies, retaking, seeds_ended, taking, taking_again, taking_next}
+use Rattle.crawl_session.specs.Exchanges.{Exchange, Outcome, by_machine, client, after, deferring, deferring_taken, ends, admitting, entering, exchange, finishing, handing, is_count, is_due, is_entered, is_seen, is_empty, offering, put_back, replies, retaking, seeds_ended, stats_answer, taking, taking_again, taking_next}
 use Rattle.crawl_session.specs.Parts.{request_for}
 use Rattle.crawl_session.specs.Frontiers.{Frontier, deferrals_at, with_deferrals}
 use Rattle.crawl_session.specs.Serving as serving
 use Rattle.crawl_session.specs.Steps.{with_words}
 use Rattle.crawl_session.specs.Sessions.{answered, answers, line_exchange}
 use Rattle.crawl_session.specs.Settings.{Settings}
+use Rattle.crawl_session.specs.Stats.{no_stats, plus, stats_at, stats_below, stats_for}
+use Rattle.crawl_session.specs.declared.stats.Stats as counts
 
 abbrev pub Words : Type 0
 Words = List (ℕ × Word)
@@ -270,12 +272,21 @@ deferring_alike : (frontier : Frontier) (words : Words) (named : ℕ) (fetched :
 deferring_alike frontier words named None = taken_alike frontier words named (in_fetch frontier.machine named)
 deferring_alike frontier words named (Some url) = record { answer = refl; words = words; state = refl }
 
+below_alike : (frontier : Frontier) (words : Words) (queues : ℕ) → stats_below (with_words_of frontier words) queues ≡ stats_below frontier queues
+below_alike frontier words zero = refl
+below_alike frontier words (suc queue) = ap (λ (sum : counts.Stats). plus sum (unwrap_or (stats_at frontier queue) no_stats)) (below_alike frontier words queue)
+
+stats_alike : (frontier : Frontier) (words : Words) (queue : Option ℕ) → stats_for (with_words_of frontier words) queue ≡ stats_for frontier queue
+stats_alike frontier words None = ap Some (below_alike frontier words (length frontier.deferrals))
+stats_alike frontier words (Some queue) = refl
+
 exchange_alike : (frontier : Frontier) (words : Words) (request : Request) → AlikeOutcome (exchange (with_words_of frontier words) request) (exchange frontier request)
 exchange_alike frontier words (Offer url named) = machine_alike frontier words (offering (with_words frontier.machine words) url named) (offering frontier.machine url named) (offering_alike frontier.machine words url named)
 exchange_alike frontier words (Next named) = next_alike frontier words named (deferrals_at frontier named).waiting (deferrals_at frontier named).fetched
 exchange_alike frontier words (Again named) = again_alike frontier words named (deferrals_at frontier named).fetched
 exchange_alike frontier words (Later named) = deferring_alike frontier words named (deferrals_at frontier named).fetched
 exchange_alike frontier words (Done named) = finishing_alike frontier words named (deferrals_at frontier named).fetched
+exchange_alike frontier words (Stats queue) = record { answer = ap stats_answer (stats_alike frontier words queue); words = words; state = refl }
 exchange_alike frontier words EndSeeds = machine_alike frontier words (seeds_ended (with_words frontier.machine words)) (seeds_ended frontier.machine) (seeds_alike frontier.machine words)
 
 -- ---- lines

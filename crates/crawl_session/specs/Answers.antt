@@ -4,7 +4,8 @@ use Rattle.std.specs.Fmt.{decimal}
 use Rattle.std.specs.List.{flat_map}
 use Rattle.crawl_replay.specs.Replies.{reply_text}
 use Rattle.crawl_session.specs.declared.answer.Answer.{Answer}
-use Rattle.crawl_session.specs.declared.answer.Answer.TheVariants.{Told, Unasked}
+use Rattle.crawl_session.specs.declared.answer.Answer.TheVariants.{Told, Counted, Unasked}
+use Rattle.crawl_session.specs.Stats.{stats_text}
 use Rattle.crawl_session.specs.declared.request.RequestError.{RequestError}
 use Rattle.crawl_session.specs.declared.request.RequestError.TheVariants as wrong
 
@@ -25,6 +26,7 @@ error_text wrong.NoMemory = codes "out of memory"
 -- a reply has the text that a replay gives it
 abbrev pub answer_text : Answer → List ℕ
 answer_text (Told reply) = reply_text reply
+answer_text (Counted stats) = stats_text stats
 answer_text (Unasked why) = error_text why
 
 -- an answer, and LF

@@ -1,9 +1,10 @@
 -- What the client of a session is told of URLs, by its requests and their answers alone.
-use Rattle.std.specs.Prelude.{◌≡◌, ℕ, suc, ◌+◌, ◌≤◌, Bool, false, ◌||◌, List, [], ◌∷◌, ◌++◌, length, nat_eq, slice_get, if◌then◌else◌, Option, Some, None, Result, Ok}
+use Rattle.std.specs.Prelude.{◌≡◌, ℕ, suc, ◌+◌, ◌≤◌, Bool, false, ◌||◌, List, [], ◌∷◌, ◌++◌, is_some, length, nat_eq, slice_get, if◌then◌else◌, Option, Some, None, Result, Ok}
 use Rattle.std.specs.List.{cons_option, count_by, filter_map}
 use Rattle.std.specs.Option.{option_or, option_to_list}
 use Rattle.std.specs.Str.{bytes_eq}
 use Rattle.crawl_core.specs.declared.reply.Reply.TheVariants as told
+use Rattle.crawl_core.specs.Flags.{one_if}
 use Rattle.crawl_core.specs.Kept.{has_text}
 use Rattle.crawl_keys.specs.Assignment.{subqueue_of}
 use Rattle.crawl_session.specs.declared.answer.Answer.{Answer}
@@ -12,6 +13,7 @@ use Rattle.crawl_session.specs.declared.request.Request.{Request}
 use Rattle.crawl_session.specs.declared.request.Request.TheVariants.{Offer, Next, Later, Done}
 use Rattle.crawl_session.specs.declared.request.RequestError.{RequestError}
 use Rattle.crawl_session.specs.declared.request.RequestError.TheVariants as wrong
+use Rattle.crawl_session.specs.declared.stats.Stats.{Stats}
 use Rattle.crawl_session.specs.Frontiers.{Frontier}
 use Rattle.crawl_session.specs.Parts.{request_for}
 use Rattle.crawl_session.specs.Sessions.{line_exchange}
@@ -150,3 +152,10 @@ pub record AllDone (asked : List Asked) : Type 0 where
   pub ended : (queue : ℕ) → done_of queue asked + put_back_of queue asked ≡ length (taken_of queue asked)
   pub done : (queue : ℕ) → done_of queue asked ≡ length (accepted_of queue asked)
   pub each : (queue : ℕ) (url : List ℕ) → times url (done_urls queue asked) ≡ times url (accepted_of queue asked)
+
+-- the figures of a subqueue are those of the answers before
+pub record IsTold (queue : ℕ) (asked : List Asked) (stats : Stats) : Type 0 where
+  pub accepted : stats.accepted ≡ length (accepted_of queue asked)
+  pub done : stats.done ≡ done_of queue asked
+  pub in_progress : stats.in_progress ≡ one_if (is_some (busy_in queue asked))
+  pub waiting : stats.accepted ≡ stats.done + stats.in_progress + stats.waiting

@@ -11,10 +11,12 @@ use Rattle.crawl_core.specs.State.{State, count_of}
 use Rattle.crawl_core.specs.Step.{turn}
 use Rattle.crawl_core.specs.Subqueue.{Subqueue}
 use Rattle.crawl_session.specs.declared.answer.Answer.{Answer}
-use Rattle.crawl_session.specs.declared.answer.Answer.TheVariants.{Told}
+use Rattle.crawl_session.specs.declared.answer.Answer.TheVariants.{Told, Counted}
 use Rattle.crawl_session.specs.declared.request.Request.{Request}
-use Rattle.crawl_session.specs.declared.request.Request.TheVariants.{Offer, Next, Again, Later, Done, EndSeeds}
+use Rattle.crawl_session.specs.declared.request.Request.TheVariants.{Offer, Next, Again, Later, Done, EndSeeds, Stats}
 use Rattle.crawl_session.specs.declared.deferrals.Deferred.{Deferred}
+use Rattle.crawl_session.specs.declared.stats.Stats as counts
+use Rattle.crawl_session.specs.Stats.{stats_for}
 use Rattle.crawl_session.specs.Frontiers.{Frontier, deferrals_at, waits_again, with_deferrals}
 
 -- the one sender of a session's offers: its client
@@ -182,6 +184,15 @@ abbrev pub deferring : Frontier → ℕ → Option Deferred → Outcome
 deferring frontier queue None = deferring_taken frontier queue (in_fetch frontier.machine queue)
 deferring frontier queue (Some url) = replies (told.Count (count_of frontier.machine)) (put_back frontier queue url.url url.sender)
 
+-- ---- `stats`: no event
+
+abbrev pub stats_answer : Option counts.Stats → Answer
+stats_answer None = Told (told.Refused why.NoSuch)
+stats_answer (Some stats) = Counted stats
+
+abbrev pub counting : Frontier → Option ℕ → Outcome
+counting frontier queue = record { history = []; answer = stats_answer (stats_for frontier queue); state = frontier }
+
 -- what comes of a request
 abbrev pub exchange : Frontier → Request → Outcome
 exchange frontier (Offer url queue) = by_machine frontier (offering frontier.machine url queue)
@@ -190,3 +201,4 @@ exchange frontier (Again queue) = taking_again frontier queue (deferrals_at fron
 exchange frontier (Later queue) = deferring frontier queue (deferrals_at frontier queue).fetched
 exchange frontier (Done queue) = finishing frontier queue (deferrals_at frontier queue).fetched
 exchange frontier EndSeeds = by_machine frontier (seeds_ended frontier.machine)
+exchange frontier (Stats queue) = counting frontier queue

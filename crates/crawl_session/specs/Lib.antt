@@ -11,5 +11,6 @@ pub mod Requests
 pub mod Settings
 pub mod Sessions
 pub mod Serving
+pub mod Stats
 pub mod Steps
 pub mod Tables

@@ -3,7 +3,7 @@ use Rattle.std.specs.Prelude.{ℕ, ◌/◌, Bool, List, codes, nat_eq, if◌then
 use Rattle.std.specs.Str.{bytes_eq}
 use Rattle.crawl_session.specs.declared.part.Part.{Part}
 use Rattle.crawl_session.specs.declared.request.Request.{Request}
-use Rattle.crawl_session.specs.declared.request.Request.TheVariants.{Offer, Next, Again, Later, Done, EndSeeds}
+use Rattle.crawl_session.specs.declared.request.Request.TheVariants.{Offer, Next, Again, Later, Done, EndSeeds, Stats}
 use Rattle.crawl_session.specs.declared.request.RequestError.{RequestError}
 use Rattle.crawl_session.specs.declared.request.RequestError.TheVariants as wrong
 use Rattle.crawl_session.specs.Requests.{request_of}
@@ -25,6 +25,8 @@ placed part (Again queue) = if is_own part queue then Ok (Again queue) else Err 
 placed part (Later queue) = if is_own part queue then Ok (Later queue) else Err wrong.OtherQueue
 placed part (Done queue) = if is_own part queue then Ok (Done queue) else Err wrong.OtherQueue
 placed part EndSeeds = Ok EndSeeds
+placed part (Stats None) = Ok (Stats None)
+placed part (Stats (Some queue)) = if is_own part queue then Ok (Stats (Some queue)) else Err wrong.OtherQueue
 
 abbrev pub placed_if : Part → Result Request RequestError → Result Request RequestError
 placed_if part (Ok request) = placed part request

@@ -13,7 +13,7 @@ use Rattle.text_lines.specs.Fields.{at_space}
 use Rattle.text_lines.specs.declared.lines.LineError.{LineError}
 use Rattle.text_lines.specs.declared.lines.LineError.TheVariants.{TooLong, NotText}
 use Rattle.crawl_session.specs.declared.request.Request.{Request}
-use Rattle.crawl_session.specs.declared.request.Request.TheVariants.{Offer, Next, Again, Later, Done, EndSeeds}
+use Rattle.crawl_session.specs.declared.request.Request.TheVariants.{Offer, Next, Again, Later, Done, EndSeeds, Stats}
 use Rattle.crawl_session.specs.declared.request.RequestError.{RequestError}
 use Rattle.crawl_session.specs.declared.request.RequestError.TheVariants as wrong
 
@@ -51,15 +51,19 @@ link_of workers suffixes None = Err wrong.BadLine
 link_of workers suffixes (Some p) = linked workers suffixes p.1 (canonical p.0)
 
 abbrev pub plain_request : List ℕ → Option Request
-plain_request word = if bytes_eq word (codes "endseeds") then Some EndSeeds else None
+plain_request word =
+    if bytes_eq word (codes "endseeds") then Some EndSeeds
+    else if bytes_eq word (codes "stats") then Some (Stats None)
+    else None
 
--- `next Q`, `again Q`, `later Q`, `done Q`
+-- `next Q`, `again Q`, `later Q`, `done Q`, `stats Q`
 abbrev pub numbered_request : List ℕ → List ℕ → Option Request
 numbered_request word number =
     if bytes_eq word (codes "next") then option_map Next (number_of 32 number)
     else if bytes_eq word (codes "again") then option_map Again (number_of 32 number)
     else if bytes_eq word (codes "later") then option_map Later (number_of 32 number)
     else if bytes_eq word (codes "done") then option_map Done (number_of 32 number)
+    else if bytes_eq word (codes "stats") then option_map (λ queue. Stats (Some queue)) (number_of 32 number)
     else None
 
 abbrev pub request_from : ℕ → List (List ℕ) → List ℕ → Option (List ℕ × List ℕ) → Result Request RequestError

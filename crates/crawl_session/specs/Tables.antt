@@ -1,12 +1,12 @@
 -- What each request can be answered.
-use Rattle.std.specs.Prelude.{◌≡◌, Bool, true, false, Result, Ok, Err}
+use Rattle.std.specs.Prelude.{◌≡◌, Bool, true, false, Some, Result, Ok, Err}
 use Rattle.crawl_core.specs.declared.reply.Reply.{Reply}
 use Rattle.crawl_core.specs.declared.reply.Reply.TheVariants as told
 use Rattle.crawl_core.specs.declared.reply.Refusal.TheVariants as why
 use Rattle.crawl_session.specs.declared.answer.Answer.{Answer}
-use Rattle.crawl_session.specs.declared.answer.Answer.TheVariants.{Told, Unasked}
+use Rattle.crawl_session.specs.declared.answer.Answer.TheVariants.{Told, Counted, Unasked}
 use Rattle.crawl_session.specs.declared.request.Request.{Request}
-use Rattle.crawl_session.specs.declared.request.Request.TheVariants.{Offer, Next, Again, Later, Done, EndSeeds}
+use Rattle.crawl_session.specs.declared.request.Request.TheVariants.{Offer, Next, Again, Later, Done, EndSeeds, Stats}
 use Rattle.crawl_session.specs.declared.request.RequestError.{RequestError}
 
 -- the replies that a request can be answered
@@ -31,10 +31,12 @@ can_be_told (Done queue) (told.Refused why.Nothing) = true
 can_be_told (Done queue) (told.Refused why.NoSuch) = true
 can_be_told EndSeeds (told.Count left) = true
 can_be_told EndSeeds (told.Refused why.Nothing) = true
+can_be_told (Stats (Some queue)) (told.Refused why.NoSuch) = true
 can_be_told _ _ = false
 
 -- an answer that a line can have that asks this, or nothing for this reason
 abbrev pub CanBeAnswered : Result Request RequestError → Answer → Type 0
 CanBeAnswered (Ok request) (Told reply) = can_be_told request reply ≡ true
+CanBeAnswered (Ok (Stats queue)) (Counted stats) = Unit {0}
 CanBeAnswered (Err why) (Unasked told) = told ≡ why
 CanBeAnswered _ _ = ⊥

@@ -3,6 +3,7 @@ ghost use Rattle.std.specs.Prelude.{Some};
 ghost use Rattle.crawl_session.specs.Answers as spec;
 
 use crate::request::RequestError;
+use crate::stats::Stats;
 use crawl_core::Reply;
 use crawl_replay::ReplyText;
 use std::fmt;
@@ -12,6 +13,8 @@ use std::fmt;
 pub enum Answer {
     /// The frontier's reply to its request.
     Told(Reply),
+    /// How far a queue is, or all are.
+    Counted(Stats),
     /// It asks nothing of the frontier.
     Unasked(RequestError),
 }
@@ -25,6 +28,7 @@ impl fmt::Display for Answer {
                 let text = ReplyText(reply);
                 write!(f, "{text}")
             }
+            Answer::Counted(stats) => write!(f, "{stats}"),
             Answer::Unasked(why) => write!(f, "{why}"),
         }
     }

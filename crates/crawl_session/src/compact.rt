@@ -6,6 +6,7 @@ ghost use Rattle.crawl_session.specs.Compacting as spec;
 ghost use Rattle.crawl_session.specs.Compacting.{Compacts, Gives, GivesRequest};
 ghost use Rattle.crawl_session.specs.declared.answer.Answer.TheVariants.{Told};
 
+use crate::answer::Answer;
 use crate::request::{Request, RequestError};
 use crate::serving::ServeError;
 use crate::session::Session;
@@ -84,7 +85,9 @@ impl Compactor {
         ensures { IfOk result (λ is. GivesRequest self.old session.old request is self.new session.new) }
     {
         let again = asks_again(&request);
-        let reply = session.perform(request)?;
+        let Answer::Told(reply) = session.perform(request)? else {
+            return Ok(false);
+        };
         let changes = self.changes(&reply);
         self.closed = is_closed(&reply) | self.closed;
         Ok(!again & changes)

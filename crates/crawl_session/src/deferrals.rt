@@ -60,6 +60,13 @@ impl QueueDeferrals {
         self.fetched.as_ref()
     }
 
+    /// How many wait.
+    fn waiting(&self) -> usize
+        ensures { result ≡ length self.now.waiting }
+    {
+        self.waiting.len()
+    }
+
     /// The queue is busy with the first that waits, if there is one.
     fn retake(&mut self)
         ensures { (first : Deferred) (more : List Deferred) → self.old.waiting ≡ first ∷ more → self.new ≡ record { waiting = more; fetched = Some first } }
@@ -168,6 +175,23 @@ impl DeferralQueues {
     {
         let url = self.fetched(place)?;
         Some(url.sender)
+    }
+
+    /// How many queues there are.
+    pub fn len(&self) -> usize
+        ensures { result ≡ length self.now }
+    {
+        self.queues.len()
+    }
+
+    /// How many wait for the queue.
+    pub fn waiting(&self, place: u32) -> usize
+        ensures { result ≡ length (get_or self.now place no_deferrals).waiting }
+    {
+        match self.queues.get(place as usize) {
+            Some(queue) => queue.waiting(),
+            None => 0,
+        }
     }
 
     /// The queue is busy with the first that waits, if there is one.

@@ -1,15 +1,18 @@
 //! What a session keeps of its state, and what comes of a request.
-ghost use Rattle.std.specs.Prelude.{◌≡◌, None, Some, get_or, replicate, slice_get, IfOk, OnErr};
+ghost use Rattle.std.specs.Prelude.{◌≡◌, None, Some, get_or, length, replicate, slice_get, IfOk, OnErr};
 ghost use Rattle.crawl_session.specs.Exchanges as spec;
 ghost use Rattle.crawl_session.specs.Frontiers as kept;
 ghost use Rattle.crawl_session.specs.Frontiers.{deferrals_at, no_deferrals};
 ghost use Rattle.crawl_session.specs.Serving.{Comes, GivesUp};
+ghost use Rattle.crawl_session.specs.Stats.{stats_at, stats_below};
 ghost use Rattle.crawl_session.specs.declared.answer.Answer.{Answer};
 ghost use Rattle.crawl_session.specs.declared.deferrals.Deferred.{Deferred};
 
+use crate::answer::Answer;
 use crate::deferrals::{DeferralQueues, Deferred};
 use crate::exchange::{again, end_seeds, finish, next, offer};
 use crate::request::Request;
+use crate::stats::Stats;
 use crawl_core::{Core, Event, NoMemory, Refusal, Reply, Text};
 use std::alloc::{AllocError, Global};
 use std::marker::Model;
@@ -47,23 +50,25 @@ impl Frontier {
         })
     }
 
-    /// The reply that a request is answered.
+    /// What a request is answered.
     ///
     /// # Errors
     /// Out of memory. The frontier is then as before, but for the word that its client remembers.
     #[tactic(auto, using(crate::proofs::Lifts::given_up_at_once))]
-    pub fn exchange(&mut self, request: Request) -> Result<Reply, NoMemory>
-        ensures comes { IfOk result (λ reply. Comes (λ state. spec.exchange state request) self.old (Answer.Told reply) self.new) }
+    pub fn exchange(&mut self, request: Request) -> Result<Answer, NoMemory>
+        ensures comes { IfOk result (λ answer. Comes (λ state. spec.exchange state request) self.old answer self.new) }
         ensures err { OnErr result (GivesUp self.old self.new) }
     {
-        match request {
-            Request::Offer { url, queue } => self.offer(url, queue),
-            Request::Next { queue } => self.next(queue),
-            Request::Again { queue } => self.again(queue),
-            Request::Later { queue } => self.later(queue),
-            Request::Done { queue } => self.done(queue),
-            Request::EndSeeds => self.end_seeds(),
-        }
+        let reply = match request {
+            Request::Offer { url, queue } => self.offer(url, queue)?,
+            Request::Next { queue } => self.next(queue)?,
+            Request::Again { queue } => self.again(queue)?,
+            Request::Later { queue } => self.later(queue)?,
+            Request::Done { queue } => self.done(queue)?,
+            Request::EndSeeds => self.end_seeds()?,
+            Request::Stats { queue } => return self.stats(queue),
+        };
+        Ok(Answer::Told(reply))
     }
 
     fn offer(&mut self, url: Text, queue: u32) -> Result<Reply, NoMemory>
@@ -223,6 +228,45 @@ impl Frontier {
         }
         self.senders = sender;
         Ok(Reply::Count(count))
+    }
+
+    fn stats(&self, queue: Option<u32>) -> Result<Answer, NoMemory>
+        ensures { IfOk result (λ answer. Comes (λ state. spec.counting state queue) self.now answer self.now) }
+    {
+        let Some(queue) = queue else {
+            return Ok(Answer::Counted(self.all_stats()?));
+        };
+        match self.queue_stats(queue)? {
+            Some(stats) => Ok(Answer::Counted(stats)),
+            None => Ok(Answer::Told(Reply::Refused(Refusal::NoSuch))),
+        }
+    }
+
+    /// How far the queue is, if there is one.
+    fn queue_stats(&self, queue: u32) -> Result<Option<Stats>, NoMemory>
+        ensures { IfOk result (λ stats. (state : kept.Frontier) → kept.Shows self.now state → stats ≡ stats_at state queue) }
+    {
+        let Some(progress) = self.core.progress(queue) else {
+            return Ok(None);
+        };
+        let is_busy = self.deferrals.fetched(queue).is_some();
+        let stats = Stats::of_queue(progress, self.deferrals.waiting(queue), is_busy)?;
+        Ok(Some(stats))
+    }
+
+    /// How far all queues are.
+    fn all_stats(&self) -> Result<Stats, NoMemory>
+        ensures { IfOk result (λ stats. (state : kept.Frontier) → kept.Shows self.now state → stats ≡ stats_below state (length self.now.deferrals)) }
+    {
+        let Ok(queues) = u32::try_from(self.deferrals.len()) else {
+            return Err(AllocError);
+        };
+        let mut all = Stats::none();
+        for queue in 0..queues {
+            let stats = self.queue_stats(queue)?.unwrap_or(Stats::none());
+            all = all.plus(&stats)?;
+        }
+        Ok(all)
     }
 }
 

@@ -7,7 +7,7 @@ ghost use Rattle.crawl_core.specs.Invariants.{HasRoom};
 ghost use Rattle.crawl_core.specs.Run.{Run};
 ghost use Rattle.crawl_core.specs.declared.reply.Reply.TheVariants as told;
 ghost use Rattle.crawl_core.specs.declared.word.Word.{Word};
-ghost use Rattle.crawl_session.specs.Clients.{AgainIfPutBack, AllDone, EachOnceInOrder, NonePutBack, accepted_of, asked, busy_in, done_of, elsewhere_of, first_of_each, puts_back, taken_of};
+ghost use Rattle.crawl_session.specs.Clients.{AgainIfPutBack, AllDone, EachOnceInOrder, IsTold, NonePutBack, accepted_of, asked, busy_in, done_of, elsewhere_of, first_of_each, puts_back, taken_of};
 ghost use Rattle.crawl_session.specs.Compacting.{had_none, log_text, needed};
 ghost use Rattle.crawl_keys.specs.Assignment.{subqueue_of};
 ghost use Rattle.crawl_session.specs.Exchanges.{exchange};
@@ -20,7 +20,9 @@ ghost use Rattle.crawl_session.specs.Serving.{with_words};
 ghost use Rattle.text_lines.specs.Fields.{is_space};
 ghost use Rattle.crawl_session.specs.Sessions.{answered, answers, history_of, line_exchange, state_after};
 ghost use Rattle.crawl_session.specs.Settings.{Settings};
+ghost use Rattle.crawl_session.specs.Stats.{stats_at};
 ghost use Rattle.crawl_session.specs.Tables.{CanBeAnswered};
+ghost use Rattle.crawl_session.specs.declared.stats.Stats.{Stats};
 ghost use Rattle.crawl_session.specs.declared.answer.Answer.TheVariants.{Told, Unasked};
 ghost use Rattle.crawl_session.specs.declared.part.Part.{Part};
 ghost use Rattle.crawl_session.specs.declared.request.Request.TheVariants.{Later, Offer};
@@ -81,6 +83,12 @@ pub fn taken_again_if_put_back()
 pub fn later_needs_a_busy_queue()
     ensures { (settings : Settings) (max : ℕ) (front : List (List ℕ)) (line : List ℕ) (queue : ℕ) → HasRoom max → request_for settings line ≡ Ok (Later queue)
         → puts_back queue (Ok (Later queue)) (line_exchange settings (state_after settings (start settings.workers max) front) line).answer ≡ is_some (busy_in queue (asked settings (start settings.workers max) front)) }
+{}
+
+/// The figures of a subqueue are those of the answers before: how many URLs the client was told were accepted, how many it was
+/// told are done, and whether the subqueue is busy. All others are waiting.
+pub fn stats_are_what_was_told()
+    ensures { (settings : Settings) (max : ℕ) (lines : List (List ℕ)) (queue : ℕ) (stats : Stats) → stats_at (state_after settings (start settings.workers max) lines) queue ≡ Some stats → IsTold queue (asked settings (start settings.workers max) lines) stats }
 {}
 
 /// A request has one of the answers that the table names for it, and a line that asks nothing is told why.

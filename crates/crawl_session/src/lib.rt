@@ -14,6 +14,7 @@ mod part;
 mod request;
 mod serving;
 mod session;
+mod stats;
 mod texts;
 
 pub use answer::Answer;
@@ -24,3 +25,4 @@ pub use part::Part;
 pub use request::{Request, RequestError};
 pub use serving::{ServeError, serve};
 pub use session::Session;
+pub use stats::Stats;

@@ -34,6 +34,9 @@ pub(crate) fn placed(part: &Part, request: Request) -> Result<Request, RequestEr
         Request::Again { queue } if !is_own(part, queue) => Err(RequestError::OtherQueue),
         Request::Later { queue } if !is_own(part, queue) => Err(RequestError::OtherQueue),
         Request::Done { queue } if !is_own(part, queue) => Err(RequestError::OtherQueue),
+        Request::Stats { queue: Some(queue) } if !is_own(part, queue) => {
+            Err(RequestError::OtherQueue)
+        }
         other => Ok(other),
     }
 }

@@ -28,6 +28,8 @@ pub enum Request {
     Done { queue: u32 },
     /// `endseeds`: no more seeds come.
     EndSeeds,
+    /// `stats`, `stats Q`: how far all subqueues are, or one is.
+    Stats { queue: Option<u32> },
 }
 
 /// Why a line asks nothing of the frontier.
@@ -121,6 +123,7 @@ fn plain_request(word: &str) -> Option<Request>
 {
     match word {
         "endseeds" => Some(Request::EndSeeds),
+        "stats" => Some(Request::Stats { queue: None }),
         _ => None,
     }
 }
@@ -140,6 +143,9 @@ fn numbered_request(word: &str, number: &str) -> Option<Request>
         }),
         "done" => Some(Request::Done {
             queue: number32(number)?,
+        }),
+        "stats" => Some(Request::Stats {
+            queue: Some(number32(number)?),
         }),
         _ => None,
     }

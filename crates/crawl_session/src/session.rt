@@ -9,14 +9,13 @@ ghost use Rattle.crawl_session.specs.Frontiers.{Shows, start};
 ghost use Rattle.crawl_session.specs.Parts.{asked_by, placed_if, request_for};
 ghost use Rattle.crawl_session.specs.Requests.{request_of};
 ghost use Rattle.crawl_session.specs.Serving.{Comes, GivesUp, Serves};
-ghost use Rattle.crawl_session.specs.declared.answer.Answer.{Answer};
 ghost use Rattle.crawl_session.specs.declared.request.RequestError.TheVariants as wrong;
 
 use crate::answer::Answer;
 use crate::frontier::Frontier;
 use crate::part::{Part, placed};
 use crate::request::{Request, RequestError, request_of};
-use crawl_core::{Core, CoreError, NoMemory, Reply};
+use crawl_core::{Core, CoreError, NoMemory};
 use crawl_keys::Filter;
 use std::alloc::{AllocError, Global};
 use std::marker::Model;
@@ -147,10 +146,10 @@ impl Session {
         }
     }
 
-    /// The reply to what a line asks.
+    /// What is answered to what a line asks.
     #[tactic(auto, using(crate::proofs::Lifts::given_up_at_once))]
-    pub(crate) fn perform(&mut self, request: Request) -> Result<Reply, NoMemory>
-        ensures comes { IfOk result (λ reply. Comes (λ state. spec.exchange state request) self.old.core (Answer.Told reply) self.new.core) }
+    pub(crate) fn perform(&mut self, request: Request) -> Result<Answer, NoMemory>
+        ensures comes { IfOk result (λ answer. Comes (λ state. spec.exchange state request) self.old.core answer self.new.core) }
         ensures same { self.new.settings ≡ self.old.settings }
         ensures err { OnErr result (GivesUp self.old.core self.new.core) }
     {
@@ -168,7 +167,7 @@ impl Session {
         ensures err { OnErr result (GivesUp self.old.core self.new.core) }
     {
         match self.request(line) {
-            Ok(request) => Ok(Answer::Told(self.perform(request)?)),
+            Ok(request) => self.perform(request),
             Err(RequestError::NoMemory) => Err(AllocError),
             Err(why) => Ok(Answer::Unasked(why)),
         }

@@ -25,6 +25,10 @@ const ROWS: &[(&str, &str)] = &[
     ("later 0", "count 3"),
     ("later 0", "refused nothing"),
     ("next 0", "taken http://a.test/z?q"),
+    (
+        "stats",
+        "stats accepted 2 done 0 in-progress 1 waiting 1 put-back 1",
+    ),
     ("later 0", "count 3"),
     ("next 0", "taken http://a.test/"),
     ("later 1", "refused nosuch"),
@@ -36,6 +40,11 @@ const ROWS: &[(&str, &str)] = &[
     ("next 0", "taken http://a.test/z?q"),
     ("done 0", "count 0"),
     ("next 0", "closed"),
+    (
+        "stats 0",
+        "stats accepted 2 done 2 in-progress 0 waiting 0 put-back 0",
+    ),
+    ("stats 1", "refused nosuch"),
     ("offer http://a.test/", "refused closed"),
 ];
 

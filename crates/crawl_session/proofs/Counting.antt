@@ -1,0 +1,98 @@
+-- The figures of a queue are those of what the client was told.
+use Rattle.std.proofs.Common.{◌≡◌, ℕ, ◌+◌, ◌-◌, Bool, true, false, is_some, List, [], ◌∷◌, length, map, take, drop, Option, Some, None, refl, sym, ap, subst, ◌∙◌, arith}
+use Rattle.std.specs.Option.{option_map}
+use Rattle.std.proofs.lemmas.List.{length-append, length-drop, length-map, take-append-drop}
+use Rattle.crawl_core.specs.Flags.{one_if}
+use Rattle.crawl_core.specs.Handing.{progress}
+use Rattle.crawl_core.specs.History.{accepted_in}
+use Rattle.crawl_core.specs.Subqueue.{Subqueue, waiting}
+use Rattle.crawl_core.proofs.RunLaws.{state_of_history}
+use Rattle.crawl_core.proofs.RunParts.{start_sound}
+use Rattle.crawl_session.specs.declared.deferrals.Deferred.{Deferred}
+use Rattle.crawl_session.specs.declared.stats.Stats.{Stats}
+use Rattle.crawl_session.specs.Clients.{IsTold, accepted_of, asked, joined_from, joined_of, put_back_of, taken_of}
+use Rattle.crawl_session.specs.Frontiers.{Frontier, deferrals_at, start}
+use Rattle.crawl_session.specs.Sessions.{history_of, state_after}
+use Rattle.crawl_session.specs.Settings.{Settings}
+use Rattle.crawl_session.specs.Stats.{stats_at, stats_of}
+use Rattle.crawl_session.proofs.Conserved.{counted_joins, counted_takes, line_of, settled_after_lines, starts_free, starts_settled}
+use Rattle.crawl_session.proofs.InLine.{in_line}
+use Rattle.crawl_session.proofs.Joined.{Fine, busy_at, idle_fetch, line_at, some_fetch, url_of}
+use Rattle.crawl_session.proofs.Onces.{joined_is}
+use Rattle.crawl_session.proofs.Queues.{busy_of, queue_at}
+use Rattle.crawl_session.proofs.Returns.{busy_is}
+use Rattle.crawl_session.proofs.Runs.{session_runs}
+use Rattle.crawl_session.proofs.Sees.{sees_accepted}
+
+-- as many are in line as were not taken and as were put back
+length_in_line : (taken : ℕ) (urls : List (List ℕ)) (ds : List Deferred) → length (in_line taken urls ds) ≡ length urls + length ds
+length_in_line taken urls [] = omega arith
+length_in_line taken urls (d ∷ ds) =
+    let n = d.after - taken in
+    let rest = length_in_line (taken + n) (drop n urls) ds in
+    let both = length-append (take n urls) (d.url ∷ in_line (taken + n) (drop n urls) ds) in
+    let parts = sym (length-append (take n urls) (drop n urls)) ∙ ap length (take-append-drop n urls) in
+    omega (arith, rest, both, parts)
+
+-- whether a queue is busy
+busy_flags : (found : Subqueue) (fetched : Option Deferred) → (is_some fetched ≡ true → found.busy ≡ false) → (found.busy ≡ true → is_some (busy_at (Some found) None) ≡ true) → one_if found.busy + one_if (is_some fetched) ≡ one_if (is_some (busy_at (Some found) fetched))
+busy_flags found (Some d) apart some = let idle : one_if found.busy ≡ 0 = ap one_if (apart refl) in omega (arith, idle)
+busy_flags found None apart some = by_busy found.busy refl
+  where
+    by_busy : (b : Bool) → found.busy ≡ b → one_if found.busy + 0 ≡ one_if (is_some (busy_at (Some found) None))
+    by_busy true is =
+        let own : one_if found.busy ≡ 1 = ap one_if is in
+        let said : one_if (is_some (busy_at (Some found) None)) ≡ 1 = ap one_if (some is) in
+        omega (arith, own, said)
+    by_busy false is =
+        let own : one_if found.busy ≡ 0 = ap one_if is in
+        let said : one_if (is_some (busy_at (Some found) None)) ≡ 0 = ap (λ (o : Option (List ℕ)). one_if (is_some o)) (idle_fetch found is) in
+        omega (arith, own, said)
+
+queue_told : (settings : Settings) (max : ℕ) (lines : List (List ℕ)) (queue : ℕ) (found : Subqueue) → queue_at (state_after settings (start settings.workers max) lines) queue ≡ Some found
+    → IsTold queue (asked settings (start settings.workers max) lines) (stats_of (progress found) (length (deferrals_at (state_after settings (start settings.workers max) lines) queue).waiting) (is_some (deferrals_at (state_after settings (start settings.workers max) lines) queue).fetched))
+queue_told settings max lines queue found at =
+    let begun = start settings.workers max in
+    let all = asked settings begun lines in
+    let state = state_after settings begun lines in
+    let history = history_of settings begun lines in
+    let deferrals = deferrals_at state queue in
+    let fresh = start_sound settings.workers max in
+    let settled = starts_settled settings.workers max in
+    let both = settled_after_lines settings begun lines fresh settled in
+    let inv = both.0.queues queue found at in
+    let fine : Fine (Some found) deferrals = subst (λ (o : Option Subqueue). Fine o deferrals) at (both.1.fine queue) in
+    let free : one_if (is_some (busy_of begun queue)) ≡ 0 = ap (λ (o : Option (List ℕ)). one_if (is_some o)) (starts_free settings.workers max queue) in
+    let line : length (line_of state queue) ≡ length (map url_of (waiting found)) + length deferrals.waiting =
+    ap (λ (o : Option Subqueue). length (line_at o deferrals.waiting)) at ∙ length_in_line found.taken (map url_of (waiting found)) deferrals.waiting in
+    let mapped = length-map (waiting found) url_of in
+    let dropped = length-drop found.taken found.accepted in
+    let joined : length (joined_of queue all) ≡ length (taken_of queue all) + length (line_of state queue) =
+    ap length (joined_is settings max lines queue) ∙ length-append (taken_of queue all) (line_of state queue) in
+    let joins : length (joined_of queue all) ≡ length (accepted_of queue all) + put_back_of queue all =
+    ap (λ (o : Option (List ℕ)). length (joined_from queue o all)) (sym (starts_free settings.workers max queue)) ∙ counted_joins settings begun lines queue fresh settled in
+    let takes = counted_takes settings begun lines queue fresh settled in
+    let accepted : length found.accepted ≡ length (accepted_of queue all) =
+    ap length ((state_of_history settings.workers max history state.machine (session_runs settings begun lines)).queues queue found at).accepted
+    ∙ sym (length-map (accepted_in queue history) url_of)
+    ∙ ap length (sees_accepted settings begun lines queue) in
+    let flags : one_if found.busy + one_if (is_some deferrals.fetched) ≡ one_if (is_some (busy_of state queue)) =
+    busy_flags found deferrals.fetched fine.apart (some_fetch found inv) ∙ ap (λ (o : Option Subqueue). one_if (is_some (busy_at o deferrals.fetched))) (sym at) in
+    let told = busy_is settings begun lines queue None fresh settled (sym (starts_free settings.workers max queue)) in
+    record {
+      accepted = accepted;
+      done = omega (arith, free, line, mapped, dropped, joined, joins, takes, accepted, flags);
+      in_progress = flags ∙ ap (λ (o : Option (List ℕ)). one_if (is_some o)) (sym told);
+      waiting = omega (arith, free, line, mapped, dropped, joined, joins, takes, accepted, flags);
+    }
+
+pub stats_told : (settings : Settings) (max : ℕ) (lines : List (List ℕ)) (queue : ℕ) (stats : Stats) → stats_at (state_after settings (start settings.workers max) lines) queue ≡ Some stats → IsTold queue (asked settings (start settings.workers max) lines) stats
+stats_told settings max lines queue stats is = by_queue (queue_at state queue) refl is
+  where
+    state : Frontier
+    state = state_after settings (start settings.workers max) lines
+
+    by_queue : (o : Option Subqueue) → queue_at state queue ≡ o → option_map (λ p. stats_of p (length (deferrals_at state queue).waiting) (is_some (deferrals_at state queue).fetched)) (option_map progress o) ≡ Some stats → IsTold queue (asked settings (start settings.workers max) lines) stats
+    by_queue None at is = absurd (cc)
+    by_queue (Some found) at is =
+        subst (IsTold queue (asked settings (start settings.workers max) lines)) (let same : stats_of (progress found) (length (deferrals_at state queue).waiting) (is_some (deferrals_at state queue).fetched) ≡ stats = cc in same) (queue_told settings max lines queue found at)
