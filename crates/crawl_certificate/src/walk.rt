@@ -5,7 +5,7 @@
 //! order in which each subqueue accepted them. So a link is compared with the next of these alone.
 ghost use Rattle.std.specs.Prelude.{◌≡◌, ◌+◌, ◌<◌, ◌^◌, ◌==◌, ◌&&◌, ℕ, Bool, List, None, Some, true, false, length, slice_get, vec_len, IfOk, IfSome, if◌then◌else◌};
 ghost use Rattle.std.specs.List.{Contains};
-ghost use Rattle.crawl_frontier.specs.declared.entry.Entry.{Entry};
+ghost use Rattle.crawl_queues.specs.declared.entry.Entry.{Entry};
 ghost use Rattle.crawl_keys.specs.HostFilter.{allows};
 ghost use Rattle.crawl_pages.specs.Pages.{links_of};
 ghost use Rattle.crawl_pages.specs.declared.page.PageResult.{PageResult};

@@ -1,6 +1,6 @@
 //! What a worker has found so far.
 ghost use Rattle.std.specs.Prelude.{◌≡◌, ◌⊎◌, ◌+◌, ◌-◌, ◌^◌, min, [], ℕ, List};
-ghost use Rattle.crawl_frontier.specs.declared.book.Logged.{Logged};
+ghost use Rattle.crawl_queues.specs.declared.book.Logged.{Logged};
 ghost use Rattle.crawl_workers.specs.Recent.{Knows};
 ghost use Rattle.crawl_workers.specs.Losses.{no_losses, with_loss};
 ghost use Rattle.crawl_workers.specs.Turn.{HasRoomOrNot, Keeps, Loses, Tallies};

@@ -1,6 +1,6 @@
 //! The URLs that a worker offered not long ago: each has a line in its log, and is not offered again.
 ghost use Rattle.std.specs.Prelude.{◌≡◌, ◌<◌, ◌≤◌, ◌+◌, true, ℕ, List, length, IfOk, IfSome, Some};
-ghost use Rattle.crawl_frontier.specs.declared.book.Logged.{Logged};
+ghost use Rattle.crawl_queues.specs.declared.book.Logged.{Logged};
 ghost use Rattle.crawl_workers.specs.Logs.{HasLine};
 ghost use Rattle.crawl_workers.specs.Recent.{AllKnown, Knows, url_in};
 

@@ -1,6 +1,6 @@
 //! The walk by threads: each goes over the results of some workers, whose links meet no entries that another worker sent.
 ghost use Rattle.std.specs.Prelude.{◌≡◌, None, true, length, vec_len, IfOk, IfSome, IsSomeAnd};
-ghost use Rattle.crawl_frontier.specs.declared.entry.Entry.{Entry};
+ghost use Rattle.crawl_queues.specs.declared.entry.Entry.{Entry};
 ghost use Rattle.crawl_keys.specs.HostFilter.{allows};
 ghost use Rattle.crawl_certificate.specs.AccountEntries.{DifferByUrl};
 ghost use Rattle.crawl_certificate.specs.CertFaults.{first_fault};
