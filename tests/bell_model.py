@@ -3,7 +3,7 @@
 
 Usage: bell_model.py
 
-The steps are those of `rest`, `await_ring` and `ring` in crates/crawl_frontier/src/subqueue.rt; each is atomic and
+The steps are those of `rest`, `await_ring` and `ring` in crates/crawl_queues/src/subqueue.rt; each is atomic and
 `SeqCst`. A ring is lost if the worker sleeps, a URL waits, and nobody has a step left, so that only the time limit of the
 sleep would end it. There must be no lost ring with the code as it is, and one in each mutant. The last line is
 `N passed, M failed`; the exit status is 1 if any failed.

@@ -3,7 +3,7 @@ use Rattle.std.proofs.Common.{◌≡◌, inl, inr, ℕ, ◌==◌, Bool, ◌||◌
 use Rattle.std.specs.Bool.{if◌then◌else◌}
 use Rattle.std.specs.List.{list_any}
 use Rattle.std.specs.Str.{bytes_eq}
-use Rattle.crawl_frontier.specs.declared.entry.Entry.{Entry}
+use Rattle.crawl_queues.specs.declared.entry.Entry.{Entry}
 use Rattle.crawl_pages.specs.declared.page.PageResult.{PageResult}
 use Rattle.crawl_pages.specs.Pages.{links_of}
 use Rattle.crawl_certificate.specs.declared.error.CertError.{CertError}

@@ -7,8 +7,8 @@ use Rattle.std.specs.Str.{bytes_eq}
 use Rattle.std.proofs.lemmas.Bool.{or_parts, or_from}
 use Rattle.std.proofs.lemmas.List.Elements.{All-from_recursion}
 use Rattle.crawl_keys.specs.Assignment.{subqueue_of}
-use Rattle.crawl_frontier.specs.declared.entry.Entry.{Entry}
-use Rattle.crawl_frontier.specs.Entries.{has_url, KeepsRule}
+use Rattle.crawl_queues.specs.declared.entry.Entry.{Entry}
+use Rattle.crawl_queues.specs.Entries.{has_url, KeepsRule}
 use Rattle.crawl_frontier.specs.Accounts.{At, AccountId}
 use Rattle.crawl_certificate.specs.AccountEntries.{DifferByUrl}
 use Rattle.crawl_certificate.specs.AccountEntries.{DifferByUrl, entries_of}

@@ -17,7 +17,7 @@ use Rattle.std.proofs.lemmas.Cmp.{nat_list_cmp_total}
 use Rattle.std.proofs.lemmas.List.{take_more, take_all, map_more}
 use Rattle.std.proofs.lemmas.List.Folds.{list_any-append}
 use Rattle.std.proofs.lemmas.List.Sorted.{ranks_by}
-use Rattle.crawl_frontier.specs.declared.entry.Entry.{Entry}
+use Rattle.crawl_queues.specs.declared.entry.Entry.{Entry}
 use Rattle.crawl_certificate.specs.Least.{is_below, IsLeast, url_if, lesser}
 use Rattle.crawl_certificate.specs.Lookups.{pointed}
 use Rattle.crawl_certificate.proofs.Lists.{some_has, any_from, same_text, text_itself}

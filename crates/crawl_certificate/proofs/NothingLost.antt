@@ -4,7 +4,7 @@ use Rattle.std.specs.List.{Contains}
 use Rattle.std.proofs.lemmas.Bool.{and_right, not_from_true, and_left, cases_Bool}
 use Rattle.std.proofs.lemmas.List.Elements.{All-weaker}
 use Rattle.std.proofs.lemmas.List.Folds.{list_any_none}
-use Rattle.crawl_frontier.specs.declared.entry.Entry.{Entry}
+use Rattle.crawl_queues.specs.declared.entry.Entry.{Entry}
 use Rattle.crawl_pages.specs.declared.page.PageResult.{PageResult}
 use Rattle.crawl_certificate.specs.CertFaults.{is_accepted, has_result, some_missing, seed_missing, not_fetched, link_missing}
 use Rattle.crawl_certificate.specs.Certificate.{entry_urls, result_urls, NothingLost, AllowedAreIn}

@@ -1,7 +1,7 @@
 -- What follows of culprits from their definition.
 use Rattle.std.proofs.Common.{◌≡◌, ℕ, Bool, not, List, Option, arith}
 use Rattle.std.proofs.lemmas.Bool.{both_ways, false_from_ne_true, or_parts, or_from}
-use Rattle.crawl_frontier.specs.declared.entry.Entry.{Entry}
+use Rattle.crawl_queues.specs.declared.entry.Entry.{Entry}
 use Rattle.crawl_pages.specs.declared.page.PageResult.{PageResult}
 use Rattle.crawl_pages.specs.Pages.{links_of}
 use Rattle.crawl_certificate.specs.declared.error.CertError.{CertError}

@@ -13,7 +13,7 @@ use Rattle.std.proofs.lemmas.List.Elements.{All-contains, All-from_recursion}
 use Rattle.std.proofs.lemmas.List.Sorted.{sorted_far, ranks_by, IsPermutation-refl, IsPermutation-cons, IsPermutation-trans, IsPermutation-sym, IsPermutation-middle, Contains-permutation}
 use Rattle.std.proofs.lemmas.Map.Keys.{IsDistinct-IsPermutation}
 use Rattle.std.proofs.lemmas.Map.Text.{is_eq-slice_cmp}
-use Rattle.crawl_frontier.specs.declared.entry.Entry.{Entry}
+use Rattle.crawl_queues.specs.declared.entry.Entry.{Entry}
 use Rattle.crawl_pages.specs.declared.page.PageResult.{PageResult}
 use Rattle.crawl_certificate.specs.CertFaults.{has_result, twice}
 use Rattle.crawl_certificate.specs.Certificate.{entry_urls, result_urls, IsAscending}

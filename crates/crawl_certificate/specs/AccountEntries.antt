@@ -1,7 +1,7 @@
 -- The entries of an account.
 use Rattle.std.specs.Prelude.{◌≢◌, List, take}
 use Rattle.std.specs.List.{AllPairs, flat_map}
-use Rattle.crawl_frontier.specs.declared.entry.Entry.{Entry}
+use Rattle.crawl_queues.specs.declared.entry.Entry.{Entry}
 use Rattle.crawl_frontier.specs.Accounts.{AccountId}
 
 -- the entries of these subqueues, one after the other

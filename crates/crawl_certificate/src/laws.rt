@@ -2,7 +2,7 @@
 ghost use Rattle.std.specs.Prelude.{◌≡◌, ℕ, ◌==◌, Bool, false, not, List, [], ◌∷◌, ◌++◌, Option, None, Some, length, count_by, slice_get};
 ghost use Rattle.std.specs.List.{All};
 ghost use Rattle.std.specs.List.Sorted.{IsPermutation};
-ghost use Rattle.crawl_frontier.specs.declared.entry.Entry.{Entry};
+ghost use Rattle.crawl_queues.specs.declared.entry.Entry.{Entry};
 ghost use Rattle.crawl_frontier.specs.Accounts.{AccountId, AllKeepRule};
 ghost use Rattle.crawl_keys.specs.Assignment.{subqueue_of};
 ghost use Rattle.crawl_pages.specs.declared.page.Page.{Page};

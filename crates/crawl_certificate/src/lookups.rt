@@ -24,7 +24,7 @@ pub struct Accepted<'a> {
 
 impl<'a> Model for Accepted<'a> {
     ghost use Rattle.std.specs.Prelude.{List};
-    ghost use Rattle.crawl_frontier.specs.declared.entry.Entry.{Entry};
+    ghost use Rattle.crawl_queues.specs.declared.entry.Entry.{Entry};
     ghost use Rattle.crawl_certificate.specs.Lookups.{pointed};
     ghost use Rattle.crawl_certificate.specs.Queues.{AreLaidOut};
 

@@ -2,7 +2,7 @@
 //! looked up once.
 ghost use Rattle.std.specs.Prelude.{◌≡◌, ◌+◌, ◌==◌, ℕ, Bool, false, ◌&&◌, ◌||◌, not, List, map, length, None, IfOk};
 ghost use Rattle.std.specs.Str.{bytes_eq};
-ghost use Rattle.crawl_frontier.specs.declared.entry.Entry.{Entry};
+ghost use Rattle.crawl_queues.specs.declared.entry.Entry.{Entry};
 ghost use Rattle.crawl_keys.specs.HostFilter.{allows};
 ghost use Rattle.crawl_pages.specs.Pages.{links_of};
 ghost use Rattle.crawl_certificate.specs.CertFaults.{is_accepted, stands_in, has_result, is_behind, is_linked};

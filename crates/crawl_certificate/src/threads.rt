@@ -3,7 +3,7 @@ ghost use Rattle.std.specs.Prelude.{◌≡◌, ◌<◌, Bool, ◌&&◌, map, len
 ghost use Rattle.std.specs.List.{list_any};
 ghost use Rattle.std.specs.Str.{bytes_eq};
 ghost use Rattle.crawl_keys.specs.HostFilter.{allows};
-ghost use Rattle.crawl_frontier.specs.declared.entry.Entry.{Entry};
+ghost use Rattle.crawl_queues.specs.declared.entry.Entry.{Entry};
 ghost use Rattle.crawl_certificate.specs.Least.{IsLeast, url_of, lesser};
 ghost use Rattle.crawl_certificate.specs.Lookups.{pointed};
 ghost use Rattle.crawl_certificate.specs.Marks.{AreMarks, AreTogether, in_one};

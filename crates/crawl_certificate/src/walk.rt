@@ -5,7 +5,7 @@
 //! order in which each queue accepted them. So a link is only compared with the next of these.
 ghost use Rattle.std.specs.Prelude.{◌≡◌, ◌+◌, ◌<◌, ◌^◌, ◌==◌, ◌&&◌, Bool, List, None, Some, true, false, length, vec_len, IfOk, IfSome, IsSomeAnd, if◌then◌else◌};
 ghost use Rattle.std.specs.List.{Contains};
-ghost use Rattle.crawl_frontier.specs.declared.entry.Entry.{Entry};
+ghost use Rattle.crawl_queues.specs.declared.entry.Entry.{Entry};
 ghost use Rattle.crawl_keys.specs.HostFilter.{allows};
 ghost use Rattle.crawl_pages.specs.Pages.{links_of};
 ghost use Rattle.crawl_pages.specs.declared.page.PageResult.{PageResult};

@@ -2,17 +2,17 @@
 use Rattle.std.proofs.Common.{◌≡◌, ◌⊎◌, ℕ, true, List, [], ◌∷◌, ◌++◌, length, Some, slice_get, refl, sym, ap, ◌∙◌, subst, ⊎_elim}
 use Rattle.std.specs.Prelude.{slice_set}
 use Rattle.crawl_gate.specs.Seat.{SeatId}
-use Rattle.crawl_frontier.specs.declared.entry.Entry.{Entry}
-use Rattle.crawl_frontier.specs.declared.log.LogLine.{LogLine}
+use Rattle.crawl_queues.specs.declared.entry.Entry.{Entry}
+use Rattle.crawl_queues.specs.declared.log.LogLine.{LogLine}
 use Rattle.crawl_frontier.specs.declared.shard.Admit.{Admit}
 use Rattle.crawl_frontier.specs.declared.shard.Admit.TheVariants.{Admitted, Crossed, Seen, TooFar, NoMemory}
-use Rattle.crawl_frontier.specs.QueueId.{QueueId}
-use Rattle.crawl_frontier.specs.Entries.{has_url, count_of, entry}
-use Rattle.crawl_frontier.specs.Known.{KnownList, begins_with}
-use Rattle.crawl_frontier.specs.Logs.{items_of, lists_of, log_of, ListsAre, AreKnown}
+use Rattle.crawl_queues.specs.QueueId.{QueueId}
+use Rattle.crawl_queues.specs.Entries.{has_url, count_of, entry}
+use Rattle.crawl_queues.specs.Known.{KnownList, begins_with}
+use Rattle.crawl_queues.specs.Logs.{items_of, lists_of, log_of, ListsAre, AreKnown}
 use Rattle.crawl_frontier.specs.Parts.{ShardId}
 use Rattle.crawl_frontier.specs.Admits.{Admits}
-use Rattle.crawl_frontier.specs.Growing.{Stays}
+use Rattle.crawl_queues.specs.Growing.{Stays}
 use Rattle.crawl_frontier.specs.Offers.{Replies, IsKnown}
 use Rattle.crawl_frontier.specs.Finishing.{AreRaised}
 use Rattle.crawl_frontier.proofs.Gets.{get_last, get_set_same}

@@ -3,15 +3,15 @@ use Rattle.std.proofs.Common.{◌≡◌, ℕ, zero, suc, ◌+◌, ◌<◌, ◌�
 use Rattle.std.proofs.lemmas.Bool.{cases_lt}
 use Rattle.std.proofs.lemmas.List.{append_assoc, map-append}
 use Rattle.std.proofs.lemmas.Bool.Decides.{nat_tests}
-use Rattle.crawl_frontier.specs.declared.entry.Entry.{Entry}
-use Rattle.crawl_frontier.specs.declared.book.Logged.{Logged}
-use Rattle.crawl_frontier.specs.declared.book.Logged.TheVariants.{Accepted, Seen}
-use Rattle.crawl_frontier.specs.Entries.{KeepsRule, count_of, entries_of}
-use Rattle.crawl_frontier.specs.declared.book.Book.{Book}
-use Rattle.crawl_frontier.specs.Books.{BookId, sent_to, Numbered, IsBook, book_of, queue_of}
+use Rattle.crawl_queues.specs.declared.entry.Entry.{Entry}
+use Rattle.crawl_queues.specs.declared.book.Logged.{Logged}
+use Rattle.crawl_queues.specs.declared.book.Logged.TheVariants.{Accepted, Seen}
+use Rattle.crawl_queues.specs.Entries.{KeepsRule, count_of, entries_of}
+use Rattle.crawl_queues.specs.declared.book.Book.{Book}
+use Rattle.crawl_queues.specs.Books.{BookId, sent_to, Numbered, IsBook, book_of, queue_of}
 use Rattle.crawl_frontier.specs.Accounts.{At}
 use Rattle.crawl_frontier.specs.Finishing.{Stands, LogStands, CountsStand, CountFails, AgreesBelow, DisagreesAt, OneDisagrees, AgreeTo, KeepRuleBelow}
-use Rattle.crawl_frontier.proofs.Entries.{count_of-snoc}
+use Rattle.crawl_queues.proofs.Entries.{rule-numbered}
 
 -- the k-th entry of a numbered list has the k-th number
 numbered_at : (id n : ℕ) (xs : List Entry) (k : ℕ) (x : Entry) → Numbered id n xs → At xs k x → (x.sender ≡ id) × (x.number ≡ n + k)
@@ -39,20 +39,6 @@ same_numbered id n (x ∷ xs) (y ∷ ys) a b len stands =
         let number : y.number ≡ z.number = ap (λ e. e.number) same in
         absurd (omega (arith, r.1, b.1, number))
     rest j z here (suc k) at = (k, at)
-
--- the entries of a sender in a list that keeps its rule
-pub rule-numbered : (n q id : ℕ) (before es : List Entry) → KeepsRule n q before es → Numbered id (count_of id before) (entries_of id es)
-rule-numbered n q id before [] rule = tt
-rule-numbered n q id before (e ∷ es) rule = by_case (eqb e.sender id) refl (rule-numbered n q id (before ++ e ∷ []) es rule.1)
-  where
-    more : (t : Bool) → eqb e.sender id ≡ t → count_of id (before ++ e ∷ []) ≡ count_of id before + cond t 1 0
-    more t is = count_of-snoc id before e ∙ (λ i. count_of id before + cond (is i) 1 0)
-
-    by_case : (t : Bool) → eqb e.sender id ≡ t → Numbered id (count_of id (before ++ e ∷ [])) (entries_of id es) → Numbered id (count_of id before) (cond t (e ∷ entries_of id es) (entries_of id es))
-    by_case true is rest =
-        let same : e.sender ≡ id = grind (arith, nat_tests) in
-        (same, rule.0.number ∙ ap (λ s. count_of s before) same, subst (λ m. Numbered id m (entries_of id es)) (more true is) rest)
-    by_case false is rest = subst (λ m. Numbered id m (entries_of id es)) (more false is ∙ omega arith) rest
 
 pub entries_of-length : (id : ℕ) (es : List Entry) → length (entries_of id es) ≡ count_of id es
 entries_of-length id [] = refl

@@ -5,11 +5,11 @@ use Rattle.std.specs.Ordering.{nat_cmp}
 use Rattle.std.specs.BTreeMap.{BTreeMap}
 use Rattle.std.specs.BTreeSet.{BTreeSet, contains}
 use Rattle.crawl_gate.specs.Seat.{GateId}
-use Rattle.crawl_frontier.specs.declared.entry.Entry.{Entry}
+use Rattle.crawl_queues.specs.declared.entry.Entry.{Entry}
 use Rattle.crawl_frontier.specs.declared.finish.settle.Doubt.{Doubt}
-use Rattle.crawl_frontier.specs.QueueId.{QueueId}
-use Rattle.crawl_frontier.specs.PassId.{PassId}
-use Rattle.crawl_frontier.specs.Books.{BookId}
+use Rattle.crawl_queues.specs.QueueId.{QueueId}
+use Rattle.crawl_queues.specs.PassId.{PassId}
+use Rattle.crawl_queues.specs.Books.{BookId}
 use Rattle.crawl_frontier.specs.Parts.{WorkerId, SenderId, ShardId}
 use Rattle.crawl_frontier.specs.Accounts.{At, Agrees, HasSenders, HasStranger, Found, IsFound, AreFound, IsSettled, IsFirstUnsettled}
 use Rattle.crawl_frontier.specs.Finishing.{Slots, Placed, IsShared, SettlesAt, AllSettle, IdsOf, Stranger, AgreesBelow, OneDisagrees, Gathered, AllAre, SendersIn}

@@ -1,7 +1,7 @@
 -- The parts of a run, taken apart one by one.
 use Rattle.std.proofs.Common.{◌≡◌, ◌⊎◌, ℕ, ◌<◌, List, [], ◌∷◌, ◌++◌, length, Some, sym, ◌∙◌, subst, inl, inr, ⊎_elim, arith, length-append}
 use Rattle.std.proofs.lemmas.Bool.{cases_lt}
-use Rattle.crawl_frontier.specs.Books.{BookId, IsBook}
+use Rattle.crawl_queues.specs.Books.{BookId, IsBook}
 use Rattle.crawl_frontier.specs.Parts.{WorkerId, SenderId}
 use Rattle.crawl_frontier.specs.Accounts.{At}
 use Rattle.crawl_frontier.specs.Finishing.{HasBook, Gathered}

@@ -1,15 +1,15 @@
 -- One subqueue more.
 use Rattle.std.proofs.Common.{◌≡◌, ℕ, zero, suc, ◌+◌, List, [], ◌∷◌, ◌++◌, length, Some, refl, sym, ap, ◌∙◌, subst, ⊎_elim, arith, length-append}
 use Rattle.std.specs.Prelude.{slice_get}
-use Rattle.crawl_frontier.specs.QueueId.{QueueId}
+use Rattle.crawl_queues.specs.QueueId.{QueueId}
 use Rattle.crawl_gate.specs.Seat.{GateId}
-use Rattle.crawl_frontier.specs.PassId.{PassId}
-use Rattle.crawl_frontier.specs.Known.{KnownList}
-use Rattle.crawl_frontier.specs.Logs.{ListsAre}
-use Rattle.crawl_frontier.specs.Rule.{pushing, popping, home}
+use Rattle.crawl_queues.specs.PassId.{PassId}
+use Rattle.crawl_queues.specs.Known.{KnownList}
+use Rattle.crawl_queues.specs.Logs.{ListsAre}
+use Rattle.crawl_queues.specs.Rule.{pushing, popping, home}
 use Rattle.crawl_gate.specs.View.{fresh_view}
 use Rattle.crawl_frontier.specs.Parts.{WorkerId}
-use Rattle.crawl_frontier.specs.Books.{fresh_book}
+use Rattle.crawl_queues.specs.Books.{fresh_book}
 use Rattle.crawl_frontier.specs.FreshParts.{Line, AllPush, AllPop, AllFresh}
 use Rattle.crawl_frontier.proofs.Gets.{get_both}
 

@@ -9,14 +9,14 @@ use Rattle.std.specs.Ordering.{nat_cmp}
 use Rattle.std.specs.BTreeMap.{BTreeMap, get, is_at}
 use Rattle.std.specs.BTreeSet.{BTreeSet, contains}
 use Rattle.crawl_gate.specs.Seat.{GateId}
-use Rattle.crawl_frontier.specs.declared.entry.Entry.{Entry}
-use Rattle.crawl_frontier.specs.declared.book.Book.{Book}
+use Rattle.crawl_queues.specs.declared.entry.Entry.{Entry}
+use Rattle.crawl_queues.specs.declared.book.Book.{Book}
 use Rattle.crawl_frontier.specs.declared.finish.settle.Doubt.{Doubt}
-use Rattle.crawl_frontier.specs.QueueId.{QueueId}
-use Rattle.crawl_frontier.specs.PassId.{PassId}
-use Rattle.crawl_frontier.specs.Entries.{KeepsRule}
-use Rattle.crawl_frontier.specs.Rule.{popping, home}
-use Rattle.crawl_frontier.specs.Books.{BookId, book_of}
+use Rattle.crawl_queues.specs.QueueId.{QueueId}
+use Rattle.crawl_queues.specs.PassId.{PassId}
+use Rattle.crawl_queues.specs.Entries.{KeepsRule}
+use Rattle.crawl_queues.specs.Rule.{popping, home}
+use Rattle.crawl_queues.specs.Books.{BookId, book_of}
 use Rattle.crawl_frontier.specs.Parts.{WorkerId, SenderId, ShardId}
 use Rattle.crawl_frontier.specs.Accounts.{At, IsPart, HasWorkers, Accounts}
 use Rattle.crawl_frontier.specs.Finishing.{Slots, Placed, OwnRight, IsShared, SettlesAt, AllSettle, IdsOf, AgreesBelow, Gathered, AllAre, SendersIn, HasBook}

@@ -2,25 +2,19 @@
 use Rattle.std.proofs.Common.{◌≡◌, ◌≢◌, ℕ, zero, suc, ◌+◌, ◌<◌, ◌≤◌, List, [], ◌∷◌, ◌++◌, length, map, set, Option, None, refl, sym, ap, ◌∙◌, subst, ⊎_elim, arith}
 use Rattle.std.proofs.lemmas.Bool.{cases_lt}
 use Rattle.std.specs.BTreeMap.{BTreeMap}
-use Rattle.crawl_frontier.specs.declared.entry.Entry.{Entry}
-use Rattle.crawl_frontier.specs.declared.book.Book.{Book}
+use Rattle.crawl_queues.specs.declared.entry.Entry.{Entry}
+use Rattle.crawl_queues.specs.declared.book.Book.{Book}
 use Rattle.crawl_frontier.specs.declared.finish.settle.Doubt.{Doubt}
-use Rattle.crawl_frontier.specs.QueueId.{QueueId}
-use Rattle.crawl_frontier.specs.PassId.{PassId}
-use Rattle.crawl_frontier.specs.Growing.{Stays}
-use Rattle.crawl_frontier.specs.Known.{KnownList}
-use Rattle.crawl_frontier.specs.Books.{BookId, book_of, queue_of}
+use Rattle.crawl_queues.specs.QueueId.{QueueId}
+use Rattle.crawl_queues.specs.PassId.{PassId}
+use Rattle.crawl_queues.specs.Growing.{Stays}
+use Rattle.crawl_queues.specs.Known.{KnownList}
+use Rattle.crawl_queues.specs.Books.{BookId, book_of, queue_of}
 use Rattle.crawl_frontier.specs.Parts.{ShardId}
 use Rattle.crawl_frontier.specs.Accounts.{At}
 use Rattle.crawl_frontier.specs.Finishing.{AllAre, AreRaised, IsHome, AreToldOf, LogIsOf, LogsAreOf, LogsStand, AllSettle, Stands}
 use Rattle.crawl_frontier.proofs.Gets.{get_set_same, get_set_other, get_snoc, get_within, same_at}
 use Rattle.crawl_frontier.proofs.Logging.{at_map, raised_on, raised_at}
-
--- what was written where it stood
-pub set_same : {X : Type 0} (xs : List X) (i : ℕ) (x : X) → At xs i x → set xs i x ≡ xs
-set_same [] i x e = refl
-set_same (z ∷ zs) zero x e = let same : x ≡ z = cc in ap (λ y. y ∷ zs) same
-set_same (z ∷ zs) (suc i) x e = ap (λ l. z ∷ l) (set_same zs i x e)
 
 pub map_set_same : {X Y : Type 0} (f : X → Y) (xs : List X) (i : ℕ) (x y : X) → At xs i x → f y ≡ f x → map f (set xs i y) ≡ map f xs
 map_set_same f [] i x y e is = refl

@@ -1,11 +1,11 @@
 -- What an account lists, how it agrees with the parts of a run, and why a run has none.
 use Rattle.std.specs.Prelude.{◌≡◌, ◌≢◌, ◌⊎◌, ℕ, ◌<◌, Bool, true, List, [], length, Some, slice_get}
-use Rattle.crawl_frontier.specs.declared.entry.Entry.{Entry}
-use Rattle.crawl_frontier.specs.declared.book.Logged.TheVariants.{Seen}
+use Rattle.crawl_queues.specs.declared.entry.Entry.{Entry}
+use Rattle.crawl_queues.specs.declared.book.Logged.TheVariants.{Seen}
 use Rattle.crawl_frontier.specs.declared.error.FinishError.{FinishError}
 use Rattle.crawl_frontier.specs.declared.error.FinishError.TheVariants.{MissingPart, Unsettled, Disagree, NoMemory}
-use Rattle.crawl_frontier.specs.Entries.{has_url, entries_of, KeepsRule}
-use Rattle.crawl_frontier.specs.Books.{BookId, sent_to}
+use Rattle.crawl_queues.specs.Entries.{has_url, entries_of, KeepsRule}
+use Rattle.crawl_queues.specs.Books.{BookId, sent_to}
 use Rattle.crawl_frontier.specs.Parts.{WorkerId, SenderId}
 
 -- x stands at k

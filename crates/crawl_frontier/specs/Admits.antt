@@ -1,11 +1,11 @@
 -- What a shard's `admit` answers and does.
 use Rattle.std.specs.Prelude.{◌≡◌, ◌≢◌, ℕ, ◌^◌, ◌<◌, ◌≤◌, true, false, List, [], ◌∷◌, ◌++◌, length, Some, slice_get}
 use Rattle.crawl_gate.specs.Seat.{SeatId}
-use Rattle.crawl_frontier.specs.declared.entry.Entry.{Entry}
+use Rattle.crawl_queues.specs.declared.entry.Entry.{Entry}
 use Rattle.crawl_frontier.specs.declared.shard.Admit.{Admit}
 use Rattle.crawl_frontier.specs.declared.shard.Admit.TheVariants.{Admitted, Crossed, Seen, TooFar, NoMemory}
 use Rattle.crawl_frontier.specs.Limits.{hops_limit}
-use Rattle.crawl_frontier.specs.Entries.{has_url, count_of, entry}
+use Rattle.crawl_queues.specs.Entries.{has_url, count_of, entry}
 use Rattle.crawl_frontier.specs.Parts.{ShardId, shard}
 
 -- Of the shard before and after, the URL, the sender's id and own count, the hops, the unit, and the answer. In this

@@ -4,20 +4,20 @@ use Rattle.std.specs.Ordering.{nat_cmp}
 use Rattle.std.specs.BTreeMap.{BTreeMap, get}
 use Rattle.std.specs.BTreeSet.{BTreeSet, contains}
 use Rattle.crawl_gate.specs.Seat.{GateId}
-use Rattle.crawl_frontier.specs.declared.entry.Entry.{Entry}
-use Rattle.crawl_frontier.specs.declared.book.Logged.{Logged}
-use Rattle.crawl_frontier.specs.declared.book.Logged.TheVariants.{Accepted, Seen}
+use Rattle.crawl_queues.specs.declared.entry.Entry.{Entry}
+use Rattle.crawl_queues.specs.declared.book.Logged.{Logged}
+use Rattle.crawl_queues.specs.declared.book.Logged.TheVariants.{Accepted, Seen}
 use Rattle.crawl_frontier.specs.declared.finish.settle.Doubt.{Doubt}
 use Rattle.crawl_frontier.specs.declared.finish.settle.Doubt.TheVariants.{Elsewhere, Holds}
-use Rattle.crawl_frontier.specs.QueueId.{QueueId}
-use Rattle.crawl_frontier.specs.PassId.{PassId}
-use Rattle.crawl_frontier.specs.Rule.{popping, home}
-use Rattle.crawl_frontier.specs.Entries.{has_url, count_of, KeepsRule}
-use Rattle.crawl_frontier.specs.Growing.{Stays}
-use Rattle.crawl_frontier.specs.Known.{KnownList}
+use Rattle.crawl_queues.specs.QueueId.{QueueId}
+use Rattle.crawl_queues.specs.PassId.{PassId}
+use Rattle.crawl_queues.specs.Rule.{popping, home}
+use Rattle.crawl_queues.specs.Entries.{has_url, count_of, KeepsRule}
+use Rattle.crawl_queues.specs.Growing.{Stays}
+use Rattle.crawl_queues.specs.Known.{KnownList}
 use Rattle.crawl_frontier.specs.declared.finish.settled.Settled.{Settled}
 use Rattle.crawl_frontier.specs.declared.error.FinishError.TheVariants.{Disagree}
-use Rattle.crawl_frontier.specs.Books.{BookId, IsBook, book_of, queue_of}
+use Rattle.crawl_queues.specs.Books.{BookId, IsBook, book_of, queue_of}
 use Rattle.crawl_frontier.specs.Parts.{WorkerId, SenderId, ShardId}
 use Rattle.crawl_frontier.specs.Accounts.{At, IsPart, Agrees, Accounts, FinishFails}
 

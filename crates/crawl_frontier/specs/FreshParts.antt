@@ -1,12 +1,12 @@
 -- The subqueues of a new frontier, with their rights.
 use Rattle.std.specs.Prelude.{◌≡◌, ℕ, ◌+◌, List, [], ◌∷◌, length, Some, slice_get}
-use Rattle.crawl_frontier.specs.QueueId.{QueueId}
+use Rattle.crawl_queues.specs.QueueId.{QueueId}
 use Rattle.crawl_gate.specs.Seat.{GateId}
-use Rattle.crawl_frontier.specs.PassId.{PassId}
+use Rattle.crawl_queues.specs.PassId.{PassId}
 use Rattle.crawl_gate.specs.View.{fresh_view}
-use Rattle.crawl_frontier.specs.Rule.{pushing, popping, home}
+use Rattle.crawl_queues.specs.Rule.{pushing, popping, home}
 use Rattle.crawl_frontier.specs.Parts.{WorkerId}
-use Rattle.crawl_frontier.specs.Books.{fresh_book}
+use Rattle.crawl_queues.specs.Books.{fresh_book}
 
 -- the first n subqueues, each with a right to push and one to pop that have done nothing
 pub record Line (gate : GateId) (workers : ℕ) (queues : List QueueId) (sending taking : List PassId) (n : ℕ) : Type 0 where

@@ -1,13 +1,5 @@
 pub mod Limits
-pub mod Growing
-pub mod Known
-pub mod QueueId
-pub mod Entries
-pub mod Rule
-pub mod PassId
 pub mod SetupId
-pub mod Logs
-pub mod Books
 pub mod Parts
 pub mod Tables
 pub mod Admits
@@ -19,4 +11,3 @@ pub mod FrontierErrors
 pub mod ErrorTexts
 pub mod Accounts
 pub mod Finishing
-pub mod History

@@ -5,7 +5,7 @@ use Rattle.crawl_gate.specs.View.{knows_closed, fresh_view}
 use Rattle.crawl_gate.specs.Seat.{SeatId}
 use Rattle.crawl_gate.specs.Enter.{EntersAtLast, EntersAtLastBeside}
 use Rattle.crawl_gate.specs.declared.gate.enter.Enter.TheVariants as enter
-use Rattle.crawl_frontier.specs.declared.entry.Entry.{Entry}
+use Rattle.crawl_queues.specs.declared.entry.Entry.{Entry}
 use Rattle.crawl_frontier.specs.declared.shard.Admit.{Admit}
 use Rattle.crawl_frontier.specs.declared.shard.Admit.TheVariants as admit
 use Rattle.crawl_frontier.specs.declared.offer.Offer.{Offer}
@@ -13,10 +13,10 @@ use Rattle.crawl_frontier.specs.declared.offer.Offer.TheVariants.{Accepted, Seen
 use Rattle.crawl_frontier.specs.declared.error.OfferError.{OfferError}
 use Rattle.crawl_frontier.specs.declared.error.OfferError.TheVariants.{Filtered, Closed, Full, Crossed, TooFar, NoMemory}
 use Rattle.crawl_frontier.specs.Limits.{hops_limit}
-use Rattle.crawl_frontier.specs.Entries.{entry}
-use Rattle.crawl_frontier.specs.Logs.{Has}
+use Rattle.crawl_queues.specs.Entries.{entry}
+use Rattle.crawl_queues.specs.Logs.{Has}
 use Rattle.crawl_frontier.specs.Units.{GaveBack}
-use Rattle.crawl_frontier.specs.Books.{BookId, book_accepting, book_seeing}
+use Rattle.crawl_queues.specs.Books.{BookId, book_accepting, book_seeing}
 
 -- what of the shard's answer is view once the lock is given back
 abbrev pub Replies : List ℕ → ℕ → ℕ → SeatId → Admit → Type 0

@@ -1,9 +1,9 @@
 -- What contracts see of the parts of a shard.
 use Rattle.std.specs.Prelude.{ℕ, List}
 use Rattle.crawl_gate.specs.Seat.{SeatId}
-use Rattle.crawl_frontier.specs.declared.entry.Entry.{Entry}
-use Rattle.crawl_frontier.specs.declared.entry.Message.{Message}
-use Rattle.crawl_frontier.specs.Books.{BookId}
+use Rattle.crawl_queues.specs.declared.entry.Entry.{Entry}
+use Rattle.crawl_queues.specs.declared.entry.Message.{Message}
+use Rattle.crawl_queues.specs.Books.{BookId}
 
 -- a shard's queue and the list sent
 pub record ShardId : Type 0 where

@@ -1,7 +1,7 @@
 -- What contracts see of a setup.
 use Rattle.std.specs.Prelude.{ℕ, List}
 use Rattle.crawl_gate.specs.Seat.{GateId}
-use Rattle.crawl_frontier.specs.QueueId.{QueueId}
+use Rattle.crawl_queues.specs.QueueId.{QueueId}
 
 -- how many workers, which gate, and which subqueues, in order
 pub record SetupId : Type 0 where

@@ -4,7 +4,7 @@ use Rattle.crawl_gate.specs.Word.{open_at, closed_at}
 use Rattle.crawl_gate.specs.Seat.{SeatId, after_looking, after_not_closing, after_closing}
 use Rattle.crawl_frontier.specs.declared.worker.Turn.{Turn}
 use Rattle.crawl_frontier.specs.declared.worker.Turn.TheVariants.{Busy, Idle, Closed}
-use Rattle.crawl_frontier.specs.Entries.{MayFollow}
+use Rattle.crawl_queues.specs.Entries.{MayFollow}
 use Rattle.crawl_frontier.specs.Units.{GaveBack}
 use Rattle.crawl_frontier.specs.Parts.{WorkerId, BusyId, worker}
 

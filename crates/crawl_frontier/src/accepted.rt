@@ -3,12 +3,12 @@ ghost use Rattle.std.specs.Prelude.{◌≡◌, ℕ, map};
 ghost use Rattle.hash_order.specs.HashOrder.{hash_of};
 ghost use Rattle.hash_index.specs.Lists.{index_of};
 ghost use Rattle.hash_index.specs.Index.{IsIndexOf};
-ghost use Rattle.crawl_frontier.specs.Entries.{count_of};
+ghost use Rattle.crawl_queues.specs.Entries.{count_of};
 ghost use Rattle.crawl_frontier.specs.Tables.{count_in};
 
-use crate::entry::Entry;
 use crate::tables::{Counts, count};
 use crawl_keys::CanonUrl;
+use crawl_queues::Entry;
 use hash_index::HashIndex;
 use std::marker::Model;
 
@@ -24,8 +24,8 @@ impl Model for AcceptedList {
     ghost use Rattle.std.specs.Prelude.{◌≡◌, ℕ, List, map};
     ghost use Rattle.hash_order.specs.HashOrder.{hash_of};
     ghost use Rattle.hash_index.specs.Index.{IsIndexOf};
-    ghost use Rattle.crawl_frontier.specs.declared.entry.Entry.{Entry};
-    ghost use Rattle.crawl_frontier.specs.Entries.{count_of};
+    ghost use Rattle.crawl_queues.specs.declared.entry.Entry.{Entry};
+    ghost use Rattle.crawl_queues.specs.Entries.{count_of};
     ghost use Rattle.crawl_frontier.specs.Tables.{count_in};
 
     ghost Value = { List Entry };

@@ -1,13 +1,13 @@
 //! The account of a run: all accepted URLs.
 ghost use Rattle.std.specs.Prelude.{◌≡◌, ◌<◌, List, [], Some, slice_get, length, map};
 ghost use Rattle.hash_index.specs.Lists.{index_of};
-ghost use Rattle.crawl_frontier.specs.declared.entry.Entry.{Entry};
-ghost use Rattle.crawl_frontier.specs.Entries.{KeepsRule};
+ghost use Rattle.crawl_queues.specs.declared.entry.Entry.{Entry};
+ghost use Rattle.crawl_queues.specs.Entries.{KeepsRule};
 ghost use Rattle.crawl_frontier.specs.Accounts.{AllKeepRule};
 
 use crate::accepted::AcceptedList;
-use crate::entry::Entry;
 use crawl_keys::CanonUrl;
+use crawl_queues::Entry;
 use std::marker::Model;
 
 /// The URLs that each queue accepted in a run, which are those that its worker took.

@@ -5,16 +5,13 @@ ghost use Rattle.crawl_frontier.specs.Turns.{Done};
 ghost use Rattle.crawl_frontier.specs.Parts.{worker};
 ghost use Rattle.crawl_frontier.specs.Offers.{OfferBooks, OfferWordsBeside, IsFiltered};
 
-use crate::book::Book;
-use crate::entry::Message;
 use crate::error::OfferError;
 use crate::frontier::Frontier;
-use crate::name::Name;
 use crate::offer::{Answer, Candidate, Offer, give_back, offer_beside};
-use crate::rights::PopRight;
 use crate::worker::Worker;
 use crawl_gate::Pass;
 use crawl_keys::CanonUrl;
+use crawl_queues::{Book, Message, Name, PopRight};
 use std::marker::{Model, PhantomData};
 use std::sync::Wait;
 
@@ -46,9 +43,9 @@ pub struct BusyWorker<K: Name> {
 impl<K: Name> Model for BusyWorker<K> {
     ghost use Rattle.std.specs.Prelude.{◌≡◌, ◌<◌, Some, slice_get};
     ghost use Rattle.crawl_gate.specs.Seat.{IsSeatOf};
-    ghost use Rattle.crawl_frontier.specs.Books.{IsBook, Knows, book_of};
+    ghost use Rattle.crawl_queues.specs.Books.{IsBook, Knows, book_of};
     ghost use Rattle.crawl_frontier.specs.Parts.{BusyId, worker};
-    ghost use Rattle.crawl_frontier.specs.Rule.{popping, home};
+    ghost use Rattle.crawl_queues.specs.Rule.{popping, home};
 
     ghost Value = { BusyId };
 

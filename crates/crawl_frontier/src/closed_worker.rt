@@ -1,12 +1,10 @@
 //! A worker that has found the gate closed.
 ghost use Rattle.std.specs.Prelude.{◌≡◌, ◌<◌, Some, slice_get};
-ghost use Rattle.crawl_frontier.specs.Books.{IsBook, Knows, book_of};
-ghost use Rattle.crawl_frontier.specs.Rule.{popping, home};
+ghost use Rattle.crawl_queues.specs.Books.{IsBook, Knows, book_of};
+ghost use Rattle.crawl_queues.specs.Rule.{popping, home};
 
-use crate::book::Book;
-use crate::name::Name;
-use crate::rights::PopRight;
 use crawl_gate::ClosedPass;
+use crawl_queues::{Book, Name, PopRight};
 use std::marker::{Model, PhantomData};
 
 /// A worker that knows that every accepted URL is done, and that no more will be accepted.
@@ -25,9 +23,9 @@ impl<K: Name> Model for ClosedWorker<K> {
     ghost use Rattle.std.specs.Prelude.{◌≡◌, ◌<◌, true, Some, slice_get};
     ghost use Rattle.crawl_gate.specs.View.{knows_closed};
     ghost use Rattle.crawl_gate.specs.Seat.{IsSeatOf};
-    ghost use Rattle.crawl_frontier.specs.Books.{IsBook, Knows, book_of};
+    ghost use Rattle.crawl_queues.specs.Books.{IsBook, Knows, book_of};
     ghost use Rattle.crawl_frontier.specs.Parts.{WorkerId};
-    ghost use Rattle.crawl_frontier.specs.Rule.{popping, home};
+    ghost use Rattle.crawl_queues.specs.Rule.{popping, home};
 
     ghost Value = { WorkerId };
 

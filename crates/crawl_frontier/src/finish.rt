@@ -12,9 +12,9 @@ use crate::account::Account;
 use crate::closed_worker::ClosedWorker;
 use crate::error::FinishError;
 use crate::frontier::Frontier;
-use crate::name::Name;
 use crate::sender::Sender;
 use compare::books_agree;
+use crawl_queues::Name;
 use settled::{Settled, account_of, settle_run};
 
 impl<K: Name> Frontier<K> {

@@ -2,20 +2,17 @@
 ghost use Rattle.std.specs.Prelude.{◌≡◌, ◌^◌, ◌<◌, Some, IfOk, MatchResult, slice_get, vec_len, length};
 ghost use Rattle.crawl_gate.specs.Seat.{IsSeatOf};
 ghost use Rattle.crawl_frontier.specs.Limits.{IsWorkers};
-ghost use Rattle.crawl_frontier.specs.Books.{Knows, book_of, fresh_book};
+ghost use Rattle.crawl_queues.specs.Books.{Knows, book_of, fresh_book};
 ghost use Rattle.crawl_frontier.specs.FreshParts.{AllPush, AllPop, AllFresh};
 
-use crate::book::Book;
 use crate::error::FrontierError;
-use crate::name::Name;
-use crate::rights::{PopRight, PushRight};
 use crate::seeder::Seeder;
 use crate::setup::Setup;
 use crate::shard::Shard;
-use crate::subqueue::Subqueue;
 use crate::worker::Worker;
 use crawl_gate::{Gate, Unit};
 use crawl_keys::Filter;
+use crawl_queues::{Book, Name, PopRight, PushRight, Subqueue};
 use std::alloc::{AllocError, Global};
 use std::collections::VecDeque;
 use std::hint;

@@ -44,37 +44,27 @@
 
 mod accepted;
 mod account;
-mod book;
 mod busy_worker;
 mod closed_worker;
-mod entry;
 mod error;
 mod finish;
 mod frontier;
-mod growing;
 pub mod laws;
-mod log;
-mod name;
 mod offer;
-mod rights;
-mod rule;
 mod seeder;
 mod sender;
 mod setup;
 mod shard;
-mod subqueue;
 mod tables;
 pub mod testing;
 mod worker;
 
 pub use account::Account;
-pub use book::Logged;
 pub use busy_worker::BusyWorker;
 pub use closed_worker::ClosedWorker;
-pub use entry::{Entry, Message};
+pub use crawl_queues::{Entry, Logged, Message, Name};
 pub use error::{FinishError, FrontierError, OfferError};
 pub use frontier::Frontier;
-pub use name::Name;
 pub use offer::Offer;
 pub use seeder::Seeder;
 pub use sender::Sender;

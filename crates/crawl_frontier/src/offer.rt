@@ -3,18 +3,17 @@ ghost use Rattle.std.specs.Prelude.{◌≡◌, ◌↔◌, ◌<◌, false, IfSome
 ghost use Rattle.crawl_keys.specs.Assignment.{subqueue_of};
 ghost use Rattle.crawl_keys.specs.HostFilter.{allows};
 ghost use Rattle.crawl_gate.specs.Seat.{IsSeatOf};
-ghost use Rattle.crawl_frontier.specs.Logs.{lists_of};
-ghost use Rattle.crawl_frontier.specs.Books.{IsBook, HasRoom, Knows, book_of};
+ghost use Rattle.crawl_queues.specs.Logs.{lists_of};
+ghost use Rattle.crawl_queues.specs.Books.{IsBook, HasRoom, Knows, book_of};
 ghost use Rattle.crawl_frontier.specs.Offers.{Replies, IsKnown, OfferBooks, OfferWordsBeside, Delivers, IsFiltered};
 ghost use Rattle.crawl_frontier.specs.Units.{GaveBack};
 
-use crate::book::Book;
 use crate::error::OfferError;
 use crate::frontier::Frontier;
-use crate::name::Name;
 use crate::shard::{Admit, Offered};
 use crawl_gate::{Enter, Pass, Unit};
 use crawl_keys::CanonUrl;
+use crawl_queues::{Book, Name};
 use std::mem;
 use std::sync::Wait;
 

@@ -2,19 +2,18 @@
 ghost use Rattle.std.specs.Prelude.{◌≡◌, ◌↔◌, false, MatchResult};
 ghost use Rattle.crawl_gate.specs.Seat.{IsSeatOf};
 ghost use Rattle.crawl_gate.specs.View.{fresh_view};
-ghost use Rattle.crawl_frontier.specs.Books.{IsBook, Knows, book_of, fresh_book};
+ghost use Rattle.crawl_queues.specs.Books.{IsBook, Knows, book_of, fresh_book};
 ghost use Rattle.crawl_keys.specs.HostFilter.{allows};
 ghost use Rattle.crawl_frontier.specs.Units.{GaveBack};
 ghost use Rattle.crawl_frontier.specs.Offers.{OfferBooks, OfferWordsBeside, IsFiltered};
 
-use crate::book::Book;
 use crate::error::{FrontierError, OfferError};
 use crate::frontier::Frontier;
-use crate::name::Name;
 use crate::offer::{Candidate, Offer, give_back, offer_beside};
 use crate::sender::Sender;
 use crawl_gate::{Pass, Unit};
 use crawl_keys::CanonUrl;
+use crawl_queues::{Book, Name};
 use std::alloc::Global;
 use std::marker::{Model, PhantomData};
 use std::sync::Wait;
@@ -45,7 +44,7 @@ pub struct Seeder<K: Name> {
 impl<K: Name> Model for Seeder<K> {
     ghost use Rattle.crawl_gate.specs.Seat.{IsSeatOf};
     ghost use Rattle.crawl_frontier.specs.Parts.{SeederId};
-    ghost use Rattle.crawl_frontier.specs.Books.{IsBook, Knows, book_of};
+    ghost use Rattle.crawl_queues.specs.Books.{IsBook, Knows, book_of};
 
     ghost Value = { SeederId };
 

@@ -2,18 +2,17 @@
 ghost use Rattle.std.specs.Prelude.{◌≡◌, ◌↔◌, true, false};
 ghost use Rattle.crawl_gate.specs.Seat.{IsSeatOf};
 ghost use Rattle.crawl_gate.specs.View.{knows_closed};
-ghost use Rattle.crawl_frontier.specs.Books.{IsBook, Knows, book_of};
+ghost use Rattle.crawl_queues.specs.Books.{IsBook, Knows, book_of};
 ghost use Rattle.crawl_keys.specs.HostFilter.{allows};
 ghost use Rattle.crawl_frontier.specs.Parts.{sender_with};
 ghost use Rattle.crawl_frontier.specs.Offers.{OfferBooks, OfferWords, IsLate, IsFiltered};
 
-use crate::book::Book;
 use crate::error::OfferError;
 use crate::frontier::Frontier;
-use crate::name::Name;
 use crate::offer::{Candidate, Offer, deliver};
 use crawl_gate::{Enter, Pass};
 use crawl_keys::CanonUrl;
+use crawl_queues::{Book, Name};
 use std::marker::{Model, PhantomData};
 use std::mem;
 use std::sync::Wait;
@@ -38,7 +37,7 @@ pub struct Sender<K: Name> {
 impl<K: Name> Model for Sender<K> {
     ghost use Rattle.crawl_gate.specs.Seat.{IsSeatOf};
     ghost use Rattle.crawl_frontier.specs.Parts.{SenderId};
-    ghost use Rattle.crawl_frontier.specs.Books.{IsBook, Knows, book_of};
+    ghost use Rattle.crawl_queues.specs.Books.{IsBook, Knows, book_of};
 
     ghost Value = { SenderId };
 

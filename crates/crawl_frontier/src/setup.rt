@@ -4,14 +4,12 @@ ghost use Rattle.crawl_gate.specs.GateError.{IsMaximum};
 ghost use Rattle.crawl_frontier.specs.Limits.{IsWorkers};
 ghost use Rattle.crawl_frontier.specs.FrontierErrors.{NoSetup};
 ghost use Rattle.crawl_frontier.specs.FreshParts.{Line};
-ghost use Rattle.crawl_frontier.specs.Logs.{ListsAre};
+ghost use Rattle.crawl_queues.specs.Logs.{ListsAre};
 
 use crate::error::FrontierError;
-use crate::growing::Beginning;
-use crate::rights::{PopRight, PushRight};
-use crate::subqueue::Subqueue;
 use crawl_gate::{Gate, GateError, Unit};
 use crawl_keys::SUBQUEUES_LIMIT;
+use crawl_queues::{Beginning, PopRight, PushRight, Subqueue};
 use std::alloc::{AllocError, Global};
 use std::collections::VecDeque;
 use std::marker::Model;
@@ -46,7 +44,7 @@ impl Model for Setup {
     ghost use Rattle.crawl_frontier.specs.Limits.{IsWorkers};
     ghost use Rattle.crawl_frontier.specs.SetupId.{SetupId};
     ghost use Rattle.crawl_frontier.specs.FreshParts.{Line};
-    ghost use Rattle.crawl_frontier.specs.Logs.{ListsAre};
+    ghost use Rattle.crawl_queues.specs.Logs.{ListsAre};
 
     ghost Value = { SetupId };
 

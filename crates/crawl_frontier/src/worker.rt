@@ -1,18 +1,16 @@
 //! An idle worker, and the results of its turns.
 ghost use Rattle.std.specs.Prelude.{◌≡◌, ◌<◌, [], Some, slice_get};
 ghost use Rattle.crawl_gate.specs.Seat.{IsSeatOf};
-ghost use Rattle.crawl_frontier.specs.Books.{IsBook, Knows, book_of};
+ghost use Rattle.crawl_queues.specs.Books.{IsBook, Knows, book_of};
 ghost use Rattle.crawl_frontier.specs.Turns.{Turns};
 ghost use Rattle.crawl_frontier.specs.Parts.{worker};
-ghost use Rattle.crawl_frontier.specs.Rule.{popping, home};
+ghost use Rattle.crawl_queues.specs.Rule.{popping, home};
 
-use crate::book::Book;
 use crate::busy_worker::BusyWorker;
 use crate::closed_worker::ClosedWorker;
 use crate::frontier::Frontier;
-use crate::name::Name;
-use crate::rights::PopRight;
 use crawl_gate::{Close, Pass};
+use crawl_queues::{Book, Name, PopRight};
 use std::marker::{Model, PhantomData};
 use std::sync::Wait;
 use std::time::Duration;
@@ -40,9 +38,9 @@ pub struct Worker<K: Name> {
 impl<K: Name> Model for Worker<K> {
     ghost use Rattle.std.specs.Prelude.{◌≡◌, ◌<◌, Some, slice_get};
     ghost use Rattle.crawl_gate.specs.Seat.{IsSeatOf};
-    ghost use Rattle.crawl_frontier.specs.Books.{IsBook, Knows, book_of};
+    ghost use Rattle.crawl_queues.specs.Books.{IsBook, Knows, book_of};
     ghost use Rattle.crawl_frontier.specs.Parts.{WorkerId};
-    ghost use Rattle.crawl_frontier.specs.Rule.{popping, home};
+    ghost use Rattle.crawl_queues.specs.Rule.{popping, home};
 
     ghost Value = { WorkerId };
 

@@ -18,9 +18,9 @@ use Rattle.crawl_gate.specs.Word.{bits, closed_at}
 use Rattle.crawl_gate.specs.GateInvariant.{Moment}
 use Rattle.crawl_gate.specs.GateError.{IsMaximum}
 use Rattle.crawl_gate.specs.Seat.{GateId}
-use Rattle.crawl_frontier.specs.declared.entry.Entry.{Entry}
-use Rattle.crawl_frontier.specs.declared.entry.Message.{Message}
-use Rattle.crawl_frontier.specs.Rule.{plain}
+use Rattle.crawl_queues.specs.declared.entry.Entry.{Entry}
+use Rattle.crawl_queues.specs.declared.entry.Message.{Message}
+use Rattle.crawl_queues.specs.Rule.{plain}
 use Rattle.crawl_tie.specs.Whole.{Whole, IsFirst}
 use Rattle.crawl_tie.specs.Acts.{Act, Enters, Pushes, Pops, Closes, NotClosesClosed, Atomic, History}
 use Rattle.crawl_tie.specs.Shows.{events_of, events, ShowsWhole}

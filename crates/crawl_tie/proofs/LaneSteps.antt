@@ -3,10 +3,10 @@ use Rattle.std.proofs.Common.{◌≡◌, ◌≢◌, ℕ, ◌+◌, Bool, true, fa
 use mathlib.Core.Option.{some, some-ne-none}
 use lib.ListN.{get_elem?}
 use Rattle.crawl_gate.specs.Seat.{GateId}
-use Rattle.crawl_frontier.specs.declared.rule.PassView.{PassView}
-use Rattle.crawl_frontier.specs.Rule.{SubqueueInvariant, home, pushing, popping, reunited, spent, plain}
-use Rattle.crawl_frontier.specs.History.{Moment, SubqueueStep, settles, divides, pushes, pops, finds_nothing, takes_in}
-use Rattle.crawl_frontier.proofs.Passing as pass
+use Rattle.crawl_queues.specs.declared.rule.PassView.{PassView}
+use Rattle.crawl_queues.specs.Rule.{SubqueueInvariant, home, pushing, popping, reunited, spent, plain}
+use Rattle.crawl_queues.specs.History.{Moment, SubqueueStep, settles, divides, pushes, pops, finds_nothing, takes_in}
+use Rattle.crawl_queues.proofs.Passing as pass
 use Rattle.crawl_tie.specs.Whole.{made}
 use Rattle.crawl_tie.specs.Parts.{IsDivided, IsUnited, LaneMoves, IsMaking, pushing_one, popping_one, counting_one, taking_in_one}
 

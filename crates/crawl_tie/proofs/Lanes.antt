@@ -10,15 +10,15 @@ use Rattle.crawl_core.specs.Subqueue.{Subqueue, empty_subqueue, after_accepting,
 use Rattle.crawl_core.proofs.Places.{set_cases, get_set_same, get_set_other}
 use Rattle.crawl_core.proofs.Sound.{some_is}
 use Rattle.crawl_gate.specs.Seat.{GateId}
-use Rattle.crawl_frontier.specs.declared.entry.Entry.{Entry}
-use Rattle.crawl_frontier.specs.declared.entry.Message.{Message}
-use Rattle.crawl_frontier.specs.declared.rule.Home.{Home}
-use Rattle.crawl_frontier.specs.declared.rule.PassView.{PassView}
-use Rattle.crawl_frontier.specs.Entries.{has_url, count_of}
-use Rattle.crawl_frontier.specs.Rule.{home, pushing, popping, undivided, reunited, spent, plain, no_home}
-use Rattle.crawl_frontier.specs.History.{Moment, SubqueueStep, ViewAt, settles, divides, pushes, pops, finds_nothing, takes_in, first_moment}
-use Rattle.crawl_frontier.proofs.Histories.{step_moves}
-use Rattle.crawl_frontier.proofs.Passing as pass
+use Rattle.crawl_queues.specs.declared.entry.Entry.{Entry}
+use Rattle.crawl_queues.specs.declared.entry.Message.{Message}
+use Rattle.crawl_queues.specs.declared.rule.Home.{Home}
+use Rattle.crawl_queues.specs.declared.rule.PassView.{PassView}
+use Rattle.crawl_queues.specs.Entries.{has_url, count_of}
+use Rattle.crawl_queues.specs.Rule.{home, pushing, popping, undivided, reunited, spent, plain, no_home}
+use Rattle.crawl_queues.specs.History.{Moment, SubqueueStep, ViewAt, settles, divides, pushes, pops, finds_nothing, takes_in, first_moment}
+use Rattle.crawl_queues.proofs.Histories.{step_moves}
+use Rattle.crawl_queues.proofs.Passing as pass
 use Rattle.crawl_tie.specs.Whole.{Lane, made, fresh_lane}
 use Rattle.crawl_tie.specs.Acts.{Pushing, Popping, Counting, TakingIn}
 use Rattle.crawl_tie.specs.Shows.{ShowsLane, HasLists, message_of}

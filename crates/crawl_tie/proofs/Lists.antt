@@ -9,11 +9,11 @@ use Rattle.crawl_core.specs.Flags.{one_if}
 use Rattle.crawl_core.proofs.Places.{set_cases, length-slice_set}
 use Rattle.crawl_core.proofs.Sound.{some_is}
 use Rattle.crawl_gate.specs.Seat.{GateId}
-use Rattle.crawl_frontier.specs.declared.entry.Entry.{Entry}
-use Rattle.crawl_frontier.specs.Entries.{KeepsRule}
-use Rattle.crawl_frontier.specs.Rule.{plain}
-use Rattle.crawl_frontier.specs.History.{Moment}
-use Rattle.crawl_frontier.proofs.Histories.{accepted_lists}
+use Rattle.crawl_queues.specs.declared.entry.Entry.{Entry}
+use Rattle.crawl_queues.specs.Entries.{KeepsRule}
+use Rattle.crawl_queues.specs.Rule.{plain}
+use Rattle.crawl_queues.specs.History.{Moment}
+use Rattle.crawl_queues.proofs.Histories.{accepted_lists}
 use Rattle.crawl_tie.specs.Whole.{Lane, Whole, IsFirst}
 use Rattle.crawl_tie.specs.Acts.{Act, Splits, Looks, LooksAway, Enters, Loses, LeavesOffer, LeavesSeen, LeavesFetch, LeavesSeeds, Closes, NotClosesClosed, NotClosesPending, Pushes, Pops, PopsNone, FindsNothing, TakesIn, Pushing, Popping, Atomic, History}
 use Rattle.crawl_tie.specs.Shows.{HasLists}

@@ -18,8 +18,8 @@ use Rattle.crawl_gate.specs.View.{fresh_view, view_entering, view_leaving}
 use Rattle.crawl_gate.specs.GateInvariant.{Moment}
 use Rattle.crawl_gate.specs.History.{SeatSteps}
 use Rattle.crawl_gate.specs.Seat.{GateId}
-use Rattle.crawl_frontier.specs.declared.entry.Message.{Message}
-use Rattle.crawl_frontier.specs.History as subqueues
+use Rattle.crawl_queues.specs.declared.entry.Message.{Message}
+use Rattle.crawl_queues.specs.History as subqueues
 use Rattle.crawl_tie.specs.Whole.{Lane, Whole, Owner, Seeds, Offer, Sent, IsFirst}
 use Rattle.crawl_tie.specs.Acts.{Splitting, Entering, Leaving, IsOwner, IsUnitOf, is_offering, with_gate, after_splitting, after_entering, after_leaving, after_fetching, after_seeding, after_pushing}
 use Rattle.crawl_tie.specs.Parts.{UnitsAreOwned, is_owned}

@@ -11,11 +11,11 @@ use Rattle.crawl_gate.specs.View.{opening_view, fresh_view, view_looking, view_e
 use Rattle.crawl_gate.specs.GateInvariant as gates
 use Rattle.crawl_gate.specs.History.{first_moment}
 use Rattle.crawl_gate.specs.Seat.{GateId}
-use Rattle.crawl_frontier.specs.declared.entry.Entry.{Entry}
-use Rattle.crawl_frontier.specs.declared.entry.Message.{Message}
-use Rattle.crawl_frontier.specs.declared.rule.Home.{Home}
-use Rattle.crawl_frontier.specs.Rule.{home, pushing, popping, reunited, spent}
-use Rattle.crawl_frontier.specs.History as subqueues
+use Rattle.crawl_queues.specs.declared.entry.Entry.{Entry}
+use Rattle.crawl_queues.specs.declared.entry.Message.{Message}
+use Rattle.crawl_queues.specs.declared.rule.Home.{Home}
+use Rattle.crawl_queues.specs.Rule.{home, pushing, popping, reunited, spent}
+use Rattle.crawl_queues.specs.History as subqueues
 use Rattle.crawl_tie.specs.Whole.{Lane, Whole, Seeds, IsFirst, fresh_lane}
 use Rattle.crawl_tie.specs.Acts.{History, with_gate, after_splitting, after_looking, after_entering, after_leaving, after_fetching, after_seeding, after_pushing}
 use Rattle.crawl_tie.specs.Sample.{offers_made, turns_made}

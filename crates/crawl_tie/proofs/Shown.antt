@@ -19,9 +19,9 @@ use Rattle.crawl_gate.specs.View.{units_held}
 use Rattle.crawl_gate.specs.GateInvariant.{Moment, GateInvariant}
 use Rattle.crawl_gate.specs.GateError.{IsMaximum}
 use Rattle.crawl_gate.specs.Seat.{GateId}
-use Rattle.crawl_frontier.specs.declared.entry.Entry.{Entry}
-use Rattle.crawl_frontier.specs.declared.entry.Message.{Message}
-use Rattle.crawl_frontier.specs.Entries.{MayFollow, KeepsRule, has_url}
+use Rattle.crawl_queues.specs.declared.entry.Entry.{Entry}
+use Rattle.crawl_queues.specs.declared.entry.Message.{Message}
+use Rattle.crawl_queues.specs.Entries.{MayFollow, KeepsRule, has_url}
 use Rattle.crawl_tie.specs.Whole.{Whole}
 use Rattle.crawl_tie.specs.Acts.{Act, Atomic}
 use Rattle.crawl_tie.specs.Parts.{UnitsAreOwned}

@@ -35,9 +35,9 @@ use Rattle.crawl_gate.specs.GateError.{IsMaximum}
 use Rattle.crawl_gate.specs.Seat.{GateId}
 use Rattle.crawl_gate.proofs.Histories as gate_words
 use Rattle.crawl_gate.proofs.Histories.{keeps_invariant, first_kept}
-use Rattle.crawl_frontier.specs.declared.entry.Entry.{Entry}
-use Rattle.crawl_frontier.specs.Entries as entries
-use Rattle.crawl_frontier.specs.History as subqueues
+use Rattle.crawl_queues.specs.declared.entry.Entry.{Entry}
+use Rattle.crawl_queues.specs.Entries as entries
+use Rattle.crawl_queues.specs.History as subqueues
 use Rattle.crawl_tie.specs.Whole.{Lane, Whole, IsFirst, Seeds, Offer}
 use Rattle.crawl_tie.specs.Acts.{Act, Splits, Looks, LooksAway, Enters, Loses, LeavesOffer, LeavesSeen, LeavesFetch, LeavesSeeds, Closes, NotClosesClosed, NotClosesPending, Pushes, Pops, PopsNone, FindsNothing, TakesIn, Looking, Entering, Losing, Leaving, Pushing, Popping, StandsIn, IsUnitOf, IsOwner, core_word, is_offering, loaded_by, with_gate, with_lane, after_splitting, after_looking, after_entering, after_leaving, after_fetching, after_seeding, after_pushing, Atomic, History}
 use Rattle.crawl_tie.specs.Shows.{events_of, events, message_of, HasLists, ShowsLane, ShowsWhole}

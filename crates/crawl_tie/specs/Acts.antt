@@ -15,13 +15,13 @@ use Rattle.crawl_gate.specs.View.{fresh_view, view_looking, view_entering, view_
 use Rattle.crawl_gate.specs.GateInvariant as gates
 use Rattle.crawl_gate.specs.History.{SeatSteps}
 use Rattle.crawl_gate.specs.Seat.{IsSeatOf}
-use Rattle.crawl_frontier.specs.declared.entry.Entry.{Entry}
-use Rattle.crawl_frontier.specs.declared.entry.Message.{Message}
-use Rattle.crawl_frontier.specs.declared.rule.Home.{Home}
-use Rattle.crawl_frontier.specs.Entries.{MayFollow, has_url}
-use Rattle.crawl_frontier.specs.Rule.{pushing, popping, reunited, spent, plain}
-use Rattle.crawl_frontier.specs.History as subqueues
-use Rattle.crawl_frontier.specs.History.{ViewAt}
+use Rattle.crawl_queues.specs.declared.entry.Entry.{Entry}
+use Rattle.crawl_queues.specs.declared.entry.Message.{Message}
+use Rattle.crawl_queues.specs.declared.rule.Home.{Home}
+use Rattle.crawl_queues.specs.Entries.{MayFollow, has_url}
+use Rattle.crawl_queues.specs.Rule.{pushing, popping, reunited, spent, plain}
+use Rattle.crawl_queues.specs.History as subqueues
+use Rattle.crawl_queues.specs.History.{ViewAt}
 use Rattle.crawl_tie.specs.Whole.{Lane, Whole, Owner, Seeds, Offer, Sent}
 
 -- Which step it is: a kind of step of the gate or of a subqueue, and for whom. A count is the one that the step leaves, or that

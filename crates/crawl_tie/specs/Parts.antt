@@ -3,10 +3,10 @@ use Rattle.std.specs.Prelude.{◌≡◌, ℕ, Bool, true, false, map, Option, So
 use Rattle.crawl_gate.specs.declared.rule.View.{View}
 use Rattle.crawl_gate.specs.Word.{Word}
 use Rattle.crawl_gate.specs.GateInvariant as gates
-use Rattle.crawl_frontier.specs.declared.entry.Entry.{Entry}
-use Rattle.crawl_frontier.specs.declared.rule.PassView.{PassView}
-use Rattle.crawl_frontier.specs.History as subqueues
-use Rattle.crawl_frontier.specs.History.{ViewAt, SubqueueStep, settles, divides, pushes, pops, finds_nothing, takes_in}
+use Rattle.crawl_queues.specs.declared.entry.Entry.{Entry}
+use Rattle.crawl_queues.specs.declared.rule.PassView.{PassView}
+use Rattle.crawl_queues.specs.History as subqueues
+use Rattle.crawl_queues.specs.History.{ViewAt, SubqueueStep, settles, divides, pushes, pops, finds_nothing, takes_in}
 use Rattle.crawl_tie.specs.Whole.{Whole, Owner, Seeds, Offer}
 use Rattle.crawl_tie.specs.Acts.{Splitting, Looking, Entering, Losing, Leaving, Closing, NotClosing, Pushing, Popping, Counting, TakingIn, IsOwner, is_offering}
 

@@ -1,7 +1,7 @@
 -- A sample history: two workers, two senders with one URL, a lost try, and the end of the run.
 use Rattle.std.specs.Prelude.{ℕ, List, [], ◌∷◌}
 use Rattle.crawl_gate.specs.Word.{open_at}
-use Rattle.crawl_frontier.specs.declared.entry.Entry.{Entry}
+use Rattle.crawl_queues.specs.declared.entry.Entry.{Entry}
 use Rattle.crawl_tie.specs.Acts.{Act, Splits, Looks, Enters, Loses, LeavesSeen, LeavesFetch, LeavesSeeds, Closes, NotClosesClosed, NotClosesPending, Pushes, Pops, PopsNone, FindsNothing, TakesIn}
 
 -- Two workers' passes and two senders' are split off. Both senders find count 1; 7 enters, and 9 loses and tries again. The URL

@@ -13,11 +13,11 @@ use Rattle.crawl_gate.specs.Word.{bits}
 use Rattle.crawl_gate.specs.View.{units_held}
 use Rattle.crawl_gate.specs.GateInvariant as gates
 use Rattle.crawl_gate.specs.Seat.{GateId}
-use Rattle.crawl_frontier.specs.declared.entry.Entry.{Entry}
-use Rattle.crawl_frontier.specs.declared.entry.Message.{Message}
-use Rattle.crawl_frontier.specs.Entries.{KeepsRule}
-use Rattle.crawl_frontier.specs.Rule.{SubqueueInvariant, home, plain}
-use Rattle.crawl_frontier.specs.History as subqueues
+use Rattle.crawl_queues.specs.declared.entry.Entry.{Entry}
+use Rattle.crawl_queues.specs.declared.entry.Message.{Message}
+use Rattle.crawl_queues.specs.Entries.{KeepsRule}
+use Rattle.crawl_queues.specs.Rule.{SubqueueInvariant, home, plain}
+use Rattle.crawl_queues.specs.History as subqueues
 use Rattle.crawl_tie.specs.Whole.{Lane, Whole}
 use Rattle.crawl_tie.specs.Acts.{Act, Splits, Looks, LooksAway, Enters, Loses, LeavesOffer, LeavesSeen, LeavesFetch, LeavesSeeds, Closes, NotClosesClosed, NotClosesPending, Pushes, Pops, PopsNone, FindsNothing, TakesIn}
 

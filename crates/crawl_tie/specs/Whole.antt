@@ -4,9 +4,9 @@ use Rattle.crawl_core.specs.declared.word.Word.{Word}
 use Rattle.crawl_gate.specs.GateInvariant as gates
 use Rattle.crawl_gate.specs.History.{first_moment}
 use Rattle.crawl_gate.specs.Seat.{GateId}
-use Rattle.crawl_frontier.specs.declared.rule.Home.{Home}
-use Rattle.crawl_frontier.specs.Rule.{pushing, popping, spent, home}
-use Rattle.crawl_frontier.specs.History as subqueues
+use Rattle.crawl_queues.specs.declared.rule.Home.{Home}
+use Rattle.crawl_queues.specs.Rule.{pushing, popping, spent, home}
+use Rattle.crawl_queues.specs.History as subqueues
 
 -- whose unit a seat of the gate holds: the seeds', that of an offer of this sender, or of an entry sent to this subqueue
 pub data Owner : Type 0 where

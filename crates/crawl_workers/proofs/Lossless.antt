@@ -11,11 +11,11 @@ use Rattle.crawl_keys.specs.HostKey.{host_key}
 use Rattle.crawl_pages.specs.declared.page.Page.{Page}
 use Rattle.crawl_pages.specs.declared.page.PageResult.{PageResult}
 use Rattle.crawl_pages.specs.Pages.{links_of}
-use Rattle.crawl_frontier.specs.declared.entry.Entry.{Entry}
-use Rattle.crawl_frontier.specs.declared.book.Logged.{Logged}
-use Rattle.crawl_frontier.specs.declared.book.Logged.TheVariants.{Accepted, Seen}
-use Rattle.crawl_frontier.specs.Entries.{has_url, entries_of}
-use Rattle.crawl_frontier.specs.Books.{BookId, sent_to}
+use Rattle.crawl_queues.specs.declared.entry.Entry.{Entry}
+use Rattle.crawl_queues.specs.declared.book.Logged.{Logged}
+use Rattle.crawl_queues.specs.declared.book.Logged.TheVariants.{Accepted, Seen}
+use Rattle.crawl_queues.specs.Entries.{has_url, entries_of}
+use Rattle.crawl_queues.specs.Books.{BookId, sent_to}
 use Rattle.crawl_frontier.specs.Parts.{WorkerId, SenderId}
 use Rattle.crawl_frontier.specs.Accounts.{At, IsPart, Agrees, Accounts}
 use Rattle.crawl_workers.specs.Logs.{line_of, HasLine, AllLogged}

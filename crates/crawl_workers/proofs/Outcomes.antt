@@ -6,11 +6,11 @@ use Rattle.std.proofs.lemmas.Grind.{flat_map-append}
 use Rattle.crawl_pages.specs.declared.page.Page.{Page}
 use Rattle.crawl_pages.specs.declared.page.PageResult.{PageResult}
 use Rattle.crawl_pages.specs.Pages.{links_of}
-use Rattle.crawl_frontier.specs.declared.entry.Entry.{Entry}
+use Rattle.crawl_queues.specs.declared.entry.Entry.{Entry}
 use Rattle.crawl_frontier.specs.declared.offer.Offer.{Offer}
 use Rattle.crawl_frontier.specs.declared.error.OfferError.{OfferError}
 use Rattle.crawl_frontier.specs.declared.error.OfferError.TheVariants as refused
-use Rattle.crawl_frontier.specs.Books.{BookId}
+use Rattle.crawl_queues.specs.Books.{BookId}
 use Rattle.crawl_frontier.specs.Offers.{OfferBooks, OfferWordsBeside, IsFiltered}
 use Rattle.crawl_frontier.specs.Parts.{WorkerId, BusyId, worker}
 use Rattle.crawl_workers.specs.declared.losses.Loss.{Loss}

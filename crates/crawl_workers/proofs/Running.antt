@@ -9,15 +9,15 @@ use Rattle.crawl_keys.specs.Assignment.{subqueue_of}
 use Rattle.crawl_pages.specs.declared.page.Page.{Page}
 use Rattle.crawl_pages.specs.declared.page.PageResult.{PageResult}
 use Rattle.crawl_pages.specs.Pages.{links_of}
-use Rattle.crawl_frontier.specs.declared.entry.Entry.{Entry}
-use Rattle.crawl_frontier.specs.declared.book.Logged.{Logged}
-use Rattle.crawl_frontier.specs.declared.book.Logged.TheVariants as logged
+use Rattle.crawl_queues.specs.declared.entry.Entry.{Entry}
+use Rattle.crawl_queues.specs.declared.book.Logged.{Logged}
+use Rattle.crawl_queues.specs.declared.book.Logged.TheVariants as logged
 use Rattle.crawl_frontier.specs.declared.offer.Offer.{Offer}
 use Rattle.crawl_frontier.specs.declared.offer.Offer.TheVariants.{Accepted, Seen}
 use Rattle.crawl_frontier.specs.declared.error.OfferError.{OfferError}
 use Rattle.crawl_frontier.specs.declared.error.OfferError.TheVariants as refused
-use Rattle.crawl_frontier.specs.Entries.{MayFollow, KeepsRule, entry}
-use Rattle.crawl_frontier.specs.Books.{BookId, book_accepting, book_seeing}
+use Rattle.crawl_queues.specs.Entries.{MayFollow, KeepsRule, entry}
+use Rattle.crawl_queues.specs.Books.{BookId, book_accepting, book_seeing}
 use Rattle.crawl_frontier.specs.Offers.{OfferBooks}
 use Rattle.crawl_frontier.specs.Parts.{WorkerId, BusyId, worker}
 use Rattle.crawl_workers.specs.declared.output.WorkerOutput.{WorkerOutput}

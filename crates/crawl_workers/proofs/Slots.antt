@@ -1,7 +1,7 @@
 -- What a table of slots keeps.
 use Rattle.std.proofs.Common.{◌≡◌, ◌<◌, ℕ, List, length, IfSome, sym, subst, slice_set, slice_index_or}
 use Rattle.std.proofs.lemmas.List.Elements.{All-set}
-use Rattle.crawl_frontier.specs.declared.book.Logged.{Logged}
+use Rattle.crawl_queues.specs.declared.book.Logged.{Logged}
 use Rattle.crawl_workers.specs.declared.recent.Slot.{Slot}
 use Rattle.crawl_workers.specs.Logs.{HasLine}
 use Rattle.crawl_workers.specs.Recent.{AllKnown, url_in}

@@ -2,9 +2,9 @@
 use Rattle.std.specs.Prelude.{◌≡◌, ℕ, Bool, IsTrue, List, ◌++◌, map}
 use Rattle.std.specs.List.{All, Contains}
 use Rattle.crawl_keys.specs.Assignment.{subqueue_of}
-use Rattle.crawl_frontier.specs.declared.book.Logged.{Logged}
-use Rattle.crawl_frontier.specs.declared.book.Logged.TheVariants.{Accepted, Seen}
-use Rattle.crawl_frontier.specs.Books.{BookId}
+use Rattle.crawl_queues.specs.declared.book.Logged.{Logged}
+use Rattle.crawl_queues.specs.declared.book.Logged.TheVariants.{Accepted, Seen}
+use Rattle.crawl_queues.specs.Books.{BookId}
 
 -- the URL and the subqueue of a line of a log
 abbrev pub line_of : Logged → List ℕ × ℕ

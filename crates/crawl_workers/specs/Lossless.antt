@@ -3,8 +3,8 @@ use Rattle.std.specs.Prelude.{◌≡◌, ℕ, Bool, true, IsTrue, List, map}
 use Rattle.std.specs.List.{All}
 use Rattle.crawl_keys.specs.Assignment.{subqueue_of}
 use Rattle.crawl_pages.specs.declared.page.PageResult.{PageResult}
-use Rattle.crawl_frontier.specs.declared.entry.Entry.{Entry}
-use Rattle.crawl_frontier.specs.Entries.{has_url}
+use Rattle.crawl_queues.specs.declared.entry.Entry.{Entry}
+use Rattle.crawl_queues.specs.Entries.{has_url}
 use Rattle.crawl_frontier.specs.Accounts.{At}
 
 -- the URLs of results, and of entries, in their order

@@ -4,8 +4,8 @@ use Rattle.std.specs.List.{All, flat_map, count_by, sum_by}
 use Rattle.crawl_pages.specs.declared.page.Page.{Page}
 use Rattle.crawl_pages.specs.declared.page.PageResult.{PageResult}
 use Rattle.crawl_pages.specs.Pages.{links_of}
-use Rattle.crawl_frontier.specs.declared.entry.Entry.{Entry}
-use Rattle.crawl_frontier.specs.Entries.{KeepsRule}
+use Rattle.crawl_queues.specs.declared.entry.Entry.{Entry}
+use Rattle.crawl_queues.specs.Entries.{KeepsRule}
 use Rattle.crawl_frontier.specs.Parts.{WorkerId}
 use Rattle.crawl_workers.specs.Logs.{AllLogged, Grows}
 use Rattle.crawl_workers.specs.Losses.{all_losses}

@@ -1,7 +1,7 @@
 -- What a worker remembers of the URLs that it offered.
 use Rattle.std.specs.Prelude.{ℕ, List, Option, None, Some, IfSome}
 use Rattle.std.specs.List.{All}
-use Rattle.crawl_frontier.specs.declared.book.Logged.{Logged}
+use Rattle.crawl_queues.specs.declared.book.Logged.{Logged}
 use Rattle.crawl_workers.specs.declared.recent.RecentUrls.{RecentUrls}
 use Rattle.crawl_workers.specs.declared.recent.Slot.{Slot}
 use Rattle.crawl_workers.specs.declared.recent.Slot.TheVariants.{Vacant, Taken}

@@ -3,7 +3,7 @@ use Rattle.std.specs.Prelude.{◌≡◌, ◌⊎◌, ℕ, ◌+◌, ◌-◌, ◌^�
 use Rattle.std.specs.List.{flat_map}
 use Rattle.crawl_pages.specs.declared.page.Page.{Page}
 use Rattle.crawl_pages.specs.Pages.{links_of}
-use Rattle.crawl_frontier.specs.declared.book.Logged.{Logged}
+use Rattle.crawl_queues.specs.declared.book.Logged.{Logged}
 use Rattle.crawl_frontier.specs.Parts.{WorkerId, BusyId, worker}
 use Rattle.crawl_workers.specs.declared.losses.Loss.TheVariants as loss
 use Rattle.crawl_workers.specs.declared.output.WorkerOutput.{WorkerOutput}

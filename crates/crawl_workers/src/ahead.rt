@@ -1,16 +1,16 @@
-//! What a worker tells its source of the fetches to come, so that these find near what they read.
+//! The URLs that a worker announces to its source before it fetches them, so that their fetches wait less for memory.
 
 use crawl_frontier::{Frontier, Name, Worker};
 use crawl_pages::SessionFetch;
 use std::sync::Wait;
 
-/// So many URLs a source expects at once.
+/// The number of URLs that are announced at the same time.
 const AT_ONCE: usize = 16;
 
 /// How far a worker has looked ahead.
 #[derive(Clone, Copy)]
 pub(crate) struct LookAhead {
-    /// It looks again when it has taken so many URLs.
+    /// The number of URLs after which it looks again.
     until: usize,
 }
 
@@ -20,8 +20,8 @@ impl LookAhead {
         LookAhead { until: 0 }
     }
 
-    /// Tells the source which URLs a worker that took so many takes next, once it has taken those that it looked at. Where few
-    /// wait a look costs more than it saves, so the next one comes later.
+    /// Announces the URLs that a worker takes after the first `taken`, if it has taken those that were announced before. If few
+    /// URLs wait, a look costs more than it saves, so the next one comes later.
     pub fn look<K: Name, F: SessionFetch, R: Wait>(
         &mut self,
         rt: &R,
@@ -41,7 +41,7 @@ impl LookAhead {
             AT_ONCE
         };
         let expected = hashes.get(..count).unwrap_or(&[]);
-        // The sum says nothing. What is read has to be asked for, or it would not be read.
+        // The sum means nothing. It is used only because the compiler would otherwise remove the reads.
         let read = usize::from(fetcher.expect(expected) == 0);
         self.until = taken.saturating_add(next).saturating_add(read);
     }

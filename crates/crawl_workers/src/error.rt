@@ -1,11 +1,11 @@
-//! Why a run could not be made.
+//! Why a run failed.
 use std::error::Error;
 use std::fmt;
 
-/// Why a run of several workers could not be made. No worker took a URL, and all of them are dropped.
+/// Why a run of several workers failed. No worker took a URL, and all of them are dropped.
 #[derive(Clone, Copy, Debug, PartialEq, Eq)]
 pub enum RunError {
-    /// There was not memory enough.
+    /// Out of memory.
     NoMemory,
     /// A thread could not be started.
     NoThread,

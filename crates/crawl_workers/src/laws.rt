@@ -1,22 +1,22 @@
-//! What follows from the definitions alone: what a run in which nothing is lost leaves in its account.
+//! Laws: what is in the account of a run that lost nothing. They are theorems, and do nothing when called.
 ghost use Rattle.std.specs.Prelude.{◌≡◌, ℕ, ◌<◌, Bool, List, [], Ok, Result};
 ghost use Rattle.std.specs.List.{All};
 ghost use Rattle.crawl_pages.specs.declared.page.Page.{Page};
 ghost use Rattle.crawl_pages.specs.declared.page.PageResult.{PageResult};
 ghost use Rattle.crawl_pages.specs.Pages.{links_of};
-ghost use Rattle.crawl_frontier.specs.declared.entry.Entry.{Entry};
+ghost use Rattle.crawl_queues.specs.declared.entry.Entry.{Entry};
 ghost use Rattle.crawl_frontier.specs.declared.error.OfferError.{OfferError};
 ghost use Rattle.crawl_frontier.specs.declared.offer.Offer.{Offer};
 ghost use Rattle.crawl_frontier.specs.Accounts.{At, IsPart, Accounts};
-ghost use Rattle.crawl_frontier.specs.Books.{BookId};
+ghost use Rattle.crawl_queues.specs.Books.{BookId};
 ghost use Rattle.crawl_frontier.specs.Offers.{OfferBooks};
 ghost use Rattle.crawl_frontier.specs.Parts.{WorkerId, SenderId};
 ghost use Rattle.crawl_workers.specs.Logs.{HasLine, Grows};
 ghost use Rattle.crawl_workers.specs.Lossless.{result_urls, entry_urls, IsAccepted, AllAccepted};
 ghost use Rattle.crawl_workers.specs.Ran.{Ran};
 
-/// Of each worker that lost nothing, in a run that has an account: where it had taken nothing before, its results have the
-/// URLs that its subqueue accepted, in order; and each allowed link of each of its results was accepted.
+/// For each worker that lost nothing, in a run that has an account: if it had taken nothing before, its results have the URLs
+/// that its queue accepted, in order; and each allowed link of each of its results was accepted.
 pub fn worker_without_loss()
     ensures fetched { (workers : ℕ) (allowed : List ℕ → Bool) (meaning : List ℕ → Page) (closed : List WorkerId) (senders : List SenderId) (queues : List (List Entry))
         → Accounts workers closed senders queues
@@ -28,8 +28,8 @@ pub fn worker_without_loss()
         → All (λ (r : PageResult). AllAccepted workers allowed queues (links_of r.page)) results }
 {}
 
-/// Of each part of a run that has an account: a URL of which its log has a line was accepted. So a seed whose offer was Ok
-/// was accepted, for the offer leaves a line of it, and the log only grows.
+/// For each part of a run that has an account: if its log has a line for a URL, this URL was accepted. So a seed whose offer
+/// returned `Ok` was accepted, because the offer adds a line to the log, and the log only grows.
 pub fn what_is_logged()
     ensures accepted { (workers : ℕ) (closed : List WorkerId) (senders : List SenderId) (queues : List (List Entry)) → 0 < workers
         → Accounts workers closed senders queues

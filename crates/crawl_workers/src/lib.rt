@@ -1,9 +1,9 @@
-//! Runs of a frontier's workers: each fetches what its subqueue holds and offers what it finds, until nothing is left
-//! anywhere.
+//! Runs the workers of a frontier: each fetches the URLs of its queue and offers the links that it finds, until every accepted
+//! URL is done.
 //!
-//! [`run_worker`] runs one worker on the calling thread, [`run_turns`] all of them there in turn, and [`run_threads`] each in
-//! a thread of its own. Whichever it is, a worker's [`WorkerEnd`] says the same of what the worker took, found and lost. Each
-//! has a second form, as [`run_worker_in`], for sources whose fetches remember something in a session.
+//! [`run_worker`] runs one worker on the calling thread, [`run_turns`] runs all of them there in turn, and [`run_threads`] runs
+//! each in its own thread. The contracts of all three promise the same of a worker's [`WorkerEnd`]. Each has a second form, such
+//! as [`run_worker_in`], for sources that remember something between two fetches in a session.
 #![tactic(auto)]
 
 mod ahead;

@@ -1,24 +1,24 @@
-//! What a worker lost, by why.
+//! What a worker lost, by cause.
 ghost use Rattle.std.specs.Prelude.{◌≡◌, ◌≢◌, Some};
 ghost use Rattle.crawl_frontier.specs.declared.error.OfferError.TheVariants as error;
 ghost use Rattle.crawl_workers.specs.Losses.{loss_of, no_losses, with_loss};
 
 use crawl_frontier::OfferError;
 
-/// How much a worker lost, by why. Each count stays at the greatest u64 once there.
+/// What a worker lost, by cause. A count that reaches the greatest u64 stays there.
 #[derive(Clone, Copy, Debug, PartialEq, Eq)]
 pub struct Losses {
     /// URLs whose fetch failed.
     pub failed: u64,
-    /// URLs that were fetched, and for whose result there was no room.
+    /// URLs that were fetched, but there was no memory for the result.
     pub unkept: u64,
-    /// Links that met as many pending URLs as the frontier allows.
+    /// Links that were offered while the frontier was full.
     pub full: u64,
-    /// Links that are more hops away than an entry holds.
+    /// Links that are too many hops away from a seed.
     pub too_far: u64,
-    /// Links whose offer met another sender with this worker's id.
+    /// Links that were refused because another sender has this worker's id.
     pub crossed: u64,
-    /// Links for which there was not memory enough.
+    /// Links that were refused because memory ran out.
     pub no_memory: u64,
 }
 
@@ -63,8 +63,8 @@ impl Losses {
     }
 }
 
-/// Why a link is lost whose offer by a worker was refused for this reason. One that the filter does not allow is not lost, and
-/// no worker with a URL meets the gate closed.
+/// The cause of loss of a link whose offer failed with this error. A link that the filter does not allow is not lost, and a
+/// worker that has a URL never finds the gate closed.
 pub(crate) fn loss_of(refused: OfferError) -> Loss
     requires filter { refused ≢ error.Filtered }
     requires gate { refused ≢ error.Closed }

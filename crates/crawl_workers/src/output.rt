@@ -1,6 +1,6 @@
 //! What a worker has found so far.
 ghost use Rattle.std.specs.Prelude.{◌≡◌, ◌⊎◌, ◌+◌, ◌-◌, ◌^◌, min, [], ℕ, List};
-ghost use Rattle.crawl_frontier.specs.declared.book.Logged.{Logged};
+ghost use Rattle.crawl_queues.specs.declared.book.Logged.{Logged};
 ghost use Rattle.crawl_workers.specs.Recent.{Knows};
 ghost use Rattle.crawl_workers.specs.Losses.{no_losses, with_loss};
 ghost use Rattle.crawl_workers.specs.Turn.{HasRoomOrNot, Keeps, Loses, Tallies};
@@ -14,8 +14,8 @@ use crawl_keys::CanonUrl;
 use crawl_pages::{Page, PageResult};
 use std::alloc::Global;
 
-/// Where its memory comes from, the results so far, how much was lost, up to the greatest u64, in all and by why, the URLs that
-/// were offered not long ago, and how far the worker has looked ahead.
+/// The allocator, the results so far, the number of losses (up to the greatest u64) in total and by cause, the URLs that were
+/// offered recently, and how far the worker has looked ahead.
 #[derive(Drop)]
 pub(crate) struct WorkerOutput {
     pub alloc: Global,
@@ -53,7 +53,7 @@ impl WorkerOutput {
         self.losses.count(loss);
     }
 
-    /// Keeps a result, or counts it as lost where there is no room for it.
+    /// Keeps a result, or counts it as lost if there is no memory for it.
     pub fn keep(&mut self, url: &CanonUrl, page: Page)
         ensures kept { Keeps url.now page self.old self.new ⊎ Loses 1 self.old self.new }
         ensures recent { self.new.recent ≡ self.old.recent }

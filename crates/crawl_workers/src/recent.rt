@@ -1,6 +1,6 @@
-//! The URLs that a worker offered not long ago: each has a line in its log, and is not offered again.
+//! The URLs that a worker offered recently: each has a line in the worker's log, and is not offered again.
 ghost use Rattle.std.specs.Prelude.{◌≡◌, ◌<◌, ◌≤◌, ◌+◌, true, ℕ, List, length, IfOk, IfSome, Some};
-ghost use Rattle.crawl_frontier.specs.declared.book.Logged.{Logged};
+ghost use Rattle.crawl_queues.specs.declared.book.Logged.{Logged};
 ghost use Rattle.crawl_workers.specs.Logs.{HasLine};
 ghost use Rattle.crawl_workers.specs.Recent.{AllKnown, Knows, url_in};
 
@@ -9,16 +9,16 @@ use std::alloc::{AllocError, Global};
 use std::mem;
 use std::mem::size_of;
 
-// A table begins with so many slots, and stops growing at so many.
+// The number of slots of the first table, and of the largest.
 const FEWEST_SLOTS: usize = 1_024;
 
 const MOST_SLOTS: usize = 1 << 22;
 
-/// So many URLs have their slots read at once.
+/// The number of URLs whose slots are read together.
 pub(crate) const READ_AT_ONCE: usize = 64;
 
-// What a slot has. Half of its URL's hash stands beside it, which leads to the slot and tells most other URLs from it, so that few
-// texts are looked at.
+// A slot. Next to the URL is half of its hash, the mark, which selects the slot and differs for most other URLs, so that few
+// texts are compared.
 #[derive(Drop)]
 enum Slot {
     Vacant,
@@ -43,7 +43,7 @@ impl Slot {
         }
     }
 
-    // Whether it has this URL's mark, and its URL this one's hash and last byte: so that both ends of its text are read.
+    // Whether it has this URL's mark, and its URL has this one's hash and last byte. So both ends of its text are read.
     fn has_ends(&self, of: &CanonUrl) -> bool {
         match self {
             Slot::Taken { mark, url } => {
@@ -56,14 +56,14 @@ impl Slot {
     }
 }
 
-/// A table with two slots for each remainder of a text's hash, for the last two URLs that came there. Others were put out and
-/// are forgotten: such a URL is offered once more. So who picks URLs of one hash makes a worker remember nothing, no more.
+/// A table with two slots for each remainder of a text's hash, for the last two URLs with it. Earlier ones are forgotten, and
+/// such a URL is offered once more. So an attacker who chooses URLs of one hash makes a worker forget them, but nothing worse.
 #[derive(Drop)]
 pub struct RecentUrls {
     slots: Vec<Slot>,
-    /// How many were put out since the table has its size.
+    /// The number of URLs that were forgotten since the table has its size.
     put_out: usize,
-    /// How many that came since then had been accepted before, so that a larger table may have known them.
+    /// The number of URLs since then that had been accepted before, so that a larger table might have known them.
     missed: usize,
 }
 
@@ -78,7 +78,7 @@ impl RecentUrls {
         }
     }
 
-    /// Whether the URL is remembered. Then it shares the text that is kept of it.
+    /// Whether the URL is remembered. If it is, it shares the text in the table from then on.
     pub fn has(&self, url: &mut CanonUrl) -> bool
         ensures url { url.new ≡ url.old }
         ensures line { (workers : ℕ) (log : List Logged) → Knows workers log self.now → result ≡ true → HasLine workers log url.old }
@@ -91,8 +91,8 @@ impl RecentUrls {
     }
 
     /// A bit for each of the 64 URLs from this index on, the lowest for the first: whether one of its slots has a URL of its hash. A
-    /// look-up waits for memory twice, for the slot and for the URL that it leads to. Here those of many URLs wait at the same
-    /// time, and `has` then finds both near.
+    /// look-up waits for memory twice, for the slot and for its URL. Here the look-ups of many URLs wait at the same time, so
+    /// that `has` then finds both in the cache.
     pub(crate) fn marks(&self, urls: &[CanonUrl], from: usize) -> u64
         requires { from ≤ length urls.now }
     {
@@ -105,8 +105,8 @@ impl RecentUrls {
         self.hashed(urls, marked)
     }
 
-    /// As [`RecentUrls::has`], where this was the URL's bit of the marks some time ago. One that came into its slots since then is
-    /// not looked for: it is offered once more.
+    /// Like [`RecentUrls::has`], but a URL that was not marked is not looked up. `marked` is its bit of the marks. If the URL was
+    /// remembered after the marks were read, it is offered once more.
     pub(crate) fn has_marked(&self, marked: bool, url: &mut CanonUrl) -> bool
         ensures url { url.new ≡ url.old }
         ensures line { (workers : ℕ) (log : List Logged) → Knows workers log self.now → result ≡ true → HasLine workers log url.old }
@@ -122,7 +122,7 @@ impl RecentUrls {
         let mut marked = 0;
         for (bit, url) in urls.iter().enumerate() {
             let slot = pair_of(mark_of(url), self.slots.len());
-            // Both are looked at, since which of them has it cannot be foreseen.
+            // Both are read, because a branch on the first could not be predicted.
             let first = self.slots[slot].has_mark(url);
             let second = self.slots[slot + 1].has_mark(url);
             marked |= u64::from(first | second) << bit;
@@ -130,7 +130,7 @@ impl RecentUrls {
         marked
     }
 
-    // Those of the bits whose URL has a slot with its whole hash.
+    // The bits of those URLs that have a slot with their whole hash.
     fn hashed(&self, urls: &[CanonUrl], marked: u64) -> u64
         requires slots { 2 ≤ length self.now.slots.items }
         requires urls { length urls.now ≤ 64 }
@@ -146,8 +146,8 @@ impl RecentUrls {
         hashed
     }
 
-    /// Remembers the URL, where there is room for it. The table grows where URLs come again that it does not remember: of a web
-    /// whose URLs come once it stays small.
+    /// Remembers the URL, if there is memory for it. The table grows if URLs that it has forgotten are offered again. So it stays
+    /// small for a web whose URLs are each linked once.
     pub fn remember(&mut self, alloc: Global, url: &CanonUrl, again: bool)
         ensures { (workers : ℕ) (log : List Logged) → Knows workers log self.old → HasLine workers log url.now → Knows workers log self.new }
     {
@@ -159,7 +159,7 @@ impl RecentUrls {
         }
     }
 
-    // Grows where enough were put out, and enough of those that came since had been accepted before.
+    // Grows if enough URLs were forgotten, and enough of those since then had been accepted before.
     fn grow_where_missed(&mut self, alloc: Global)
         ensures { (workers : ℕ) (log : List Logged) → Knows workers log self.old → Knows workers log self.new }
     {
@@ -170,7 +170,7 @@ impl RecentUrls {
         self.grow(alloc, FEWEST_SLOTS.max(2 * slots));
     }
 
-    // Puts a URL into the first of its slots, and what was there into the second.
+    // Writes a URL into the first of its slots, and what was there into the second.
     fn put(&mut self, slot: Slot)
         ensures { (workers : ℕ) (log : List Logged) → Knows workers log self.old → IfSome (url_in slot) (HasLine workers log) → Knows workers log self.new }
     {
@@ -188,7 +188,7 @@ impl RecentUrls {
         }
     }
 
-    // Moves to a table of so many slots, where there is room for it. No URL is read or copied for it.
+    // Moves to a table of `count` slots, if there is memory for it. No URL is read or copied.
     fn grow(&mut self, alloc: Global, count: usize)
         ensures { (workers : ℕ) (log : List Logged) → Knows workers log self.old → Knows workers log self.new }
     {
@@ -204,7 +204,7 @@ impl RecentUrls {
     }
 }
 
-// The first of the two slots for URLs of this mark, among so many. They are a power of two, so that `&` serves for the remainder.
+// The first of the two slots for URLs of this mark. The number of slots is a power of two, so `&` computes the remainder.
 #[tactic(auto, using(std::proofs::lemmas::Nat::and_le_r))]
 fn pair_of(mark: u32, slots: usize) -> usize
     requires { 2 ≤ slots }
@@ -223,7 +223,7 @@ fn mark_of(url: &CanonUrl) -> u32 {
     (url.text_hash() & 0xffff_ffff) as u32
 }
 
-// Whether the slot has the URL. Then it shares the text that is kept there.
+// Whether the slot has the URL. If it does, the URL shares its text from then on.
 fn share(slot: &Slot, url: &mut CanonUrl) -> bool
     ensures url { url.new ≡ url.old }
     ensures same { result ≡ true → url_in slot.now ≡ Some url.old }
@@ -239,7 +239,7 @@ fn share(slot: &Slot, url: &mut CanonUrl) -> bool
     }
 }
 
-// So many empty slots.
+// `count` empty slots.
 fn empty_slots(alloc: Global, count: usize) -> Result<Vec<Slot>, AllocError>
     ensures { IfOk result (λ slots. (workers : ℕ) (log : List Logged) → AllKnown workers log slots.items) }
 {

@@ -12,17 +12,17 @@ use crossbeam_utils::Backoff;
 use std::alloc::Global;
 use std::sync::Wait;
 
-// After so many turns in a row that find nothing, each with a longer spin behind it, a worker sleeps: these spins last some
-// microseconds, about as long as it takes to be woken. It never yields its processor, for beside other load that lasts until
-// the others have had theirs, which may be a thousand times as long.
+// The number of turns in a row that find nothing before a worker sleeps. Each is followed by a longer spin than the one before.
+// Together they last some microseconds, about as long as it takes to be woken. A worker never yields its processor, because
+// under other load that could take a thousand times as long.
 const SPINS: u32 = 7;
 
-/// Runs a worker until it meets the gate closed.
+/// Runs a worker until it finds the gate closed.
 ///
-/// It fetches each URL that it takes, offers the page's links in order but for those that it remembers to have offered, keeps the
-/// result, and is done with the URL. After a turn that found none it pauses, the longer the more such turns there were, and
-/// after seven of them it sleeps until there may be something to do ([`Worker::rest`]). While another worker is busy, or
-/// whoever seeds has not ended, it does not end; so the frontier's other workers have to run too, on other threads.
+/// It fetches each URL that it takes, offers the page's links in order except those that it remembers, keeps the result, and is
+/// done with the URL. After a turn that finds no URL it pauses, each time longer, and after seven such turns in a row it sleeps
+/// until there may be something to do ([`Worker::rest`]). It does not end while another worker is busy, or before the seeder
+/// has ended. So run the frontier's other workers on other threads.
 pub fn run_worker<K: Name, F: Fetch, R: Wait>(
     rt: &R,
     alloc: Global,
@@ -35,7 +35,7 @@ pub fn run_worker<K: Name, F: Fetch, R: Wait>(
     run_worker_in(rt, alloc, frontier, worker, &WithoutSession { fetcher })
 }
 
-/// As [`run_worker`], with a session of the fetcher that the worker owns.
+/// Like [`run_worker`], for a source with sessions. The worker owns its session.
 pub fn run_worker_in<K: Name, F: SessionFetch, R: Wait>(
     rt: &R,
     alloc: Global,

@@ -15,7 +15,7 @@ use std::sync::{OnceLock, Wait};
 use std::thread;
 use std::thread::{Promise, Threads};
 
-// What a thread promises: the end of this worker, where the run was not given up.
+// What a thread promises: the end of this worker, unless the run was given up.
 #[derive(Drop)]
 struct EndOf<'a, K: Name, F: SessionFetch> {
     worker: Snapshot<Worker<K>>,
@@ -30,7 +30,7 @@ impl<'a, K: Name, F: SessionFetch> Promise<Option<WorkerEnd<K>>> for EndOf<'a, K
     ghost kept_by = { λ p r. IfSome r (λ e. RanTo K.workers (allows K.filter) (F.meaning p.fetcher.now) p.worker.value e) };
 }
 
-// Runs the worker once all threads were started, and drops it where one could not be.
+// Runs the worker after all threads were started, or drops it if one could not be started.
 fn run_after<K: Name, F: SessionFetch, R: Wait>(
     rt: &R,
     alloc: Global,
@@ -47,8 +47,8 @@ fn run_after<K: Name, F: SessionFetch, R: Wait>(
     Some(run_worker_in(rt, alloc, frontier, worker, fetcher))
 }
 
-// Starts a thread for the last worker, then for those before it, says to all whether each was started, and joins them. So
-// the ends come in the order of the workers, and each level joins the one thread that it started.
+// Starts a thread for the last worker, then for those before it, tells all threads whether each was started, and joins them.
+// So the ends are in the order of the workers, and each level joins the one thread that it started.
 fn run_all<K: Name + Send + Sync, F: SessionFetch + Sync, R: Threads + Wait + Sync>(
     rt: &R,
     frontier: &Frontier<K>,
@@ -91,7 +91,7 @@ fn run_all<K: Name + Send + Sync, F: SessionFetch + Sync, R: Threads + Wait + Sy
             let others = run_all(rt, frontier, workers, fetcher, started, ends);
             let end = child.join(rt);
             let mut ends = others?;
-            // A thread gives up only where another could not be started, which `others` has told already.
+            // A thread gives up only if another could not be started, and then `others` is an error.
             let Some(end) = end else {
                 return Err(RunError::NoThread);
             };
@@ -101,7 +101,7 @@ fn run_all<K: Name + Send + Sync, F: SessionFetch + Sync, R: Threads + Wait + Sy
     )
 }
 
-// Room for so many ends.
+// A list with room for `count` ends.
 fn room_for<K: Name>(alloc: Global, count: usize) -> Result<Vec<WorkerEnd<K>>, RunError>
     ensures { MatchResult result (λ v. (v.items ≡ []) × (count ≤ vec_capacity v)) (λ e. e ≡ RunError.NoMemory) }
 {
@@ -111,14 +111,14 @@ fn room_for<K: Name>(alloc: Global, count: usize) -> Result<Vec<WorkerEnd<K>>, R
     Ok(ends)
 }
 
-/// Runs each worker in a thread of its own, and answers their ends in the order given. No worker takes a URL before all
-/// threads were started.
+/// Runs each worker in its own thread, and returns their ends in the given order. No worker takes a URL before all threads are
+/// started.
 ///
-/// The workers have to be all that the frontier has: one that is missing leaves its URLs waiting, and then none ends.
+/// Pass all workers of the frontier. If one is missing, its URLs stay in its queue, and the run does not end.
 ///
 /// # Errors
-/// `NoMemory` where there is no room for the ends, and `NoThread` where a thread could not be started; those that were
-/// started end then.
+/// `NoMemory` if there is no memory for the ends, and `NoThread` if a thread could not be started. The threads that were
+/// started then end.
 pub fn run_threads<K: Name + Send + Sync, F: Fetch + Sync, R: Threads + Wait + Sync>(
     rt: &R,
     alloc: Global,
@@ -131,7 +131,7 @@ pub fn run_threads<K: Name + Send + Sync, F: Fetch + Sync, R: Threads + Wait + S
     run_threads_in(rt, alloc, frontier, workers, &WithoutSession { fetcher })
 }
 
-/// As [`run_threads`], where each worker owns a session of the fetcher.
+/// Like [`run_threads`], for a source with sessions. Each worker owns its session.
 ///
 /// # Errors
 /// Those of [`run_threads`].

@@ -21,15 +21,14 @@ use std::sync::Wait;
 pub(crate) enum Step<K: Name> {
     /// It took a URL.
     Worked(Worker<K>),
-    /// It found none, and the gate open.
+    /// It found no URL, and the gate was open.
     Waits(Worker<K>),
-    /// It met the gate closed.
+    /// It found the gate closed.
     Closes(ClosedWorker<K>),
 }
 
-// Offers a link that is not remembered, counts it where it is lost, and answers whether it is. One that the filter does not
-// allow is not. A link that is remembered or was seen shares the text of the frontier's from then on. Only one that is marked is
-// looked for.
+// Offers a link that is not remembered, counts it if it is lost, and returns whether it is. A link that the filter does not allow
+// is not lost. A link that is remembered or was seen shares the frontier's text from then on. Only a marked link is looked up.
 fn is_refused<K: Name, R: Wait>(
     rt: &R,
     frontier: &Frontier<K>,
@@ -92,7 +91,7 @@ fn offer_links<K: Name, R: Wait>(
         }
         let marked = marks >> bit & 1 == 1;
         if !marked {
-            // It is offered and remembered, so each behind it is looked for: it may be the same.
+            // It is offered and remembered, so each link after it is looked up: it may be the same URL.
             marks = u64::MAX;
         }
         if is_refused(rt, frontier, busy, output, marked, &mut links[index]) {
@@ -102,7 +101,7 @@ fn offer_links<K: Name, R: Wait>(
     refused
 }
 
-// Offers the links of a page, in order, counts those that are lost, and answers the page as it was.
+// Offers the links of a page, in order, counts those that are lost, and returns the page as it was.
 fn offer_page<K: Name, R: Wait>(
     rt: &R,
     frontier: &Frontier<K>,
@@ -159,8 +158,7 @@ fn work<K: Name, F: SessionFetch, R: Wait>(
     output.keep(busy.url(), page);
 }
 
-/// A turn of a worker, which looks ahead before it where it is time to. A URL that is lost is still done, so that the gate can
-/// close.
+/// A turn of a worker. It looks ahead first, if it is time to. A URL that is lost is still done, so that the gate can close.
 pub(crate) fn turn<K: Name, F: SessionFetch, R: Wait>(
     rt: &R,
     frontier: &Frontier<K>,
@@ -171,7 +169,7 @@ pub(crate) fn turn<K: Name, F: SessionFetch, R: Wait>(
 ) -> Step<K>
     requires { F.is_of fetcher.now session.old }
     ensures right { F.is_of fetcher.now session.new }
-    // Whatever the run began with, the turn goes on with it.
+    // This holds for every worker with which the run began.
     ensures goes { (start : WorkerId) → Goes K.workers (allows K.filter) (F.meaning fetcher.now) start worker output.old → Goes K.workers (allows K.filter) (F.meaning fetcher.now) start (worker_in result) output.new }
 {
     let taken = output.results.len();

@@ -16,7 +16,7 @@ use std::alloc::Global;
 use std::mem;
 use std::sync::Wait;
 
-/// A worker with what it has found, or its end.
+/// A worker with its output so far, or its end.
 #[derive(Drop)]
 pub(crate) enum Runner<K: Name> {
     Going(Worker<K>, WorkerOutput),
@@ -25,7 +25,7 @@ pub(crate) enum Runner<K: Name> {
     Moved,
 }
 
-// A turn, if the worker has not ended. Answers whether it goes on.
+// A turn, if the worker has not ended. It returns whether the worker goes on.
 fn advance<K: Name, F: SessionFetch, R: Wait>(
     rt: &R,
     frontier: &Frontier<K>,
@@ -63,7 +63,7 @@ fn advance<K: Name, F: SessionFetch, R: Wait>(
     }
 }
 
-// A turn of each, in order. Answers whether one goes on.
+// A turn of each worker, in order. It returns whether a worker goes on.
 fn round<K: Name, F: SessionFetch, R: Wait>(
     rt: &R,
     frontier: &Frontier<K>,
@@ -86,7 +86,7 @@ fn round<K: Name, F: SessionFetch, R: Wait>(
     going
 }
 
-// Rounds until each has ended.
+// Rounds until every worker has ended.
 fn rounds<K: Name, F: SessionFetch, R: Wait>(
     rt: &R,
     frontier: &Frontier<K>,
@@ -106,7 +106,7 @@ fn rounds<K: Name, F: SessionFetch, R: Wait>(
     unreachable!()
 }
 
-// The workers, in order, with nothing found.
+// The workers, in order, each with an empty output.
 fn runners_of<K: Name>(
     alloc: Global,
     mut workers: Vec<Worker<K>>,
@@ -146,12 +146,12 @@ fn ends_of<K: Name>(mut runners: Vec<Runner<K>>, ends: Vec<WorkerEnd<K>>) -> Vec
     ends
 }
 
-/// Runs the workers on the calling thread, one turn of each in turn, and answers their ends in the order given.
+/// Runs the workers on the calling thread, where they take turns, and returns their ends in the given order.
 ///
-/// The workers have to be all that the frontier has: one that is missing leaves its URLs waiting, and then none ends.
+/// Pass all workers of the frontier. If one is missing, its URLs stay in its queue, and the run does not end.
 ///
 /// # Errors
-/// `NoMemory` where there is no room for the ends, before any URL was taken. `NoThread` never comes.
+/// `NoMemory` if there is no memory for the ends, before any URL was taken. `NoThread` is never returned.
 pub fn run_turns<K: Name, F: Fetch, R: Wait>(
     rt: &R,
     alloc: Global,
@@ -166,7 +166,7 @@ pub fn run_turns<K: Name, F: Fetch, R: Wait>(
     run_turns_in(rt, alloc, frontier, workers, &WithoutSession { fetcher })
 }
 
-/// As [`run_turns`], where all workers share a session of the fetcher.
+/// Like [`run_turns`], for a source with sessions. All workers share one session.
 ///
 /// # Errors
 /// Those of [`run_turns`].

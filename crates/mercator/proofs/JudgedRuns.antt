@@ -11,10 +11,10 @@ use Rattle.crawl_certificate.specs.declared.culprit.Culprit.{Culprit}
 use Rattle.crawl_certificate.specs.declared.error.CertError.{CertError}
 use Rattle.crawl_certificate.specs.declared.error.CertError.TheVariants as cert
 use Rattle.crawl_frontier.specs.Accounts.{Accounts}
-use Rattle.crawl_frontier.specs.Books.{fresh_book}
+use Rattle.crawl_queues.specs.Books.{fresh_book}
 use Rattle.crawl_frontier.specs.FreshParts.{AllFresh}
 use Rattle.crawl_frontier.specs.Parts.{SeederId, SenderId, WorkerId}
-use Rattle.crawl_frontier.specs.declared.entry.Entry.{Entry}
+use Rattle.crawl_queues.specs.declared.entry.Entry.{Entry}
 use Rattle.crawl_frontier.specs.declared.error.OfferError.{OfferError}
 use Rattle.crawl_frontier.specs.declared.error.OfferError.TheVariants as refused
 use Rattle.crawl_frontier.specs.declared.offer.Offer.{Offer}

@@ -7,7 +7,7 @@ use Rattle.crawl_certificate.specs.AccountEntries.{entries_in}
 use Rattle.crawl_frontier.specs.Accounts.{At, HasWorkers}
 use Rattle.crawl_frontier.specs.FreshParts.{AllFresh}
 use Rattle.crawl_frontier.specs.Parts.{WorkerId}
-use Rattle.crawl_frontier.specs.declared.entry.Entry.{Entry}
+use Rattle.crawl_queues.specs.declared.entry.Entry.{Entry}
 use Rattle.crawl_frontier.specs.declared.error.OfferError.{OfferError}
 use Rattle.crawl_frontier.specs.declared.error.OfferError.TheVariants as refused
 use Rattle.crawl_frontier.specs.declared.offer.Offer.{Offer}

@@ -12,7 +12,7 @@ use Rattle.crawl_certificate.specs.declared.culprit.Culprit.{Culprit}
 use Rattle.crawl_certificate.proofs.Places.{get_push, get_last}
 use Rattle.crawl_frontier.specs.Accounts.{AccountId}
 use Rattle.crawl_frontier.specs.Parts.{WorkerId}
-use Rattle.crawl_frontier.specs.declared.entry.Entry.{Entry}
+use Rattle.crawl_queues.specs.declared.entry.Entry.{Entry}
 use Rattle.crawl_pages.specs.declared.page.Page.{Page}
 use Rattle.crawl_pages.specs.declared.page.PageResult.{PageResult}
 use Rattle.crawl_workers.specs.Runs.{AllRan}

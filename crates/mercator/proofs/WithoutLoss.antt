@@ -11,9 +11,9 @@ use Rattle.crawl_certificate.proofs.Places.{place_among, among_at}
 use Rattle.crawl_certificate.specs.AccountEntries.{entries_in}
 use Rattle.crawl_certificate.specs.Certificate.{entry_urls, result_urls, AllowedAreIn, NothingLost}
 use Rattle.crawl_frontier.specs.Accounts.{Accounts}
-use Rattle.crawl_frontier.specs.Entries.{has_url}
+use Rattle.crawl_queues.specs.Entries.{has_url}
 use Rattle.crawl_frontier.specs.Parts.{WorkerId, SenderId}
-use Rattle.crawl_frontier.specs.declared.entry.Entry.{Entry}
+use Rattle.crawl_queues.specs.declared.entry.Entry.{Entry}
 use Rattle.crawl_keys.specs.Assignment.{subqueue_of}
 use Rattle.crawl_pages.specs.Pages.{links_of}
 use Rattle.crawl_pages.specs.declared.page.Page.{Page}

@@ -9,7 +9,7 @@ use Rattle.crawl_certificate.specs.Culprits.{is_at_fault}
 use Rattle.crawl_certificate.specs.Least.{IsLeast}
 use Rattle.crawl_frontier.specs.Accounts.{AccountId}
 use Rattle.crawl_frontier.specs.Limits.{IsWorkers}
-use Rattle.crawl_frontier.specs.declared.entry.Entry.{Entry}
+use Rattle.crawl_queues.specs.declared.entry.Entry.{Entry}
 use Rattle.crawl_frontier.specs.declared.error.FinishError.{FinishError}
 use Rattle.crawl_frontier.specs.declared.error.FinishError.TheVariants as finish
 use Rattle.crawl_frontier.specs.declared.error.FrontierError.{FrontierError}

@@ -6,11 +6,11 @@ use Rattle.crawl_certificate.specs.Culprits.{is_at_fault}
 use Rattle.crawl_certificate.specs.Least.{IsLeast}
 use Rattle.crawl_certificate.specs.declared.error.CertError.{CertError}
 use Rattle.crawl_frontier.specs.Accounts.{Accounts}
-use Rattle.crawl_frontier.specs.Books.{fresh_book}
+use Rattle.crawl_queues.specs.Books.{fresh_book}
 use Rattle.crawl_frontier.specs.FreshParts.{AllFresh}
 use Rattle.crawl_frontier.specs.Offers.{IsFiltered, OfferBooks, OfferWordsBeside}
 use Rattle.crawl_frontier.specs.Parts.{SeederId, SenderId, WorkerId}
-use Rattle.crawl_frontier.specs.declared.entry.Entry.{Entry}
+use Rattle.crawl_queues.specs.declared.entry.Entry.{Entry}
 use Rattle.crawl_frontier.specs.declared.error.OfferError.{OfferError}
 use Rattle.crawl_frontier.specs.declared.offer.Offer.{Offer}
 use Rattle.crawl_gate.specs.Seat.{GateId}

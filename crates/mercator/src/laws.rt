@@ -7,7 +7,7 @@ ghost use Rattle.crawl_certificate.specs.CertFaults.{seed_missing, not_fetched, 
 ghost use Rattle.crawl_certificate.specs.Certificate.{NothingLost};
 ghost use Rattle.crawl_frontier.specs.Accounts.{Accounts};
 ghost use Rattle.crawl_frontier.specs.Parts.{SenderId};
-ghost use Rattle.crawl_frontier.specs.declared.entry.Entry.{Entry};
+ghost use Rattle.crawl_queues.specs.declared.entry.Entry.{Entry};
 ghost use Rattle.crawl_pages.specs.declared.page.Page.{Page};
 ghost use Rattle.crawl_pages.specs.declared.page.PageResult.{PageResult};
 ghost use Rattle.crawl_workers.specs.Logs.{AllLogged};

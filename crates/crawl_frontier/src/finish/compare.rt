@@ -1,14 +1,13 @@
 //! The books of all parts, compared with the lists of all queues.
 ghost use Rattle.std.specs.Prelude.{◌≡◌, ◌<◌, ◌≤◌, ℕ, List, true, false, IfOk, length, map};
 ghost use Rattle.std.specs.BTreeSet as sets;
-ghost use Rattle.crawl_frontier.specs.declared.entry.Entry.{Entry};
-ghost use Rattle.crawl_frontier.specs.Books.{IsBook, book_of};
+ghost use Rattle.crawl_queues.specs.declared.entry.Entry.{Entry};
+ghost use Rattle.crawl_queues.specs.Books.{IsBook, book_of};
 ghost use Rattle.crawl_frontier.specs.Accounts.{At};
 ghost use Rattle.crawl_frontier.specs.Finishing.{LogsStand, CountsStand, CountFails, AgreeTo, KeepRuleBelow, AllAre, IdsOf, SendersIn, Stranger};
 
 use crate::accepted::AcceptedList;
-use crate::book::Book;
-use crate::entry::Entry;
+use crawl_queues::{Book, Entry};
 use std::alloc::{AllocError, Global};
 use std::collections::BTreeSet;
 

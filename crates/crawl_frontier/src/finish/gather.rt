@@ -2,16 +2,14 @@
 ghost use Rattle.std.specs.Prelude.{◌≡◌, ◌<◌, ◌≤◌, ℕ, List, [], true, None, Some, IfOk, is_some, map, if◌then◌else◌};
 ghost use Rattle.std.specs.BTreeMap.{get, is_at};
 ghost use Rattle.std.specs.Ordering.{nat_cmp};
-ghost use Rattle.crawl_frontier.specs.Books.{Knows, book_of};
+ghost use Rattle.crawl_queues.specs.Books.{Knows, book_of};
 ghost use Rattle.crawl_frontier.specs.Parts.{WorkerId};
 ghost use Rattle.crawl_frontier.specs.Finishing.{AllAre, Gathered, Slots, Placed, IsShared};
 
 use super::settle::least_of;
-use crate::book::Book;
 use crate::closed_worker::ClosedWorker;
-use crate::name::Name;
-use crate::rights::PopRight;
 use crate::sender::Sender;
+use crawl_queues::{Book, Name, PopRight};
 use std::alloc::{AllocError, Global};
 use std::collections::BTreeMap;
 

@@ -3,15 +3,13 @@ ghost use Rattle.std.specs.Prelude.{◌≡◌, ◌<◌, ◌≤◌, ℕ, [], true
 ghost use Rattle.std.specs.Ordering.{nat_cmp};
 ghost use Rattle.std.specs.BTreeMap.{get};
 ghost use Rattle.crawl_frontier.specs.declared.finish.settle.Doubt.{Doubt};
-ghost use Rattle.crawl_frontier.specs.PassId.{PassId};
+ghost use Rattle.crawl_queues.specs.PassId.{PassId};
 ghost use Rattle.crawl_frontier.specs.Accounts.{At};
 ghost use Rattle.crawl_frontier.specs.Finishing.{Settles, SettlesLast, AllSettle, RightsOf};
 
 use crate::accepted::AcceptedList;
-use crate::name::Name;
-use crate::rights::PopRight;
 use crate::shard::Shard;
-use crate::subqueue::{Held, Subqueue};
+use crawl_queues::{Held, Name, PopRight, Subqueue};
 use std::alloc::{AllocError, Global};
 use std::collections::BTreeMap;
 use std::sync::Mutex;

@@ -9,14 +9,12 @@ use super::settle::{all_there, first_doubt, settle_all, unlock};
 use super::tell::tell_books;
 use crate::accepted::AcceptedList;
 use crate::account::Account;
-use crate::book::Book;
 use crate::closed_worker::ClosedWorker;
 use crate::error::FinishError;
 use crate::frontier::Frontier;
-use crate::name::Name;
 use crate::sender::Sender;
 use crate::shard::Shard;
-use crate::subqueue::Subqueue;
+use crawl_queues::{Book, Name, Subqueue};
 use std::sync::Mutex;
 
 /// What is compared.

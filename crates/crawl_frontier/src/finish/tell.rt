@@ -1,16 +1,13 @@
 //! Extends what each part knows of the lists to what the lists are at the end. So each line of a log is true of the final
 //! list, and no line has to be read.
 ghost use Rattle.std.specs.Prelude.{◌≡◌, ◌<◌, ◌+◌, Some, length, map, slice_get, vec_len};
-ghost use Rattle.crawl_frontier.specs.Growing.{Stays};
-ghost use Rattle.crawl_frontier.specs.Logs.{ListsAre};
-ghost use Rattle.crawl_frontier.specs.Books.{Knows, book_of};
+ghost use Rattle.crawl_queues.specs.Growing.{Stays};
+ghost use Rattle.crawl_queues.specs.Logs.{ListsAre};
+ghost use Rattle.crawl_queues.specs.Books.{Knows, book_of};
 ghost use Rattle.crawl_frontier.specs.Finishing.{AllAre, AreRaised, AreToldOf, LogIsOf, LogsAreOf};
 
-use crate::book::Book;
-use crate::growing::Beginning;
-use crate::name::Name;
 use crate::shard::Shard;
-use crate::subqueue::Subqueue;
+use crawl_queues::{Beginning, Book, Name, Subqueue};
 
 // Extends what is known of the queue's list to what the shard has, if the shard is the queue's.
 fn tell_of<K: Name>(subqueue: &Subqueue, shard: &mut Shard<K>, queue: usize, told: &mut Beginning)

@@ -1,5 +1,5 @@
 use Rattle.std.proofs.Common.{◌==◌, Bool, false, not, ◌&&◌, ap, ◌∙◌, if◌then◌else◌}
-use Rattle.crawl_frontier.specs.declared.entry.Entry.{Entry}
+use Rattle.crawl_queues.specs.declared.entry.Entry.{Entry}
 use Rattle.crawl_keys.specs.HostFilter.{allows}
 use Rattle.crawl_certificate.specs.Least.{url_of}
 use Rattle.crawl_certificate.specs.Lookups.{is_in}

@@ -1,5 +1,5 @@
 use Rattle.std.proofs.Common.{◌≡◌, ◌+◌, ◌==◌, Bool, ◌||◌, ◌&&◌, map, take}
-use Rattle.crawl_frontier.specs.declared.entry.Entry.{Entry}
+use Rattle.crawl_queues.specs.declared.entry.Entry.{Entry}
 use Rattle.crawl_keys.specs.HostFilter.{allows}
 use Rattle.crawl_certificate.specs.CertFaults.{stands_in}
 use Rattle.crawl_certificate.specs.Culprits.{is_lost}

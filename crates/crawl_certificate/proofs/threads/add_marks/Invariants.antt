@@ -1,7 +1,7 @@
 use Rattle.std.proofs.Common.{◌≡◌, Bool, ◌&&◌, map, take}
 use Rattle.std.specs.List.{list_any}
 use Rattle.std.specs.Str.{bytes_eq}
-use Rattle.crawl_frontier.specs.declared.entry.Entry.{Entry}
+use Rattle.crawl_queues.specs.declared.entry.Entry.{Entry}
 use Rattle.crawl_certificate.specs.Least.{IsLeast, url_of}
 use Rattle.crawl_certificate.specs.Marks.{in_one}
 use Rattle.crawl_certificate.specs.Lookups.{pointed}

@@ -1,6 +1,6 @@
 use Rattle.std.proofs.Common.{◌≡◌, ◌==◌, Bool, true, ◌&&◌, take, if◌then◌else◌}
 use Rattle.std.specs.List.{All}
-use Rattle.crawl_frontier.specs.declared.entry.Entry.{Entry}
+use Rattle.crawl_queues.specs.declared.entry.Entry.{Entry}
 use Rattle.crawl_keys.specs.HostFilter.{allows}
 use Rattle.crawl_certificate.specs.Lookups.{is_in, pointed}
 use Rattle.crawl_certificate.specs.Marks.{MarksOnly}

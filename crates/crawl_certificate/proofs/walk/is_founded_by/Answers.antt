@@ -1,6 +1,6 @@
 use Rattle.std.proofs.Common.{◌≡◌, ◌+◌, ◌<◌, ◌^◌, ◌==◌, ◌&&◌, true, length, IfSome, sym, subst, arith, if◌then◌else◌}
 use Rattle.std.specs.List.{Contains}
-use Rattle.crawl_frontier.specs.declared.entry.Entry.{Entry}
+use Rattle.crawl_queues.specs.declared.entry.Entry.{Entry}
 use Rattle.crawl_keys.specs.HostFilter.{allows}
 use Rattle.crawl_certificate.specs.CertFaults.{is_founded, is_linked}
 use Rattle.crawl_certificate.specs.Marks.{MarksOnly}

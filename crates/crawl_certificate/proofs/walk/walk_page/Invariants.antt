@@ -1,5 +1,5 @@
 use Rattle.std.proofs.Common.{◌≡◌, ◌+◌, Bool, true, length}
-use Rattle.crawl_frontier.specs.declared.entry.Entry.{Entry}
+use Rattle.crawl_queues.specs.declared.entry.Entry.{Entry}
 use Rattle.crawl_certificate.specs.CertFaults.{stands_in}
 use Rattle.crawl_certificate.specs.Marks.{MarksOnly}
 use Rattle.crawl_certificate.proofs.walk.walk_page.Given as goal

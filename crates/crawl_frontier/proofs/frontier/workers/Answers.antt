@@ -1,7 +1,7 @@
 use Rattle.std.proofs.Common.{◌≡◌, ℕ, ◌∙◌, rules, arith, ap, length}
 use Rattle.crawl_gate.specs.View.{fresh_view}
 use Rattle.crawl_gate.specs.Seat.{GateId}
-use Rattle.crawl_frontier.specs.Books.{fresh_book}
+use Rattle.crawl_queues.specs.Books.{fresh_book}
 use Rattle.crawl_frontier.proofs.Lines.{fresh-snoc}
 use Rattle.crawl_frontier.proofs.frontier.workers.Goals as goal
 

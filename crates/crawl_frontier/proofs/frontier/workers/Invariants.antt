@@ -1,6 +1,6 @@
 use Rattle.std.proofs.Common.{◌≡◌, ◌≤◌, ◌+◌, length, vec_len}
 use Rattle.std.specs.Prelude.{vec_capacity}
-use Rattle.crawl_frontier.specs.Books.{Knows, book_of}
+use Rattle.crawl_queues.specs.Books.{Knows, book_of}
 use Rattle.crawl_frontier.specs.FreshParts.{AllPop, AllFresh}
 use Rattle.crawl_frontier.proofs.frontier.workers.Given as goal
 

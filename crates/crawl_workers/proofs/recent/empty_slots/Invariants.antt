@@ -1,5 +1,5 @@
 use Rattle.std.proofs.Common.{ℕ, List}
-use Rattle.crawl_frontier.specs.declared.book.Logged.{Logged}
+use Rattle.crawl_queues.specs.declared.book.Logged.{Logged}
 use Rattle.crawl_workers.specs.Recent.{AllKnown}
 use Rattle.crawl_workers.proofs.recent.empty_slots.Given as goal
 

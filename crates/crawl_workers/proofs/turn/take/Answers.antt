@@ -1,5 +1,5 @@
 use Rattle.std.proofs.Common.{ap, sym, subst}
-use Rattle.crawl_frontier.specs.Books.{BookId}
+use Rattle.crawl_queues.specs.Books.{BookId}
 use Rattle.crawl_frontier.specs.Parts.{WorkerId}
 use Rattle.crawl_keys.specs.HostFilter.{allows}
 use Rattle.crawl_workers.specs.Recent.{Knows}

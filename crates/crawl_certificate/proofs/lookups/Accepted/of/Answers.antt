@@ -2,7 +2,7 @@ use Rattle.std.proofs.Common.{rules, ◌≡◌, ◌+◌, List, [], ◌∷◌, �
 use Rattle.std.proofs.lemmas.Grind.{flat_map-append}
 use Rattle.std.proofs.lemmas.List.{take_more, take_all, append-nil, length_push}
 use Rattle.std.proofs.lemmas.Option.{slice_get_within, get_or_from_slice_get}
-use Rattle.crawl_frontier.specs.declared.entry.Entry.{Entry}
+use Rattle.crawl_queues.specs.declared.entry.Entry.{Entry}
 use Rattle.crawl_certificate.specs.AccountEntries.{entries_in}
 use Rattle.crawl_certificate.specs.Queues.{AreFirsts}
 use Rattle.crawl_certificate.proofs.Indices.{no_firsts, firsts_push}

@@ -1,6 +1,6 @@
 use Rattle.std.proofs.Common.{sym, ap, ◌∙◌}
 use Rattle.std.proofs.lemmas.Option.{slice_get_within}
-use Rattle.crawl_frontier.specs.declared.entry.Entry.{Entry}
+use Rattle.crawl_queues.specs.declared.entry.Entry.{Entry}
 use Rattle.crawl_frontier.proofs.Gets.{same_at}
 use Rattle.crawl_certificate.proofs.Walks.{stands_there}
 use Rattle.crawl_certificate.proofs.lookups.Accepted.with_url.Goals as goal

@@ -1,5 +1,5 @@
 use Rattle.std.proofs.Common.{◌<◌, ℕ, List}
-use Rattle.crawl_frontier.specs.declared.entry.Entry.{Entry}
+use Rattle.crawl_queues.specs.declared.entry.Entry.{Entry}
 use Rattle.crawl_frontier.specs.Accounts.{At}
 use Rattle.crawl_frontier.specs.Finishing.{SendersIn}
 use Rattle.crawl_frontier.proofs.finish.compare.all_senders_in.Given as goal

@@ -1,5 +1,5 @@
 use Rattle.std.proofs.Common.{◌≡◌, ◌++◌, List, map, vec_len}
-use Rattle.crawl_frontier.specs.Books.{BookId, book_of}
+use Rattle.crawl_queues.specs.Books.{BookId, book_of}
 use Rattle.crawl_frontier.specs.Finishing.{AgreeTo}
 use Rattle.crawl_frontier.proofs.finish.compare.books_agree.Given as goal
 

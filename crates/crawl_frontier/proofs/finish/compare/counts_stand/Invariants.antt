@@ -1,4 +1,4 @@
-use Rattle.crawl_frontier.specs.Books.{book_of}
+use Rattle.crawl_queues.specs.Books.{book_of}
 use Rattle.crawl_frontier.specs.Finishing.{CountsStand}
 use Rattle.crawl_frontier.proofs.finish.compare.counts_stand.Given as goal
 

@@ -1,5 +1,5 @@
 use Rattle.std.proofs.Common.{map}
-use Rattle.crawl_frontier.specs.Books.{book_of}
+use Rattle.crawl_queues.specs.Books.{book_of}
 use Rattle.crawl_frontier.proofs.Settling.{ids_more, at_book}
 use Rattle.crawl_frontier.proofs.finish.compare.ids_of.Goals as goal
 

@@ -3,8 +3,8 @@ use Rattle.std.specs.Prelude.{is_some, vec_len, MatchOption}
 use Rattle.std.specs.Ordering.{nat_cmp}
 use Rattle.std.specs.BTreeMap.{get, is_at}
 use Rattle.std.proofs.lemmas.List.{map-append, nil_from_length}
-use Rattle.crawl_frontier.specs.declared.book.Book.{Book}
-use Rattle.crawl_frontier.specs.Books.{BookId, Knows, book_of, IsBook}
+use Rattle.crawl_queues.specs.declared.book.Book.{Book}
+use Rattle.crawl_queues.specs.Books.{BookId, Knows, book_of, IsBook}
 use Rattle.crawl_frontier.specs.Parts.{WorkerId}
 use Rattle.crawl_frontier.specs.Accounts.{At}
 use Rattle.crawl_frontier.specs.Finishing.{AllAre, Placed, Gathered}

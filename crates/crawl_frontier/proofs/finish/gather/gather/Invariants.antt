@@ -1,5 +1,5 @@
 use Rattle.std.proofs.Common.{◌<◌, ◌≤◌, map, vec_len, length}
-use Rattle.crawl_frontier.specs.Books.{Knows, book_of}
+use Rattle.crawl_queues.specs.Books.{Knows, book_of}
 use Rattle.crawl_frontier.specs.Finishing.{AllAre, Slots, Placed, Gathered, IsShared}
 use Rattle.crawl_frontier.proofs.finish.gather.gather.Given as goal
 

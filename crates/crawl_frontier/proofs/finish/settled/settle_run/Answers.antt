@@ -2,10 +2,10 @@ use Rattle.std.proofs.Common.{◌≡◌, ◌<◌, ℕ, List, [], Option, true, N
 use Rattle.std.specs.Prelude.{is_some}
 use Rattle.std.specs.Ordering.{nat_cmp}
 use Rattle.std.specs.BTreeMap.{get}
-use Rattle.crawl_frontier.specs.declared.book.Book.{Book}
-use Rattle.crawl_frontier.specs.declared.entry.Entry.{Entry}
+use Rattle.crawl_queues.specs.declared.book.Book.{Book}
+use Rattle.crawl_queues.specs.declared.entry.Entry.{Entry}
 use Rattle.crawl_frontier.specs.declared.finish.settle.Doubt.{Doubt}
-use Rattle.crawl_frontier.specs.Books.{BookId, IsBook, book_of}
+use Rattle.crawl_queues.specs.Books.{BookId, IsBook, book_of}
 use Rattle.crawl_frontier.specs.Parts.{ShardId}
 use Rattle.crawl_frontier.specs.Accounts.{At, HasWorkers}
 use Rattle.crawl_frontier.specs.Finishing.{AllAre, Gathered, LogsAreOf, SendersIn, IdsOf, KeepRuleBelow, Stranger}

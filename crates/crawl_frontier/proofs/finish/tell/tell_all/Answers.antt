@@ -3,7 +3,8 @@ use Rattle.std.proofs.lemmas.Option.{slice_get_read}
 use Rattle.crawl_frontier.specs.Parts.{ShardId}
 use Rattle.crawl_frontier.specs.Accounts.{At}
 use Rattle.crawl_frontier.proofs.Logging.{raised_lists, raised_none}
-use Rattle.crawl_frontier.proofs.Telling.{set_same, told_more, told_of}
+use Rattle.crawl_queues.proofs.LogLines.{set_same}
+use Rattle.crawl_frontier.proofs.Telling.{told_more, told_of}
 use Rattle.crawl_frontier.proofs.finish.tell.tell_all.Goals as goal
 
 pub loop-queue-init : goal.loop-queue-init

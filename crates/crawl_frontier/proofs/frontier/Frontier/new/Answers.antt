@@ -1,7 +1,7 @@
 use Rattle.std.proofs.Common.{◌∙◌, List, ap, subst, arith}
-use Rattle.crawl_frontier.specs.QueueId.{QueueId}
+use Rattle.crawl_queues.specs.QueueId.{QueueId}
 use Rattle.crawl_frontier.specs.SetupId.{SetupId}
-use Rattle.crawl_frontier.specs.Logs.{ListsAre}
+use Rattle.crawl_queues.specs.Logs.{ListsAre}
 use Rattle.crawl_frontier.specs.FreshParts.{AllPush, AllPop}
 use Rattle.crawl_frontier.proofs.Lines.{line-push, line-pop}
 use Rattle.crawl_frontier.proofs.frontier.Frontier.new.Goals as goal

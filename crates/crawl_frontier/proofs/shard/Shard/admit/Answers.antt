@@ -2,8 +2,8 @@ use Rattle.std.proofs.Common.{rules, ◌≡◌, ◌∙◌, List, false, Some, No
 use Rattle.std.specs.Prelude.{is_some}
 use Rattle.std.proofs.lemmas.Option.{slice_get_read}
 use Rattle.hash_index.specs.Lists.{index_of}
-use Rattle.crawl_frontier.specs.declared.entry.Entry.{Entry}
-use Rattle.crawl_frontier.specs.Entries.{has_url}
+use Rattle.crawl_queues.specs.declared.entry.Entry.{Entry}
+use Rattle.crawl_queues.specs.Entries.{has_url}
 use Rattle.crawl_frontier.specs.Parts.{ShardId}
 use Rattle.crawl_frontier.proofs.Urls.{has_index, index_within, url_there}
 use Rattle.crawl_frontier.proofs.Admitting.{answered}

@@ -1,5 +1,5 @@
 use Rattle.std.proofs.Common.{ℕ, List, vec_len}
-use Rattle.crawl_frontier.specs.declared.book.Logged.{Logged}
+use Rattle.crawl_queues.specs.declared.book.Logged.{Logged}
 use Rattle.crawl_workers.specs.Recent.{AllKnown, Knows}
 use Rattle.crawl_workers.proofs.recent.RecentUrls.grow.Given as goal
 

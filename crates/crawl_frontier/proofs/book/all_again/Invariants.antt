@@ -1,7 +1,0 @@
-use Rattle.std.proofs.Common.{◌≡◌, ◌≤◌, take, vec_len}
-use Rattle.std.specs.Prelude.{vec_capacity}
-use Rattle.crawl_frontier.proofs.book.all_again.Given as goal
-
-abbrev pub invariant-loop-queue : goal.invariant-loop-queue
-invariant-loop-queue l = (l.told.items ≡ l.initial.told.items) × (l.all.items ≡ take l.queue l.initial.told.items)
-    × (vec_len l.all ≡ l.queue) × (vec_len l.queues ≤ vec_capacity l.all)

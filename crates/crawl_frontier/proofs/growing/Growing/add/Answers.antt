@@ -1,6 +1,0 @@
-use Rattle.std.proofs.Common.{rules}
-use Rattle.crawl_frontier.proofs.Moves.{adds}
-use Rattle.crawl_frontier.proofs.growing.Growing.add.Goals as goal
-
-pub load-requires : goal.load-requires
-load-requires g c = (search rules, search rules, adds _ _ _ _ c.owner.invariant.0)

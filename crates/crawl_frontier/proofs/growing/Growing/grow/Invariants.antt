@@ -1,4 +1,0 @@
-use Rattle.crawl_frontier.proofs.growing.Growing.grow.Given as goal
-
-abbrev pub ghosts-add : goal.ghosts-add
-ghosts-add a = record { entry = a.entry.now }

@@ -1,4 +1,0 @@
-use Rattle.crawl_frontier.proofs.subqueue.Subqueue.new.Given as goal
-
-abbrev pub ghosts-settle : goal.ghosts-settle
-ghosts-settle a = record { home = record { gate = a.gate.now; workers = a.workers; queue = a.queue } }

@@ -1,8 +1,0 @@
--- What a contract sees of a pass.
-use Rattle.crawl_frontier.specs.QueueId.{QueueId}
-use Rattle.crawl_frontier.specs.declared.rule.PassView.{PassView}
-
--- which subqueue a pass is of, and what it knows
-pub record PassId : Type 0 where
-  pub subqueue : QueueId
-  pub view : PassView

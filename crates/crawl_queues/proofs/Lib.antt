@@ -1,0 +1,5 @@
+pub mod Entries
+pub mod Moves
+pub mod Passing
+pub mod LogLines
+pub mod Histories

@@ -1,0 +1,104 @@
+-- Each move of a seat keeps the rule of a list that only grows.
+use Rattle.std.proofs.Common.{◌≡◌, ◌≢◌, ℕ, zero, suc, List, [], ◌∷◌, ◌++◌, set, true, false, true≢false, refl, sym, ap, ◌∙◌, subst, ⊎_elim}
+use mathlib.Core.Option.{some, some-ne-none, some-injective}
+use lib.ListN.{get_elem?}
+use Rattle.atomic_table.specs.Table.{Me, Allows, Splits, Joins, keeps, opening}
+use Rattle.atomic_table.proofs.Lists.{at_set, at_snoc, set_again}
+use Rattle.crawl_queues.specs.declared.entry.Entry.{Entry}
+use Rattle.crawl_queues.specs.declared.growing.rule.ListView.{ListView}
+use Rattle.crawl_queues.specs.Growing.{holding, owning, beginning, Stays, Fits, Grows, Adding, Compares}
+
+abbrev pub Sitting : Type 0
+Sitting = Me (Unit {0}) ListView
+
+off : {X : Type 0} → false ≡ true → X
+off e = absurd (true≢false (sym e))
+
+pub stays_front : {X : Type 0} (xs ys : List X) → Stays xs (xs ++ ys)
+stays_front [] ys k p e = absurd (cc)
+stays_front (x ∷ xs) ys zero p e = e
+stays_front (x ∷ xs) ys (suc k) p e = stays_front xs ys k p e
+
+pub stays_nil : {X : Type 0} (xs : List X) → Stays [] xs
+stays_nil xs k x e = absurd (cc)
+
+pub stays_on : {X : Type 0} (xs ys zs : List X) → Stays xs ys → Stays ys zs → Stays xs zs
+stays_on xs ys zs a b k x e = b k x (a k x e)
+
+fits_set : (owner : ℕ) (list : List Entry) (views : List ListView) (seat : ℕ) (w : ListView) → ((j : ℕ) (u : ListView) → j ≢ seat → get_elem? views j ≡ some u → Fits owner list j u)
+    → Fits owner list seat w → (j : ℕ) (u : ListView) → get_elem? (set views seat w) j ≡ some u → Fits owner list j u
+fits_set owner list views seat w others mine j u e =
+    ⊎_elim
+    (λ (x : (j ≡ seat) × (w ≡ u)). subst (λ (y : ℕ × ListView). Fits owner list y.0 y.1) (λ i. (sym x.0 i, x.1 i)) mine)
+    (λ (x : (j ≢ seat) × (get_elem? views j ≡ some u)). others j u x.0 x.1)
+    (at_set views seat j w u e)
+
+pub begins : (words : List ℕ) → Grows (opening words [] (owning []))
+begins words = (0, [], one)
+  where
+    one : (seat : ℕ) (v : ListView) → get_elem? (owning [] ∷ []) seat ≡ some v → Fits 0 [] seat v
+    one zero v e = subst (Fits 0 [] 0) (some-injective _ _ e) ((λ _. (refl, refl)), stays_nil [])
+    one (suc seat) v e = absurd (some-ne-none v (sym e))
+
+pub adds : (slots seat : ℕ) (m : Sitting) (x : Entry) → m.0 ≡ owning m.0.all → Allows Grows slots seat m 0 (λ r. r) (λ n after. Adding x m after)
+adds slots seat m x is table h _ at _ =
+    let mine = (h.2 seat m.0 at).0 (ap (λ v. v.owns) is) in
+    let w = owning (m.0.all ++ x ∷ []) in
+    let list = h.1 ++ x ∷ [] in (
+      w,
+      keeps,
+      tt,
+      (
+        h.0,
+        list,
+        fits_set h.0 list table.views seat w
+            (λ j u apart e. ((λ o. absurd (apart (((h.2 j u e).0 o).0 ∙ sym mine.0))), stays_on u.begins h.1 list (h.2 j u e).1 (stays_front h.1 (x ∷ []))))
+            ((λ _. (mine.0, ap (λ l. l ++ x ∷ []) mine.1)), stays_nil list),
+      ),
+      (refl, refl),
+    )
+
+pub compares : (slots seat : ℕ) (m : Sitting) → m.0.owns ≡ true → Allows Grows slots seat m 0 (λ r. r) (λ n after. Compares m after)
+compares slots seat m owns table h _ at _ =
+    let mine = h.2 seat m.0 at in
+    let known = mine.0 owns in
+    let w = owning m.0.all in (
+      w,
+      keeps,
+      tt,
+      (h.0, h.1, fits_set h.0 h.1 table.views seat w (λ j u apart e. h.2 j u e) ((λ _. known), stays_nil h.1)),
+      (subst (λ l. Stays m.0.begins l) (sym known.1) mine.1, refl, refl),
+    )
+
+pub tells : (seat : ℕ) (v : ListView) → v ≡ owning v.all → Splits Grows seat v v (beginning v.all)
+tells seat v is table h at =
+    let known = (h.2 seat v at).0 (ap (λ u. u.owns) is) in (
+      h.0,
+      h.1,
+      λ j u e. ⊎_elim
+          (λ was. h.2 j u (subst (λ l. get_elem? l j ≡ some u) (set_again table.views seat v at) was))
+          (λ (same : beginning v.all ≡ u). subst (Fits h.0 h.1 j) same ((λ o. off o), subst (λ l. Stays v.all l) known.1 (λ k x e. e)))
+          (at_snoc (set table.views seat v) (beginning v.all) u j e),
+    )
+
+pub repeats : (seat : ℕ) (v : ListView) → Splits Grows seat v v (beginning v.begins)
+repeats seat v table h at = (
+  h.0,
+  h.1,
+  λ j u e. ⊎_elim
+      (λ was. h.2 j u (subst (λ l. get_elem? l j ≡ some u) (set_again table.views seat v at) was))
+      (λ (same : beginning v.begins ≡ u). subst (Fits h.0 h.1 j) same ((λ o. off o), (h.2 seat v at).1))
+      (at_snoc (set table.views seat v) (beginning v.begins) u j e),
+)
+
+pub hands_in : (seat : ℕ) (v : ListView) (other : ℕ) (u : ListView) → v ≡ owning v.all → Joins Grows seat v other u (holding v.all u.begins) (beginning [])
+hands_in seat v other u is table h at apart there =
+    let w = holding v.all u.begins in
+    let mine = (h.2 seat v at).0 (ap (λ x. x.owns) is) in
+    let theirs = ⊎_elim (λ (t : (other ≡ seat) × (w ≡ u)). absurd (apart t.0)) (λ (t : (other ≢ seat) × (get_elem? table.views other ≡ some u)). h.2 other u t.1) (at_set table.views seat other w u there) in (
+      h.0,
+      h.1,
+      fits_set h.0 h.1 (set table.views seat w) other (beginning [])
+          (λ j y _ e. fits_set h.0 h.1 table.views seat w (λ i z _ e'. h.2 i z e') ((λ _. mine), theirs.1) j y e)
+          ((λ o. off o), stays_nil h.1),
+    )

@@ -1,0 +1,9 @@
+pub mod Growing
+pub mod Known
+pub mod QueueId
+pub mod Entries
+pub mod Rule
+pub mod PassId
+pub mod Logs
+pub mod Books
+pub mod History
