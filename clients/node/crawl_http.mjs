@@ -12,8 +12,10 @@
  * `failed` if the host does not respond.
  *
  * - It respects robots.txt, and waits between two requests to a host: --delay seconds, or the
- *   Crawl-delay of robots.txt if that is longer. It skips a host if its robots.txt asks for more
- *   than a day, or if three requests for it fail: there is no response, or its status is 5xx.
+ *   Crawl-delay of robots.txt if that is longer. Meanwhile the worker visits its other hosts, so
+ *   the URLs of a host are not always fetched in the order in which they were found. It skips a
+ *   host if its robots.txt asks for more than a day, or if three requests for it fail: there is no
+ *   response, or its status is 5xx.
  * - It reads at most --largest bytes of a page, in at most SECONDS.
  * - It offers the target of a redirect, and does not follow it.
  * - With --log, it resumes after Ctrl-C, `kill -9` or a crash: run the same command again.
@@ -38,6 +40,8 @@ import { Frontier, FrontierError } from './mercator_frontier.mjs';
 const SECONDS = 30;
 const DAY = 86_400;
 const ROBOTS_BYTES = 500_000;
+/** A search for a host that need not wait ends after this many URLs of hosts that it has met. */
+const OLD_HOSTS = 8;
 const REDIRECTS = new Set([301, 302, 303, 307, 308]);
 const PAGES = new Set(['text/html', 'application/xhtml+xml']);
 /** The attribute with the link, by element. */
@@ -284,20 +288,34 @@ class Hosts {
     this.settings = settings;
   }
 
+  /** When a URL may be fetched, like Date.now(). If its site is new, requests its robots.txt. */
+  async readyAt(/** @type {string} */ url) {
+    const { refusal } = await this.#siteOf(url);
+    return refusal === undefined ? this.#next.get(new URL(url).hostname) ?? 0 : 0;
+  }
+
   /** Fetches a URL if its host allows it. */
   async visit(/** @type {string} */ url) {
-    const { agent, delay, largest } = this.settings;
+    const { agent, largest } = this.settings;
+    const { delay, refusal } = await this.#siteOf(url);
+    return refusal === undefined
+      ? this.#get(new URL(url).hostname, delay, url, agent, largest) : replyOf(refusal);
+  }
+
+  /** The delay of a URL's site, and the URL's status if it must not be fetched. */
+  async #siteOf(/** @type {string} */ url) {
     const { origin, hostname } = new URL(url);
     let site = this.#sites.get(origin);
     if (!site) {
       const robots = await this.#robotsOf(origin, hostname);
-      site = { robots, delay: Math.max(delay, typeof robots === 'string' ? 0 : robots.delay) };
+      const wanted = typeof robots === 'string' ? 0 : robots.delay;
+      site = { robots, delay: Math.max(this.settings.delay, wanted) };
       this.#sites.set(origin, site);
     }
-    if (typeof site.robots === 'string') return replyOf(site.robots);
+    const { robots, delay } = site;
+    if (typeof robots === 'string') return { delay, refusal: robots };
     // The delay may not be a number: then the site is skipped, too.
-    if (!(site.delay <= DAY && site.robots.allows(url))) return replyOf('robots');
-    return this.#get(hostname, site.delay, url, agent, largest);
+    return { delay, refusal: delay <= DAY && robots.allows(url) ? undefined : 'robots' };
   }
 
   /** The robots.txt of a site; or if it cannot be read, the status of the site's URLs. */
@@ -335,6 +353,29 @@ class Hosts {
       this.#next.set(hostname, Date.now() + 1000 * delay);
     }
   }
+}
+
+/** A worker's search for a URL whose host need not wait. The others are put back. */
+class Search {
+  #urls = new Set();
+  /** When each host may be visited. @type {Map<string, number>} */
+  #hosts = new Map();
+  #old = 0;
+
+  /** Whether to wait with this URL: it was put back before, or no new hosts are found. */
+  isOver(/** @type {string} */ url) {
+    return this.#urls.has(url) || this.#old === OLD_HOSTS;
+  }
+
+  add(/** @type {string} */ url, /** @type {number} */ at) {
+    const { hostname } = new URL(url);
+    this.#old = this.#hosts.has(hostname) ? this.#old + 1 : 0;
+    this.#hosts.set(hostname, at);
+    this.#urls.add(url);
+  }
+
+  /** When the first host need not wait any more. */
+  get end() { return Math.min(...this.#hosts.values()); }
 }
 
 /** @param {string[]} words */
@@ -377,17 +418,41 @@ async function crawl(settings) {
   const frontier = await Frontier.open(settings.frontier);
   let left = settings.pages || Infinity;
   let isStopped = false;
+  /** What ends the wait of each worker. @type {Map<number, () => void>} */
+  const waits = new Map();
+  /** Waits until a time, or until a URL is accepted into the queue. @param {number} queue */
+  const wait = (queue, /** @type {number} */ end) => new Promise((resolve) => {
+    const timer = setTimeout(resolve, end - Date.now());
+    waits.set(queue, () => resolve(clearTimeout(timer)));
+  });
   const stop = async () => {
     isStopped = true;
+    for (const end of waits.values()) end();
     await frontier.close();
   };
   process.once('SIGINT', stop);
   const work = async (/** @type {number} */ queue) => {
     const hosts = new Hosts(settings);
+    let search = new Search();
+    /** @param {string} url */
+    const hasToWait = async (url) => await hosts.readyAt(url) > Date.now() + 1;
     for await (const url of frontier.queue(queue)) {
+      if (search.isOver(url) && await hasToWait(url)) {
+        search.add(url, await hosts.readyAt(url));
+        await wait(queue, search.end);
+        search = new Search();
+      }
+      if (isStopped) return;
+      if (await hasToWait(url)) {
+        search.add(url, await hosts.readyAt(url));
+        await frontier.later(queue);
+        continue;
+      }
+      search = new Search();
       const { status, target, text } = await hosts.visit(url);
       const { base, texts } = linksOf(url, text);
       const offers = await frontier.links(base, target === undefined ? texts : [target]);
+      for (const offer of offers) if (offer.accepted) waits.get(offer.queue)?.();
       console.log(`${status} ${offers.filter(({ accepted }) => accepted).length} ${url}`);
       left -= 1;
       if (left === 0) {

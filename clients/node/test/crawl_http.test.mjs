@@ -178,6 +178,26 @@ test('robots.txt, the delay, redirects and a page without an end', options, asyn
   asked.slice(1).forEach(([time], i) => assert.ok(time - asked[i][0] >= 190, 'the delay'));
 });
 
+test('one worker, many hosts, and the delay of each', options, async () => {
+  const [hosts, pages, delay] = [8, 4, 0.3];
+  const asked = new Map(Array.from({ length: hosts }, (_, i) => [i + 1, []]));
+  const { port, close } = await serve(hosts, (request, response, host) => {
+    asked.get(host).push(Date.now());
+    if (request.url === '/robots.txt') return response.writeHead(404).end();
+    const urls = [...asked.keys()].flatMap((other) => Array.from({ length: pages }, (_, page) => `http://127.0.0.${other}:${port}/${page}`));
+    return response.setHeader('content-type', 'text/html').end(request.url === '/' ? urls.map((url) => `<a href=${url}>`).join('') : '');
+  });
+  const { status, errors, rows } = await crawl(['--delay', delay, '--workers', 1, `http://127.0.0.1:${port}/`]);
+  close();
+  assert.deepEqual([status, errors, rows.length, new Set(rows.map(([url]) => url)).size], [0, '', 33, 33]);
+  for (const times of asked.values()) {
+    times.slice(1).forEach((time, i) => assert.ok(time - times[i] >= 1000 * delay - 10, 'the delay'));
+  }
+  const all = [...asked.values()].flat();
+  // Host by host they would take 10 seconds.
+  assert.ok(Math.max(...all) - Math.min(...all) < 6000);
+});
+
 test('a robots.txt that fails, a host that is down, --pages', options, async () => {
   let attempts = 0;
   const { port, close } = await serve(3, (request, response, host) => {
