@@ -153,7 +153,7 @@ pub record AllDone (asked : List Asked) : Type 0 where
   pub done : (queue : ℕ) → done_of queue asked ≡ length (accepted_of queue asked)
   pub each : (queue : ℕ) (url : List ℕ) → times url (done_urls queue asked) ≡ times url (accepted_of queue asked)
 
--- the figures of a subqueue are those of the answers before
+-- the numbers of a subqueue are those of the answers before
 pub record IsTold (queue : ℕ) (asked : List Asked) (stats : Stats) : Type 0 where
   pub accepted : stats.accepted ≡ length (accepted_of queue asked)
   pub done : stats.done ≡ done_of queue asked

@@ -1,4 +1,4 @@
-//! What a line is answered, and its text.
+//! The answer to a line, and its text.
 ghost use Rattle.std.specs.Prelude.{Some};
 ghost use Rattle.crawl_session.specs.Answers as spec;
 
@@ -8,14 +8,14 @@ use crawl_core::Reply;
 use crawl_replay::ReplyText;
 use std::fmt;
 
-/// What a line is answered.
+/// The answer to a line.
 #[derive(Debug, Drop)]
 pub enum Answer {
     /// The frontier's reply to its request.
     Told(Reply),
-    /// How far a queue is, or all are.
+    /// The numbers of the URLs of a queue, or of all queues.
     Counted(Stats),
-    /// It asks nothing of the frontier.
+    /// The line is no request to the frontier.
     Unasked(RequestError),
 }
 

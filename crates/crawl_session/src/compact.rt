@@ -1,4 +1,4 @@
-//! The shortest log of a session: the lines that changed it, and those that were told elsewhere.
+//! A shorter log of a session: the lines that changed it, and one offer of each URL of another part.
 ghost use Rattle.std.specs.Prelude.{◌≡◌, ℕ, List, IfOk};
 ghost use Rattle.std.specs.Io.KnownBytes.{Appends};
 ghost use Rattle.std.specs.Str.Lines.{lines};
@@ -17,12 +17,12 @@ use std::io::Write;
 use std::marker::Model;
 use text_lines::first_line;
 
-/// Picks the lines of a log that a new session needs to come to the same state, and remembers what it has to of the others.
+/// Selects the lines of a log that a new session needs to reach the same state, and remembers which lines it has seen.
 #[derive(Drop)]
 pub struct Compactor {
     /// An earlier line was answered `closed`.
     closed: bool,
-    /// The URLs that were told elsewhere.
+    /// The URLs that belong to other parts.
     elsewhere: Texts,
 }
 
@@ -35,7 +35,7 @@ impl Model for Compactor {
 }
 
 impl Compactor {
-    /// One that has had no lines.
+    /// Creates one that has seen no lines.
     pub fn new(alloc: Global) -> Compactor
         ensures { result ≡ spec.had_none }
     {
@@ -45,10 +45,10 @@ impl Compactor {
         }
     }
 
-    /// Gives the session these lines of a log, and appends those that are needed, each with its line end.
+    /// Gives these lines of a log to the session, and writes those that are needed, each with its line end.
     ///
     /// # Errors
-    /// `CannotWrite`, `NoMemory`. The session then has had a front of the lines.
+    /// `CannotWrite`, `NoMemory`. The session has then received only the first of the lines.
     pub fn compact<O: Write>(
         &mut self,
         session: &mut Session,
@@ -68,7 +68,7 @@ impl Compactor {
         Ok(())
     }
 
-    /// Gives the session a line, and tells whether it is needed.
+    /// Gives a line to the session, and returns whether it is needed.
     fn needs(&mut self, session: &mut Session, line: &[u8]) -> Result<bool, NoMemory>
         ensures { IfOk result (λ is. Gives self.old session.old line.now is self.new session.new) }
     {
@@ -80,7 +80,7 @@ impl Compactor {
         }
     }
 
-    /// Asks the session, and tells whether this is needed.
+    /// Gives a request to the session, and returns whether it is needed.
     fn needs_request(&mut self, session: &mut Session, request: Request) -> Result<bool, NoMemory>
         ensures { IfOk result (λ is. GivesRequest self.old session.old request is self.new session.new) }
     {
@@ -116,7 +116,7 @@ fn is_closed(reply: &Reply) -> bool
     matches!(reply, Reply::Closed)
 }
 
-/// Writes a line as it stands in a log.
+/// Writes a line with its line end.
 fn write_line<O: Write>(line: &[u8], out: &mut O) -> Result<(), ServeError>
     ensures { IfOk result (λ _. Appends (O.contents out.old) (O.contents out.new) (spec.log_line line.now)) }
 {

@@ -25,7 +25,7 @@ pub struct Deferred {
 pub struct QueueDeferrals {
     /// Oldest first.
     waiting: VecDeque<Deferred>,
-    /// The one that the queue is busy with.
+    /// The URL that the queue is busy with, if it was put back before.
     fetched: Option<Deferred>,
 }
 
@@ -67,7 +67,7 @@ impl QueueDeferrals {
         self.waiting.len()
     }
 
-    /// The queue is busy with the first that waits, if there is one.
+    /// Makes the queue busy with the first that waits, if there is one.
     fn retake(&mut self)
         ensures { (first : Deferred) (more : List Deferred) → self.old.waiting ≡ first ∷ more → self.new ≡ record { waiting = more; fetched = Some first } }
     {
@@ -76,14 +76,14 @@ impl QueueDeferrals {
         }
     }
 
-    /// The queue is not busy with any.
+    /// Removes the URL that the queue is busy with.
     fn finish(&mut self)
         ensures { self.new ≡ record { waiting = self.old.waiting; fetched = None } }
     {
         self.fetched = None;
     }
 
-    /// The one that the queue is busy with goes to the end, with this position.
+    /// Moves the URL that the queue is busy with to the end, with this position.
     ///
     /// # Errors
     /// Out of memory. Nothing changes.
@@ -102,7 +102,7 @@ impl QueueDeferrals {
         Ok(())
     }
 
-    /// The URL that the queue of the machine is busy with goes to the end, if its unit can be handed to its sender.
+    /// Adds the URL that the queue of the machine is busy with to the end, if its unit can be handed to its sender.
     ///
     /// # Errors
     /// Out of memory. Nothing changes.
@@ -138,7 +138,7 @@ impl Model for DeferralQueues {
 }
 
 impl DeferralQueues {
-    /// For that many queues, to which nothing was put back.
+    /// Creates them for that number of queues.
     pub fn new(alloc: Global, workers: u32) -> Result<DeferralQueues, NoMemory>
         ensures { IfOk result (λ queues. queues ≡ replicate workers no_deferrals) }
     {
@@ -159,7 +159,7 @@ impl DeferralQueues {
         }
     }
 
-    /// The one that the queue is busy with.
+    /// The URL that the queue is busy with, if it was put back before.
     pub fn fetched(&self, place: u32) -> Option<&Deferred>
         ensures { option_map (λ url. url.now) result ≡ (get_or self.now place no_deferrals).fetched }
     {
@@ -194,7 +194,7 @@ impl DeferralQueues {
         }
     }
 
-    /// The queue is busy with the first that waits, if there is one.
+    /// Makes the queue busy with the first that waits, if there is one.
     pub fn retake(&mut self, place: u32)
         ensures { (first : Deferred) (more : List Deferred) → (get_or self.old place no_deferrals).waiting ≡ first ∷ more → self.new ≡ slice_set self.old place (record { waiting = more; fetched = Some first }) }
     {
@@ -204,7 +204,7 @@ impl DeferralQueues {
         }
     }
 
-    /// The queue is not busy with any.
+    /// Removes the URL that the queue is busy with.
     pub fn finish(&mut self, place: u32)
         ensures { self.new ≡ slice_set self.old place (record { waiting = (get_or self.old place no_deferrals).waiting; fetched = None }) }
     {
@@ -214,7 +214,7 @@ impl DeferralQueues {
         }
     }
 
-    /// The one that the queue is busy with goes to the end, with this position.
+    /// Moves the URL that the queue is busy with to the end, with this position.
     ///
     /// # Errors
     /// Out of memory. Nothing changes.
@@ -229,7 +229,7 @@ impl DeferralQueues {
         Ok(())
     }
 
-    /// The URL that the queue of the machine is busy with goes to the end, if its unit can be handed to its sender.
+    /// Adds the URL that the queue of the machine is busy with to the end, if its unit can be handed to its sender.
     ///
     /// # Errors
     /// Out of memory. Nothing changes.

@@ -1,4 +1,4 @@
-//! What a session keeps of its state, and what comes of a request.
+//! The state of a session, and how a request changes it.
 ghost use Rattle.std.specs.Prelude.{◌≡◌, None, Some, get_or, length, replicate, slice_get, IfOk, OnErr};
 ghost use Rattle.crawl_session.specs.Exchanges as spec;
 ghost use Rattle.crawl_session.specs.Frontiers as kept;
@@ -22,7 +22,7 @@ use std::marker::Model;
 pub struct Frontier {
     core: Core,
     deferrals: DeferralQueues,
-    /// How many senders there were for such URLs, from 1 on.
+    /// The number of senders that these URLs have had. They are numbered from 1.
     senders: u64,
 }
 
@@ -35,7 +35,7 @@ impl Model for Frontier {
 }
 
 impl Frontier {
-    /// A new frontier around a new machine with so many queues.
+    /// Creates a frontier from a new machine with that number of queues.
     ///
     /// # Errors
     /// Out of memory.
@@ -50,10 +50,10 @@ impl Frontier {
         })
     }
 
-    /// What a request is answered.
+    /// Returns the answer to a request.
     ///
     /// # Errors
-    /// Out of memory. The frontier is then as before, but for the word that its client remembers.
+    /// Out of memory. The frontier is then as before, except for the word that its client remembers.
     #[tactic(auto, using(crate::proofs::Lifts::given_up_at_once))]
     pub fn exchange(&mut self, request: Request) -> Result<Answer, NoMemory>
         ensures comes { IfOk result (λ answer. Comes (λ state. spec.exchange state request) self.old answer self.new) }
@@ -98,7 +98,7 @@ impl Frontier {
         self.take(queue)
     }
 
-    /// Whether the first that was put back is to be taken next.
+    /// Whether the first URL that was put back is next.
     fn is_due(&self, queue: u32) -> bool
         ensures { (state : kept.Frontier) → kept.Shows self.now state → result ≡ spec.is_due (slice_get state.machine.subqueues queue) (deferrals_at state queue).waiting }
     {
@@ -130,7 +130,7 @@ impl Frontier {
         next(&mut self.core, queue)
     }
 
-    /// The URL that the queue is busy with, once more.
+    /// Returns the URL that the queue is busy with.
     fn again(&self, queue: u32) -> Result<Reply, NoMemory>
         ensures { IfOk result (λ reply. Comes (λ state. spec.taking_again state queue (deferrals_at state queue).fetched) self.now (Answer.Told reply) self.now) }
     {
@@ -157,7 +157,7 @@ impl Frontier {
         finish(&mut self.core, queue)
     }
 
-    /// The unit of a URL that was put back before is given back.
+    /// Gives back the unit of a URL that was put back before.
     fn finish_again(&mut self, queue: u32, sender: u64) -> Result<Reply, NoMemory>
         ensures comes { IfOk result (λ reply. Comes (λ state. spec.finishing_again state queue sender) self.old (Answer.Told reply) self.new) }
         ensures err { OnErr result (self.new ≡ self.old) }
@@ -179,7 +179,7 @@ impl Frontier {
         self.defer(queue)
     }
 
-    /// A URL that was put back before is put back again.
+    /// Puts a URL back that was put back before.
     fn put_back(&mut self, queue: u32) -> Result<Reply, NoMemory>
         ensures comes { IfOk result (λ reply. (url : Deferred) → (get_or self.old.deferrals queue no_deferrals).fetched ≡ Some url → Comes (λ state. spec.deferring state queue (Some url)) self.old (Answer.Told reply) self.new) }
         ensures err { OnErr result (self.new ≡ self.old) }
@@ -198,7 +198,7 @@ impl Frontier {
         }
     }
 
-    /// The URL that the machine's queue is busy with is put back.
+    /// Puts the URL back that the machine's queue is busy with.
     fn defer(&mut self, queue: u32) -> Result<Reply, NoMemory>
         ensures comes { IfOk result (λ reply. Comes (λ state. spec.deferring state queue None) self.old (Answer.Told reply) self.new) }
         ensures err { OnErr result (self.new ≡ self.old) }
@@ -211,7 +211,7 @@ impl Frontier {
         self.defer_first(queue, url)
     }
 
-    /// The unit of the URL goes to a sender of its own.
+    /// Hands the unit of the URL to a sender of its own.
     fn defer_first(&mut self, queue: u32, url: Text) -> Result<Reply, NoMemory>
         ensures comes { IfOk result (λ reply. Comes (λ state. spec.deferring_first state queue url) self.old (Answer.Told reply) self.new) }
         ensures err { OnErr result (self.new ≡ self.old) }
@@ -242,7 +242,7 @@ impl Frontier {
         }
     }
 
-    /// How far the queue is, if there is one.
+    /// Counts the URLs of the queue, if there is one.
     fn queue_stats(&self, queue: u32) -> Result<Option<Stats>, NoMemory>
         ensures { IfOk result (λ stats. (state : kept.Frontier) → kept.Shows self.now state → stats ≡ stats_at state queue) }
     {
@@ -254,7 +254,7 @@ impl Frontier {
         Ok(Some(stats))
     }
 
-    /// How far all queues are.
+    /// Counts the URLs of all queues.
     fn all_stats(&self) -> Result<Stats, NoMemory>
         ensures { IfOk result (λ stats. (state : kept.Frontier) → kept.Shows self.now state → stats ≡ stats_below state (length self.now.deferrals)) }
     {

@@ -28,100 +28,101 @@ ghost use Rattle.crawl_session.specs.declared.part.Part.{Part};
 ghost use Rattle.crawl_session.specs.declared.request.Request.TheVariants.{Later, Offer};
 ghost use Rattle.crawl_session.specs.declared.request.RequestError.TheVariants as wrong;
 
-/// The events of a session are a run of the machine, from whatever state it begins in. So the laws of `crawl_core` hold of them.
+/// The events of a session are a run of the machine, from any state. So the laws of `crawl_core` hold for them.
 pub fn sessions_are_runs()
     ensures { (settings : Settings) (state : Frontier) (lines : List (List ℕ)) → Run state.machine (history_of settings state lines) (state_after settings state lines).machine }
 {}
 
-/// A session goes on where it was: what more lines are answered depends on the earlier ones by the state after them alone. So the
-/// requests of a session, given to a new one, bring it to the same state.
+/// The answers to more lines depend only on the state after the earlier ones. So a new session that is given the requests of
+/// another reaches the same state.
 pub fn sessions_go_on()
     ensures answers { (settings : Settings) (state : Frontier) (front back : List (List ℕ)) → answers settings state (front ++ back) ≡ answers settings state front ++ answers settings (state_after settings state front) back }
     ensures state { (settings : Settings) (state : Frontier) (front back : List (List ℕ)) → state_after settings state (front ++ back) ≡ state_after settings (state_after settings state front) back }
     ensures events { (settings : Settings) (state : Frontier) (front back : List (List ℕ)) → history_of settings state (front ++ back) ≡ history_of settings state front ++ history_of settings (state_after settings state front) back }
 {}
 
-/// A log that was compacted goes on as the whole one: a new session that is given the lines needed of these bytes answers any
-/// further lines as one that was given all of them.
+/// A compacted log is as good as the whole one: a new session that is given only the lines of these bytes that are needed answers
+/// any further lines like one that was given all of them.
 pub fn a_compacted_log_goes_on()
     ensures { (settings : Settings) (max : ℕ) (bytes : List ℕ) (more : List (List ℕ)) → 1 ≤ settings.workers → answers settings (state_after settings (start settings.workers max) (lines (log_text (needed settings had_none (start settings.workers max) (lines bytes))))) more
         ≡ answers settings (state_after settings (start settings.workers max) (lines bytes)) more }
 {}
 
-/// A compacted log tells elsewhere what the whole one does, each URL once, in the order in which each came first. So what was to be
-/// sent to other parts can be sent again.
+/// A compacted log has the same answers `elsewhere` as the whole one, one for each URL, in the order in which the URLs came first.
+/// So the URLs of other parts can be sent to them again.
 pub fn a_compacted_log_tells_elsewhere()
     ensures { (settings : Settings) (max : ℕ) (bytes : List ℕ) → elsewhere_of (asked settings (start settings.workers max) (lines (log_text (needed settings had_none (start settings.workers max) (lines bytes))))) ≡ first_of_each [] (elsewhere_of (asked settings (start settings.workers max) (lines bytes))) }
 {}
 
-/// No answer depends on the words that senders remember from before. So after out of memory each line is answered as if the line
-/// that failed had not been asked.
+/// No answer depends on the words that senders remember. So if a line runs out of memory, each later line is answered as if that
+/// line had not been sent.
 pub fn words_are_forgotten()
     ensures { (settings : Settings) (state : Frontier) (words : List (ℕ × Word)) (lines : List (List ℕ)) → answers settings (with_words state words) lines ≡ answers settings state lines }
 {}
 
-/// What a client is told of URLs is what happened to them: those that it was told were accepted into a subqueue are those of the
-/// events. As long as nothing was put back, so are those that it took from it, and those that it was done with.
+/// The answers say what happened to the URLs: the URLs that were accepted into a subqueue are those of the events. As long as
+/// nothing was put back, so are the URLs that were taken from it, and the number of those that are done.
 pub fn clients_see_the_events()
     ensures accepted { (settings : Settings) (state : Frontier) (lines : List (List ℕ)) (queue : ℕ) → accepted_urls queue (history_of settings state lines) ≡ accepted_of queue (asked settings state lines) }
     ensures taken { (settings : Settings) (state : Frontier) (lines : List (List ℕ)) (queue : ℕ) → NoneDeferred state → NonePutBack (asked settings state lines) → taken_urls queue (history_of settings state lines) ≡ taken_of queue (asked settings state lines) }
     ensures done { (settings : Settings) (state : Frontier) (lines : List (List ℕ)) (queue : ℕ) → NoneDeferred state → NonePutBack (asked settings state lines) → done_in queue (history_of settings state lines) ≡ done_of queue (asked settings state lines) }
 {}
 
-/// Each URL once, in order, by its host's subqueue.
+/// No URL is accepted twice, and each subqueue gives out its URLs in order: those of its hosts.
 pub fn each_once_in_order()
     ensures { (settings : Settings) (max : ℕ) (lines : List (List ℕ)) → EachOnceInOrder settings.workers (asked settings (start settings.workers max) lines) }
 {}
 
-/// A URL is taken again only if it was put back: only from its host's subqueue, once more than it was put back, at most, and
-/// never while a fetch of it is on. It is done at most once.
+/// A URL is taken again only if it was put back: at most once more than it was put back, only from its host's subqueue, and never
+/// while it is in progress. It is done at most once.
 pub fn taken_again_if_put_back()
     ensures { (settings : Settings) (max : ℕ) (lines : List (List ℕ)) → AgainIfPutBack settings.workers (asked settings (start settings.workers max) lines) }
 {}
 
-/// `later` puts a URL back if and only if its subqueue is busy, as the client was told. So a busy subqueue's is never refused.
+/// `later` puts a URL back if and only if its subqueue is busy, by the answers before. So it is then never refused.
 pub fn later_needs_a_busy_queue()
     ensures { (settings : Settings) (max : ℕ) (front : List (List ℕ)) (line : List ℕ) (queue : ℕ) → HasRoom max → request_for settings line ≡ Ok (Later queue)
         → puts_back queue (Ok (Later queue)) (line_exchange settings (state_after settings (start settings.workers max) front) line).answer ≡ is_some (busy_in queue (asked settings (start settings.workers max) front)) }
 {}
 
-/// The figures of a subqueue are those of the answers before: how many URLs the client was told were accepted, how many it was
-/// told are done, and whether the subqueue is busy. All others are waiting.
+/// The numbers of a subqueue are those of the answers before: how many URLs were accepted and are done, and whether the subqueue
+/// is busy. All others are waiting.
 pub fn stats_are_what_was_told()
     ensures { (settings : Settings) (max : ℕ) (lines : List (List ℕ)) (queue : ℕ) (stats : Stats) → stats_at (state_after settings (start settings.workers max) lines) queue ≡ Some stats → IsTold queue (asked settings (start settings.workers max) lines) stats }
 {}
 
-/// A request has one of the answers that the table names for it, and a line that asks nothing is told why.
+/// A request has one of the answers that the table has for it. The answer to a line that is no request says why.
 pub fn answers_are_those_of_the_table()
     ensures { (settings : Settings) (max : ℕ) (lines : List (List ℕ)) → 1 ≤ settings.workers → All (λ x. CanBeAnswered x.request x.answer) (asked settings (start settings.workers max) lines) }
 {}
 
-/// Closed means done, and for good: where a line is answered `closed`, every URL that the client was told was accepted was taken
-/// and is done; and whatever it asks from then on, none is accepted or taken.
+/// Closed means done, for good: if a line is answered `closed`, every URL that was accepted was taken and is done, and after that
+/// none is accepted or taken, whatever the requests are.
 pub fn closed_means_done()
     ensures done { (settings : Settings) (max : ℕ) (front : List (List ℕ)) (line : List ℕ) → (line_exchange settings (state_after settings (start settings.workers max) front) line).answer ≡ Told told.Closed → AllDone (asked settings (start settings.workers max) (front ++ line ∷ [])) }
     ensures for_good { (settings : Settings) (max : ℕ) (front : List (List ℕ)) (line : List ℕ) (back : List (List ℕ)) (queue : ℕ) → (line_exchange settings (state_after settings (start settings.workers max) front) line).answer ≡ Told told.Closed
         → (accepted_of queue (asked settings (state_after settings (start settings.workers max) (front ++ line ∷ [])) back) ≡ []) × (taken_of queue (asked settings (state_after settings (start settings.workers max) (front ++ line ∷ [])) back) ≡ []) }
 {}
 
-/// A frontier that is no part answers each line by what it asks, as if there were no parts.
+/// A frontier that is not a part answers each line as if there were no parts.
 pub fn a_frontier_alone_has_no_parts()
     ensures { (settings : Settings) (state : Frontier) (line : List ℕ) → settings.part ≡ None → line_exchange settings state line ≡ answered state (request_of settings.workers settings.suffixes line) }
 {}
 
-/// A part accepts what belongs to its own queues alone: each URL in the queue that its host key is assigned to among all.
+/// A part accepts only URLs of its own queues: each URL into the queue, among those of all parts, that its host key is assigned
+/// to.
 pub fn a_part_accepts_its_own()
     ensures { (settings : Settings) (part : Part) (state : Frontier) (lines : List (List ℕ)) (queue k : ℕ) (url : List ℕ) → settings.part ≡ Some part → slice_get (accepted_of queue (asked settings state lines)) k ≡ Some url → (queue ≡ subqueue_of url settings.workers) × (part_with part queue ≡ part.number) }
 {}
 
-/// No two parts of a crawl accept one URL. So it is accepted by one of them at most, and once.
+/// No two parts of a crawl accept the same URL.
 pub fn parts_share_no_url()
     ensures { (first second : Settings) (own other : Part) (old older : Frontier) (lines others : List (List ℕ)) (queue there k l : ℕ) (url : List ℕ) → first.part ≡ Some own → second.part ≡ Some other → first.workers ≡ second.workers → own.queues ≡ other.queues
         → slice_get (accepted_of queue (asked first old lines)) k ≡ Some url → slice_get (accepted_of there (asked second older others)) l ≡ Some url → (queue ≡ there) × (own.number ≡ other.number) }
 {}
 
-/// Elsewhere exactly where its queue is another part's: a URL that is offered then does nothing, and is told with that part's
-/// number. Any other is answered as without a part.
+/// The answer to an offer is `elsewhere` if and only if the URL's queue belongs to another part. It has that part's number, and
+/// nothing changes. Any other offer is answered as if there were no parts.
 pub fn others_are_told_elsewhere()
     ensures other { (settings : Settings) (part : Part) (state : Frontier) (line url : List ℕ) (queue : ℕ) → settings.part ≡ Some part → request_of settings.workers settings.suffixes line ≡ Ok (Offer url queue) → part_with part queue ≢ part.number
         → line_exchange settings state line ≡ record { history = []; answer = Unasked (wrong.Elsewhere (part_with part queue) url); state = state } }
@@ -129,7 +130,7 @@ pub fn others_are_told_elsewhere()
         → line_exchange settings state line ≡ exchange state (Offer url queue) }
 {}
 
-/// What a log's first line says of its part and its identity is read as it was written, whatever settings stand behind it.
+/// The part and the identity in the first line of a log are read as they were written, whatever settings follow.
 pub fn log_starts_come_back()
     ensures { (part : Option (ℕ × ℕ)) (identity : Option (List ℕ)) (workers max : ℕ) (suffixes : List (List ℕ)) → IfSome part (λ p. (p.0 < 2 ^ 32) × (p.1 < 2 ^ 32)) → IfSome identity (λ text. list_all (λ b. not (is_space b)) text ≡ true) → read_start (start_text part identity ++ settings_line workers max suffixes) ≡ (part, (identity, settings_line workers max suffixes)) }
 {}

@@ -1,4 +1,4 @@
-//! A frontier as a co-process: requests, one a line, and what each is answered.
+//! A frontier as a separate process: one request per line, and one answer to each.
 #![tactic(auto)]
 
 mod answer;
@@ -6,7 +6,7 @@ mod compact;
 mod deferrals;
 mod exchange;
 mod frontier;
-/// What holds of sessions.
+/// Laws of sessions.
 pub mod laws;
 mod log;
 mod log_start;

@@ -5,18 +5,18 @@ ghost use Rattle.crawl_session.specs.Parts as spec;
 use crate::request::{Request, RequestError};
 use crawl_core::Text;
 
-/// A part of a crawl. All parts have as many queues, and those of one come after those of the part before it.
+/// A part of a crawl. All parts have the same number of queues, and the queues are numbered part by part.
 #[derive(Debug, PartialEq, Eq, Drop)]
 pub struct Part {
     /// Its number, from 0.
     pub number: u32,
     /// How many queues each part has.
     pub queues: u32,
-    /// The identity of its log, which `identity` tells.
+    /// The identity of its log, the answer to `identity`.
     pub identity: Text,
 }
 
-/// What a request asks of a part: nothing, where its queue is another part's.
+/// The request, unless its queue belongs to another part.
 pub(crate) fn placed(part: &Part, request: Request) -> Result<Request, RequestError>
     requires { 1 ≤ part.now.queues }
     ensures { result ≡ spec.placed part.now request }

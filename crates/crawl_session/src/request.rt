@@ -1,4 +1,4 @@
-//! A line, and what it asks of the frontier.
+//! The request of a line.
 ghost use Rattle.std.specs.Prelude.{◌≡◌, ◌≤◌};
 ghost use Rattle.crawl_limits.specs.Limits.{worker_limit};
 ghost use Rattle.crawl_keys.specs.CanonicalText.{resolve};
@@ -13,35 +13,35 @@ use crawl_replay::number32;
 use std::alloc::{AllocError, Global};
 use text_lines::{LineError, split_space, text_of};
 
-/// What a line asks of the frontier.
+/// A request to the frontier.
 #[derive(Debug, PartialEq, Eq, Drop)]
 pub enum Request {
-    /// `offer URL`, `link BASE TEXT`: to accept this canonical URL into the subqueue that its host key is assigned to.
+    /// `offer URL`, `link BASE TEXT`: accept this canonical URL into the subqueue that its host key is assigned to.
     Offer { url: Text, queue: u32 },
-    /// `next Q`: the URL that has waited longest in the subqueue.
+    /// `next Q`: take the URL that has waited longest in the subqueue.
     Next { queue: u32 },
-    /// `again Q`: the URL that the subqueue gave last, whose fetch is not over.
+    /// `again Q`: repeat the URL that the subqueue is busy with.
     Again { queue: u32 },
-    /// `later Q`: the URL that the subqueue gave last, whose fetch is not over, goes to the subqueue's end.
+    /// `later Q`: put the URL that the subqueue is busy with back to the end of the subqueue.
     Later { queue: u32 },
-    /// `done Q`: the fetch of the URL that the subqueue gave last is over.
+    /// `done Q`: the URL that the subqueue is busy with is done.
     Done { queue: u32 },
-    /// `endseeds`: no more seeds come.
+    /// `endseeds`: no more seeds will come.
     EndSeeds,
-    /// `stats`, `stats Q`: how far all subqueues are, or one is.
+    /// `stats`, `stats Q`: count the URLs of all subqueues, or of one.
     Stats { queue: Option<u32> },
 }
 
-/// Why a line asks nothing of the frontier.
+/// Why a line is no request to the frontier: it has an error, or the frontier is not needed for its answer.
 #[derive(Debug, PartialEq, Eq, Drop)]
 pub enum RequestError {
     /// The line has more than [`LINE_LIMIT`](text_lines::LINE_LIMIT) bytes.
     LineTooLong,
     /// The line is not UTF-8.
     NotText,
-    /// The line is no request.
+    /// There is no such request.
     BadLine,
-    /// The text that is offered is no URL; or the base of a link is none.
+    /// The text that is offered, or the base of a link, is not a URL.
     NotUrl,
     /// The URL that is offered, or the base of a link, is neither `http` nor `https`.
     NotHttp,
@@ -51,11 +51,11 @@ pub enum RequestError {
     Elsewhere { part: u32, url: Text },
     /// The queue is another part's.
     OtherQueue,
-    /// `sync`: all lines before it are to be on the disk.
+    /// `sync`: the caller has synced the log to disk.
     Sync,
-    /// `identity`: that of the session's log, which is this.
+    /// `identity`: the identity of the session's log.
     Identity(Text),
-    /// A growth was refused. This may stand in place of any other answer.
+    /// Out of memory. This can happen instead of any other answer.
     NoMemory,
 }
 
@@ -78,7 +78,7 @@ impl From<AllocError> for RequestError {
     }
 }
 
-/// What the line asks of a frontier with so many workers and this filter.
+/// The request of a line to a frontier with that number of workers and this filter.
 ///
 /// # Errors
 /// In the order of [`RequestError`].
@@ -168,7 +168,7 @@ fn offer_of(
     }
 }
 
-/// The offer of what a text resolves to against a base: the base ends at the first space, and the text is the rest.
+/// The offer of a text that is resolved against a base. The base ends at the first space, and the text is the rest.
 fn link_of(
     alloc: Global,
     workers: u32,
@@ -205,7 +205,7 @@ fn linked(
     }
 }
 
-/// Why a text offers nothing.
+/// The error of a text that cannot be offered.
 fn error_of(why: KeyError) -> RequestError
     ensures { result ≡ spec.of_key why }
 {

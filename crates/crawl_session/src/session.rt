@@ -1,4 +1,4 @@
-//! A frontier that is asked by one client, line by line.
+//! A frontier for one client, which sends requests line by line.
 ghost use Rattle.std.specs.Prelude.{◌≡◌, ◌*◌, ◌<◌, ◌≤◌, ◌⊎◌, ◌↔◌, None, Some, Err, IfOk, OnOk, OnErr};
 ghost use Rattle.std.specs.Str.{bytes_eq};
 ghost use Rattle.crawl_limits.specs.Limits.{AreLimits, worker_limit, pending_limit};
@@ -20,7 +20,7 @@ use crawl_keys::Filter;
 use std::alloc::{AllocError, Global};
 use std::marker::Model;
 
-/// A frontier, the filter of the URLs that are offered to it, and which part of a crawl it is.
+/// A frontier, the filter for the URLs that are offered to it, and the part of a crawl that it is, if any.
 #[derive(Drop)]
 pub struct Session {
     alloc: Global,
@@ -31,7 +31,7 @@ pub struct Session {
     part: Option<Part>,
 }
 
-// Contracts see its settings and what its machine keeps.
+// Contracts see the settings, and what the frontier keeps.
 impl Model for Session {
     ghost use Rattle.crawl_session.specs.Settings.{SessionView, IsSession};
 
@@ -43,10 +43,10 @@ impl Model for Session {
 }
 
 impl Session {
-    /// A new frontier for that many workers, and at most so many URLs that wait or are fetched at one time.
+    /// Creates a session with that number of queues, and at most that number of URLs that are waiting or in progress.
     ///
     /// # Errors
-    /// `BadWorkers`, then `BadMax`, for a number beyond its limits; `NoMemory` where a growth was refused.
+    /// `BadWorkers`, then `BadMax`, for a number outside its limits; `NoMemory`.
     pub fn new(
         alloc: Global,
         workers: u32,
@@ -73,11 +73,10 @@ impl Session {
         }
     }
 
-    /// A new frontier for one part of a crawl that has so many parts: the queues of all are numbered together, and this one has
-    /// its own of them.
+    /// Creates the session of one part of a crawl with that number of parts. The queues of all parts are numbered together.
     ///
     /// # Errors
-    /// `BadWorkers` where there is no such part, or the parts have no queue or more than the limit together; those of `new`.
+    /// `BadWorkers` if there is no such part, or the parts have no queues, or together more than the limit; those of `new`.
     pub fn of_part(
         alloc: Global,
         part: Part,
@@ -111,7 +110,7 @@ impl Session {
         }
     }
 
-    /// What the line asks.
+    /// The request of a line.
     pub(crate) fn request(&self, line: &[u8]) -> Result<Request, RequestError>
         ensures { Gives wrong.NoMemory (λ request. request) result (request_for self.now.settings line.now) }
     {
@@ -121,7 +120,7 @@ impl Session {
         }
     }
 
-    /// What the line asks of a part.
+    /// The request of a line to a part.
     fn request_by(&self, part: &Part, line: &[u8]) -> Result<Request, RequestError>
         requires { 1 ≤ part.now.queues }
         ensures { Gives wrong.NoMemory (λ request. request) result (asked_by part.now line.now (request_of self.now.settings.workers self.now.settings.suffixes line.now)) }
@@ -135,7 +134,7 @@ impl Session {
         self.request_of_part(part, line)
     }
 
-    /// What the line asks of a part, but for the words that only parts know.
+    /// The request of a line that is neither `sync` nor `identity` to a part.
     fn request_of_part(&self, part: &Part, line: &[u8]) -> Result<Request, RequestError>
         requires { 1 ≤ part.now.queues }
         ensures { Gives wrong.NoMemory (λ request. request) result (placed_if part.now (request_of self.now.settings.workers self.now.settings.suffixes line.now)) }
@@ -146,7 +145,7 @@ impl Session {
         }
     }
 
-    /// What is answered to what a line asks.
+    /// Returns the answer to a request.
     #[tactic(auto, using(crate::proofs::Lifts::given_up_at_once))]
     pub(crate) fn perform(&mut self, request: Request) -> Result<Answer, NoMemory>
         ensures comes { IfOk result (λ answer. Comes (λ state. spec.exchange state request) self.old.core answer self.new.core) }
@@ -156,10 +155,10 @@ impl Session {
         self.frontier.exchange(request)
     }
 
-    /// What the line is answered. It is one without LF, and without a CR before that.
+    /// Returns the answer to a line. The line has no LF, and no CR that came just before it.
     ///
     /// # Errors
-    /// Out of memory. The frontier is then as before, but for the word that its client remembers.
+    /// Out of memory. The frontier is then as before, except for the word that its client remembers.
     #[tactic(auto, using(crate::proofs::Lifts::given_up_at_once))]
     pub fn answer(&mut self, line: &[u8]) -> Result<Answer, NoMemory>
         ensures serves { IfOk result (λ answer. Serves self.old line.now answer self.new) }
@@ -174,7 +173,7 @@ impl Session {
     }
 }
 
-/// A new frontier for that many workers.
+/// Creates a frontier with that number of queues.
 fn new_frontier(alloc: Global, workers: u32, max_pending: u64) -> Result<Frontier, CoreError>
     ensures start { IfOk result (λ frontier. Shows frontier (start workers max_pending)) }
     ensures limits { OnOk result (AreLimits workers max_pending) }
@@ -188,7 +187,7 @@ fn new_frontier(alloc: Global, workers: u32, max_pending: u64) -> Result<Frontie
     }
 }
 
-/// What `identity` asks: nothing but to be told it.
+/// The answer to `identity`.
 fn told_identity(part: &Part) -> Result<Request, RequestError>
     ensures { Gives wrong.NoMemory (λ request. request) result (Err (wrong.Identity part.now.identity)) }
 {
