@@ -71,6 +71,9 @@ impl Frontier {
         Ok(Answer::Told(reply))
     }
 
+    // `offer`, `end_seeds`, `take` and `finish` only call `exchange.rt`. They are functions for the prover alone: each states for the
+    // frontier what its call does to the machine.
+
     fn offer(&mut self, url: Text, queue: u32) -> Result<Reply, NoMemory>
         ensures comes { IfOk result (λ reply. Comes (λ state. spec.by_machine state (spec.offering state.machine url queue)) self.old (Answer.Told reply) self.new) }
         ensures err { OnErr result (GivesUp self.old self.new) }
