@@ -859,7 +859,7 @@ def reported_seeds(trial: Trial) -> None:
     output, errors = process.communicate(timeout=SECONDS)
     expect(process.returncode == 0, f"status {process.returncode}: {errors}")
     expect(errors.splitlines() == wanted, f"standard error: {errors}")
-    expect(output == "robots 0 http://127.0.0.1:0/\n", f"fetched: {output}")
+    expect(output == "failed 0 http://127.0.0.1:0/\n", f"fetched: {output}")
 
 
 def absent_redis(trial: Trial) -> None:
@@ -878,7 +878,7 @@ def absent_redis(trial: Trial) -> None:
         trial.server.start()
         output, errors = process.communicate(timeout=SECONDS)
         expect(process.returncode == 0 and not errors, f"status {process.returncode}: {errors}")
-        expect(output == "robots 0 http://127.0.0.1:0/\n", f"fetched: {output}")
+        expect(output == "failed 0 http://127.0.0.1:0/\n", f"fetched: {output}")
     finally:
         process.kill()
         if trial.server.process.poll() is not None:

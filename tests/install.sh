@@ -108,6 +108,7 @@ by_pip() {
     expect "a virtual environment" python3 -m venv "$scratch/venv"
     expect "pip install" env PIP_NO_INDEX=1 "$python" -m pip install ./clients/python
     expect "README's example, by pip" lines_run "$scratch/by_pip" env MERCATOR="$program" "$python" "$scratch/lines.py"
+    expect "the service, by pip" sh -c '"$1" -m mercator_service --help | grep -q "^usage: "' sh "$python"
     if command -v mypy > /dev/null; then
         expect "the types" is_typed "$python"
     fi

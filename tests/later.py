@@ -1,5 +1,5 @@
 #!/usr/bin/env python3
-"""Test `later` in the Python client, and how `examples/crawl_http.py` tries pages again and waits.
+"""Test `later` and `stats` in the Python client, and how `examples/crawl_http.py` retries and waits.
 
 The program is the one that MERCATOR names. The pages are served on 127.0.0.1 and the following
 addresses. The last line is `N passed, M failed`; the exit status is 1 if a test failed.
@@ -24,7 +24,7 @@ ROOT = Path(__file__).resolve().parent.parent
 CRAWLER = ROOT / "examples/crawl_http.py"
 sys.path[:0] = [str(ROOT / "clients/python"), str(ROOT / "examples")]
 from fetchers import OLD_HOSTS
-from mercator_frontier import Accepted, Frontier, NoSuchQueue, NothingTaken, Pending
+from mercator_frontier import Accepted, Frontier, NoSuchQueue, NothingTaken, Pending, Stats
 
 SECONDS = float(os.environ.get("SECONDS", "120"))
 
@@ -82,6 +82,23 @@ def resumed() -> None:
         with Frontier(1, log=log) as frontier:
             frontier.later(0)  # URLS[1], which was in progress
             expect([taken(frontier) for _ in range(3)] == [URLS[2], URLS[0], URLS[1]], "the order")
+
+
+def numbers() -> None:
+    """The numbers of URLs, in each state."""
+    with Frontier(2) as frontier:
+        offers = frontier.offer_all(["http://a.test/1", "http://a.test/2", "http://a.test/3", "http://b.test/"])
+        queue, other = (offer.queue for offer in (offers[0], offers[3]) if isinstance(offer, Accepted))
+        expect(queue != other, "the queues")
+        frontier.take(queue)
+        frontier.later(queue)
+        frontier.take(queue)
+        frontier.done(queue)
+        frontier.take(other)
+        expect(frontier.stats(queue) == Stats(3, 1, 0, 2, 1), f"{frontier.stats(queue)}")
+        expect(frontier.stats(other) == Stats(1, 0, 1, 0, 0), f"{frontier.stats(other)}")
+        expect(frontier.stats() == Stats(4, 1, 1, 2, 1), f"{frontier.stats()}")
+        expect_error(NoSuchQueue, lambda: frontier.stats(2))
 
 
 def a_crawl_of_retries() -> None:
@@ -305,7 +322,7 @@ def killed() -> None:
 
 
 TESTS: Tuple[Callable[[], None], ...] = (
-    order, resumed, a_crawl_of_retries, pages_that_fail, hosts_that_fail, many_hosts, one_host, killed,
+    order, resumed, numbers, a_crawl_of_retries, pages_that_fail, hosts_that_fail, many_hosts, one_host, killed,
 )
 
 

@@ -285,7 +285,6 @@ def slow_client(folder: Path) -> None:
 def metrics(folder: Path) -> None:
     """The counts are those of the requests, and other paths are not found."""
     with Service(folder, "--within", "test", "--max-pending", "5", workers=3) as service:
-        expect("mercator_waiting" not in service.figures(), "what is not known is shown")
         with Fetcher(service.unix) as one:
             offers = one.offer_all([
                 "http://a.test/", "http://a.test/#b", "http://a.other/", "mailto:x", "nowhere", "x" * 9000,
@@ -301,8 +300,8 @@ def metrics(folder: Path) -> None:
             answers = ("filtered", "line too long", "not UTF-8", "not a URL", "not http or https", "refused full", "seen")
             wanted = {
                 "accepted_total": 4, "taken_total": 3, "done_total": 1, "put_back_total": 1, "in_progress": 1,
-                "waiting": 3, "clients": 1, "owned_queues": 1, "queues": 3, "closed": 0,
-                **{f'refused_total{{answer="{answer}"}}': 1 for answer in answers},
+                "waiting": 2, "waiting_put_back": 1, "clients": 1, "owned_queues": 1, "queues": 3, "closed": 0,
+                **{f'refused_total{{reason="{answer}"}}': 1 for answer in answers},
             }
             found = service.figures()
             expect(found == {f"mercator_{name}": value for name, value in wanted.items()}, f"{found}")

@@ -58,7 +58,7 @@ from typing import (
 __all__ = [
     "Accepted", "Channel", "Closed", "Frontier", "FrontierEnded", "FrontierError", "LogInUse",
     "NoSuchQueue", "NothingTaken", "Offer", "Pending", "ProgramMissing", "QueueBusy", "Refusal",
-    "UnknownAnswer", "link_word", "request_lines", "wait_for_log",
+    "Stats", "UnknownAnswer", "link_word", "request_lines", "wait_for_log",
 ]
 
 # Requests are sent in pieces of at most this many bytes. A piece is sent while the answers to the
@@ -169,6 +169,19 @@ class Pending(NamedTuple):
 
     def __bool__(self) -> bool:
         return False
+
+
+class Stats(NamedTuple):
+    """The numbers of URLs of a queue, or of all queues.
+
+    Each accepted URL is done, in progress or waiting.
+    """
+
+    accepted: int
+    done: int
+    in_progress: int
+    waiting: int
+    put_back: int  # those of the waiting ones that were put back by `later`
 
 
 class Closed(enum.Enum):
@@ -348,6 +361,19 @@ class Frontier:
         with self._lock:
             self._check(queue)
             return _in_progress(self._ask(b"again %d\n" % queue))
+
+    def stats(self, queue: Optional[int] = None) -> Stats:
+        """Return the numbers of URLs of a queue, or of all queues. Nothing changes.
+
+        Raise `NoSuchQueue` if there is no such queue.
+        """
+        with self._lock:
+            if queue is not None:
+                self._check(queue)
+            answer = self._ask(b"stats\n" if queue is None else b"stats %d\n" % queue)
+            if not answer.startswith(b"stats "):
+                _refuse(answer)
+            return Stats(*map(int, answer.split(b" ")[2::2]))
 
     def close(self) -> None:
         """End the program. Without a log, the state of the crawl is lost.

@@ -27,8 +27,9 @@ A crawler sends requests and reads answers as `docs/SESSION.md` describes. The d
             frontier.links(url, texts_of(fetch(url)))
             frontier.done(queue)
 
-The metrics are at /metrics, in the text format of Prometheus. The counts begin when the service
-starts.
+The metrics are at /metrics, in the text format of Prometheus. Those from `stats` are of the whole
+crawl, and the others are since the service has started. Each request for them adds a line `stats`
+to the log, which a compaction removes.
 
 The service adds no promise to those of the frontier. It is tested, and not proved. It trusts its
 clients: each process that can connect can take and finish URLs. Only its own user can connect to a
@@ -53,7 +54,7 @@ import sys
 from collections import Counter, deque
 from contextlib import suppress
 from typing import (
-    Any, Awaitable, Callable, Deque, Dict, Iterator, List, NamedTuple, Optional, Set, Tuple, Union,
+    Any, Awaitable, Callable, Deque, Dict, List, NamedTuple, Optional, Set, Tuple, Union,
 )
 
 from mercator_frontier import Channel, Frontier, FrontierEnded, FrontierError, wait_for_log
@@ -64,6 +65,9 @@ READ_SIZE = 65_536
 LONGEST = 4_098  # a longer line gets the same answer
 SECONDS_TO_END = 10
 OF_QUEUE = re.compile(rb"(next|done|later|again) ([0-9]{1,20})\r?")
+STATS = re.compile(
+    rb"stats accepted (\d+) done (\d+) in-progress (\d+) waiting (\d+) put-back (\d+)"
+)
 # Seconds without a sign of life, seconds between two questions, and how many may be unanswered.
 KEEP_ALIVE = ((socket.TCP_KEEPIDLE, 60), (socket.TCP_KEEPINTVL, 15), (socket.TCP_KEEPCNT, 4))
 
@@ -102,9 +106,7 @@ class Service:
         self.clients: Dict[Client, asyncio.Task[None]] = {}
         # By queue, what a `next` that was answered `pending` waits for.
         self.waiting: Dict[int, asyncio.Future[None]] = {}
-        self.in_progress: Set[int] = set()
-        self.counts: Counter[str] = Counter()
-        self.unfinished: Optional[int] = None  # until the program says
+        self.counts: Counter[str] = Counter()  # answers, since the start
         self.is_closed = self.has_ended = False
 
     async def start(self, command: List[str]) -> None:
@@ -176,30 +178,18 @@ class Service:
 
     def note(self, request: bytes, answer: bytes) -> None:
         """Count an answer, and wake those for whom it ends a wait, before the next is handled."""
-        word, _, rest = answer.partition(b" ")
         match = OF_QUEUE.fullmatch(request)
-        name, queue = (match[1].decode(), int(match[2])) if match else ("", 0)
+        word, _, rest = answer.partition(b" ")
         if word == b"accepted":
-            self.counts["accepted"] += 1
-            if self.unfinished is not None:
-                self.unfinished += 1
             self.wake(int(rest.split()[0]))
-        elif word == b"taken":
-            self.counts[name] += 1
-            self.in_progress.add(queue)
-        elif word == b"count" or word == b"pending":
-            self.counts[name] += word == b"count"
-            self.unfinished = int(rest)
-            if word == b"pending":
-                self.waiting[queue] = asyncio.get_running_loop().create_future()
-            elif match:
-                self.in_progress.discard(queue)
-            if self.unfinished == 0:
-                self.wake(*self.waiting)
-        elif word == b"closed":
-            self.is_closed = True
+        elif word == b"pending" and match:
+            self.waiting[int(match[2])] = asyncio.get_running_loop().create_future()
+        elif word == b"closed" or answer == b"count 0":
+            self.is_closed = self.is_closed or word == b"closed"
             self.wake(*self.waiting)
-        elif not match:
+        if match and word in (b"taken", b"count"):
+            self.counts[match[1].decode()] += 1
+        elif request.startswith((b"offer ", b"link ")) and word != b"accepted":
             self.counts["refused " + answer.decode("utf-8", "replace")] += 1
 
     def wake(self, *queues: int) -> None:
@@ -282,11 +272,11 @@ class Service:
         self, reader: asyncio.StreamReader, writer: asyncio.StreamWriter
     ) -> None:
         """Answer one HTTP request."""
-        with suppress(OSError, EOFError, asyncio.LimitOverrunError, asyncio.TimeoutError):
+        with suppress(Ended, OSError, EOFError, asyncio.LimitOverrunError, asyncio.TimeoutError):
             head = await asyncio.wait_for(reader.readuntil(b"\r\n\r\n"), SECONDS_TO_END)
             words = head.split(b"\r\n")[0].split(b" ")
             is_found = words[0] in (b"GET", b"HEAD") and words[1:2] == [b"/metrics"]
-            body = "".join(self.metrics()).encode() if is_found else b"see /metrics\n"
+            body = (await self.metrics()).encode() if is_found else b"see /metrics\n"
             status = "200 OK" if is_found else "404 Not Found"
             writer.write(
                 f"HTTP/1.1 {status}\r\nContent-Type: text/plain; version=0.0.4; charset=utf-8\r\n"
@@ -296,37 +286,36 @@ class Service:
             await writer.drain()
         writer.close()
 
-    def metrics(self) -> Iterator[str]:
-        """Return the lines of /metrics. What is not known yet has no line."""
-        for name, key, text in (
-            ("accepted", "accepted", "URLs that were accepted"),
-            ("taken", "next", "URLs that were given out"),
-            ("done", "done", "URLs that are done"),
-            ("put_back", "later", "URLs that were put back"),
-        ):
-            yield metric(f"mercator_{name}_total", "counter", f"{text}, since the start")
-            yield f"mercator_{name}_total {self.counts[key]}\n"
-        yield metric("mercator_refused_total", "counter", "Offers that were refused, by answer")
+    async def metrics(self) -> str:
+        """Return the text of /metrics. A program without `stats` has fewer lines."""
+        figures = [
+            ("taken_total", self.counts["next"], "URLs that were given out since the start"),
+            ("put_back_total", self.counts["later"], "URLs that were put back since the start"),
+            ("clients", len(self.clients), "Connections"),
+            ("owned_queues", len(self.owners), "Queues that have an owner"),
+            ("queues", self.workers, "Queues"),
+            ("closed", int(self.is_closed), "1 if the crawl is over"),
+        ]
+        stats = STATS.fullmatch((await self.ask([b"stats"]))[0])
+        if stats:
+            accepted, done, in_progress, waiting, put_back = map(int, stats.groups())
+            figures += [
+                ("accepted_total", accepted, "URLs that were accepted"),
+                ("done_total", done, "URLs that are done"),
+                ("in_progress", in_progress, "URLs that are in progress"),
+                ("waiting", waiting, "URLs that wait, with those that were put back"),
+                ("waiting_put_back", put_back, "URLs that wait and were put back"),
+            ]
+        lines = ["# HELP mercator_refused_total Offers that were refused since the start.",
+                 "# TYPE mercator_refused_total counter"]
         for key, count in sorted(self.counts.items()):
             if key.startswith("refused "):
-                yield f'mercator_refused_total{{answer="{key[len("refused "):]}"}} {count}\n'
-        gauges = {
-            "in_progress": (len(self.in_progress), "URLs that are in progress"),
-            "clients": (len(self.clients), "Connections"),
-            "owned_queues": (len(self.owners), "Queues that have an owner"),
-            "queues": (self.workers, "Queues"),
-            "closed": (int(self.is_closed), "1 if the crawl is over"),
-        }
-        if self.unfinished is not None:
-            waiting = self.unfinished - len(self.in_progress)
-            gauges["waiting"] = (waiting, "URLs that wait, and one for the seeds until they end")
-        for name, (value, text) in gauges.items():
-            yield metric(f"mercator_{name}", "gauge", text)
-            yield f"mercator_{name} {value}\n"
-
-
-def metric(name: str, kind: str, text: str) -> str:
-    return f"# HELP {name} {text}.\n# TYPE {name} {kind}\n"
+                lines.append(f'mercator_refused_total{{reason="{key[len("refused "):]}"}} {count}')
+        for name, value, text in figures:
+            kind = "counter" if name.endswith("_total") else "gauge"
+            lines += [f"# HELP mercator_{name} {text}.", f"# TYPE mercator_{name} {kind}",
+                      f"mercator_{name} {value}"]
+        return "\n".join(lines) + "\n"
 
 
 async def send(writer: asyncio.StreamWriter, answers: List[bytes]) -> None:
