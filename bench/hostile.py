@@ -10,13 +10,20 @@ A document repeats a pattern up to a size, and is in a folder with a page that l
 upper bound of the time of the tokenizer. A pattern fails if `site` takes more than 0.06 microseconds per byte, or if the time
 per byte of either command is more than twice as long at the largest size as at the smallest one.
 
-A folder has many files, links or spellings of one kind (hostile_folders.py). Its size is that of its files and of their paths.
-A pattern fails if at any size
+A folder has many files, links or spellings of one kind (hostile_folders.py). Its size is that of its files and of their paths. It is
+compared with an ordinary folder of the same size, which has pages with links to the next page and to missing ones. A pattern fails if
+at any size
 
-- `site` takes more than 3 times as long as on an ordinary folder of the same size, or `check` more than 5 times. The ordinary
-  folder has the same number of files, with links to the next one and to missing ones. For patterns that print much more than they
-  read, times are divided by the bytes of the folder and of the output.
+- `site` takes more than 3 times as long as on an ordinary folder of the same size whose saved web is as large. Both sizes count,
+  because a link needs fewer bytes than its page in the saved web: if 100 KB of links with different queries make 270 KB of pages,
+  an ordinary folder with as many pages is the measure, and not one page of 100 KB. So the ordinary folder has as many files as the
+  pattern and, if that is not enough, empty images in place of some of its text.
+- or `check` takes more than 5 times as long as on an ordinary folder of the same size with the same number of files, whose report is
+  several times as large as the folder
 - or the time, the memory or the output per byte is more than twice as much as at the smallest size at which it can be measured.
+
+If a pattern prints more than its ordinary folder, as with a base of 4 KB for each link, times are divided by the bytes that are
+read and printed. Times of a few milliseconds vary, so a time also has to be NOISE above its limit.
 """
 
 from __future__ import annotations
@@ -28,7 +35,7 @@ import resource
 import subprocess
 import sys
 import tempfile
-from typing import NamedTuple
+from typing import Iterable, NamedTuple
 
 import hostile_folders
 
@@ -42,8 +49,6 @@ URL = "http://a.test/"
 MOST, GROWTH = 0.06, 2.0
 TIMES = {"site": 3.0, "check": 5.0}  # the most times as long as on an ordinary folder of the same size
 NOISE = 4.0  # milliseconds, MiB of memory and KiB of output that count as nothing
-# The patterns of folders whose output is much larger than the folder: each link has a long base or is on a line of the report
-PRINTS_MUCH = {"base_long", "base_long_distinct"}
 NUMBER = b"0000000"  # replaced by the number of the repetition
 
 # name: the beginning of the document, the repeated pattern, the end of the document
@@ -129,21 +134,22 @@ def document(name: str, size: int) -> bytes:
 
 
 class Input(NamedTuple):
-    """A pattern of a size; for the ordinary folder, also of a number of files."""
+    """A pattern of a size; for the ordinary folder, also of numbers of pages and images."""
 
     name: str
     size: int
     files: int = 1
+    images: int = 0
 
 
 def write_input(given: Input, folder: str) -> Input:
     """Write the folder of a pattern, and return its real size and number of files."""
-    name, size, files = given
+    name, size, files, images = given
     if name in PATTERNS:
         pathlib.Path(folder, "index.html").write_bytes(b"<a href=page.html>")
         return Input(name, pathlib.Path(folder, "page.html").write_bytes(document(name, size)), 2)
     if name == "ordinary":
-        return Input(name, *hostile_folders.write(hostile_folders.ordinary(files, size), folder))
+        return Input(name, *hostile_folders.write(hostile_folders.ordinary(files, size, images), folder))
     pattern = hostile_folders.PATTERNS[name]
     return Input(name, *hostile_folders.write(pattern(hostile_folders.count_for(pattern, size)), folder))
 
@@ -153,7 +159,8 @@ def made(given: Input, folder: str) -> Input:
 
     A process of its own writes it, because the memory of this process would count as that of the program.
     """
-    words = [sys.executable, __file__, "--write", folder, "--size", str(given.size), "--files", str(given.files), given.name]
+    counts = ["--size", str(given.size), "--files", str(given.files), "--images", str(given.images)]
+    words = [sys.executable, __file__, "--write", folder, *counts, given.name]
     size, files = map(int, subprocess.run(words, stdout=subprocess.PIPE, check=True).stdout.split())
     return Input(given.name, size, files)
 
@@ -199,9 +206,21 @@ class Row(NamedTuple):
     input: Input
     run: Run
 
-    def per_byte(self, is_output_counted: bool = False) -> float:
-        """Return the microseconds per byte of the input, or of the input and the output."""
-        return self.run.seconds / (self.input.size + self.run.output * is_output_counted) * 1e6
+    def per_byte(self) -> float:
+        """Return the microseconds per byte of the input."""
+        return self.run.seconds / self.input.size * 1e6
+
+    def ordinary(self) -> Input:
+        """Return the ordinary folder with which the row is compared."""
+        _, size, files, _ = self.input
+        if self.command == "check":
+            return Input("ordinary", size, files)
+        return Input("ordinary", size, *hostile_folders.ordinary_like(files, size, self.run.output))
+
+    def limit(self, plain: "Row") -> float:
+        """Return the seconds of the row that its ordinary folder would take; more if the row prints more."""
+        more = (self.input.size + self.run.output) / (plain.input.size + plain.run.output)
+        return max(plain.run.seconds, 1e-6) * max(more, 1)
 
 
 class Measurement:
@@ -216,11 +235,11 @@ class Measurement:
         for command, run in self.start.items():
             print(f"one empty file: `{command}` takes {run.seconds * 1e3:.1f} ms and {run.memory:.1f} MiB")
 
-    def rows(self, given: Input) -> list[Row]:
-        """Measure both commands on an input."""
+    def rows(self, given: Input, commands: Iterable[str] = tuple(COMMANDS)) -> list[Row]:
+        """Measure commands on an input."""
         with tempfile.TemporaryDirectory() as folder:
             real = made(given, folder)
-            return [Row(command, real, measured(self.program, command, folder) - self.start[command]) for command in COMMANDS]
+            return [Row(command, real, measured(self.program, command, folder) - self.start[command]) for command in commands]
 
     def verdict(self, name: str, faults: list[str], fine: str) -> None:
         """Print the verdict on a pattern."""
@@ -249,20 +268,21 @@ class Measurement:
         growth = {command: Growth() for command in COMMANDS}
         for size in sizes:
             rows = self.rows(Input(name, size))
-            for row, plain in zip(rows, self.rows(rows[0].input._replace(name="ordinary"))):
-                is_both = name in PRINTS_MUCH
-                times = row.per_byte(is_both) / plain.per_byte(is_both)
-                bytes_read = row.input.size
+            for row in rows:
+                (plain,) = self.rows(row.ordinary(), [row.command])
+                usual = row.limit(plain)
+                times = row.run.seconds / usual
                 print(
-                    f"{name:20}{row.command:6}{bytes_read / 1024:9.1f} KiB{row.run.seconds * 1e3:11.1f} ms{row.per_byte(is_both):9.4f} us"
-                    f"{times:8.2f} times{row.run.memory:9.1f} MiB{row.run.output / 1024:10.1f} KiB printed"
+                    f"{name:20}{row.command:6}{row.input.size / 1024:9.1f} KiB{row.run.seconds * 1e3:11.1f} ms{row.per_byte():9.4f} us"
+                    f"{times:8.2f} times {usual * 1e3:.1f} ms{row.run.memory:9.1f} MiB{row.run.output / 1024:10.1f} KiB printed,"
+                    f" ordinary {plain.run.output / 1024:.1f} KiB of {plain.input.files} files"
                 )
                 worst[row.command] = max(worst[row.command], times)
                 if row.run.failed:
-                    faults.append(f"`{row.command}` was killed after {LIMIT} s, or failed, at {bytes_read} bytes")
-                elif times > TIMES[row.command] and row.run.seconds * 1e3 > NOISE:
+                    faults.append(f"`{row.command}` was killed after {LIMIT} s, or failed, at {row.input.size} bytes")
+                elif (row.run.seconds - TIMES[row.command] * usual) * 1e3 > NOISE:
                     limit = f"at most {TIMES[row.command]:g}"
-                    faults.append(f"`{row.command}` takes {times:.1f} times as long as on an ordinary folder of {bytes_read} bytes, {limit}")
+                    faults.append(f"`{row.command}` takes {times:.1f} times as long as on an ordinary folder of {row.input.size} bytes, {limit}")
                 faults += growth[row.command].faults(row)
             if any(row.run.failed for row in rows):
                 break
@@ -314,6 +334,7 @@ def options_of(parser: argparse.ArgumentParser) -> argparse.Namespace:
     option("--write", metavar="FOLDER", help="write the input of NAME to the existing FOLDER, print its size and number of files, and exit")
     option("--size", type=int, default=2**20, metavar="BYTES", help="size of what --write writes (default: 1048576)")
     option("--files", type=int, default=1, metavar="COUNT", help="number of files of the ordinary folder that --write writes (default: 1)")
+    option("--images", type=int, default=0, metavar="COUNT", help="number of images of that folder (default: 0)")
     option("names", nargs="*", metavar="NAME", help="pattern to measure (default: all)")
     return parser.parse_args()
 
@@ -327,7 +348,7 @@ def main() -> int:
     if unknown:
         parser.error(f"no such pattern: {unknown[0]}; the patterns are {', '.join(known)}")
     if options.write:
-        real = write_input(Input(options.names[0], options.size, options.files), options.write)
+        real = write_input(Input(options.names[0], options.size, options.files, options.images), options.write)
         print(real.size, real.files)
         return 0
     is_all = not (options.names or options.documents or options.folders)

@@ -9,6 +9,7 @@ from __future__ import annotations
 import itertools
 import os
 import pathlib
+import re
 from typing import Callable, Iterator, NamedTuple, Union
 
 
@@ -34,17 +35,50 @@ def numbered(text: str, count: int) -> str:
     return links(text.format(number) for number in range(count))
 
 
-def ordinary(files: int, size: int) -> Files:
-    """Pages of equal size, with links to the next page and to missing ones. With their paths they have about `size` bytes."""
-    names = ["index.html", *(f"p{number}.html" for number in range(1, files))]
+def ordinary(pages: int, size: int, images: int = 0) -> Files:
+    """Pages of equal size, with links to the next page and to missing ones, and empty images. With their paths they have `size` bytes."""
+    names = ["index.html", *(f"p{number}.html" for number in range(1, pages))]
+    pictures = [f"i{number}.png" for number in range(images)]
+    size -= sum(map(len, pictures))
     number = 0
     for page, name in enumerate(names):
-        following = names[(page + 1) % files]
+        following = names[(page + 1) % pages]
         text = ""
-        while not text or len(text) < size // files - len(name) - 20:
+        while not text or len(text) < size // pages - len(name) - 20:
             text += f'<a href="{following}">x</a><a href="gone{number}">'
             number += 1
         yield name, text
+    for name in pictures:
+        yield name, ""
+
+
+def ordinary_size(pages: int, size: int, images: int) -> int:
+    """The size of the saved web of an ordinary folder."""
+    lines = ["savedweb 2", "page http://a.test/", "link /"]
+    for name, text in ordinary(pages, size, images):
+        lines.append(f"page http://a.test/{name}")
+        lines += [f"link {text}" for text in re.findall('href="(.*?)"', str(text))]
+    return sum(map(len, lines)) + len(lines)
+
+
+def ordinary_like(files: int, size: int, web: int) -> tuple[int, int]:
+    """The numbers of pages and of images of the ordinary folder of a size whose saved web has at least `web` bytes, or as many as possible.
+
+    It has no more pages than `files`, and images only if that many pages are not enough.
+    """
+
+    def pages_beside(images: int) -> int:
+        return max(1, min(files, (size - 9 * images) // 64))
+
+    least, most = -1, size // 10
+    while most - least > 1 + most // 100:
+        images = (least + most) // 2
+        if ordinary_size(pages_beside(images), size, images) < web:
+            least = images
+        else:
+            most = images
+    images = 0 if ordinary_size(files, size, 0) >= web else most
+    return (files, 0) if images == 0 else (pages_beside(images), images)
 
 
 # ---------------------------------------------------------------- other spellings and queries
@@ -86,6 +120,22 @@ def links_depth(count: int) -> Files:
         if depth + 1 < NEST and number + 1 < count:
             yield f"n{nest}/{depth}/x", Link(f"../{depth + 1}")
             yield f"n{nest}/{depth}/y", Link(f"../{depth + 1}")
+
+
+def links_square(count: int) -> Files:
+    """Symbolic links to one folder, which has as many files, and a link through each."""
+    yield "index.html", numbered("l{}/f0.html", count)
+    for number in range(count):
+        yield f"a/f{number}.html", "x"
+        yield f"l{number}", Link("a")
+
+
+def links_long(count: int) -> Files:
+    """Long paths through a symbolic link from a deep folder to itself."""
+    deep = "a/" * 200
+    yield f"{deep}f.html", "x"
+    yield f"{deep}x", Link(".")
+    yield "index.html", links(f"{deep}{'x/' * 1700}f.html?{number}" for number in range(count))
 
 
 def escapes_exp(count: int) -> Files:
@@ -307,11 +357,11 @@ def collide(count: int) -> Files:
 PATTERNS: dict[str, Pattern] = {
     pattern.__name__: pattern
     for pattern in (
-        escapes_depth, moved_depth, index_depth, base_depth, links_depth, escapes_exp, escapes_dirs, many_slashes, slashes_relative,
-        query_selfgrow, query_pages, query_square, query_cube, queries_once, empty_link_query, query_long_page, anchors_queries,
-        moved_chain, moved_to_missing, many_moved, many_anchors, anchors_many_pages, ids_collide, same_target_many, gone_lines,
-        gone_oneline, gone_oneline_same, same_name, same_name_one, same_name_linkers, dotdot, base_long, base_long_distinct, deep,
-        external_many, unreached, collide,
+        escapes_depth, moved_depth, index_depth, base_depth, links_depth, links_square, links_long, escapes_exp, escapes_dirs,
+        many_slashes, slashes_relative, query_selfgrow, query_pages, query_square, query_cube, queries_once, empty_link_query,
+        query_long_page, anchors_queries, moved_chain, moved_to_missing, many_moved, many_anchors, anchors_many_pages, ids_collide,
+        same_target_many, gone_lines, gone_oneline, gone_oneline_same, same_name, same_name_one, same_name_linkers, dotdot,
+        base_long, base_long_distinct, deep, external_many, unreached, collide,
     )
 }
 

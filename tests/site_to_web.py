@@ -506,20 +506,31 @@ class Folders(Converting):
         self.put("words", "no document")
         self.assertEqual(self.converted()["http://a.test/words"], [])
 
-    def test_symbolic_links_are_followed_but_not_back_up(self) -> None:
-        self.put("dir/x.txt")
+    def test_a_symbolic_link_to_a_folder_gives_its_files_aliases(self) -> None:
+        self.put("dir/x.html", "<a href=../other/up/dir/>")
+        self.put("index.html", "<a href=other/x.html><a href=other/x.html?a><a href=oth%65r/up/other/x.html><a href=other/gone>")
         os.symlink("dir", os.path.join(self.folder, "other"))
         os.symlink("..", os.path.join(self.folder, "dir", "up"))
         os.symlink("nothing", os.path.join(self.folder, "gone"))
+        pages = self.converted()
+        names = ("other/x.html", "other/x.html?a", "oth%65r/up/other/x.html")
+        self.assertEqual({name: pages.pop(f"http://a.test/{name}") for name in names}, dict.fromkeys(names, ["link /dir/x.html"]))
         self.assertEqual(
-            list(self.converted()),
-            [
-                f"http://a.test/{path}"
-                for path in ("dir", "dir/up", "dir/x.txt", "other", "other/up", "other/x.txt")
-            ],
+            pages,
+            {
+                "http://a.test/": [f"link {text}" for text in (*names, "other/gone")],
+                "http://a.test/dir": ["moved /dir/"],
+                "http://a.test/dir/up": ["moved /dir/up/"],
+                "http://a.test/dir/up/": ["link /"],
+                "http://a.test/dir/x.html": ["link ../other/up/dir/"],
+                "http://a.test/index.html": ["link /"],
+                "http://a.test/other": ["moved /other/"],
+            },
         )
-        self.assertIn("folder skipped, it leads back to a folder above it: dir/up\n", self.notes)
         self.assertIn("skipped, neither a file nor a folder: gone\n", self.notes)
+        exact = self.converted("--exact")
+        self.assertEqual(exact["http://a.test/other/x.html"], ["link /dir/x.html"])
+        self.assertEqual(set(pages) | {"http://a.test/other/x.html"}, set(exact))
 
     def test_symbolic_links_out_of_the_folder_are_followed_with_the_option(self) -> None:
         above = os.path.dirname(self.folder)
@@ -547,8 +558,9 @@ class Folders(Converting):
             self.assertIn(note.format(name), self.notes)
         self.assertIn("skipped, neither a file nor a folder: gone.html\n", self.notes)
         pages = self.converted("--follow")
-        for name in ("dir/b.html", "near/a.html", "near/dir/b.html", "twice.html"):
+        for name in ("dir/b.html", "near/a.html", "twice.html"):
             self.assertEqual(pages[f"http://a.test/{name}"], ["link x"])
+        self.assertNotIn("http://a.test/near/dir/b.html", pages)
         self.assertIn("skipped, neither a file nor a folder: device.html\n", self.notes)
         self.assertNotIn("leads out", self.notes)
 

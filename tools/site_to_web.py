@@ -12,6 +12,7 @@ The script needs only the standard library.
 from __future__ import annotations
 
 import argparse
+import collections
 import contextlib
 import gzip
 import html
@@ -25,7 +26,7 @@ import sys
 import tempfile
 import zlib
 from io import BufferedIOBase
-from typing import BinaryIO, Callable, Iterable, Iterator, NoReturn, Optional
+from typing import BinaryIO, Callable, Iterable, Iterator, NamedTuple, NoReturn, Optional
 from urllib.parse import quote, unquote_to_bytes
 
 DESCRIPTION = """\
@@ -59,7 +60,10 @@ pages of a folder, as a plain static server returns them:
     --queries, a `?` in a file name starts the query (the own URL of `index.html?x`
     is `/?x`), and no query is ignored.
   - A symbolic link is followed if it leads to a file or folder in FOLDER. Others
-    are skipped and reported, unless --follow is given.
+    are skipped and reported, unless --follow is given. A link to a file counts as a
+    file. Through a link to a folder, the files of the folder have aliases: their own
+    URLs have the path of the folder without symbolic links or, if the folder is
+    outside of FOLDER, the first of its shortest paths.
   - Whether a file is HTML is decided by its suffix or, if the suffix is unknown, by
     its first bytes. All other files are pages without links, and so are files of
     more than 2^30 bytes.
@@ -771,34 +775,62 @@ class Web:
 # ---------------------------------------------------------------- folders
 
 
-def entries_below(folder: bytes, web: Web, follow: bool) -> list[bytes]:
-    """Return the sorted paths of the files and folders below a folder; those of folders end in a slash.
+class Names(NamedTuple):
+    """The sorted paths of files and folders, and for each other path of a folder the one by which its contents are listed.
 
-    Symbolic links are followed, except to a folder above them and, unless `follow` is set, to anything outside.
+    The paths of folders end in a slash.
+    """
+
+    paths: list[bytes]
+    links: dict[bytes, bytes]
+
+
+def entries_below(folder: bytes, web: Web, follow: bool) -> Names:
+    """Return the names below a folder. Symbolic links are followed, but to something outside only if `follow` is set.
+
+    Each folder is listed once: by its path without symbolic links, or if it is outside, by the first of its shortest paths.
     """
     top = os.path.realpath(folder)
-    found: list[bytes] = []
-    waiting: list[tuple[bytes, tuple[bytes, ...]]] = [(b"", (top,))]
+    names = Names([], {})
+    outside: dict[bytes, bytes] = {}
+    waiting = collections.deque([b""])
     while waiting:
-        place, above = waiting.pop()
-        for name in sorted(os.listdir(os.path.join(folder, place))):
+        place = waiting.popleft()
+        for name in links_last(os.path.join(folder, place)):
             path = os.path.join(folder, place, name)
             if not follow and leads_out(path, top):
                 why = "a symbolic link that leads out of the folder (--follow follows it)"
                 web.note(f"skipped, {why}", os.fsdecode(place + name))
             elif os.path.isdir(path):
-                found.append(place + name + b"/")
                 real = os.path.realpath(path)
-                if real in above:
-                    web.note("folder skipped, it leads back to a folder above it", os.fsdecode(place + name))
+                listed = place + name + b"/"
+                own = name_below(real, top)
+                if own is None:
+                    own = outside.setdefault(real, listed)
+                names.paths.append(listed)
+                if own == listed:
+                    waiting.append(listed)
                 else:
-                    waiting.append((place + name + b"/", (*above, real)))
+                    names.links[listed] = own
             elif os.path.isfile(path):
-                found.append(place + name)
+                names.paths.append(place + name)
             else:
                 why = "it cannot be read" if is_hidden(path) else "neither a file nor a folder"
                 web.note(f"skipped, {why}", os.fsdecode(place + name))
-    return sorted(found)
+    names.paths.sort()
+    return names
+
+
+def links_last(folder: bytes) -> list[bytes]:
+    """Return the names in a folder in the order of the paths of folders, symbolic links last."""
+    return sorted(os.listdir(folder), key=lambda name: (os.path.islink(os.path.join(folder, name)), name + b"/"))
+
+
+def name_below(real: bytes, top: bytes) -> Optional[bytes]:
+    """Return the path, below the folder with the real path `top`, of the folder with the real path `real`, or None if it is outside."""
+    front = os.path.join(top, b"")
+    below = os.path.join(real, b"")
+    return below[len(front) :] if below.startswith(front) else None
 
 
 def leads_out(path: bytes, top: bytes) -> bool:
@@ -839,7 +871,8 @@ def split_name(name: bytes, queries: bool) -> tuple[bytes, bytes, bytes]:
 class Folder:
     """The pages of a folder.
 
-    By URL, `files` has the file of each page, and `moves` the target of each redirect. By file, `own` has its own URL.
+    By URL, `files` has the file of each page, `moves` the target of each redirect, and `linked` the own URL of a folder for each other
+    one. By file, `own` has its own URL.
     """
 
     def __init__(self, folder: str, base: Url, options: argparse.Namespace, web: Web) -> None:
@@ -849,7 +882,9 @@ class Folder:
         self.own: dict[bytes, str] = {}
         self.moves: dict[str, str] = {}
         index = os.fsencode(options.index)
-        for name in entries_below(self.folder, web, options.follow):
+        names = entries_below(self.folder, web, options.follow)
+        self.linked = {self.url(name): self.url(own) for name, own in names.links.items()}
+        for name in names.paths:
             if not is_utf8(name):
                 web.note("name is not UTF-8, so its bytes are percent-encoded", self.url(name))
             if name.endswith(b"/"):
@@ -906,8 +941,18 @@ class Folder:
         plain = target.site() + respelled(target.path)
         if target.query is not None and self.queries:
             plain += "?" + quote(unquote_to_bytes(target.query), safe=IN_QUERY)
-        is_page = text in self.files or text in self.moves
-        return None if is_page or not self.has_spellings(plain) else (text, plain)
+        if text in self.files or text in self.moves or (self.exact and plain != text):
+            return None
+        plain = self.own_url(plain)
+        return (text, plain) if self.has_spellings(plain) else None
+
+    def own_url(self, url: str) -> str:
+        """Return a URL with the own URL of each folder in place of its other ones."""
+        own = ""
+        for part in re.findall("[^/]*/|[^/]+", url) if self.linked else [url]:
+            own += part
+            own = self.linked.get(own, own)
+        return own
 
     def has_spellings(self, url: str) -> bool:
         """Return whether a folder has this URL, or a file whose own URL fits in a line."""
@@ -917,10 +962,10 @@ class Folder:
     def other_spellings(self, links: Iterable[str], url: str) -> dict[str, str]:
         """Return the URLs among links that spell a page's URL differently, each with the page's URL."""
         base = url_of(url)
-        # Only links with escapes or a query can
-        marked = [link for link in dict.fromkeys(links) if "?" in link or "%" in link]
+        # Only links with escapes or a query can, unless symbolic links lead to folders
+        marked = [link for link in dict.fromkeys(links) if self.linked or "?" in link or "%" in link]
         found = (self.spelled_otherwise(link, base) for link in marked)
-        return {} if self.exact else dict(filter(None, found))
+        return {} if self.exact and not self.linked else dict(filter(None, found))
 
     def write_file(self, url: str, name: bytes) -> list[str]:
         """Add the page at a URL of a file. Return the links of the file at its own URL, and none at an alias."""
@@ -957,6 +1002,7 @@ class Folder:
             found.update(self.other_spellings(self.write_file(url, name), url))
         for url, target in self.moves.items():
             self.web.moved(url, self.target(target))
+            found.update(self.other_spellings([target], url))
         again = self.write_spelled(found)
         self.write_spelled({text: plain for text, plain in again.items() if text not in found})
 

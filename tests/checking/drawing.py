@@ -63,7 +63,7 @@ PIECES = [
 ]
 TARGETS = [
     ".", "..", "sub", "sub/", "./a", "../site", "../site/sub", "../site/a.html", "a.html", "index.html", "linked", "gone", "../site2", "../site2/in.html",
-    "../out.html", "../gone.html", "/dev/null", "../site2/back",
+    "../out.html", "../gone.html", "/dev/null", "../site2/back", "../site2/sub", "../site2/again",
 ]
 LINKED = ["linked", "linked.html", "linked.html", "index.html", "sub/linked", "a/linked.html"]
 
@@ -184,7 +184,9 @@ def draw_symbolic_links(draw: Random, top: Path) -> None:
     """Adds symbolic links, and something outside of the folder to which some lead."""
     write(top.parent / "out.html", b"<a href=x><a href=a.html>")
     write(top.parent / "site2/in.html", b"<a href=../a.html><a href=gone>")
+    write(top.parent / "site2/sub/index.html", b"<a href=../in.html><a href=../back/><a href=gone>")
     os.symlink("../site", top.parent / "site2/back")
+    os.symlink("sub", top.parent / "site2/again")
     for _ in range(draw.randint(1, 3)):
         place = top / draw.choice(LINKED)
         if place.parent.is_dir() and not os.path.lexists(place):
@@ -193,6 +195,33 @@ def draw_symbolic_links(draw: Random, top: Path) -> None:
             if draw.random() < 0.2 and not target.startswith("/"):
                 target = os.path.normpath(place.parent / target)
             os.symlink(target, place)
+
+
+NESTED = ["a", "b", "a/c", "a/c/d", "b/\u00fc", "sub", "sub/a.html"]
+LINK_NAMES = ["x", "x", "y", "%41", "\u00fc", "q?r", "c", "index.html"]
+
+
+def draw_linked_folders(draw: Random, top: Path) -> None:
+    """Adds folders with symbolic links to each other and to folders above them, and pages with links through these."""
+    folders = [folder for folder in draw.sample(NESTED, draw.randint(2, 5)) if not any(up.is_file() for up in (top / folder / "x").parents)]
+    for folder in folders:
+        (top / folder).mkdir(parents=True, exist_ok=True)
+    for _ in range(draw.randint(1, 6)):
+        place = top / draw.choice(["", *folders]) / draw.choice(LINK_NAMES)
+        if not os.path.lexists(place):
+            target = draw.choice([*folders, *folders, "", "..", "../site2", "a/x", "x/y"])
+            os.symlink(os.path.relpath(top / target, place.parent), place)
+    for folder in ["", *folders]:
+        links = [linked_path(draw, folder) for _ in range(draw.randint(1, 5))]
+        text = "<p id=x>" + "".join(f'<a href="{link}">' for link in links)
+        write(top / folder / draw.choice(["index.html", "index.html", "p.html"]), text.encode())
+
+
+def linked_path(draw: Random, place: str) -> str:
+    """A random path through folders, from a document in the folder `place`."""
+    names = [draw.choice([*LINK_NAMES, "a", "b", "d", "sub", ".."]) for _ in range(draw.randint(1, 4))]
+    path = "/".join([*names, draw.choice(["", "", "index.html", "p.html", "gone.html", "in.html"])])
+    return path_to(draw, spelled(draw, path), place and place + "/") + draw.choice([*ENDS[:14], "#x", "#y"])
 
 
 def random_options(draw: Random) -> List[str]:
@@ -209,6 +238,8 @@ def draw_folder(draw: Random, documents: Any, top: Path) -> None:
     draw_files(draw, documents, top)
     if draw.random() < 0.4:
         draw_symbolic_links(draw, top)
+    if draw.random() < 0.25:
+        draw_linked_folders(draw, top)
     if draw.random() < 0.1:
         add_odd(draw, top)
     if draw.random() < 0.5 and not os.path.lexists(top / "index.html"):

@@ -145,10 +145,49 @@ KNOWN = [
             "../a.html": "<a href=gone.html>", "../site2/a.html": "",
         },
         [
-            "gone.html in.html:1:9", "in/gone.html in/a.html:1:9", "near/a.html index.html:1:79", "out.html index.html:1:43",
+            "gone.html in.html:1:9", "b/gone.html b/a.html:1:9", "near/a.html index.html:1:79", "out.html index.html:1:43",
             "out/a.html index.html:1:60",
         ],
-        total(pages=3, links=7, redirects=0, aliases=0),
+        total(pages=3, links=7, redirects=0, aliases=1),
+    ),
+    Known(
+        "a symbolic link to the folder of the latest version",
+        {
+            "index.html": "<a href=latest/><a href=latest/a.html#y><a href=latest><a href=latest/gone>",
+            "v2/index.html": "<a href=a.html><a href=../latest/a.html><a href=../latest/style/s.css>",
+            "v2/a.html": "<p id=x><a href=none>", "latest": To("v2"), "v2/style": To("../style"), "style/s.css": "",
+        },
+        ["latest/a.html#y index.html:1:25", "latest/gone index.html:1:64", "v2/none v2/a.html:1:17"],
+        (
+            *total(pages=4, links=8, redirects=1, aliases=3),
+            {"kind": "redirect", "page": "latest", "to": "latest/", "pages": 1},
+            {"kind": "broken", "target": "latest/gone", "pages": 1},
+        ),
+    ),
+    Known(
+        "two symbolic links from each folder to the next",
+        {
+            "index.html": "<a href=0/>",
+            **{f"{depth}/index.html": "<a href=x/><a href=y/>" if depth < 18 else "" for depth in range(19)},
+            **{f"{depth}/{name}": To(f"../{depth + 1}") for depth in range(18) for name in "xy"},
+        },
+        [],
+        total(pages=20, links=37, redirects=0, aliases=36),
+    ),
+    Known(
+        "symbolic links to a folder above",
+        {
+            "index.html": "<a href=a/up/a/up/><a href=a/up/a/up/a.html><a href=a/up/a/p.html#y>", "a/up": To(".."),
+            "a/p.html": "<p id=x><a href=up/gone><a href=up/a/p.html#x>",
+        },
+        ["a/up/a/p.html#y index.html:1:53", "a/up/a/up/a.html index.html:1:28", "a/up/gone a/p.html:1:17"],
+        total(pages=2, links=5, redirects=0, aliases=2),
+    ),
+    Known(
+        "the index file is a symbolic link",
+        {"index.html": To("en/index.html"), "en/index.html": "<a href=a.html>", "en/a.html": "<a href=..>"},
+        ["a.html index.html:1:9"],
+        total(pages=1, links=1, redirects=0, aliases=0),
     ),
     Known(
         "symbolic links out of the folder that are followed",
@@ -159,6 +198,17 @@ KNOWN = [
         },
         ["gone.html out.html:1:9", "out/gone.html out/a.html:1:9"],
         total(pages=4, links=5, redirects=0, aliases=0),
+        follow=True,
+    ),
+    Known(
+        "a folder outside by several paths",
+        {
+            "index.html": "<a href=a/b/f.html><a href=b/f.html><a href=c/b/f.html><a href=a/site/d/f.html><a href=b/up/b/f.html>",
+            "a": To("../out"), "b": To("../out/b"), "c": To("a"), "d": To("a/b"), "../out/b/f.html": "<a href=gone>",
+            "../out/b/up": To(".."), "../out/site": To("../site"),
+        },
+        ["b/gone b/f.html:1:9"],
+        total(pages=2, links=6, redirects=0, aliases=4),
         follow=True,
     ),
     Known(

@@ -127,28 +127,48 @@ def in_bytes(row: Tuple[Tuple[str, str], object]) -> Tuple[bytes, bytes]:
     return row[0][0].encode(), row[0][1].encode("utf-8", "replace")
 
 
-def names_below(folder: bytes, follow: bool) -> Set[bytes]:
-    """The paths of the files and folders below a folder; those of folders end in a slash.
+class Names(NamedTuple):
+    """The paths of files and folders, and for each other path of a folder the one that counts. Those of folders end in a slash."""
 
-    A symbolic link counts as what it leads to, if that is in the folder or `follow` is set. A folder is not entered from itself.
+    paths: Set[bytes]
+    links: Dict[bytes, bytes]
+
+
+def names_below(folder: bytes, follow: bool) -> Names:
+    """The names below a folder.
+
+    A symbolic link counts as what it leads to, if that is in the folder or `follow` is set. Of the paths of a folder, the one
+    without symbolic links counts, or for a folder outside, the first one of the shortest.
     """
     top = os.path.realpath(folder)
-    found: Set[bytes] = set()
-
-    def enter(place: bytes, above: Tuple[bytes, ...]) -> None:
-        for entry in os.scandir(os.path.join(folder, place)):
-            real = os.path.realpath(entry.path)
-            if entry.is_symlink() and not follow and os.path.commonpath([top, real]) != top:
+    paths: Set[bytes] = set()
+    links: Dict[bytes, bytes] = {}
+    outside: Dict[bytes, bytes] = {}
+    level = [b""]
+    while level:
+        listed = [(place, entry) for place in level for entry in ordered(os.scandir(os.path.join(folder, place)))]
+        level = []
+        for place, entry in listed:
+            path, real = place + entry.name, os.path.realpath(entry.path)
+            is_inside = os.path.commonpath([top, real]) == top
+            if entry.is_symlink() and not is_inside and not follow:
                 continue
             if os.path.isfile(entry.path):
-                found.add(place + entry.name)
+                paths.add(path)
             elif os.path.isdir(entry.path):
-                found.add(place + entry.name + b"/")
-                if real not in above:
-                    enter(place + entry.name + b"/", (*above, real))
+                path += b"/"
+                paths.add(path)
+                own = os.path.join(os.path.relpath(real, top), b"") if is_inside else outside.setdefault(real, path)
+                if path == own:
+                    level.append(path)
+                else:
+                    links[path] = b"" if real == top else own
+    return Names({name for name in paths if TOOL.is_utf8(name)}, links)
 
-    enter(b"", (top,))
-    return {name for name in found if TOOL.is_utf8(name)}
+
+def ordered(entries: Iterator["os.DirEntry[bytes]"]) -> List["os.DirEntry[bytes]"]:
+    """Entries in the order of their names as folders, symbolic links last."""
+    return sorted(entries, key=lambda entry: (entry.is_symlink(), entry.name + b"/"))
 
 
 class Key(NamedTuple):
@@ -165,7 +185,7 @@ class Site:
         self.folder = os.fsencode(folder)
         self.base = drawn.url_of(settings.base)
         self.exact, self.queries = settings.exact, settings.queries
-        self.names = names_below(self.folder, settings.follow)
+        self.names, self.links = names_below(self.folder, settings.follow)
         self.documents: Dict[bytes, Optional[Document]] = {}
         self.files: Dict[Key, bytes] = {}  # the first file in the order of names has the key
         self.own: Dict[bytes, str] = {}  # the own URL of each file: that of its folder for an index file
@@ -205,12 +225,22 @@ class Site:
         key = Key(b"/".join(parts), unquote_to_bytes(request.query[1:]) if self.queries and request.query else None)
         if any(b"/" in part for part in parts) or (self.exact and url != self.url(key)) or not is_short("page", url):
             return None
+        key = key._replace(path=self.own_path(key.path))
         if key.path + b"/" in self.names and key.query is None:
             return Moved(self.url(key._replace(path=key.path + b"/")) + request.query)
         name = self.by_url.get(url) or self.files.get(key)
         if name is None or not is_short("page", self.own[name]):
             return None
         return Found(name) if url == self.own[name] else Alias(name, self.own[name])
+
+    def own_path(self, path: bytes) -> bytes:
+        """A path with the one that counts in place of other paths of its folders."""
+        *folders, last = path.split(b"/")
+        own = b""
+        for name in folders:
+            own += name + b"/"
+            own = self.links.get(own, own)
+        return own + last
 
     def document(self, name: bytes) -> Optional[Document]:
         """The document in a file, or None if the file is not a document or is not read."""

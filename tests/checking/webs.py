@@ -69,9 +69,10 @@ class Converter:
             fixed.append(text)
         return fixed
 
-    def utf_8_entries(self, *arguments: Any) -> List[bytes]:
+    def utf_8_entries(self, *arguments: Any) -> Any:
         """The files and folders whose names are UTF-8."""
-        return list(filter(self.tool.is_utf8, self.entries(*arguments)))
+        names = self.entries(*arguments)
+        return names._replace(paths=list(filter(self.tool.is_utf8, names.paths)))
 
     def web(self, folder: str, options: List[str], base: str) -> bytes:
         """The saved web of a folder."""

@@ -87,6 +87,7 @@ pub fn report_of_files<R: Threads + Wait + Sync>(
 {
     let input = SiteNames {
         names: files.names,
+        links: &[],
         base,
         rules,
         seeds: settings.seeds,

@@ -89,14 +89,14 @@ pub fn report_of_folder<R: Files<File: Send, Dir: Send> + Threads + Wait + Sync,
 {
     let known = known_entries(rt, alloc, &options.known)?;
     let rules = check_rules(alloc, options)?;
-    let FolderNames { names, notes } = folder_names(
-        rt,
-        alloc,
-        options.site.folder.as_str(),
-        &rules,
-    )?;
+    let FolderNames {
+        names,
+        links,
+        notes,
+    } = folder_names(rt, alloc, options.site.folder.as_str(), &rules)?;
     let input = SiteNames {
         names: names.as_slice(),
+        links: links.as_slice(),
         base: options.site.base.as_str(),
         rules: &rules,
         seeds: options.seeds.as_slice(),

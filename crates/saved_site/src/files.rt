@@ -33,12 +33,13 @@ impl<'a> SiteFiles<'a> {
     {
         let SiteNames {
             names,
+            links,
             base,
             rules,
             ..
         } = input;
         let mut doubles = Vec::new(alloc);
-        let site = Site::new(alloc, base, names, rules, &mut doubles)?;
+        let site = Site::new(alloc, base, names, links, rules, &mut doubles)?;
         Ok(SiteFiles {
             site,
             names,

@@ -2,90 +2,46 @@
 ghost use Rattle.std.specs.Prelude.{◌≡◌, alloc_error};
 ghost use Rattle.std.specs.IoError.{error_kind};
 
+use crate::folder_links::FolderLink;
 use crate::notes::{Left, Note};
 use std::alloc::{AllocError, Global};
+use std::cmp::Ordering;
 use std::io::{ErrorKind, Read};
-use std::path::Path;
 use std::rt::Files;
 use std::{fs, io};
 
-/// A folder that is entered.
+/// A folder that is to be listed.
 #[derive(Drop)]
-pub(crate) struct Entered {
+pub(crate) struct Folder {
     /// Its name below the top, with a slash at the end; empty for the top.
     pub(crate) name: String,
     /// Its path without symbolic links.
     pub(crate) real: String,
-    /// The index of the folder from which it was entered.
-    pub(crate) from: Option<usize>,
-}
-
-/// One of the entered folders, by its index.
-#[derive(Clone, Copy)]
-pub(crate) struct Above<'a> {
-    pub(crate) entered: &'a [Entered],
-    pub(crate) index: usize,
-}
-
-impl Above<'_> {
-    fn name(&self) -> &str {
-        match self.entered.get(self.index) {
-            Some(folder) => folder.name.as_str(),
-            None => "",
-        }
-    }
-
-    fn real(&self) -> &str {
-        match self.entered.get(self.index) {
-            Some(folder) => folder.real.as_str(),
-            None => "",
-        }
-    }
-
-    /// Whether the folder with this path without symbolic links is this one, or one from which it was entered.
-    fn leads_up(&self, real: &str) -> bool {
-        let mut above = Some(self.index);
-        for _ in 0..=self.entered.len() {
-            let Some(folder) = above.and_then(|index| self.entered.get(index)) else {
-                return false;
-            };
-            if folder.real.as_str() == real {
-                return true;
-            }
-            above = folder.from;
-        }
-        false
-    }
-}
-
-/// A file or a folder.
-#[derive(Drop)]
-pub(crate) struct Named {
-    /// Its name below the top; a folder's name ends in a slash.
-    pub(crate) name: String,
-    /// Its index among the folders to be entered, if it is one.
-    pub(crate) folder: Option<usize>,
+    /// Whether it is a symbolic link.
+    pub(crate) is_link: bool,
+    /// Whether it is outside the top, so that it may have several names.
+    pub(crate) is_outside: bool,
 }
 
 /// The contents of a folder.
 #[derive(Drop)]
 pub(crate) struct Inside {
-    /// The index of the folder among the entered ones.
-    pub(crate) index: usize,
-    /// Files and folders in descending order of their names.
-    pub(crate) names: Vec<Named>,
-    /// The folders that are to be entered, in the order of the listing.
-    pub(crate) folders: Vec<Entered>,
+    /// The names of files and folders below the top; a folder's name ends in a slash.
+    pub(crate) names: Vec<String>,
+    /// The folders that are to be listed.
+    pub(crate) folders: Vec<Folder>,
+    /// The folders that are listed by another name.
+    pub(crate) links: Vec<FolderLink>,
     pub(crate) notes: Vec<Note>,
 }
 
 impl Inside {
     /// No contents.
-    pub(crate) fn new(alloc: Global, index: usize) -> Inside {
+    fn new(alloc: Global) -> Inside {
         Inside {
-            index,
             names: Vec::new(alloc),
             folders: Vec::new(alloc),
+            links: Vec::new(alloc),
             notes: Vec::new(alloc),
         }
     }
@@ -105,36 +61,23 @@ impl Inside {
         }
     }
 
-    /// Adds a file, or a folder that is not to be entered.
+    /// Adds the name of a file or a folder.
     fn push(&mut self, name: String) -> Result<(), AllocError> {
-        self.names.push(Named { name, folder: None })?;
+        self.names.push(name)?;
         Ok(())
     }
 
-    /// Adds a folder with this path without symbolic links. It is to be entered unless it leads back up.
-    fn push_folder(
-        &mut self,
-        above: Above<'_>,
-        name: String,
-        real: &str,
-    ) -> Result<(), AllocError> {
-        if above.leads_up(real) {
-            self.push(name.clone()?)?;
-            return self.note(Left::LeadsUp, name);
-        }
-        let real = String::from_str(*self.names.allocator(), real)?;
-        let from = Some(above.index);
-        let folder = Some(self.folders.len());
-        self.names.push(Named {
-            name: name.clone()?,
-            folder,
-        })?;
-        self.folders.push(Entered { name, real, from })?;
-        Ok(())
-    }
-
+    /// Sorts the folders by their names, symbolic links last.
     fn sort(&mut self) -> Result<(), AllocError> {
-        self.names.sort_by(|a: &Named, b: &Named| b.name.as_str().cmp(a.name.as_str()))
+        self.folders
+            .sort_by(|a: &Folder, b: &Folder| order_of(a, b))
+    }
+}
+
+fn order_of(a: &Folder, b: &Folder) -> Ordering {
+    match a.is_link.cmp(&b.is_link) {
+        Ordering::Equal => a.name.as_str().cmp(b.name.as_str()),
+        order => order,
     }
 }
 
@@ -144,10 +87,10 @@ pub(crate) trait Folders {
     ///
     /// # Errors
     /// Out of memory.
-    fn inside(&self, above: Above<'_>, room: &mut [u8]) -> Result<Inside, AllocError>;
+    fn inside(&self, folder: &Folder, room: &mut [u8]) -> Result<Inside, AllocError>;
 }
 
-/// The folders below one on disk. Symbolic links are followed, but not back up, and out of the top only if that is asked for.
+/// The folders below one on disk. Symbolic links are followed, but out of the top only if that is asked for.
 #[derive(Drop)]
 pub(crate) struct DiskFolders<'a, R> {
     pub(crate) rt: &'a R,
@@ -160,13 +103,12 @@ pub(crate) struct DiskFolders<'a, R> {
 }
 
 impl<R: Files> Folders for DiskFolders<'_, R> {
-    fn inside(&self, above: Above<'_>, room: &mut [u8]) -> Result<Inside, AllocError> {
-        match self.names_in(above.name(), room) {
-            Ok(listed) => self.listed(above, listed.as_slice()),
+    fn inside(&self, folder: &Folder, room: &mut [u8]) -> Result<Inside, AllocError> {
+        match self.names_in(folder.name.as_str(), room) {
+            Ok(listed) => self.listed(folder, listed.as_slice()),
             Err(error) => {
-                let mut inside = Inside::new(self.alloc, above.index);
-                let name = String::from_str(self.alloc, above.name())?;
-                inside.note_error(&error, Left::FolderUnread, name)?;
+                let mut inside = Inside::new(self.alloc);
+                inside.note_error(&error, Left::FolderUnread, folder.name.clone()?)?;
                 Ok(inside)
             }
         }
@@ -190,10 +132,10 @@ impl<R: Files> DiskFolders<'_, R> {
     }
 
     /// The contents of a folder that lists these names.
-    pub(crate) fn listed(&self, above: Above<'_>, names: &[u8]) -> Result<Inside, AllocError> {
-        let mut inside = Inside::new(self.alloc, above.index);
+    pub(crate) fn listed(&self, folder: &Folder, names: &[u8]) -> Result<Inside, AllocError> {
+        let mut inside = Inside::new(self.alloc);
         for own in names.split(|byte| *byte == 0) {
-            self.add_listed(above, own, &mut inside)?;
+            self.add_listed(folder, own, &mut inside)?;
         }
         inside.sort()?;
         Ok(inside)
@@ -202,7 +144,7 @@ impl<R: Files> DiskFolders<'_, R> {
     /// Adds what a folder lists, except itself and the one above.
     fn add_listed(
         &self,
-        above: Above<'_>,
+        folder: &Folder,
         own: &[u8],
         inside: &mut Inside,
     ) -> Result<(), AllocError> {
@@ -210,38 +152,35 @@ impl<R: Files> DiskFolders<'_, R> {
             return Ok(());
         }
         match str::from_utf8(own) {
-            Ok(own) => self.add(above, own, inside),
+            Ok(own) => self.add(folder, own, inside),
             Err(_) => {
                 let text = String::from_utf8_lossy(self.alloc, own)?;
-                let name = format!(in self.alloc; "{}{text}", above.name())?;
+                let name = format!(in self.alloc; "{}{text}", folder.name.as_str())?;
                 inside.note(Left::NotUtf8, name)
             }
         }
     }
 
     /// Adds a file or a folder. FIFOs, sockets and devices are left out.
-    fn add(&self, above: Above<'_>, own: &str, inside: &mut Inside) -> Result<(), AllocError> {
-        let name = format!(in self.alloc; "{}{own}", above.name())?;
+    fn add(&self, folder: &Folder, own: &str, inside: &mut Inside) -> Result<(), AllocError> {
+        let name = format!(in self.alloc; "{}{own}", folder.name.as_str())?;
         let path = format!(in self.alloc; "{}/{name}", self.top)?;
         match fs::symlink_metadata(self.rt, path.as_str()) {
-            Ok(found) if found.is_dir() => add_folder(above, own, name, inside),
+            Ok(found) if found.is_dir() => {
+                let real = path_in(self.alloc, folder.real.as_str(), own)?;
+                self.add_folder(with_slash(name)?, real, false, inside)
+            }
             Ok(found) if found.is_file() => inside.push(name),
-            Ok(found) if found.is_symlink() => self.add_linked(above, path.as_str(), name, inside),
+            Ok(found) if found.is_symlink() => self.add_linked(path.as_str(), name, inside),
             Ok(_) => inside.note(Left::NoFile, name),
             Err(error) => inside.note_error(&error, left_by(&error), name),
         }
     }
 
     /// Adds the file or folder to which a symbolic link leads.
-    fn add_linked(
-        &self,
-        above: Above<'_>,
-        path: &str,
-        name: String,
-        inside: &mut Inside,
-    ) -> Result<(), AllocError> {
+    fn add_linked(&self, path: &str, name: String, inside: &mut Inside) -> Result<(), AllocError> {
         match fs::metadata(self.rt, path) {
-            Ok(found) if found.is_dir() => self.add_linked_folder(above, path, name, inside),
+            Ok(found) if found.is_dir() => self.add_linked_folder(path, name, inside),
             Ok(found) if found.is_file() => self.add_linked_file(path, name, inside),
             Ok(_) => inside.note(Left::NoFile, name),
             Err(error) => inside.note_error(&error, left_by(&error), name),
@@ -257,7 +196,7 @@ impl<R: Files> DiskFolders<'_, R> {
     ) -> Result<(), AllocError> {
         match self.rt.canonicalize(self.alloc, path) {
             Ok(real) => {
-                if self.is_followed(real.as_path()) {
+                if self.is_followed(real.as_path().as_str()) {
                     inside.push(name)
                 } else {
                     inside.note(Left::LeadsOut, name)
@@ -270,7 +209,6 @@ impl<R: Files> DiskFolders<'_, R> {
     /// Adds a folder to which a symbolic link leads, unless it is outside.
     fn add_linked_folder(
         &self,
-        above: Above<'_>,
         path: &str,
         name: String,
         inside: &mut Inside,
@@ -278,9 +216,9 @@ impl<R: Files> DiskFolders<'_, R> {
         let name = with_slash(name)?;
         match self.rt.canonicalize(self.alloc, path) {
             Ok(real) => {
-                let real = real.as_path();
-                if self.is_followed(real) {
-                    inside.push_folder(above, name, real.as_str())
+                let real = real.into_string();
+                if self.is_followed(real.as_str()) {
+                    self.add_folder(name, real, true, inside)
                 } else {
                     inside.note(Left::LeadsOut, name)
                 }
@@ -292,22 +230,56 @@ impl<R: Files> DiskFolders<'_, R> {
         }
     }
 
-    /// Whether a symbolic link to this path is followed: the path is that of the top or below it, or all links are followed.
-    fn is_followed(&self, real: Path<'_>) -> bool {
-        self.follow || real.starts_with(self.real.as_str())
+    /// Adds the folder with this path without symbolic links. If that is below the top, the folder is listed by that path only.
+    fn add_folder(
+        &self,
+        name: String,
+        real: String,
+        is_link: bool,
+        inside: &mut Inside,
+    ) -> Result<(), AllocError> {
+        inside.push(name.clone()?)?;
+        match self.own_name(real.as_str())? {
+            Some(own) if own.as_str() != name.as_str() => {
+                inside.links.push(FolderLink { name, own })?;
+            }
+            own => inside.folders.push(Folder {
+                name,
+                real,
+                is_link,
+                is_outside: own.is_none(),
+            })?,
+        }
+        Ok(())
     }
-}
 
-/// Adds a folder that is not a symbolic link, so that its path is that of the folder above and its own name.
-fn add_folder(
-    above: Above<'_>,
-    own: &str,
-    name: String,
-    inside: &mut Inside,
-) -> Result<(), AllocError> {
-    let name = with_slash(name)?;
-    let real = path_in(*inside.names.allocator(), above.real(), own)?;
-    inside.push_folder(above, name, real.as_str())
+    /// Whether a symbolic link to this path is followed: the path is that of the top or below it, or all links are followed.
+    fn is_followed(&self, real: &str) -> bool {
+        self.follow || self.below_top(real).is_some()
+    }
+
+    /// The name below the top of the folder with this path without symbolic links, if it is the top or below it.
+    fn own_name(&self, real: &str) -> Result<Option<String>, AllocError> {
+        match self.below_top(real) {
+            Some("") => Ok(Some(String::new(self.alloc))),
+            Some(own) => Ok(Some(format!(in self.alloc; "{own}/")?)),
+            None => Ok(None),
+        }
+    }
+
+    /// What is left of a path without symbolic links after that of the top and a slash, if it is the top or below it.
+    fn below_top<'b>(&self, real: &'b str) -> Option<&'b str> {
+        // Only the path of the root ends in a slash
+        let top = self
+            .real
+            .as_str()
+            .strip_suffix("/")
+            .unwrap_or(self.real.as_str());
+        match real.strip_prefix(top)? {
+            "" => Some(""),
+            rest => rest.strip_prefix("/"),
+        }
+    }
 }
 
 /// The path of this name in the folder with this path. Only the path of the root ends in a slash.

@@ -14,6 +14,7 @@ mod error;
 mod escapes;
 mod files;
 mod folder;
+mod folder_links;
 mod found_links;
 mod in_query;
 mod indices;
@@ -45,13 +46,11 @@ pub use anchors::{AnchorLink, AnchorLinks, Anchors};
 pub use body::Body;
 pub use error::SiteError;
 pub use files::SiteFiles;
+pub use folder_links::FolderLink;
 pub use link_lines::LinkLines;
 pub use linked::LinkedPages;
 pub use notes::{Left, Note};
-pub use on_disk::{
-    FolderNames, folder_body, folder_files_pages, folder_files_web, folder_names, folder_web,
-    folder_web_of,
-};
+pub use on_disk::{folder_body, folder_files_pages, folder_files_web, folder_web, folder_web_of};
 pub use page::{SitePage, Under};
 pub use places::{TextPlace, text_places};
 pub use print::print_web;
@@ -59,6 +58,7 @@ pub use site::Rules;
 pub use targets::Target;
 pub use text::LineText;
 pub use texts::LinkCounts;
+pub use walk::{FolderNames, folder_names};
 pub use web::{
     Alias, LinkPlaces, LinkedSite, PageAnchors, SiteNames, Summary, Web, files_pages, files_web,
     site_web,

@@ -12,8 +12,6 @@ pub enum Left {
     NoFile,
     /// The system refused to say what it is.
     Unread,
-    /// The folder is a symbolic link back to a folder above it.
-    LeadsUp,
     /// It is a symbolic link that leads out of the folder.
     LeadsOut,
     /// The folder cannot be read.
@@ -42,7 +40,6 @@ impl fmt::Display for Left {
             Left::NotUtf8 => "skipped, its name is not UTF-8",
             Left::NoFile => "skipped, neither a file nor a folder",
             Left::Unread => "skipped, it cannot be read",
-            Left::LeadsUp => "folder skipped, it leads back to a folder above it",
             Left::LeadsOut => {
                 "skipped, a symbolic link that leads out of the folder (--follow follows it)"
             }

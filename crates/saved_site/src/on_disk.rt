@@ -15,37 +15,13 @@ use crate::kinds::{Kind, START_LENGTH, is_document_start, kind_of};
 use crate::make::{SiteInput, Task};
 use crate::notes::{Left, Note};
 use crate::site::{Rules, split_name};
-use crate::walk::entries_below;
+use crate::walk::{FolderNames, folder_names};
 use crate::web::{LinkedSite, SiteNames, Web, pages_of, web_of};
 use std::alloc::{AllocError, Global};
 use std::io::{ErrorKind, Read};
 use std::rt::Files;
 use std::thread::Threads;
 use std::{fs, io};
-
-/// The names in a folder.
-#[derive(Drop)]
-pub struct FolderNames {
-    /// The paths of files and folders, in byte order. The name of a folder ends with a slash.
-    pub names: Vec<String>,
-    /// Notes about what was skipped.
-    pub notes: Vec<Note>,
-}
-
-/// Lists the files and folders in a folder and its subfolders. Symbolic links are followed, except to a folder above, and to anything
-/// outside the folder unless the rules say so. FIFOs, sockets and devices are left out.
-///
-/// # Errors
-/// `Io` if the folder cannot be read; `NoMemory`.
-pub fn folder_names<R: Files<File: Send, Dir: Send> + Threads + Sync>(
-    rt: &R,
-    alloc: Global,
-    folder: &str,
-    rules: &Rules,
-) -> Result<FolderNames, SiteError> {
-    let (names, notes) = entries_below(rt, alloc, folder, rules.follow)?;
-    Ok(FolderNames { names, notes })
-}
 
 /// Makes the saved web of a folder whose top has the URL `base`. If a file cannot be read, its page has no links, and there is a note.
 /// This includes files of more than 2^30 bytes and files that grow while they are read.
@@ -62,9 +38,14 @@ pub fn folder_web<R: Files<File: Send, Dir: Send> + Threads + Sync>(
     ensures web { IfOk result (λ web. IsSiteWeb web.bytes.items) }
     ensures below { IfOk result (λ web. IsWebAt base.now web.bytes.items) }
 {
-    let FolderNames { names, notes } = folder_names(rt, alloc, folder, rules)?;
+    let FolderNames {
+        names,
+        links,
+        notes,
+    } = folder_names(rt, alloc, folder, rules)?;
     let input = SiteNames {
         names: names.as_slice(),
+        links: links.as_slice(),
         base,
         rules,
         seeds: &[],

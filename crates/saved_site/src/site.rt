@@ -9,6 +9,7 @@ ghost use Rattle.saved_site.specs.Errors.{IsOfFiles};
 use crate::below::is_slashed;
 use crate::error::SiteError;
 use crate::escapes::{push_name, push_query, push_respelled};
+use crate::folder_links::{FolderLink, LinkedFolders};
 use crate::notes::{Left, Note};
 use crawl_keys::{CanonUrl, KeyError, canonical};
 use std::alloc::{AllocError, Global};
@@ -74,14 +75,18 @@ pub(crate) struct Site {
     pub(crate) entries: Vec<Entry>,
     /// The number of the page at the own URL of each file, by the index of the file.
     own: Vec<Option<usize>>,
+    /// The folders to which symbolic links lead.
+    pub(crate) linked: LinkedFolders,
 }
 
 impl Site {
-    /// The pages of files with these names, below a top with this URL. A name that ends in a slash is a folder.
+    /// The pages of files with these names, below a top with this URL. A name that ends in a slash is a folder. `links` are the folders
+    /// among them that are listed by another name.
     pub(crate) fn new(
         alloc: Global,
         base: &str,
         names: &[String],
+        links: &[FolderLink],
         rules: &Rules,
         notes: &mut Vec<Note>,
     ) -> Result<Site, SiteError>
@@ -95,6 +100,7 @@ impl Site {
         let entries = site.entries_of(names, rules)?;
         let mut entries = without_doubles(entries, names, notes)?;
         let own = own_numbers(alloc, entries.as_mut_slice(), names.len())?;
+        let linked = site.linked_folders(links)?;
         let Site {
             origin,
             top,
@@ -107,6 +113,7 @@ impl Site {
             top_url,
             entries,
             own,
+            linked,
         })
     }
 
@@ -129,7 +136,19 @@ impl Site {
             top_url,
             entries: Vec::new(alloc),
             own: Vec::new(alloc),
+            linked: LinkedFolders::new(Vec::new(alloc))?,
         })
+    }
+
+    /// The URLs of folders that are listed by another name.
+    fn linked_folders(&self, links: &[FolderLink]) -> Result<LinkedFolders, AllocError> {
+        let mut linked = Vec::new(*self.top.allocator());
+        for link in links {
+            let name = self.url_of(link.name.as_str(), None)?;
+            let own = self.url_of(link.own.as_str(), None)?;
+            linked.push(FolderLink { name, own })?;
+        }
+        LinkedFolders::new(linked)
     }
 
     /// The pages of files with these names, in the order of their URLs.

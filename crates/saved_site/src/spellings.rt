@@ -1,4 +1,4 @@
-//! Links with another spelling or query, for which a server returns a page of the site.
+//! Links with another spelling or query, or through a symbolic link, for which a server returns a page of the site.
 ghost use Rattle.std.specs.Prelude.{◌≡◌, bytes_eq};
 
 use crate::base_href::{base_of, resolved};
@@ -25,14 +25,15 @@ pub(crate) fn spellings(
     lines: &[u8],
 ) -> Result<Vec<Spelling>, AllocError> {
     let mut found = Vec::new(alloc);
-    if rules.exact || memchr2(b'?', b'%', lines).is_none() {
+    let is_linked = !site.linked.is_empty();
+    if (rules.exact && !is_linked) || mark_in(lines, is_linked).is_none() {
         return Ok(found);
     }
     let base = base_of(alloc, url)?;
     let mut last = Last { line: &[] };
     let mut rest = lines;
     for _ in 0..lines.len() {
-        let Some((line, behind)) = next_line(rest) else {
+        let Some((line, behind)) = next_line(rest, is_linked) else {
             break;
         };
         rest = behind;
@@ -64,9 +65,18 @@ impl<'a> Last<'a> {
     }
 }
 
-/// The first line with an escape or a query, and the lines after it. Only the URLs of such links can be other spellings.
-fn next_line(lines: &[u8]) -> Option<(&[u8], &[u8])> {
-    let mark = memchr2(b'?', b'%', lines)?;
+/// The first position in some lines of an escape or a query. Only the URLs of such links can be other spellings, unless symbolic links
+/// lead to folders; then it is that of the first line.
+fn mark_in(lines: &[u8], is_linked: bool) -> Option<usize> {
+    if is_linked && !lines.is_empty() {
+        return Some(0);
+    }
+    memchr2(b'?', b'%', lines)
+}
+
+/// The line at that position, and the lines after it.
+fn next_line(lines: &[u8], is_linked: bool) -> Option<(&[u8], &[u8])> {
+    let mark = mark_in(lines, is_linked)?;
     let (front, marked) = lines.split_at(mark.min(lines.len()));
     let begin = match memrchr(b'\n', front) {
         Some(end) => end.saturating_add(1),
@@ -88,7 +98,7 @@ pub(crate) fn seed_spellings(
     seeds: &[String],
 ) -> Result<Vec<Spelling>, AllocError> {
     let mut found = Vec::new(alloc);
-    if rules.exact {
+    if rules.exact && site.linked.is_empty() {
         return Ok(found);
     }
     let base = base_of(alloc, top)?;
@@ -136,7 +146,7 @@ fn has_line(site: &Site, entry: usize) -> bool {
     }
 }
 
-/// A canonical URL of the site in the spelling of files' URLs, if it is not that of a page.
+/// A canonical URL of the site in the spelling of files' URLs and by the own names of folders, if it is not that of a page.
 fn plain_of(
     alloc: Global,
     site: &Site,
@@ -160,5 +170,8 @@ fn plain_of(
     {
         push_query(alloc, query, &mut plain)?;
     }
-    Ok(Some(plain))
+    if rules.exact && plain.as_str() != url {
+        return Ok(None);
+    }
+    Ok(Some(site.linked.own_url(alloc, plain.as_str())?))
 }

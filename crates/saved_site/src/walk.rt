@@ -1,65 +1,80 @@
 //! The files and folders below a folder.
 use crate::error::SiteError;
-use crate::folder::{Above, DiskFolders, Entered, Folders, Inside, Named};
+use crate::folder::{DiskFolders, Folder, Folders, Inside};
+use crate::folder_links::FolderLink;
 use crate::notes::Note;
+use crate::site::Rules;
 use std::alloc::{AllocError, Global};
+use std::collections::BTreeMap;
 use std::io::ErrorKind;
 use std::rt::Files;
 use std::sync::atomic::{AtomicUsize, Ordering};
 use std::thread::Threads;
 use std::{fs, io, thread};
 
-/// The number of threads that read folders.
+/// The number of threads that list folders.
 const THREADS: usize = 4;
 
 /// The number of bytes of room for the names in a folder. A call of the system fails if a name does not fit.
 const NAMES_ROOM: usize = 1 << 16;
 
-/// The files and folders below a folder in the order of their names' bytes, and notes about what was left out. Symbolic links are
-/// followed, but not back up, and out of the folder only if `follow` is set.
-pub(crate) fn entries_below<R: Files<File: Send, Dir: Send> + Threads + Sync>(
+/// The names in a folder.
+#[derive(Drop)]
+pub struct FolderNames {
+    /// The paths of files and folders, in byte order. The name of a folder ends with a slash.
+    pub names: Vec<String>,
+    /// The folders among them that are listed by another name.
+    pub links: Vec<FolderLink>,
+    /// Notes about what was skipped, in the order of the names.
+    pub notes: Vec<Note>,
+}
+
+/// Lists the files and folders in a folder and its subfolders. Symbolic links are followed, but out of the folder only if the rules say
+/// so. Each folder is listed once: a subfolder by its path without symbolic links, and a folder outside by the shortest path, of which
+/// one that does not end in a symbolic link comes before others. FIFOs, sockets and devices are left out.
+///
+/// # Errors
+/// `Io` if the folder cannot be read; `NoMemory`.
+pub fn folder_names<R: Files<File: Send, Dir: Send> + Threads + Sync>(
     rt: &R,
     alloc: Global,
-    top: &str,
-    follow: bool,
-) -> Result<(Vec<String>, Vec<Note>), SiteError> {
-    let real = rt.canonicalize(alloc, top)?.into_string();
-    if !fs::metadata(rt, top)?.is_dir() {
+    folder: &str,
+    rules: &Rules,
+) -> Result<FolderNames, SiteError> {
+    let real = rt.canonicalize(alloc, folder)?.into_string();
+    if !fs::metadata(rt, folder)?.is_dir() {
         return Err(SiteError::Io(io::Error::from(ErrorKind::InvalidInput)));
     }
     let folders = DiskFolders {
         rt,
         alloc,
-        top,
+        top: folder,
         real,
-        follow,
+        follow: rules.follow,
     };
     let begun = begun(alloc, &folders)?;
     let walk = walked(rt, alloc, &folders, begun)?;
-    let found = taken(walk)?;
-    Ok(found)
+    let names = walk.into_names()?;
+    Ok(names)
 }
 
-/// The walk after the top was read.
+/// The walk after the top was listed.
 fn begun<R: Files>(alloc: Global, folders: &DiskFolders<'_, R>) -> Result<Walk, SiteError> {
     let mut room = vec![in alloc; 0u8; NAMES_ROOM]?;
     let listed = folders.names_in("", room.as_mut_slice())?;
-    let mut walk = Walk::from(alloc, folders.real.as_str())?;
-    let inside = folders.listed(walk.first(), listed.as_slice())?;
+    let top = Folder {
+        name: String::new(alloc),
+        real: folders.real.clone()?,
+        is_link: false,
+        is_outside: false,
+    };
+    let inside = folders.listed(&top, listed.as_slice())?;
+    let mut walk = Walk::from(alloc, top)?;
     walk.push(inside)?;
     Ok(walk)
 }
 
-/// The names and notes of a walk.
-fn taken(walk: Walk) -> Result<(Vec<String>, Vec<Note>), AllocError> {
-    let mut walk = walk;
-    let notes = walk.take_notes()?;
-    let mut names = walk.take_names()?;
-    names.sort()?;
-    Ok((names, notes))
-}
-
-/// The walk after all folders were read, level by level.
+/// The walk after all folders were listed, level by level.
 fn walked<R: Threads + Sync, F: Folders + Sync>(
     rt: &R,
     alloc: Global,
@@ -68,23 +83,23 @@ fn walked<R: Threads + Sync, F: Folders + Sync>(
 ) -> Result<Walk, AllocError> {
     let mut walk = walk;
     for _ in 0..u64::MAX {
-        if walk.read.len() >= walk.entered.len() {
+        if walk.listed >= walk.entered.len() {
             break;
         }
-        let level = level_of(rt, alloc, folders, walk.entered.as_slice(), walk.read.len())?;
+        let level = level_of(rt, alloc, folders, walk.entered.as_slice(), walk.listed)?;
         walk.push_all(level)?;
     }
     Ok(walk)
 }
 
-/// Reads the folders from this one on in threads.
+/// Lists the folders from this one on in threads. Each comes with its index.
 fn level_of<R: Threads + Sync, F: Folders + Sync>(
     rt: &R,
     alloc: Global,
     folders: &F,
-    entered: &[Entered],
+    entered: &[Folder],
     first: usize,
-) -> Result<Vec<Inside>, AllocError> {
+) -> Result<Vec<(usize, Inside)>, AllocError> {
     let next = AtomicUsize::new(first);
     let next = &next;
     let threads = THREADS.min(entered.len().saturating_sub(first));
@@ -94,82 +109,66 @@ fn level_of<R: Threads + Sync, F: Folders + Sync>(
         threads,
         &|_: usize| { part_of(alloc, folders, entered, next) },
     )?;
-    let mut level: Vec<Inside> = Vec::new(alloc);
+    let mut level: Vec<(usize, Inside)> = Vec::new(alloc);
     for part in parts {
         let mut part = part?;
         level.append(&mut part)?;
     }
-    level.sort_by(|a: &Inside, b: &Inside| a.index.cmp(&b.index))?;
+    level.sort_by(|a: &(usize, Inside), b: &(usize, Inside)| a.0.cmp(&b.0))?;
     Ok(level)
 }
 
-/// Reads the folders that one of several threads takes. Each takes the next.
+/// Lists the folders that one of several threads takes. Each takes the next.
 fn part_of<F: Folders>(
     alloc: Global,
     folders: &F,
-    entered: &[Entered],
+    entered: &[Folder],
     next: &AtomicUsize,
-) -> Result<Vec<Inside>, AllocError> {
+) -> Result<Vec<(usize, Inside)>, AllocError> {
     let mut room = vec![in alloc; 0u8; NAMES_ROOM]?;
     let mut part = Vec::new(alloc);
     for _ in 0..entered.len() {
         let index = next.fetch_add(1, Ordering::SeqCst);
-        if index >= entered.len() {
+        let Some(folder) = entered.get(index) else {
             break;
-        }
-        let above = Above { entered, index };
-        part.push(folders.inside(above, room.as_mut_slice())?)?;
+        };
+        part.push((index, folders.inside(folder, room.as_mut_slice())?))?;
     }
     Ok(part)
-}
-
-/// A folder that was read.
-#[derive(Drop)]
-struct ReadFolder {
-    /// Its names that were not taken yet, in descending order.
-    names: Vec<Named>,
-    /// The range of the indices of its folders among the entered ones.
-    begin: usize,
-    end: usize,
-    notes: Vec<Note>,
 }
 
 /// The state of a walk.
 #[derive(Drop)]
 struct Walk {
-    alloc: Global,
-    entered: Vec<Entered>,
-    /// The folders that were read: the first of the entered ones.
-    read: Vec<ReadFolder>,
+    /// The folders that are to be listed.
+    entered: Vec<Folder>,
+    /// The number of those that were listed: the first ones.
+    listed: usize,
+    /// The names of the folders outside the top among them, by their paths without symbolic links.
+    outside: BTreeMap<String, String>,
+    names: Vec<String>,
+    links: Vec<FolderLink>,
+    notes: Vec<Note>,
 }
 
 impl Walk {
-    /// A walk from the top, which has this path without symbolic links.
-    fn from(alloc: Global, real: &str) -> Result<Walk, AllocError> {
-        let top = Entered {
-            name: String::new(alloc),
-            real: String::from_str(alloc, real)?,
-            from: None,
-        };
+    /// A walk from the top.
+    fn from(alloc: Global, top: Folder) -> Result<Walk, AllocError> {
         let mut entered = Vec::new(alloc);
         entered.push(top)?;
         Ok(Walk {
-            alloc,
             entered,
-            read: Vec::new(alloc),
+            listed: 0,
+            outside: BTreeMap::new(alloc),
+            names: Vec::new(alloc),
+            links: Vec::new(alloc),
+            notes: Vec::new(alloc),
         })
     }
 
-    fn first(&self) -> Above<'_> {
-        Above {
-            entered: self.entered.as_slice(),
-            index: 0,
-        }
-    }
-
     /// Adds the contents of the next folders.
-    fn push_all(&mut self, level: Vec<Inside>) -> Result<(), AllocError> {
-        for inside in level {
+    fn push_all(&mut self, level: Vec<(usize, Inside)>) -> Result<(), AllocError> {
+        for (_, inside) in level {
             self.push(inside)?;
         }
         Ok(())
@@ -177,81 +176,51 @@ impl Walk {
 
     fn push(&mut self, inside: Inside) -> Result<(), AllocError> {
         let Inside {
-            names,
-            mut folders,
-            notes,
-            ..
+            mut names,
+            folders,
+            mut links,
+            mut notes,
         } = inside;
-        let begin = self.entered.len();
-        self.entered.append(&mut folders)?;
-        let end = self.entered.len();
-        self.read.push(ReadFolder {
-            names,
-            begin,
-            end,
-            notes,
-        })?;
+        self.listed = self.listed.saturating_add(1);
+        self.names.append(&mut names)?;
+        self.links.append(&mut links)?;
+        self.notes.append(&mut notes)?;
+        for folder in folders {
+            self.enter(folder)?;
+        }
         Ok(())
     }
 
-    /// Takes the notes about each folder, before those about its folders, of which the last comes first.
-    fn take_notes(&mut self) -> Result<Vec<Note>, AllocError> {
-        let mut notes = Vec::new(self.alloc);
-        let mut waiting: Vec<usize> = Vec::new(self.alloc);
-        waiting.push(0)?;
-        for _ in 0..self.read.len() {
-            let Some(index) = waiting.pop() else {
-                break;
-            };
-            let Some(folder) = self.read.get_mut(index) else {
-                break;
-            };
-            notes.append(&mut folder.notes)?;
-            push_between(folder.begin, folder.end, &mut waiting)?;
-        }
-        Ok(notes)
-    }
-
-    /// Takes all names in order. The names in a folder come after its own.
-    fn take_names(&mut self) -> Result<Vec<String>, AllocError> {
-        let mut names: Vec<String> = Vec::new(self.alloc);
-        let mut open: Vec<usize> = Vec::new(self.alloc);
-        open.push(0)?;
-        for _ in 0..u64::MAX {
-            let Some(index) = open.pop() else {
-                break;
-            };
-            let Some(named) = self.take_name(index) else {
-                continue;
-            };
-            open.push(index)?;
-            if let Some(folder) = named.folder {
-                open.push(folder)?;
+    /// Adds a folder to those that are to be listed, unless it is outside the top and was added by another name.
+    fn enter(&mut self, folder: Folder) -> Result<(), AllocError> {
+        if folder.is_outside {
+            if let Some(own) = self.outside.get(folder.real.as_str()) {
+                let own = own.clone()?;
+                let Folder { name, .. } = folder;
+                self.links.push(FolderLink { name, own })?;
+                return Ok(());
             }
-            names.push(named.name)?;
+            self.outside
+                .insert(folder.real.clone()?, folder.name.clone()?)?;
         }
-        Ok(names)
+        self.entered.push(folder)?;
+        Ok(())
     }
 
-    /// Takes the next name in a folder. The name of a folder has its index among all entered ones.
-    fn take_name(&mut self, index: usize) -> Option<Named> {
-        let Some(above) = self.read.get_mut(index) else {
-            return None;
-        };
-        let begin = above.begin;
-        match above.names.pop() {
-            Some(Named { name, folder }) => Some(Named {
-                name,
-                folder: folder.map(|number| begin.saturating_add(number)),
-            }),
-            None => None,
-        }
+    /// The names and notes in order.
+    fn into_names(self) -> Result<FolderNames, AllocError> {
+        let Walk {
+            mut names,
+            links,
+            mut notes,
+            ..
+        } = self;
+        names.sort()?;
+        notes.sort_by(|a: &Note, b: &Note| a.place.as_str().cmp(b.place.as_str()))?;
+        Ok(FolderNames {
+            names,
+            links,
+            notes,
+        })
     }
-}
-
-fn push_between(begin: usize, end: usize, numbers: &mut Vec<usize>) -> Result<(), AllocError> {
-    for number in begin..end {
-        numbers.push(number)?;
-    }
-    Ok(())
 }

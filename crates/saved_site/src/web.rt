@@ -11,6 +11,7 @@ use crate::anchors::Anchors;
 use crate::contents::{Contents, InMemory};
 use crate::error::SiteError;
 use crate::files::SiteFiles;
+use crate::folder_links::FolderLink;
 use crate::linked::LinkedPages;
 use crate::make::SiteInput;
 use crate::making::Making;
@@ -59,8 +60,8 @@ pub struct LinkedSite {
     pub places: Vec<LinkPlaces>,
 }
 
-/// Another URL for which a server returns a file: it has another spelling or query, or the name of an index file. The only link of its
-/// page is the file's own URL.
+/// Another URL for which a server returns a file: it has another spelling or query, the name of an index file, or that of a symbolic
+/// link to a folder. The only link of its page is the file's own URL.
 #[derive(Drop)]
 pub struct Alias {
     pub url: CanonUrl,
@@ -98,6 +99,8 @@ pub struct Summary {
 #[derive(Clone, Copy)]
 pub struct SiteNames<'a> {
     pub names: &'a [String],
+    /// The folders among them that are listed by another name.
+    pub links: &'a [FolderLink],
     pub base: &'a str,
     pub rules: &'a Rules,
     /// Links on the top at which a crawl starts. Like links in documents, they can have another spelling or a query.

@@ -46,6 +46,7 @@ impl OneFile {
     fn input(&self) -> SiteNames<'_> {
         SiteNames {
             names: self.names.as_slice(),
+            links: &[],
             base: BASE,
             rules: &self.rules,
             seeds: &[],
