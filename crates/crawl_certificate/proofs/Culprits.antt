@@ -1,5 +1,5 @@
 -- From the least URL of each fault to the culprit.
-use Rattle.std.proofs.Common.{◌≡◌, ◌⊎◌, inl, inr, ℕ, ◌==◌, Bool, ◌||◌, ◌&&◌, not, List, Option, Some, None, is_some, Result, Ok, Err, sym, ap, subst, ◌∙◌, arith}
+use Rattle.std.proofs.Common.{◌≡◌, inl, inr, ℕ, ◌==◌, Bool, ◌||◌, ◌&&◌, not, List, Option, Some, None, is_some, Result, Ok, Err, sym, ap, subst, ◌∙◌, arith}
 use Rattle.std.specs.Bool.{if◌then◌else◌}
 use Rattle.std.specs.List.{list_any}
 use Rattle.std.specs.Str.{bytes_eq}
@@ -11,9 +11,7 @@ use Rattle.crawl_certificate.specs.declared.error.CertError.TheVariants as fault
 use Rattle.crawl_certificate.specs.declared.culprit.Culprit.{Culprit}
 use Rattle.crawl_certificate.specs.declared.marks.Marks.{Marks}
 use Rattle.crawl_certificate.specs.CertFaults.{first_of, is_accepted, has_result, stands_in, is_founded, is_linked, seed_missing, not_fetched, link_missing, unfounded, twice}
-use Rattle.crawl_keys.specs.Outcome.{IsRefusal}
-use Rattle.crawl_certificate.specs.Certificate.{unless_fault}
-use Rattle.crawl_certificate.specs.Culprits.{is_lost, is_unfounded, is_a_stray, is_at_fault, no_memory, IsCulprit, Names, NamesCulprit, first_named, NamesFirst}
+use Rattle.crawl_certificate.specs.Culprits.{is_lost, is_unfounded, is_a_stray, is_at_fault, IsCulprit, Names, NamesCulprit, first_named, NamesFirst}
 use Rattle.crawl_certificate.specs.Least.{IsLeast, lesser, url_of}
 use Rattle.crawl_certificate.specs.Marks.{AreMarks}
 use Rattle.crawl_certificate.specs.Lookups.{Urls, is_in}
@@ -78,8 +76,3 @@ culprit_named allowed seeds entries results marks found seed fetched groundless 
     (named at seed fetched missing (lesser groundless stray) again (twice results) of_seeds fetched' found.missing unfounded'
     (λ none. let twice' = found.twice (lesser_none groundless stray none).1 in (twice', some_twice results again twice'))
     result told)
-
--- ---- the cause alone
-
-pub cause_told : (first : Option CertError) (at : CertError → List ℕ → Bool) (culprit : Culprit) (cause : CertError) → cause ≡ culprit.cause → IsCulprit first at culprit ⊎ (culprit ≡ no_memory) → IsRefusal fault.NoMemory (unless_fault first) cause
-cause_told first at culprit cause is told = grind arith

@@ -14,7 +14,4 @@ pub mod OneCulprit
 pub mod Indices
 pub mod Certificates
 pub mod Together
-pub mod SixteenBytes
-pub mod SortedParts
-pub mod Means
 pub mod Walks

@@ -2,7 +2,6 @@ pub mod AccountEntries
 pub mod CertFaults
 pub mod Certificate
 pub mod Culprits
-pub mod Sixteens
 pub mod Least
 pub mod Lookups
 pub mod Marks
@@ -10,5 +9,4 @@ pub mod Queues
 pub mod Reachable
 pub mod ResultPages
 pub mod SmallRuns
-pub mod Sorting
 pub mod Walks

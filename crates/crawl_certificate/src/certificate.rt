@@ -1,7 +1,9 @@
-//! What is certified, and when.
-ghost use Rattle.std.specs.Prelude.{◌≡◌, List, length, vec_len, IfOk, OnOk};
+//! When a run is certified.
+ghost use Rattle.std.specs.Prelude.{◌≡◌, List, true, length, vec_len, IfOk, OnOk};
 ghost use Rattle.std.specs.List.{All};
-ghost use Rattle.std.specs.List.Sorted.{IsPermutation};
+ghost use Rattle.std.specs.List.Sorted.{IsPermutation, IsSortedByKey};
+ghost use Rattle.std.specs.Cmp.Lexicographic.{slice_cmp};
+ghost use Rattle.std.specs.Ordering.{nat_cmp};
 ghost use Rattle.crawl_keys.specs.HostFilter.{allows};
 ghost use Rattle.crawl_certificate.specs.AccountEntries.{entries_of, DifferByUrl};
 ghost use Rattle.crawl_certificate.specs.ResultPages.{page_in};
@@ -13,6 +15,7 @@ ghost use Rattle.crawl_certificate.specs.CertFaults.{first_fault};
 ghost use Rattle.crawl_certificate.specs.Culprits.{NamesCulprit, NamesFirst, first_named};
 ghost use Rattle.crawl_certificate.specs.Least.{url_of};
 
+use crate::chunk::Chunk;
 use crate::culprit::Culprit;
 use crate::error::CertError;
 use crate::founded::least_unfounded;
@@ -20,12 +23,12 @@ use crate::least::lesser;
 use crate::lookups::{Accepted, url_set};
 use crate::marks::{Marks, Told, marks_of};
 use crate::missing::{least_missing, least_unmarked};
-use crate::sorting::{in_order, in_order_by_threads};
-use crate::threads::marks_in_threads;
-use crate::walk::{is_faultless, is_faultless_in_threads};
+use crate::threads::marks_by;
+use crate::walk::is_faultless;
 use crawl_frontier::Account;
 use crawl_keys::{CanonUrl, Filter};
 use crawl_pages::PageResult;
+use result_order::in_order;
 use std::alloc::{AllocError, Global};
 use std::marker::Model;
 use std::thread::Threads;
@@ -55,12 +58,20 @@ impl CrawlResult {
     }
 }
 
-/// The pages of a crawl, where its run is certified: a look for each fault, and then the results in ascending order.
-///
-/// The results are copied; [`certify_moved`] takes them.
+/// How a run is certified.
+#[derive(Clone, Copy)]
+pub struct CertifySettings {
+    /// How many threads share the work. If it is 1, no thread is started.
+    pub threads: usize,
+    /// Whether it is known that the run lost nothing. Then most of what is left to check needs no search for a link.
+    pub is_lossless: bool,
+}
+
+/// The pages of a crawl if its run is certified, without other threads. The results are copied; [`certify_with`] takes them, and also
+/// returns the URL at fault.
 ///
 /// # Errors
-/// The first fault that holds, in the order of [`CertError`]; `NoMemory` where a growth was refused.
+/// The first fault that the run has, in the order of [`CertError`]; `NoMemory` if an allocation failed.
 pub fn certify(
     alloc: Global,
     filter: &Filter,
@@ -68,9 +79,9 @@ pub fn certify(
     account: &Account,
     results: &[PageResult],
 ) -> Result<CrawlResult, CertError>
-    // Ok exactly where no fault holds, else the first that holds, unless a growth was refused.
+    // Ok if and only if the run has no fault; otherwise the first one, unless an allocation failed.
     ensures fault { Tells result (first_fault (allows filter.now) seeds.now (entries_of account.now) results.now) }
-    // The pages are the given results in ascending order of URL, one for each entry of each subqueue.
+    // The pages are the given results in ascending order of URL, one for each entry of each queue.
     ensures same { IfOk result (λ pages. IsPermutation results.now pages) }
     ensures ascends { IfOk result (λ pages. IsAscending (result_urls pages)) }
     ensures one_each { IfOk result (λ pages. IsPermutation (entry_urls (entries_of account.now)) (result_urls pages)) }
@@ -80,25 +91,31 @@ pub fn certify(
     // A walk leads to each entry's URL in as many hops as the entry has.
     ensures hops { OnOk result (All (λ e. WalkOf (page_in results.now) (allows filter.now) seeds.now e.hops e.url) (entries_of account.now)) }
 {
-    let copied = copies(alloc, results)?;
-    Ok(certify_moved(alloc, filter, seeds, account, copied)?)
+    let accepted = Accepted::of(alloc, account)?;
+    let marks = marks_of(alloc, filter, &accepted, 0, results)?;
+    fault_by_marks(alloc, filter, seeds, &accepted, marks)?;
+    let pages = sorted_copies(alloc, results)?;
+    Ok(CrawlResult { pages })
 }
 
-/// As [`certify`], of results that are moved into their order and not copied; and where a fault holds, the least URL that has it.
+/// The pages of a crawl if its run is certified: a search for each fault, and then the results in ascending order. If a thread
+/// cannot be started, the calling thread does its work.
 ///
 /// # Errors
-/// The first fault that holds, in the order of [`CertError`], and the least URL, byte by byte, at which it does; or `NoMemory`, at
-/// no URL, where a growth was refused.
-pub fn certify_moved(
-    alloc: Global,
+/// The first fault that the run has, in the order of [`CertError`], and the least URL, byte by byte, that has it; or `NoMemory`, at
+/// no URL, if an allocation failed.
+pub fn certify_with<R: Threads + Sync>(
+    rt: &R,
+    settings: CertifySettings,
     filter: &Filter,
     seeds: &[CanonUrl],
     account: &Account,
     results: Vec<PageResult>,
 ) -> Result<CrawlResult, Culprit>
-    // Ok exactly where no fault holds, else the first that holds and the least URL that has it, unless a growth was refused.
+    requires lost { settings.is_lossless ≡ true → NothingLost (allows filter.now) seeds.now (entries_of account.now) results.items }
+    // Ok if and only if the run has no fault; otherwise the first one and the least URL that has it, unless an allocation failed.
     ensures fault { NamesCulprit (allows filter.now) seeds.now (entries_of account.now) results.items result }
-    // The pages are the given results in ascending order of URL, one for each entry of each subqueue.
+    // The pages are the given results in ascending order of URL, one for each entry of each queue.
     ensures same { IfOk result (λ pages. IsPermutation results.items pages) }
     ensures ascends { IfOk result (λ pages. IsAscending (result_urls pages)) }
     ensures one_each { IfOk result (λ pages. IsPermutation (entry_urls (entries_of account.now)) (result_urls pages)) }
@@ -108,176 +125,39 @@ pub fn certify_moved(
     // A walk leads to each entry's URL in as many hops as the entry has.
     ensures hops { OnOk result (All (λ e. WalkOf (page_in results.items) (allows filter.now) seeds.now e.hops e.url) (entries_of account.now)) }
 {
+    let alloc = *results.allocator();
     let accepted = Accepted::of(alloc, account)?;
-    find_fault(alloc, filter, seeds, &accepted, &results)?;
+    let all = Chunk::whole(&accepted, &results);
+    find_fault(rt, alloc, settings, filter, seeds, all)?;
     // Its memory is for the sort.
     drop(accepted);
-    let pages = in_order(alloc, results)?;
+    let pages = in_order(rt, alloc, results, settings.threads)?;
     Ok(CrawlResult { pages })
 }
 
-/// As [`certify_moved`], where four threads look up the links, and threads sort the pages.
-///
-/// # Errors
-/// Those of [`certify_moved`]. A thread that cannot be started is none: its part is done by the thread that wanted it.
-pub fn certify_in_threads<R: Threads + Sync>(
+/// Ok if the run has no fault.
+fn find_fault<'a, R: Threads + Sync>(
     rt: &R,
     alloc: Global,
-    filter: &Filter,
-    seeds: &[CanonUrl],
-    account: &Account,
-    results: Vec<PageResult>,
-) -> Result<CrawlResult, Culprit>
-    // Ok exactly where no fault holds, else the first that holds and the least URL that has it, unless a growth was refused.
-    ensures fault { NamesCulprit (allows filter.now) seeds.now (entries_of account.now) results.items result }
-    // The pages are the given results in ascending order of URL, one for each entry of each subqueue.
-    ensures same { IfOk result (λ pages. IsPermutation results.items pages) }
-    ensures ascends { IfOk result (λ pages. IsAscending (result_urls pages)) }
-    ensures one_each { IfOk result (λ pages. IsPermutation (entry_urls (entries_of account.now)) (result_urls pages)) }
-    ensures counts { IfOk result (λ pages. CountsOf account.now (result_urls pages)) }
-    // Their URLs are exactly those that can be reached over the results' own pages.
-    ensures reached { IfOk result (λ pages. AreReachable (page_in results.items) (allows filter.now) seeds.now (result_urls pages)) }
-    // A walk leads to each entry's URL in as many hops as the entry has.
-    ensures hops { OnOk result (All (λ e. WalkOf (page_in results.items) (allows filter.now) seeds.now e.hops e.url) (entries_of account.now)) }
-{
-    let accepted = Accepted::of(alloc, account)?;
-    find_fault_in_threads(rt, alloc, filter, seeds, &accepted, &results)?;
-    drop(accepted);
-    let pages = in_order_by_threads(rt, alloc, results)?;
-    Ok(CrawlResult { pages })
-}
-
-/// As [`certify_moved`], of a run that lost nothing. Then most of what is left to look for is seen without a search for any
-/// link, where results come in the order of an account's entries.
-///
-/// # Errors
-/// Those of [`certify_moved`], of which the first three never come.
-pub fn certify_lossless(
-    alloc: Global,
-    filter: &Filter,
-    seeds: &[CanonUrl],
-    account: &Account,
-    results: Vec<PageResult>,
-) -> Result<CrawlResult, Culprit>
-    requires lost { NothingLost (allows filter.now) seeds.now (entries_of account.now) results.items }
-    // Ok exactly where no fault holds, else the first that holds and the least URL that has it, unless a growth was refused.
-    ensures fault { NamesCulprit (allows filter.now) seeds.now (entries_of account.now) results.items result }
-    // The pages are the given results in ascending order of URL, one for each entry of each subqueue.
-    ensures same { IfOk result (λ pages. IsPermutation results.items pages) }
-    ensures ascends { IfOk result (λ pages. IsAscending (result_urls pages)) }
-    ensures one_each { IfOk result (λ pages. IsPermutation (entry_urls (entries_of account.now)) (result_urls pages)) }
-    ensures counts { IfOk result (λ pages. CountsOf account.now (result_urls pages)) }
-    // Their URLs are exactly those that can be reached over the results' own pages.
-    ensures reached { IfOk result (λ pages. AreReachable (page_in results.items) (allows filter.now) seeds.now (result_urls pages)) }
-    // A walk leads to each entry's URL in as many hops as the entry has.
-    ensures hops { OnOk result (All (λ e. WalkOf (page_in results.items) (allows filter.now) seeds.now e.hops e.url) (entries_of account.now)) }
-{
-    let accepted = Accepted::of(alloc, account)?;
-    find_fault_unlost(alloc, filter, seeds, &accepted, &results)?;
-    drop(accepted);
-    let pages = in_order(alloc, results)?;
-    Ok(CrawlResult { pages })
-}
-
-/// As [`certify_lossless`], where four threads look at the results, and threads sort the pages.
-///
-/// # Errors
-/// Those of [`certify_lossless`]. A thread that cannot be started is none: its part is done by the thread that wanted it.
-pub fn certify_lossless_in_threads<R: Threads + Sync>(
-    rt: &R,
-    alloc: Global,
-    filter: &Filter,
-    seeds: &[CanonUrl],
-    account: &Account,
-    results: Vec<PageResult>,
-) -> Result<CrawlResult, Culprit>
-    requires lost { NothingLost (allows filter.now) seeds.now (entries_of account.now) results.items }
-    // Ok exactly where no fault holds, else the first that holds and the least URL that has it, unless a growth was refused.
-    ensures fault { NamesCulprit (allows filter.now) seeds.now (entries_of account.now) results.items result }
-    // The pages are the given results in ascending order of URL, one for each entry of each subqueue.
-    ensures same { IfOk result (λ pages. IsPermutation results.items pages) }
-    ensures ascends { IfOk result (λ pages. IsAscending (result_urls pages)) }
-    ensures one_each { IfOk result (λ pages. IsPermutation (entry_urls (entries_of account.now)) (result_urls pages)) }
-    ensures counts { IfOk result (λ pages. CountsOf account.now (result_urls pages)) }
-    // Their URLs are exactly those that can be reached over the results' own pages.
-    ensures reached { IfOk result (λ pages. AreReachable (page_in results.items) (allows filter.now) seeds.now (result_urls pages)) }
-    // A walk leads to each entry's URL in as many hops as the entry has.
-    ensures hops { OnOk result (All (λ e. WalkOf (page_in results.items) (allows filter.now) seeds.now e.hops e.url) (entries_of account.now)) }
-{
-    let accepted = Accepted::of(alloc, account)?;
-    find_fault_unlost_in_threads(rt, alloc, filter, seeds, &accepted, &results)?;
-    drop(accepted);
-    let pages = in_order_by_threads(rt, alloc, results)?;
-    Ok(CrawlResult { pages })
-}
-
-/// Ok where no fault holds.
-fn find_fault<'a>(
-    alloc: Global,
+    settings: CertifySettings,
     filter: &Filter,
     seeds: &'a [CanonUrl],
-    accepted: &Accepted<'a>,
-    results: &[PageResult],
+    whole: Chunk<'_, '_, 'a>,
 ) -> Result<(), Culprit>
-    ensures { NamesCulprit (allows filter.now) seeds.now accepted.now results.now result }
+    requires lost { settings.is_lossless ≡ true → NothingLost (allows filter.now) seeds.now whole.accepted.now whole.results.now }
+    requires apart { DifferByUrl whole.accepted.now }
+    requires first { whole.first ≡ 0 }
+    ensures { NamesCulprit (allows filter.now) seeds.now whole.entry.accepted.now whole.entry.results.now result }
 {
-    let marks = marks_of(alloc, filter, accepted, 0, results)?;
-    fault_by_marks(alloc, filter, seeds, accepted, marks)
-}
-
-/// As [`find_fault`], by threads.
-fn find_fault_in_threads<'a, R: Threads + Sync>(
-    rt: &R,
-    alloc: Global,
-    filter: &Filter,
-    seeds: &'a [CanonUrl],
-    accepted: &Accepted<'a>,
-    results: &[PageResult],
-) -> Result<(), Culprit>
-    ensures { NamesCulprit (allows filter.now) seeds.now accepted.now results.now result }
-{
-    let marks = marks_in_threads(rt, alloc, filter, accepted, results)?;
-    fault_by_marks(alloc, filter, seeds, accepted, marks)
-}
-
-/// As [`find_fault`], of a run that lost nothing.
-fn find_fault_unlost<'a>(
-    alloc: Global,
-    filter: &Filter,
-    seeds: &'a [CanonUrl],
-    accepted: &Accepted<'a>,
-    results: &[PageResult],
-) -> Result<(), Culprit>
-    requires lost { NothingLost (allows filter.now) seeds.now accepted.now results.now }
-    requires apart { DifferByUrl accepted.now }
-    ensures { NamesCulprit (allows filter.now) seeds.now accepted.now results.now result }
-{
-    if is_faultless(alloc, filter, seeds, accepted, results)? {
+    let threads = whole.threads_worth(settings.threads);
+    if settings.is_lossless && is_faultless(rt, alloc, filter, seeds, threads, whole)? {
         return Ok(());
     }
-    find_fault(alloc, filter, seeds, accepted, results)
+    let marks = marks_by(rt, alloc, filter, threads, whole)?;
+    fault_by_marks(alloc, filter, seeds, whole.accepted, marks)
 }
 
-/// As [`find_fault_unlost`], by threads.
-fn find_fault_unlost_in_threads<'a, R: Threads + Sync>(
-    rt: &R,
-    alloc: Global,
-    filter: &Filter,
-    seeds: &'a [CanonUrl],
-    accepted: &Accepted<'a>,
-    results: &[PageResult],
-) -> Result<(), Culprit>
-    requires lost { NothingLost (allows filter.now) seeds.now accepted.now results.now }
-    requires apart { DifferByUrl accepted.now }
-    ensures { NamesCulprit (allows filter.now) seeds.now accepted.now results.now result }
-{
-    if is_faultless_in_threads(rt, alloc, filter, seeds, accepted, results)? {
-        return Ok(());
-    }
-    find_fault_in_threads(rt, alloc, filter, seeds, accepted, results)
-}
-
-/// Ok where no fault holds, by what a pass over the results found.
+/// Ok if the run has no fault, by what a pass over the results found.
 fn fault_by_marks<'a>(
     alloc: Global,
     filter: &Filter,
@@ -308,7 +188,7 @@ fn fault_by_marks<'a>(
     )
 }
 
-/// The first of these that is there.
+/// An error for the first of these URLs that is there.
 fn verdict(
     seed_missing: Option<&CanonUrl>,
     not_fetched: Option<&CanonUrl>,
@@ -334,6 +214,23 @@ fn verdict(
         return Err(Culprit::new(CertError::Twice, url));
     }
     Ok(())
+}
+
+/// Copies of the results in ascending order of their URLs.
+fn sorted_copies(alloc: Global, results: &[PageResult]) -> Result<Vec<PageResult>, AllocError>
+    ensures same { IfOk result (λ pages. IsPermutation results.now pages.items) }
+    ensures sorted { IfOk result (λ pages. IsSortedByKey (λ r. r.url) (slice_cmp nat_cmp) pages.items) }
+{
+    let mut pages = copies(alloc, results)?;
+    sort_by_url(pages.as_mut_slice());
+    Ok(pages)
+}
+
+fn sort_by_url(pages: &mut [PageResult])
+    ensures same { IsPermutation pages.old pages.new }
+    ensures sorted { IsSortedByKey (λ r. r.url) (slice_cmp nat_cmp) pages.new }
+{
+    pages.sort_unstable_by(|a, b| a.url.cmp(&b.url));
 }
 
 fn copies(alloc: Global, results: &[PageResult]) -> Result<Vec<PageResult>, AllocError>

@@ -4,6 +4,9 @@ ghost use Rattle.std.specs.Prelude.{◌≡◌, ◌<◌, ◌≤◌, ◌+◌, ◌^
 use crate::lookups::Accepted;
 use crawl_pages::PageResult;
 
+/// Fewer results are not worth another thread.
+const MANY: usize = 4096;
+
 /// A chunk of the results, with the entries that they may have.
 #[derive(Clone, Copy)]
 pub struct Chunk<'r, 'e, 'a> {
@@ -14,29 +17,39 @@ pub struct Chunk<'r, 'e, 'a> {
 }
 
 impl<'r, 'e, 'a> Chunk<'r, 'e, 'a> {
-    /// Half of the results each, about.
-    pub fn halves(self) -> (Chunk<'r, 'e, 'a>, Chunk<'r, 'e, 'a>)
-        ensures accepted { (result.0.accepted.now ≡ self.entry.accepted.now) × (result.1.accepted.now ≡ self.entry.accepted.now) }
-        ensures results { result.0.results.now ++ result.1.results.now ≡ self.entry.results.now }
+    /// All results.
+    pub fn whole(accepted: &'e Accepted<'a>, results: &'r [PageResult]) -> Chunk<'r, 'e, 'a>
+        ensures accepted { result.accepted.now ≡ accepted.now }
+        ensures results { result.results.now ≡ results.now }
+        ensures first { result.first ≡ 0 }
     {
-        self.parted(self.results.len() / 2)
+        Chunk {
+            accepted,
+            first: 0,
+            results,
+        }
     }
 
-    /// About a half each, where the results of no queue's entries are in both.
-    pub fn by_queues(self) -> (Chunk<'r, 'e, 'a>, Chunk<'r, 'e, 'a>)
-        ensures accepted { (result.0.accepted.now ≡ self.entry.accepted.now) × (result.1.accepted.now ≡ self.entry.accepted.now) }
-        ensures results { result.0.results.now ++ result.1.results.now ≡ self.entry.results.now }
-        ensures front { result.0.first ≡ self.entry.first }
-        ensures back { self.entry.first + length self.entry.results.now < 2 ^ 64 → result.1.first ≡ self.entry.first + length result.0.results.now }
+    /// The number of threads, or 1 if there are too few results for another thread.
+    pub fn threads_worth(&self, threads: usize) -> usize {
+        if self.results.len() < MANY {
+            1
+        } else {
+            threads
+        }
+    }
+
+    /// About half the number of results, such that no queue has entries with results in both halves.
+    pub fn queue_border(&self) -> usize
+        ensures { result ≤ length self.now.results.now }
     {
         let half = self.results.len() / 2;
         let begins = self.accepted.nearest_first(self.first.saturating_add(half));
-        let count = begins.saturating_sub(self.first).min(self.results.len());
-        self.parted(count)
+        begins.saturating_sub(self.first).min(self.results.len())
     }
 
-    /// The first so many results, and those behind them.
-    fn parted(self, count: usize) -> (Chunk<'r, 'e, 'a>, Chunk<'r, 'e, 'a>)
+    /// The first `count` results, and the others.
+    pub fn split_at(self, count: usize) -> (Chunk<'r, 'e, 'a>, Chunk<'r, 'e, 'a>)
         requires { count ≤ length self.results.now }
         ensures accepted { (result.0.accepted.now ≡ self.entry.accepted.now) × (result.1.accepted.now ≡ self.entry.accepted.now) }
         ensures results { result.0.results.now ++ result.1.results.now ≡ self.entry.results.now }

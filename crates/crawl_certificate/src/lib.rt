@@ -16,14 +16,10 @@ mod least;
 mod lookups;
 mod marks;
 mod missing;
-mod sorting;
 pub mod testing;
 mod threads;
 mod walk;
 
-pub use certificate::{
-    CrawlResult, certify, certify_in_threads, certify_lossless, certify_lossless_in_threads,
-    certify_moved,
-};
+pub use certificate::{CertifySettings, CrawlResult, certify, certify_with};
 pub use culprit::Culprit;
 pub use error::CertError;

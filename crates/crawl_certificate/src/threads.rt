@@ -1,4 +1,4 @@
-//! The pass over the results by threads: each takes a chunk, and what they find is put together.
+//! The pass over the results by threads: each has a chunk, and what they find is put together.
 ghost use Rattle.std.specs.Prelude.{◌≡◌, ◌<◌, Bool, ◌&&◌, map, length, vec_len, IfOk};
 ghost use Rattle.std.specs.List.{list_any};
 ghost use Rattle.std.specs.Str.{bytes_eq};
@@ -14,61 +14,31 @@ use crate::lookups::Accepted;
 use crate::marks::{Marks, Told, marks_of};
 use crawl_frontier::Entry;
 use crawl_keys::{CanonUrl, Filter};
-use crawl_pages::PageResult;
 use std::alloc::{AllocError, Global};
 use std::thread::{Threads, join};
 
-/// Fewer results than this are not worth a thread.
-const LEAST: usize = 4096;
-
-/// How often results are halved, so that as many threads take a chunk as two to this power.
-const HALVINGS: u32 = 2;
-
-/// As [`marks_of`], by four threads where there is enough to do.
-pub fn marks_in_threads<'r, 'e, R: Threads + Sync>(
+/// What the chunk says. With several threads each half of it has half of them; a thread that cannot be started has its work done
+/// by this one.
+pub fn marks_by<'r, 'e, R: Threads + Sync>(
     rt: &R,
     alloc: Global,
     filter: &Filter,
-    accepted: &'e Accepted<'_>,
-    results: &'r [PageResult],
-) -> Result<Marks<'r, 'e>, AllocError>
-    ensures { IfOk result (AreMarks (allows filter.now) accepted.now results.now) }
-{
-    let whole = Chunk {
-        accepted,
-        first: 0,
-        results,
-    };
-    marks_of_chunk(rt, alloc, filter, halvings_of(results), whole)
-}
-
-/// How often so many results are halved.
-pub fn halvings_of(results: &[PageResult]) -> u32 {
-    if results.len() < LEAST { 0 } else { HALVINGS }
-}
-
-/// What the chunk says, by a thread for each half of it, as often as it is halved. Where none can be started this one looks at
-/// both.
-fn marks_of_chunk<'r, 'e, R: Threads + Sync>(
-    rt: &R,
-    alloc: Global,
-    filter: &Filter,
-    halvings: u32,
+    threads: usize,
     chunk: Chunk<'r, 'e, '_>,
 ) -> Result<Marks<'r, 'e>, AllocError>
     ensures { IfOk result (AreMarks (allows filter.now) chunk.entry.accepted.now chunk.entry.results.now) }
 {
-    if halvings == 0 {
+    if threads < 2 {
         return marks_of(alloc, filter, chunk.accepted, chunk.first, chunk.results);
     }
-    let fewer = halvings - 1;
-    let (front, back) = chunk.halves();
+    let half = threads / 2;
+    let (front, back) = chunk.split_at(chunk.results.len() / 2);
     let of_front = move || -> Result<Marks, AllocError>
         ensures { IfOk result (AreMarks (allows filter.entry.now) front.entry.accepted.now front.entry.results.now) }
-    { marks_of_chunk(rt, alloc, filter, fewer, front) };
+    { marks_by(rt, alloc, filter, half, front) };
     let of_back = move || -> Result<Marks, AllocError>
         ensures { IfOk result (AreMarks (allows filter.entry.now) back.entry.accepted.now back.entry.results.now) }
-    { marks_of_chunk(rt, alloc, filter, fewer, back) };
+    { marks_by(rt, alloc, filter, half, back) };
     let (first, second) = join(rt, of_front, of_back);
     let first = first?;
     let second = second?;

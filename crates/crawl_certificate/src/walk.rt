@@ -1,9 +1,9 @@
-//! A look for faults of a run that lost nothing, without a search for any link.
+//! The check of a run that lost nothing, without a search for any link.
 //!
-//! Of such a run an entry may be unfounded, and a result may be a stray or come twice. Results that come in the order of the
-//! entries are just theirs. The links of a worker's results, in their order, meet the URLs that it was the first to offer in the
-//! order in which each subqueue accepted them. So a link is compared with the next of these alone.
-ghost use Rattle.std.specs.Prelude.{◌≡◌, ◌+◌, ◌<◌, ◌^◌, ◌==◌, ◌&&◌, ℕ, Bool, List, None, Some, true, false, length, slice_get, vec_len, IfOk, IfSome, if◌then◌else◌};
+//! Such a run can only have an unfounded entry, a result whose URL is no entry, or two results with one URL. Results in the order of
+//! the entries are just theirs. The links of a worker's results, in their order, meet the URLs that it was the first to offer in the
+//! order in which each queue accepted them. So a link is only compared with the next of these.
+ghost use Rattle.std.specs.Prelude.{◌≡◌, ◌+◌, ◌<◌, ◌^◌, ◌==◌, ◌&&◌, Bool, List, None, Some, true, false, length, vec_len, IfOk, IfSome, IsSomeAnd, if◌then◌else◌};
 ghost use Rattle.std.specs.List.{Contains};
 ghost use Rattle.crawl_frontier.specs.declared.entry.Entry.{Entry};
 ghost use Rattle.crawl_keys.specs.HostFilter.{allows};
@@ -13,48 +13,104 @@ ghost use Rattle.crawl_certificate.specs.AccountEntries.{DifferByUrl};
 ghost use Rattle.crawl_certificate.specs.CertFaults.{first_fault, is_linked, stands_in};
 ghost use Rattle.crawl_certificate.specs.Certificate.{NothingLost};
 ghost use Rattle.crawl_certificate.specs.Lookups.{is_in, pointed};
-ghost use Rattle.crawl_certificate.specs.Marks.{MarksOnly};
+ghost use Rattle.crawl_certificate.specs.Marks.{MarksOnly, in_one};
 ghost use Rattle.crawl_certificate.specs.Walks.{AreFrom, IsWalk};
-
-mod threads;
 
 use crate::chains::{Chains, Heads};
 use crate::chunk::Chunk;
 use crate::founded::is_founded;
 use crate::lookups::{Accepted, Urls, url_set};
 use crate::marks::{is_next, no_marks};
+use crate::threads::add_marks;
 use crawl_frontier::Entry;
 use crawl_keys::{CanonUrl, Filter};
 use crawl_pages::{PageResult, links_of};
 use std::alloc::{AllocError, Global};
-pub use threads::{is_faultless_in_threads, linked_in_threads};
+use std::thread::{Threads, join};
 
-/// Whether a run that lost nothing is seen to have no fault.
-pub fn is_faultless(
+/// Whether a walk over the results of a run that lost nothing shows that it has no fault.
+pub fn is_faultless<R: Threads + Sync>(
+    rt: &R,
     alloc: Global,
     filter: &Filter,
     seeds: &[CanonUrl],
-    accepted: &Accepted<'_>,
-    results: &[PageResult],
+    threads: usize,
+    whole: Chunk<'_, '_, '_>,
 ) -> Result<bool, AllocError>
-    requires lost { NothingLost (allows filter.now) seeds.now accepted.now results.now }
-    requires apart { DifferByUrl accepted.now }
-    ensures { IfOk result (λ seen. seen ≡ true → first_fault (allows filter.now) seeds.now accepted.now results.now ≡ None) }
+    requires lost { NothingLost (allows filter.now) seeds.now whole.accepted.now whole.results.now }
+    requires apart { DifferByUrl whole.accepted.now }
+    requires first { whole.first ≡ 0 }
+    ensures { IfOk result (λ seen. seen ≡ true → first_fault (allows filter.now) seeds.now whole.entry.accepted.now whole.entry.results.now ≡ None) }
 {
-    if accepted.entries().len() != results.len() {
+    if whole.accepted.entries().len() != whole.results.len() {
         return Ok(false);
     }
-    let chains = Chains::of(alloc, accepted.account(), results.len())?;
-    let whole = Chunk {
-        accepted,
-        first: 0,
-        results,
-    };
-    let linked = walked(alloc, &chains, whole)?;
-    is_founded_by(alloc, filter, seeds, accepted, linked)
+    let linked = linked_by(rt, alloc, threads, whole)?;
+    is_founded_by(alloc, filter, seeds, whole.accepted, linked)
 }
 
-/// Whether the marks of a walk over all results show that no fault holds.
+/// For each entry whether the walk over all results saw that it is linked from the result of an entry with one hop less. Nothing if
+/// the results are not those of the entries, in their order.
+pub fn linked_by<R: Threads + Sync>(
+    rt: &R,
+    alloc: Global,
+    threads: usize,
+    whole: Chunk<'_, '_, '_>,
+) -> Result<Option<Vec<bool>>, AllocError>
+    ensures { IfOk result (λ told. IfSome told (λ linked. IsWalk whole.entry.accepted.now whole.entry.first whole.entry.results.now linked.items)) }
+{
+    let chains = Chains::of(alloc, whole.accepted.account(), whole.results.len())?;
+    walked_by(rt, alloc, threads, &chains, whole)
+}
+
+/// As [`walked`]. With several threads each half of the chunk has half of them; the links of one worker's results meet no entries
+/// that another one sent. A thread that cannot be started has its work done by this one.
+fn walked_by<R: Threads + Sync>(
+    rt: &R,
+    alloc: Global,
+    threads: usize,
+    chains: &Chains,
+    chunk: Chunk<'_, '_, '_>,
+) -> Result<Option<Vec<bool>>, AllocError>
+    ensures { IfOk result (λ told. IfSome told (λ linked. IsWalk chunk.entry.accepted.now chunk.entry.first chunk.entry.results.now linked.items)) }
+{
+    if threads < 2 {
+        return walked(alloc, chains, chunk);
+    }
+    let half = threads / 2;
+    let (front, back) = chunk.split_at(chunk.queue_border());
+    if front.results.is_empty() || back.results.is_empty() {
+        return walked(alloc, chains, chunk);
+    }
+    let of_front = move || -> Result<Option<Vec<bool>>, AllocError>
+        ensures { IfOk result (λ told. IfSome told (λ linked. IsWalk front.entry.accepted.now front.entry.first front.entry.results.now linked.items)) }
+    { walked_by(rt, alloc, half, chains, front) };
+    let of_back = move || -> Result<Option<Vec<bool>>, AllocError>
+        ensures { IfOk result (λ told. IfSome told (λ linked. IsWalk back.entry.accepted.now back.entry.first back.entry.results.now linked.items)) }
+    { walked_by(rt, alloc, half, chains, back) };
+    let (first, second) = join(rt, of_front, of_back);
+    let first = first?;
+    let second = second?;
+    Ok(together(chunk.accepted.entries(), first, second))
+}
+
+/// The marks of two walks put together, if both came to their end.
+fn together(
+    entries: &[&Entry],
+    first: Option<Vec<bool>>,
+    second: Option<Vec<bool>>,
+) -> Option<Vec<bool>>
+    requires first { IfSome first (λ marks. vec_len marks ≡ length entries.now) }
+    requires second { IfSome second (λ marks. vec_len marks ≡ length entries.now) }
+    ensures { IfSome result (λ all. IsSomeAnd first (λ one. IsSomeAnd second (λ other. all.items ≡ in_one one.items other.items))) }
+{
+    let mut linked = first?;
+    let more = second?;
+    add_marks(entries, linked.as_mut_slice(), &more);
+    Some(linked)
+}
+
+/// Whether the marks of a walk over all results show that the run has no fault.
 fn is_founded_by(
     alloc: Global,
     filter: &Filter,
@@ -72,7 +128,7 @@ fn is_founded_by(
     Ok(are_founded(filter, &seed_set, accepted.entries(), &marks))
 }
 
-/// Marks of entries that are linked from the result of an entry with one hop less. Nothing where the chunk's results are not those
+/// Marks of entries that are linked from the result of an entry with one hop less. Nothing if the chunk's results are not those
 /// of as many entries, in their order.
 fn walked(
     alloc: Global,
@@ -90,8 +146,8 @@ fn walked(
     }
 }
 
-/// Marks entries that are linked from the result of an entry with one hop less. Tells whether the results are those of as many
-/// entries, in their order, as far as it went.
+/// Marks entries that are linked from the result of an entry with one hop less. Returns whether the results are those of as many
+/// entries, in their order.
 fn walk(chunk: Chunk<'_, '_, '_>, heads: &mut Heads<'_>, linked: &mut [bool]) -> bool
     requires long { length linked.old ≡ length chunk.accepted.now }
     ensures long { length linked.new ≡ length linked.old }
@@ -112,7 +168,7 @@ fn walk(chunk: Chunk<'_, '_, '_>, heads: &mut Heads<'_>, linked: &mut [bool]) ->
     true
 }
 
-/// Marks entries that are among these links and have one hop more than so many.
+/// Marks entries that are among these links and have one hop more than `hops`.
 fn walk_page(
     accepted: &Accepted<'_>,
     heads: &mut Heads<'_>,
@@ -130,7 +186,7 @@ fn walk_page(
     }
 }
 
-/// Marks the next entry that the worker sent to the link's subqueue, if it has the link and one hop more than so many.
+/// Marks the next entry that the worker sent to the link's queue, if it has the link and one hop more than `hops`.
 fn mark_next(
     accepted: &Accepted<'_>,
     heads: &mut Heads<'_>,
@@ -156,7 +212,7 @@ fn mark_next(
     }
 }
 
-/// Whether each entry is allowed, and a seed where it has no hops, else marked.
+/// Whether each entry is allowed, and is a seed if it has no hops, otherwise marked.
 fn are_founded<'a>(filter: &Filter, seeds: &Urls<'a>, entries: &[&'a Entry], marks: &[bool]) -> bool
     requires { length marks.now ≡ length entries.now }
     ensures { (holds : Entry → Bool) → result ≡ true → MarksOnly holds (pointed entries.now) marks.now → (e : Entry) → Contains (pointed entries.now) e → (allows filter.now e.url && (if e.hops == 0 then is_in seeds.now e.url else holds e)) ≡ true }

@@ -15,15 +15,15 @@ ghost use Rattle.mercator.specs.declared.crawling.Mode.{Mode};
 use crate::crawling::gather::{Ran, counts_of};
 use crate::crawling::losses::are_none;
 use crate::crawling::{CrawlFailure, CrawlSettings, Crawled, Mode};
-use crawl_certificate::{
-    CrawlResult, Culprit, certify_in_threads, certify_lossless, certify_lossless_in_threads,
-    certify_moved,
-};
+use crawl_certificate::{CertifySettings, CrawlResult, Culprit, certify_with};
 use crawl_frontier::Account;
 use crawl_keys::CanonUrl;
 use crawl_pages::PageResult;
 use std::alloc::Global;
 use std::thread::Threads;
+
+/// How many threads share the certificate of a crawl in threads.
+const THREADS: usize = 4;
 
 /// Certifies what a run found. If seeder and workers lost nothing, every seed and link is accepted and fetched.
 pub fn crawled_of<R: Threads + Sync>(
@@ -76,13 +76,11 @@ fn certified<R: Threads + Sync>(
     ensures ascends { IfOk result (λ pages. IsAscending (result_urls pages)) }
     ensures counts { IfOk result (λ pages. CountsOf account.now (result_urls pages)) }
 {
-    let alloc = *results.allocator();
     let filter = settings.filter;
-    let by_threads = matches!(settings.mode, Mode::Threads) && account.workers() > 1;
-    match (by_threads, is_lossless) {
-        (true, true) => certify_lossless_in_threads(rt, alloc, filter, seeds, account, results),
-        (true, false) => certify_in_threads(rt, alloc, filter, seeds, account, results),
-        (false, true) => certify_lossless(alloc, filter, seeds, account, results),
-        (false, false) => certify_moved(alloc, filter, seeds, account, results),
-    }
+    let in_threads = matches!(settings.mode, Mode::Threads) && account.workers() > 1;
+    let settings = CertifySettings {
+        threads: if in_threads { THREADS } else { 1 },
+        is_lossless,
+    };
+    certify_with(rt, settings, filter, seeds, account, results)
 }

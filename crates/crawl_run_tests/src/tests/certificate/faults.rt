@@ -3,13 +3,18 @@ use crate::tests::certificate::accounts::{Run, run_of, urls_of};
 use crate::tests::certificate::tables::{
     Case, Change, END, Expected, FAULTS_IN_EACH_CHUNK, FIRST, GROUPS, Group, LONG_WEB,
 };
-use crawl_certificate::{CertError, CrawlResult, Culprit, certify, certify_in_threads};
+use crawl_certificate::{CertError, CertifySettings, CrawlResult, Culprit, certify, certify_with};
 use crawl_keys::{CanonUrl, Filter, canonical};
 use crawl_pages::{Page, PageResult};
 use std::alloc::Global;
 use std::sync::Wait;
 use std::test::Fail;
 use std::thread::Threads;
+
+const IN_THREADS: CertifySettings = CertifySettings {
+    threads: 4,
+    is_lossless: false,
+};
 
 // The page that the change puts at the URL, if it puts one there.
 fn new_page(alloc: Global, url: &str, change: Change) -> Option<Page> {
@@ -120,7 +125,7 @@ fn holds<R: Threads + Sync>(rt: &R, alloc: Global, run: &Run, case: &Case) -> Op
     let urls = urls_of(alloc, seeds);
     let results = results_of(alloc, &run.results, change);
     let one = certify(alloc, &filter, &urls, &run.account, &results);
-    let other = certify_in_threads(rt, alloc, &filter, &urls, &run.account, results);
+    let other = certify_with(rt, IN_THREADS, &filter, &urls, &run.account, results);
     Some(is_expected(&one, expected) && is_named(&other, expected))
 }
 

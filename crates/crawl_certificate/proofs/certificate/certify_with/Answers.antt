@@ -1,0 +1,29 @@
+use Rattle.std.proofs.Common.{◌≡◌, None, subst, ◌∙◌}
+use Rattle.crawl_keys.specs.HostFilter.{allows}
+use Rattle.crawl_certificate.specs.AccountEntries.{DifferByUrl}
+use Rattle.crawl_certificate.specs.CertFaults.{first_fault}
+use Rattle.crawl_certificate.proofs.Certificates.{certified}
+use Rattle.crawl_certificate.proofs.certificate.certify_with.Goals as goal
+
+pub returns : goal.returns
+returns g c =
+    let allowed = allows c.args.filter.now in
+    let seeds = c.args.seeds.now in
+    let results = c.args.results.items in
+    let accepted = c.in_ok-accepted in
+    let pages = c.in_ok-pages in
+    let verdict : first_fault allowed seeds accepted.accepted results ≡ None =
+    subst (λ rs. first_fault allowed seeds accepted.accepted rs ≡ None) (c.whole-all.ensures.results ∙ c.deref.ensures.value)
+    (subst (λ es. first_fault allowed seeds es c.whole-all.result.results.now ≡ None) c.whole-all.ensures.accepted c.in_ok-find_fault.ensures) in
+    let all =
+    certified c.args.account.now allowed seeds accepted.accepted results pages.pages.items
+    accepted.ensures.all (subst DifferByUrl accepted.ensures.all accepted.ensures.apart) accepted.ensures.queues verdict pages.ensures.same pages.ensures.sorted in
+    record {
+      fault = all.fault;
+      same = pages.ensures.same;
+      ascends = all.ascends;
+      one_each = all.one_each;
+      counts = all.counts;
+      reached = all.reached;
+      hops = all.hops;
+    }

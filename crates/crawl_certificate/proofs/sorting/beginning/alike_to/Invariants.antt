@@ -1,5 +1,0 @@
-use Rattle.crawl_certificate.specs.Sixteens.{AreAlikeWithin}
-use Rattle.crawl_certificate.proofs.sorting.beginning.alike_to.Given as goal
-
-abbrev pub invariant-loop-index : goal.invariant-loop-index
-invariant-loop-index l = AreAlikeWithin l.from l.index l.first l.second

@@ -1,0 +1,45 @@
+use Rattle.std.proofs.Common.{ap, arith, length}
+use Rattle.std.proofs.lemmas.Result.{IfOk-at_ok}
+use Rattle.crawl_keys.specs.HostFilter.{allows}
+use Rattle.crawl_certificate.specs.Marks.{AreMarks}
+use Rattle.crawl_certificate.proofs.Together.{halves_together, marks_long}
+use Rattle.crawl_certificate.proofs.threads.+fn-marks_by-of_back+fn-marks_by-of_front+marks_by.Goals as goal
+
+pub together-requires-clause-fetched : goal.together-requires-clause-fetched
+together-requires-clause-fetched g t c =
+    let half = c.split_at.result.0 in
+    let found = IfOk-at_ok (AreMarks (allows c.args.filter.now) half.accepted.now half.results.now) c.in_ok-first.was c.join-first.ensures.first in
+    let long = marks_long (allows c.args.filter.now) half.accepted.now half.results.now c.in_ok-first.first found in
+    omega (arith, long.0, ap length c.split_at.ensures.accepted.0, c.entries.ensures.len, c.in_ok-first.first.fetched.ok.0)
+
+pub together-requires-clause-more_fetched : goal.together-requires-clause-more_fetched
+together-requires-clause-more_fetched g t c =
+    let half = c.split_at.result.1 in
+    let found = IfOk-at_ok (AreMarks (allows c.args.filter.now) half.accepted.now half.results.now) c.in_ok-second.was c.join-first.ensures.second in
+    let long = marks_long (allows c.args.filter.now) half.accepted.now half.results.now c.in_ok-second.second found in
+    omega (arith, long.0, ap length c.split_at.ensures.accepted.1, c.entries.ensures.len, c.in_ok-second.second.fetched.ok.0)
+
+pub together-requires-clause-linked : goal.together-requires-clause-linked
+together-requires-clause-linked g t c =
+    let half = c.split_at.result.0 in
+    let found = IfOk-at_ok (AreMarks (allows c.args.filter.now) half.accepted.now half.results.now) c.in_ok-first.was c.join-first.ensures.first in
+    let long = marks_long (allows c.args.filter.now) half.accepted.now half.results.now c.in_ok-first.first found in
+    omega (arith, long.1, ap length c.split_at.ensures.accepted.0, c.entries.ensures.len, c.in_ok-first.first.linked.ok.0)
+
+pub together-requires-clause-more_linked : goal.together-requires-clause-more_linked
+together-requires-clause-more_linked g t c =
+    let half = c.split_at.result.1 in
+    let found = IfOk-at_ok (AreMarks (allows c.args.filter.now) half.accepted.now half.results.now) c.in_ok-second.was c.join-first.ensures.second in
+    let long = marks_long (allows c.args.filter.now) half.accepted.now half.results.now c.in_ok-second.second found in
+    omega (arith, long.1, ap length c.split_at.ensures.accepted.1, c.entries.ensures.len, c.in_ok-second.second.linked.ok.0)
+
+pub returns : goal.returns
+returns g t c =
+    let allowed = allows c.args.filter.now in
+    let front = c.split_at.result.0 in
+    let back = c.split_at.result.1 in
+    let first = IfOk-at_ok (AreMarks allowed front.accepted.now front.results.now) c.in_ok-first.was c.join-first.ensures.first in
+    let second = IfOk-at_ok (AreMarks allowed back.accepted.now back.results.now) c.in_ok-second.was c.join-first.ensures.second in
+    let half = c.split_at.ensures in
+    halves_together allowed c.args.chunk.accepted.now front.accepted.now back.accepted.now _ half.accepted.0 half.accepted.1 c.entries.ensures.entries
+    front.results.now back.results.now c.args.chunk.results.now half.results c.in_ok-first.first c.in_ok-second.second c.together.result first second c.together.ensures

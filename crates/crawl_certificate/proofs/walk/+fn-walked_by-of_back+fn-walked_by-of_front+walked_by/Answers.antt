@@ -1,0 +1,30 @@
+use Rattle.std.proofs.Common.{IfSome, ap, arith, length}
+use Rattle.std.proofs.lemmas.Option.{IfSome_then}
+use Rattle.std.proofs.lemmas.Result.{IfOk-at_ok}
+use Rattle.crawl_certificate.specs.Walks.{IsWalk}
+use Rattle.crawl_certificate.proofs.Walks.{both_told, parts_together}
+use Rattle.crawl_certificate.proofs.walk.+fn-walked_by-of_back+fn-walked_by-of_front+walked_by.Goals as goal
+
+pub together-requires-clause-first : goal.together-requires-clause-first
+together-requires-clause-first g t c =
+    let half = c.split_at.result.0 in
+    let found = IfOk-at_ok (λ told. IfSome told (λ m. IsWalk half.accepted.now half.first half.results.now m.items)) c.in_ok-first.was c.join-first.ensures.first in
+    IfSome_then c.in_ok-first.first found (λ m walk. omega (arith, walk.long, m.ok.0, ap length c.split_at.ensures.accepted.0, c.entries.ensures.len))
+
+pub together-requires-clause-second : goal.together-requires-clause-second
+together-requires-clause-second g t c =
+    let half = c.split_at.result.1 in
+    let found = IfOk-at_ok (λ told. IfSome told (λ m. IsWalk half.accepted.now half.first half.results.now m.items)) c.in_ok-second.was c.join-first.ensures.second in
+    IfSome_then c.in_ok-second.second found (λ m walk. omega (arith, walk.long, m.ok.0, ap length c.split_at.ensures.accepted.1, c.entries.ensures.len))
+
+pub returns : goal.returns
+returns g t c =
+    let chunk = c.args.chunk in
+    let low = c.split_at.result.0 in
+    let high = c.split_at.result.1 in
+    let parted = c.split_at.ensures in
+    let first = IfOk-at_ok (λ told. IfSome told (λ m. IsWalk low.accepted.now low.first low.results.now m.items)) c.in_ok-first.was c.join-first.ensures.first in
+    let second = IfOk-at_ok (λ told. IfSome told (λ m. IsWalk high.accepted.now high.first high.results.now m.items)) c.in_ok-second.was c.join-first.ensures.second in
+    both_told (IsWalk low.accepted.now low.first low.results.now) (IsWalk high.accepted.now high.first high.results.now) (IsWalk chunk.accepted.now chunk.first chunk.results.now)
+    (parts_together chunk.accepted.now low.accepted.now high.accepted.now parted.accepted.0 parted.accepted.1 chunk.first low.first high.first parted.front low.results.now high.results.now chunk.results.now parted.results parted.back)
+    c.in_ok-first.first c.in_ok-second.second c.together.result first second c.together.ensures

@@ -1,0 +1,3 @@
+pub mod Parting
+pub mod SixteenBytes
+pub mod SortedParts

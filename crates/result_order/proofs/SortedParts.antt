@@ -1,0 +1,205 @@
+-- Results with their numbers: what begins alike, and what is sorted in two parts.
+use Rattle.std.proofs.Common.{◌≡◌, ℕ, zero, suc, ◌+◌, ◌-◌, ◌*◌, ◌<◌, ◌≤◌, Bool, true, false, List, [], ◌∷◌, ◌++◌, length, take, drop, get_or, slice_index, refl, sym, ap, subst, ◌∙◌, arith, inl, inr}
+use Rattle.std.specs.List.{All, Contains}
+use Rattle.std.specs.List.Sorted.{IsPermutation, IsNonDecreasingBy, IsSortedBy, IsSortedByKey}
+use Rattle.std.specs.Cmp.Lexicographic.{slice_cmp}
+use Rattle.std.specs.Ordering.{nat_cmp, is_lt}
+use Rattle.std.proofs.lemmas.Bool.{cases_lt, cases_order}
+use Rattle.std.proofs.lemmas.List.{map-append, length-append, length-map, take-append-drop, get_or_append_left, get_or-append_right, get_or-map}
+use Rattle.std.proofs.Math.Seq.{take-append_seam}
+use Rattle.std.proofs.lemmas.List.Elements.{All-append, All-contains, All-take, All-drop, Contains-get_or, Contains-append_left, Contains-append_right}
+use Rattle.std.proofs.lemmas.List.Sorted.{All-permutation, IsPermutation-append, IsPermutation-map, IsPermutation-sym, IsNonDecreasingBy-take, IsNonDecreasingBy-drop, Contains-permutation}
+use Rattle.crawl_pages.specs.declared.page.PageResult.{PageResult}
+use Rattle.result_order.specs.declared.numbered.Numbered.{Numbered}
+use Rattle.result_order.specs.Sixteens.{AreAlikeWithin, BeginAlike}
+use Rattle.result_order.specs.Sorting.{AllBeginAlike, AreGuessed, AreInOrder, AreNumbered, ArePrepared, AllEqual, ArePartedAt, IsAlikeUntil, IsNumbered, pages_of}
+use Rattle.result_order.proofs.SixteenBytes.{less_number, equal_number}
+
+-- ---- pages and the numbers beside them
+
+record Has (pages : List Numbered) (page : PageResult) : Type 0 where
+  numbered : Numbered
+  among : Contains pages numbered
+  is : numbered.page ≡ page
+
+has_at : (pages : List Numbered) (page : PageResult) (k : ℕ) → k < length (pages_of pages) → get_or (pages_of pages) k page ≡ page → Has pages page
+has_at [] page k below is = absurd (omega arith)
+has_at (c ∷ pages) page zero below is = record { numbered = c; among = (zero, omega arith, refl); is = is }
+has_at (c ∷ pages) page (suc k) below is =
+    let rest = has_at pages page k (omega arith) is in
+    record { numbered = rest.numbered; among = (suc rest.among.0, omega (arith, rest.among.1), rest.among.2); is = rest.is }
+
+has_page : (pages : List Numbered) (page : PageResult) → Contains (pages_of pages) page → Has pages page
+has_page pages page has = has_at pages page has.0 has.1 has.2
+
+parts : (index : ℕ) (pages : List Numbered) → pages_of pages ≡ pages_of (take index pages) ++ pages_of (drop index pages)
+parts index pages = ap pages_of (sym (take-append-drop index pages)) ∙ map-append (λ (c : Numbered). c.page) (take index pages) (drop index pages)
+
+in_front : (index : ℕ) (pages : List Numbered) (page : PageResult) → Contains (pages_of (take index pages)) page → Contains (pages_of pages) page
+in_front index pages page has = subst (λ ps. Contains ps page) (sym (parts index pages)) (Contains-append_left _ _ page has)
+
+in_back : (index : ℕ) (pages : List Numbered) (page : PageResult) → Contains (pages_of (drop index pages)) page → Contains (pages_of pages) page
+in_back index pages page has = subst (λ ps. Contains ps page) (sym (parts index pages)) (Contains-append_right _ _ page has)
+
+-- ---- what begins alike
+
+alike_permuted : (count : ℕ) (xs ys : List PageResult) → IsPermutation xs ys → AllBeginAlike count xs → AllBeginAlike count ys
+alike_permuted count xs ys moved alike = λ a b in_a in_b.
+    alike a b (Contains-permutation ys xs a (IsPermutation-sym xs ys moved) in_a) (Contains-permutation ys xs b (IsPermutation-sym xs ys moved) in_b)
+
+pub prepared : (from levels : ℕ) (old numbered sorted : List Numbered) → AllBeginAlike from (pages_of old) → from + 16 * levels ≤ 4080 → pages_of numbered ≡ pages_of old
+    → All (IsNumbered from) numbered → IsPermutation numbered sorted → IsNonDecreasingBy (λ (p : Numbered). p.number) sorted → ArePrepared from levels sorted
+prepared from levels old numbered sorted alike room same all moved rising = record {
+  alike = alike_permuted from (pages_of numbered) (pages_of sorted) (IsPermutation-map (λ (p : Numbered). p.page) numbered sorted moved) (subst (AllBeginAlike from) (sym same) alike);
+  room = room;
+  numbered = All-permutation (IsNumbered from) numbered sorted moved all;
+  rising = rising;
+}
+
+pub prepared_front : (from levels index : ℕ) (pages front : List Numbered) → ArePrepared from levels pages → front ≡ take index pages → ArePrepared from levels front
+prepared_front from levels index pages front whole is = subst (ArePrepared from levels) (sym is) (record {
+  alike = λ a b in_a in_b. whole.alike a b (in_front index pages a in_a) (in_front index pages b in_b);
+  room = whole.room;
+  numbered = All-take (IsNumbered from) index pages whole.numbered;
+  rising = IsNonDecreasingBy-take (λ (p : Numbered). p.number) index pages whole.rising;
+})
+
+pub prepared_back : (from levels index : ℕ) (pages back : List Numbered) → ArePrepared from levels pages → back ≡ drop index pages → ArePrepared from levels back
+prepared_back from levels index pages back whole is = subst (ArePrepared from levels) (sym is) (record {
+  alike = λ a b in_a in_b. whole.alike a b (in_back index pages a in_a) (in_back index pages b in_b);
+  room = whole.room;
+  numbered = All-drop (IsNumbered from) index pages whole.numbered;
+  rising = IsNonDecreasingBy-drop (λ (p : Numbered). p.number) index pages whole.rising;
+})
+
+pub alike_further : (from : ℕ) (pages : List Numbered) → AllBeginAlike from (pages_of pages) → All (IsNumbered from) pages → AllEqual pages → AllBeginAlike (from + 16) (pages_of pages)
+alike_further from pages alike numbered equal = λ a b in_a in_b.
+    let one = has_page pages a in_a in
+    let other = has_page pages b in_b in
+    let further = equal_number one.numbered.page.url other.numbered.page.url from one.numbered.number other.numbered.number
+    (subst (λ p. BeginAlike from p.url other.numbered.page.url) (sym one.is) (subst (λ p. BeginAlike from a.url p.url) (sym other.is) (alike a b in_a in_b)))
+    (All-contains (IsNumbered from) pages one.numbered numbered one.among) (All-contains (IsNumbered from) pages other.numbered numbered other.among) (equal one.numbered other.numbered one.among other.among) in
+    subst (λ p. BeginAlike (from + 16) p.url b.url) one.is (subst (λ p. BeginAlike (from + 16) one.numbered.page.url p.url) other.is further)
+
+pub alike_up_to : (from end : ℕ) (text : List ℕ) (pages : List Numbered) → AllBeginAlike from (pages_of pages) → All (λ (p : Numbered). AreAlikeWithin from end text p.page.url) pages → AllBeginAlike end (pages_of pages)
+alike_up_to from end text pages alike all = λ a b in_a in_b k below. elim (cases_lt k from) [
+  | inl early ↦ alike a b in_a in_b k early
+  | inr late ↦ sym (same a in_a k late below) ∙ same b in_b k late below
+]
+  where
+    same : (a : PageResult) → Contains (pages_of pages) a → (k : ℕ) → from ≤ k → k < end → slice_index text k ≡ slice_index a.url k
+    same a in_a k late below =
+        let one = has_page pages a in_a in
+        subst (λ (p : PageResult). slice_index text k ≡ slice_index p.url k) one.is (All-contains (λ (p : Numbered). AreAlikeWithin from end text p.page.url) pages one.numbered all one.among k late below)
+
+-- what holds up to an index holds up to one before it
+pub alike_before : (from end less : ℕ) (text : List ℕ) (pages : List Numbered) → less ≤ end → All (λ (p : Numbered). AreAlikeWithin from end text p.page.url) pages → All (λ (p : Numbered). AreAlikeWithin from less text p.page.url) pages
+alike_before from end less text pages le all = grind arith
+
+pub alike_in_both : (from most : ℕ) (text : List ℕ) (front back pages : List Numbered) (first second end : ℕ) → front ++ back ≡ pages
+    → IsAlikeUntil from most text front first → IsAlikeUntil from most text back second → from ≤ end → end ≤ first → end ≤ second → IsAlikeUntil from most text pages end
+alike_in_both from most text front back pages first second end parts of_front of_back least le_first le_second = record {
+  least = least;
+  within = omega (arith, le_first, of_front.within);
+  alike =
+      subst (All (λ (p : Numbered). AreAlikeWithin from end text p.page.url)) parts
+      (All-append (λ (p : Numbered). AreAlikeWithin from end text p.page.url) front back (alike_before from first end text front le_first of_front.alike) (alike_before from second end text back le_second of_back.alike));
+}
+
+-- ---- numbers that are set where a guess holds
+
+pub guessed_both : (from index : ℕ) (text : List ℕ) (pages low high : List Numbered) (one other both : Bool) → (both ≡ true → (one ≡ true) × (other ≡ true))
+    → AreGuessed from text (take index pages) low one → AreGuessed from text (drop index pages) high other → AreGuessed from text pages (low ++ high) both
+guessed_both from index text pages low high one other both told front back = record {
+  same = map-append (λ (c : Numbered). c.page) low high ∙ (λ i. front.same i ++ back.same i) ∙ sym (parts index pages);
+  alike = λ yes.
+      subst (All (λ (p : Numbered). AreAlikeWithin from (length text) text p.page.url)) (take-append-drop index pages)
+      (All-append (λ (p : Numbered). AreAlikeWithin from (length text) text p.page.url) (take index pages) (drop index pages) (front.alike (told yes).0) (back.alike (told yes).1));
+  numbered = λ yes. All-append (IsNumbered (length text)) low high (front.numbered (told yes).0) (back.numbered (told yes).1);
+}
+
+-- a guess that holds of all
+pub numbered_so : (levels from begin : ℕ) (text : List ℕ) (old new : List Numbered) → AllBeginAlike from (pages_of old) → begin + 16 * levels ≤ 4096 → length text ≡ begin → AreGuessed from text old new true → AreNumbered levels begin old new
+numbered_so levels from begin text old new alike room long guessed = record {
+  same = guessed.same;
+  alike = alike_up_to from begin text old alike (subst (λ n. All (λ (p : Numbered). AreAlikeWithin from n text p.page.url) old) long (guessed.alike refl));
+  room = room;
+  numbered = subst (λ n. All (IsNumbered n) new) long (guessed.numbered refl);
+}
+
+-- ---- two sorted lists, one behind the other
+
+sorted_joined : {X : Type 0} (less : X → X → Bool) (xs ys : List X) → IsSortedBy less xs → IsSortedBy less ys
+    → ((a b : X) → Contains xs a → Contains ys b → less b a ≡ false) → IsSortedBy less (xs ++ ys)
+sorted_joined less xs ys front back across = λ k d least below. elim (cases_order (k + 1) (length xs)) [
+  | inl seam ↦
+      let left = get_or_append_left xs ys d k (omega arith) in
+      let right = get_or-append_right xs ys (length xs) (k + 1) d refl (omega arith) in
+      let first = ap (λ n. get_or ys n d) (zero_from (k + 1) (length xs) seam) in
+      let long : 0 < length ys = omega (arith, below, length-append xs ys) in
+      rw (left, right, first) (across (get_or xs k d) (get_or ys 0 d) (Contains-get_or xs k d (omega arith)) (Contains-get_or ys 0 d long))
+  | inr (inl within) ↦
+      let left = get_or_append_left xs ys d k (omega arith) in
+      let next = get_or_append_left xs ys d (k + 1) within in
+      rw (left, next) (front k d least within)
+  | inr (inr behind) ↦
+      let left = get_or-append_right xs ys (length xs) k d refl (omega arith) in
+      let next = get_or-append_right xs ys (length xs) (k + 1) d refl (omega arith) in
+      let step = ap (λ n. get_or ys n d) (one_more k (length xs) (omega arith)) in
+      rw (left, next, step) (back (k - length xs) d (omega arith) (omega (arith, below, length-append xs ys)))
+]
+  where
+    zero_from : (m n : ℕ) → m ≡ n → m - n ≡ 0
+    zero_from m n same = omega arith
+
+    one_more : (k n : ℕ) → n ≤ k → k + 1 - n ≡ k - n + 1
+    one_more k n le = omega arith
+
+pub parted_in_order : (from levels index : ℕ) (pages low high : List Numbered) → ArePrepared from levels pages → ArePartedAt pages index
+    → IsPermutation (pages_of (take index pages)) (pages_of low) → IsPermutation (pages_of (drop index pages)) (pages_of high)
+    → AreInOrder low → AreInOrder high → AreInOrder (low ++ high)
+parted_in_order from levels index pages low high whole parted front back first second =
+    sorted_joined (λ (a b : Numbered). is_lt (slice_cmp nat_cmp a.page.url b.page.url)) low high first second (λ a b in_a in_b. across a b in_a in_b)
+  where
+    page_among : (pages : List Numbered) (c : Numbered) (k : ℕ) → k < length pages → get_or pages k c ≡ c → Contains (pages_of pages) c.page
+    page_among [] c k below is = absurd (omega arith)
+    page_among (x ∷ pages) c zero below is = (zero, omega arith, ap (λ (y : Numbered). y.page) is)
+    page_among (x ∷ pages) c (suc k) below is = let rest = page_among pages c k (omega arith) is in (suc rest.0, omega (arith, rest.1), rest.2)
+
+    across : (a b : Numbered) → Contains low a → Contains high b → is_lt (slice_cmp nat_cmp b.page.url a.page.url) ≡ false
+    across a b in_a in_b =
+        let page_a = Contains-permutation (pages_of low) (pages_of (take index pages)) a.page (IsPermutation-sym _ _ front) (page_among low a in_a.0 in_a.1 in_a.2) in
+        let page_b = Contains-permutation (pages_of high) (pages_of (drop index pages)) b.page (IsPermutation-sym _ _ back) (page_among high b in_b.0 in_b.1 in_b.2) in
+        let one = has_page (take index pages) a.page page_a in
+        let other = has_page (drop index pages) b.page page_b in
+        let begun = whole.alike a.page b.page (in_front index pages a.page page_a) (in_back index pages b.page page_b) in
+        let found = less_number one.numbered.page.url other.numbered.page.url from one.numbered.number other.numbered.number
+        (subst (λ p. BeginAlike from p.url other.numbered.page.url) (sym one.is) (subst (λ p. BeginAlike from a.page.url p.url) (sym other.is) begun))
+        (All-contains (IsNumbered from) (take index pages) one.numbered (All-take (IsNumbered from) index pages whole.numbered) one.among)
+        (All-contains (IsNumbered from) (drop index pages) other.numbered (All-drop (IsNumbered from) index pages whole.numbered) other.among)
+        (parted.less one.numbered other.numbered one.among other.among) in
+        subst (λ p. is_lt (slice_cmp nat_cmp p.url a.page.url) ≡ false) other.is (subst (λ p. is_lt (slice_cmp nat_cmp other.numbered.page.url p.url) ≡ false) one.is found)
+
+pub parts_permuted : (index : ℕ) (pages low high : List Numbered) → IsPermutation (pages_of (take index pages)) (pages_of low) → IsPermutation (pages_of (drop index pages)) (pages_of high)
+    → IsPermutation (pages_of pages) (pages_of (low ++ high))
+parts_permuted index pages low high front back =
+    subst (λ ps. IsPermutation ps (pages_of (low ++ high))) (sym (parts index pages))
+    (subst (λ ps. IsPermutation (pages_of (take index pages) ++ pages_of (drop index pages)) ps) (sym (map-append (λ (c : Numbered). c.page) low high)) (IsPermutation-append _ _ _ _ front back))
+
+pub each_page_same : (old new : List Numbered) → length new ≡ length old → ((i : ℕ) (d : Numbered) → i < length old → (get_or new i d).page ≡ (get_or old i d).page) → pages_of new ≡ pages_of old
+each_page_same [] [] long each = refl
+each_page_same [] (y ∷ new) long each = absurd (omega arith)
+each_page_same (x ∷ old) [] long each = absurd (omega arith)
+each_page_same (x ∷ old) (y ∷ new) long each =
+    λ i. each zero x (omega arith) i ∷ each_page_same old new (omega arith) (λ k d within. each (suc k) d (omega arith)) i
+
+pub pages_in_order : (pages : List Numbered) → AreInOrder pages → IsSortedByKey (λ (r : PageResult). r.url) (slice_cmp nat_cmp) (pages_of pages)
+pages_in_order pages sorted = λ k d least below.
+    let some : Numbered = record { number = 0; page = d } in
+    let within : k + 1 < length pages = omega (arith, below, length-map pages (λ (c : Numbered). c.page)) in
+    let at = get_or-map (λ (c : Numbered). c.page) pages k some d (omega arith) in
+    let next = get_or-map (λ (c : Numbered). c.page) pages (k + 1) some d within in
+    rw (at, next) (sorted k some least within)
+
+pub take_front : {X : Type 0} (n : ℕ) (xs ys : List X) → n ≡ length xs → take n (xs ++ ys) ≡ xs
+take_front n xs ys e = ap (λ k. take k (xs ++ ys)) e ∙ take-append_seam xs ys

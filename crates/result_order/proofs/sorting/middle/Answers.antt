@@ -1,0 +1,31 @@
+use Rattle.std.proofs.Common.{ltb, leb, arith, rules}
+use Rattle.std.proofs.lemmas.List.Sorted.{IsPartitionPoint-from_clause, IsPartitionedBy-leb, IsPartitionedBy-ltb}
+use Rattle.result_order.specs.declared.numbered.Numbered.{Numbered}
+use Rattle.result_order.proofs.Parting.{parted_before, parted_behind, equal_to_one}
+use Rattle.result_order.proofs.sorting.middle.Goals as goal
+
+pub returns-then-first-gt0-clause-some : goal.returns-then-first-gt0-clause-some
+returns-then-first-gt0-clause-some c =
+    let pages = c.args.pages.now in
+    let here = c.in_ok-number.field-0.now in
+    let parted = IsPartitionedBy-ltb (λ (c : Numbered). c.number) pages here.number c.requires in
+    let point = IsPartitionPoint-from_clause (λ (c : Numbered). ltb c.number here.number) pages c.partition_point-first.result c.partition_point-first.ensures.partitioned parted (λ a r q k. search rules) in
+    parted_before pages _ c.partition_point-first.result here c.in_ok-number.ensures.lookup.3.0 c.in_ok-number.ensures.lookup.1 c.if-first-gt0.true c.partition_point-first.ensures.bound point
+
+pub returns-then-above-pages-clause-some : goal.returns-then-above-pages-clause-some
+returns-then-above-pages-clause-some c =
+    let pages = c.args.pages.now in
+    let here = c.in_ok-number.field-0.now in
+    let parted = IsPartitionedBy-leb (λ (c : Numbered). c.number) pages here.number c.requires in
+    let point = IsPartitionPoint-from_clause (λ (c : Numbered). leb c.number here.number) pages c.partition_point-above.result c.partition_point-above.ensures.partitioned parted (λ a r q k. search rules) in
+    parted_behind pages _ c.partition_point-above.result here c.in_ok-number.ensures.lookup.3.0 c.in_ok-number.ensures.lookup.1 c.if-above-pages.true point
+
+pub returns-else-above-pages-clause-none : goal.returns-else-above-pages-clause-none
+returns-else-above-pages-clause-none c = λ _.
+    let pages = c.args.pages.now in
+    let number = c.in_ok-number.field-0.now.number in
+    let low = IsPartitionedBy-ltb (λ (c : Numbered). c.number) pages number c.requires in
+    let high = IsPartitionedBy-leb (λ (c : Numbered). c.number) pages number c.requires in
+    let first = IsPartitionPoint-from_clause (λ (c : Numbered). ltb c.number number) pages c.partition_point-first.result c.partition_point-first.ensures.partitioned low (λ a r q k. search rules) in
+    let behind = IsPartitionPoint-from_clause (λ (c : Numbered). leb c.number number) pages c.partition_point-above.result c.partition_point-above.ensures.partitioned high (λ a r q k. search rules) in
+    equal_to_one pages c.partition_point-first.result c.partition_point-above.result number (omega arith) (omega arith) first behind

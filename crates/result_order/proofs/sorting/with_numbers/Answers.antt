@@ -1,0 +1,11 @@
+use Rattle.std.proofs.Common.{rules, ◌≡◌, reverse, sym, subst}
+use Rattle.std.specs.List.Sorted.{IsPermutation}
+use Rattle.std.proofs.lemmas.List.Sorted.{IsPermutation-sym, IsPermutation-reverse}
+use Rattle.result_order.specs.Sorting.{pages_of}
+use Rattle.result_order.proofs.sorting.with_numbers.Goals as goal
+
+pub returns : goal.returns
+returns c =
+    let pages = pages_of c.loop-page.pages.items in
+    let turned : c.args.results.items ≡ reverse pages = search rules in
+    subst (λ all. IsPermutation all pages) (sym turned) (IsPermutation-sym _ _ (IsPermutation-reverse pages))

@@ -1,0 +1,2 @@
+pub mod Sixteens
+pub mod Sorting

@@ -1,0 +1,66 @@
+-- Results in the order of their URLs, and the numbers that they are sorted by.
+use Rattle.std.specs.Prelude.{◌≡◌, ℕ, ◌+◌, ◌*◌, ◌<◌, ◌≤◌, Bool, true, List, map, length, take, drop}
+use Rattle.std.specs.List.{All, Contains}
+use Rattle.std.specs.List.Sorted.{IsNonDecreasingBy, IsSortedByKey}
+use Rattle.std.specs.Cmp.Lexicographic.{slice_cmp}
+use Rattle.std.specs.Ordering.{nat_cmp}
+use Rattle.crawl_pages.specs.declared.page.PageResult.{PageResult}
+use Rattle.result_order.specs.declared.numbered.Numbered.{Numbered}
+use Rattle.result_order.specs.Sixteens.{BeginAlike, AreAlikeWithin, IsSixteen}
+
+-- the results without their numbers
+abbrev pub pages_of : List Numbered → List PageResult
+pages_of pages = map (λ p. p.page) pages
+
+-- the first so many bytes of all URLs are the same
+abbrev pub AllBeginAlike : ℕ → List PageResult → Type 0
+AllBeginAlike count pages = (a b : PageResult) → Contains pages a → Contains pages b → BeginAlike count a.url b.url
+
+-- from one index up to an end, which is at most `most`, all URLs have the bytes of a text
+pub record IsAlikeUntil (from most : ℕ) (text : List ℕ) (pages : List Numbered) (end : ℕ) : Type 0 where
+  pub least : from ≤ end
+  pub within : end ≤ most
+  pub alike : All (λ p. AreAlikeWithin from end text p.page.url) pages
+
+-- the number has the sixteen bytes of the URL from an index on
+abbrev pub IsNumbered : ℕ → Numbered → Type 0
+IsNumbered from numbered = IsSixteen numbered.page.url from numbered.number
+
+-- the number is set to the sixteen bytes of the URL from an index on, and the page is the same
+pub record IsNumberSet (from : ℕ) (old new : Numbered) : Type 0 where
+  pub same : new.page ≡ old.page
+  pub numbered : IsNumbered from new
+
+-- each number is set to the sixteen bytes of the URL from an index on, up to which all begin alike; there is room for so many numbers
+pub record AreNumbered (levels from : ℕ) (old new : List Numbered) : Type 0 where
+  pub same : pages_of new ≡ pages_of old
+  pub alike : AllBeginAlike from (pages_of old)
+  pub room : from + 16 * levels ≤ 4096
+  pub numbered : All (IsNumbered from) new
+
+-- where it is told so, all URLs have the bytes of a text from an index on, and each number is set to the sixteen behind
+pub record AreGuessed (from : ℕ) (text : List ℕ) (old new : List Numbered) (told : Bool) : Type 0 where
+  pub same : pages_of new ≡ pages_of old
+  pub alike : told ≡ true → All (λ p. AreAlikeWithin from (length text) text p.page.url) old
+  pub numbered : told ≡ true → All (IsNumbered (length text)) new
+
+-- no URL is above the next one, byte by byte
+abbrev pub AreInOrder : List Numbered → Type 0
+AreInOrder pages = IsSortedByKey (λ p. p.page.url) (slice_cmp nat_cmp) pages
+
+-- results that begin alike up to an index, in the order of their numbers, which have the sixteen bytes from there on
+pub record ArePrepared (from levels : ℕ) (pages : List Numbered) : Type 0 where
+  pub alike : AllBeginAlike from (pages_of pages)
+  pub room : from + 16 * levels ≤ 4080
+  pub numbered : All (IsNumbered from) pages
+  pub rising : IsNonDecreasingBy (λ p. p.number) pages
+
+-- all have one number
+abbrev pub AllEqual : List Numbered → Type 0
+AllEqual pages = (a b : Numbered) → Contains pages a → Contains pages b → a.number ≡ b.number
+
+-- some stand before the index and some behind it, and the numbers of those are less than the numbers of these
+pub record ArePartedAt (pages : List Numbered) (index : ℕ) : Type 0 where
+  pub some : 0 < index
+  pub more : index < length pages
+  pub less : (a b : Numbered) → Contains (take index pages) a → Contains (drop index pages) b → a.number < b.number
