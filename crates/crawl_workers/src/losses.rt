@@ -1,7 +1,7 @@
 //! What a worker lost, by why.
-ghost use Rattle.std.specs.Prelude.{◌≡◌, ◌≢◌, Some};
+ghost use Rattle.std.specs.Prelude.{◌≡◌, ◌≢◌, Some, true};
 ghost use Rattle.crawl_frontier.specs.declared.error.OfferError.TheVariants as error;
-ghost use Rattle.crawl_workers.specs.Losses.{loss_of, no_losses, with_loss};
+ghost use Rattle.crawl_workers.specs.Losses.{all_losses, both_losses, loss_of, no_losses, with_loss, with_refusal};
 
 use crawl_frontier::OfferError;
 
@@ -35,7 +35,7 @@ pub(crate) enum Loss {
 
 impl Losses {
     /// Nothing was lost.
-    pub(crate) fn none() -> Losses
+    pub fn none() -> Losses
         ensures { result ≡ no_losses }
     {
         Losses {
@@ -45,6 +45,48 @@ impl Losses {
             too_far: 0,
             crossed: 0,
             no_memory: 0,
+        }
+    }
+
+    /// Whether nothing was lost.
+    pub fn is_none(&self) -> bool
+        ensures none { result ≡ true → all_losses self.now ≡ 0 }
+        ensures some { all_losses self.now ≡ 0 → result ≡ true }
+    {
+        self.failed == 0
+            && self.unkept == 0
+            && self.full == 0
+            && self.too_far == 0
+            && self.crossed == 0
+            && self.no_memory == 0
+    }
+
+    /// Adds up the losses of both. Each count stays at the greatest u64 once there.
+    pub fn plus(self, other: Losses) -> Losses
+        ensures { result ≡ both_losses self other }
+    {
+        Losses {
+            failed: self.failed.saturating_add(other.failed),
+            unkept: self.unkept.saturating_add(other.unkept),
+            full: self.full.saturating_add(other.full),
+            too_far: self.too_far.saturating_add(other.too_far),
+            crossed: self.crossed.saturating_add(other.crossed),
+            no_memory: self.no_memory.saturating_add(other.no_memory),
+        }
+    }
+
+    /// Also counts an offer that was refused for this reason. A URL that the filter does not allow is not lost, and no sender that
+    /// holds a unit finds the gate closed.
+    pub fn with_refusal(self, refused: OfferError) -> Losses
+        ensures { result ≡ with_refusal refused self }
+    {
+        match refused {
+            OfferError::Filtered | OfferError::Closed => self,
+            _ => {
+                let mut losses = self;
+                losses.count(loss_of(refused));
+                losses
+            }
         }
     }
 

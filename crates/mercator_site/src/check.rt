@@ -9,7 +9,7 @@ ghost use Rattle.mercator_site.specs.Sources.{IsSourceOf};
 ghost use Rattle.saved_site.specs.Linked.{page_at};
 
 use crate::bodies::{Files, InMemory};
-use crate::crawl::{crawl_site, crawl_source, host_of};
+use crate::crawl::{crawl_source, host_of};
 use crate::external::external_links;
 use crate::fault::SiteFault;
 use crate::options::CheckForm;
@@ -18,9 +18,9 @@ use crate::print::print_check;
 use check_report::{Contents, External};
 use crawl_keys::CanonUrl;
 use crawl_pages::PageResult;
-use mercator::Crawled;
+use crawl_run::Crawled;
 use saved_site::{
-    Alias, LinkPlaces, LinkedSite, PageAnchors, Rules, SiteFiles, SiteNames, Web, files_pages,
+    Alias, LinkPlaces, LinkedSite, PageAnchors, Rules, SiteFiles, SiteNames, files_pages,
 };
 use site_check::{Asked, Bodies, Checked, check_site};
 use std::alloc::{AllocError, Global};
@@ -97,53 +97,11 @@ pub fn report_of_files<R: Threads + Wait + Sync>(
     report_of_pages(rt, alloc, site, &pages, &bodies, settings)
 }
 
-/// Checks a site by its saved web. The crawl starts at the top or at the seeds, and stays on the top's host. The bytes of the saved
-/// web are freed before the results are searched for pages.
+/// Checks a site by its pages in memory, which are those of a saved web whose bytes are not needed. The crawl starts at the top or at
+/// the seeds, and stays on the top's host.
 ///
 /// # Errors
 /// `BadHost`, `BadSeed`, `NoMemory`; `Crawl` if the crawl is incomplete.
-pub fn report_of_site<R: Threads + Wait + Sync, B: Bodies + Sync>(
-    rt: &R,
-    alloc: Global,
-    web: Web,
-    files: &SiteFiles<'_>,
-    bodies: &B,
-    settings: CheckSettings<'_>,
-) -> Result<CheckReport, SiteFault>
-    ensures done { IfOk result (λ report. IsCheck (string_bytes files.now.site.top) web.bytes.items web.aliases.items (asks_in settings.entry) report.is_broken report.text.items) }
-    ensures named { IfOk result (λ report. IsNamedCheck settings.entry.name.now (string_bytes files.now.site.top) web.bytes.items web.aliases.items (asks_in settings.entry) report.is_broken report.text.items) }
-    ensures incomplete { IfErr result (λ fault. status_of fault ≡ 2 → IsTopIncomplete (string_bytes files.now.site.top) web.bytes.items (map string_bytes settings.entry.seeds.now) settings.entry.workers) }
-{
-    let Web {
-        bytes,
-        aliases,
-        anchors,
-        places,
-        ..
-    } = web;
-    let crawled = crawl_site(
-        rt,
-        alloc,
-        bytes.as_slice(),
-        files.top(),
-        settings.seeds,
-        settings.workers,
-    )?;
-    drop(bytes);
-    let found = FoundSite {
-        crawled,
-        aliases,
-        anchors,
-        places,
-    };
-    report_of_found(rt, alloc, found, files, bodies, settings)
-}
-
-/// Checks a site by its pages in memory, as [`report_of_site`] does by its saved web. The pages are those of a saved web whose bytes
-/// are not needed.
-///
-/// # Errors
-/// As for [`report_of_site`].
 pub fn report_of_pages<R: Threads + Wait + Sync, B: Bodies + Sync>(
     rt: &R,
     alloc: Global,
@@ -171,7 +129,7 @@ pub fn report_of_pages<R: Threads + Wait + Sync, B: Bodies + Sync>(
         settings.seeds,
         settings.workers,
     )?;
-    // Not freed, for the same reason as below.
+    // Not freed: the process exits soon, and the system frees everything faster.
     forget(pages);
     let found = FoundSite {
         crawled,
@@ -211,7 +169,6 @@ fn report_of_found<R: Threads + Wait + Sync, B: Bodies + Sync>(
     );
     let checked = check_site(rt, alloc, pages, files, bodies, input)?;
     let report = report_of(alloc, &checked, &others, settings)?;
-    // Not freed: the process exits soon, and the system frees everything faster.
     forget(crawled);
     forget(aliases);
     forget(anchors);

@@ -15,7 +15,7 @@ mod start;
 mod writing;
 
 pub use bodies::Files;
-pub use check::{CheckReport, CheckSettings, report_of_files, report_of_pages, report_of_site};
+pub use check::{CheckReport, CheckSettings, report_of_files, report_of_pages};
 pub use fault::SiteFault;
 pub use folder::{report_of_folder, web_of_folder};
 pub use options::{CheckForm, CheckOptions, SiteOptions, SitePlan, site_plan};

@@ -1,11 +1,11 @@
 //! Files in memory: their saved web, their pages, and a check of them.
 use crawl_keys::{CanonUrl, canonical};
 use crawl_pages::{Fetch, Page, SessionFetch};
-use saved_web::SavedWeb;
 use mercator_site::{
     CheckForm, CheckReport, CheckSettings, Files, report_of_files, report_of_site,
 };
 use saved_site::{Body, Rules, SiteFiles, SiteNames, files_pages, files_web, site_web};
+use saved_web::SavedWeb;
 use site_check::Bodies;
 use std::alloc::{AllocError, Global};
 use std::sync::Wait;

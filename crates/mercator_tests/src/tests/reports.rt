@@ -1,7 +1,7 @@
 //! Calls for reports that no command uses: text by threads, and only the queues.
 use crawl_keys::canonical;
-use crawl_report::{Parts, Report, print_in_threads};
 use crawl_pages::{Page, PageResult};
+use crawl_report::{Parts, Report, print_in_threads};
 use mercator::queue_text;
 use std::alloc::Global;
 use std::thread::Threads;

@@ -1,4 +1,6 @@
-use Rattle.mercator.proofs.SiteCrawls.{one_site_crawl, one_report}
+use Rattle.std.proofs.Common.{ap}
+use Rattle.crawl_report.specs.ReportText.{report}
+use Rattle.mercator.proofs.SiteCrawls.{one_site_crawl}
 use Rattle.mercator.proofs.PlanTexts.{one_output}
 use Rattle.mercator.proofs.laws.same_bytes_for_any_workers.Goals as goal
 
@@ -6,7 +8,7 @@ pub returns-clause-pages : goal.returns-clause-pages
 returns-clause-pages c = one_site_crawl
 
 pub returns-clause-reports : goal.returns-clause-reports
-returns-clause-reports c = one_report
+returns-clause-reports c bytes listed texts suffixes pages others own other = ap report (one_site_crawl bytes listed texts suffixes pages others own other)
 
 pub returns-clause-outputs : goal.returns-clause-outputs
 returns-clause-outputs c = one_output
