@@ -1,13 +1,15 @@
-//! Files in memory: their saved web, their pages, and a check of them.
+//! Files in memory: their saved web, their pages, and a check of them. A file that grows while it is read.
 use crawl_keys::{CanonUrl, canonical};
 use crawl_pages::{Fetch, Page, SessionFetch};
-use saved_web::SavedWeb;
 use mercator_site::{
     CheckForm, CheckReport, CheckSettings, Files, report_of_files, report_of_site,
 };
 use saved_site::{Body, Rules, SiteFiles, SiteNames, files_pages, files_web, site_web};
+use saved_web::SavedWeb;
 use site_check::Bodies;
 use std::alloc::{AllocError, Global};
+use std::io;
+use std::io::Read;
 use std::sync::Wait;
 use std::thread::Threads;
 
@@ -152,4 +154,30 @@ fn files_in_memory(rt: HostRuntime) {
         }
         _ => assert!(rt; false),
     }
+}
+
+/// A file that grows while it is read: it never ends.
+#[derive(Drop)]
+struct Growing {
+    /// The number of bytes that were read.
+    read: usize,
+}
+
+impl Read for Growing {
+    fn read(&mut self, buf: &mut [u8]) -> io::Result<usize> {
+        buf.fill(b'a');
+        self.read = self.read.saturating_add(buf.len());
+        Ok(buf.len())
+    }
+}
+
+// Of a file that had three million bytes, one more is read, which shows that it grew.
+#[test]
+fn file_that_grows(rt: HostRuntime) {
+    let mut file = Growing { read: 0 };
+    let mut body = Body::new(rt.alloc());
+    let is_longer = body.read(&mut file, 3_000_000);
+    assert!(rt; matches!(is_longer, Ok(true)));
+    assert!(rt; file.read == 3_000_001);
+    assert!(rt; body.as_slice().len() == 3_000_001);
 }
