@@ -4,9 +4,8 @@ use crawl_pages::{Fetch, Page, SessionFetch};
 use mercator_site::{
     CheckForm, CheckReport, CheckSettings, Files, report_of_files, report_of_site,
 };
-use saved_site::{Body, Rules, SiteFiles, SiteNames, files_pages, files_web, site_web};
+use saved_site::{Body, InMemory, Rules, SiteFiles, SiteNames, site_pages, site_web};
 use saved_web::SavedWeb;
-use site_check::Bodies;
 use std::alloc::{AllocError, Global};
 use std::io;
 use std::io::Read;
@@ -54,6 +53,12 @@ impl OneFile {
             seeds: &[],
         }
     }
+
+    fn bytes(&self) -> InMemory<'_> {
+        InMemory {
+            bodies: self.bodies.as_slice(),
+        }
+    }
 }
 
 fn is_its_page(page: &Page) -> bool {
@@ -72,7 +77,8 @@ fn has_web<R: Threads + Sync>(
     site: &OneFile,
     top: &CanonUrl,
 ) -> Option<bool> {
-    let web = site_web(rt, alloc, site.input(), site.bodies.as_slice()).ok()?;
+    let files = SiteFiles::new(alloc, site.input()).ok()?;
+    let web = site_web(rt, &files, &[], Vec::new(alloc), &site.bytes()).ok()?;
     let pages = SavedWeb::read(alloc, web.bytes.as_slice()).ok()?;
     let page = pages.fetch(alloc, top).ok()?;
     Some(is_its_page(&page))
@@ -85,18 +91,9 @@ fn has_pages<R: Threads + Sync>(
     top: &CanonUrl,
 ) -> Option<bool> {
     let files = SiteFiles::new(alloc, site.input()).ok()?;
-    let linked = files_pages(rt, alloc, &files, &[], site.bodies.as_slice()).ok()?;
+    let linked = site_pages(rt, &files, &[], Vec::new(alloc), &site.bytes()).ok()?;
     let page = linked.pages.fetch_in(alloc, &mut (), top).ok()?;
     Some(is_its_page(&page))
-}
-
-impl Bodies for OneFile {
-    fn read(&self, _name: &str, body: &mut Body) -> Result<bool, AllocError> {
-        for bytes in &self.bodies {
-            body.push(bytes.as_slice())?;
-        }
-        Ok(true)
-    }
 }
 
 fn settings(none: &[String]) -> CheckSettings<'_> {
@@ -134,8 +131,8 @@ fn is_checked_by_its_web<R: Threads + Wait + Sync>(
     site: &OneFile,
 ) -> Option<bool> {
     let files = SiteFiles::new(alloc, site.input()).ok()?;
-    let web = files_web(rt, alloc, &files, &[], site.bodies.as_slice()).ok()?;
-    let report = report_of_site(rt, alloc, web, &files, site, settings(&[])).ok()?;
+    let web = site_web(rt, &files, &[], Vec::new(alloc), &site.bytes()).ok()?;
+    let report = report_of_site(rt, alloc, web, &files, &site.bytes(), settings(&[])).ok()?;
     Some(lists_its_link(&report))
 }
 
