@@ -47,8 +47,8 @@ THEOREMS = (
         Calls("crawl_certificate", "certificate.rt", ("certify",)), Calls("crawl_certificate", "laws.rt"),
     )),
     ("A crawl, from bytes to the report", (
-        Calls("mercator", "commands/web_crawl.rt", ("report_of_saved_web",)),
-        Calls("mercator", "crawling.rt", ("crawl",)),
+        Calls("crawl_run", "whole_crawl.rt", ("crawl", "crawl_with")), Calls("crawl_run", "laws.rt"),
+        Calls("mercator", "commands.rt", ("run_plan",)), Calls("mercator", "laws.rt"),
     )),
     ("A check, from files to the report", (
         Calls("mercator_site", "check.rt", ("report_of_files",)),

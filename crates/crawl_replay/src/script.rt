@@ -13,11 +13,11 @@ mod event;
 mod header;
 
 use crawl_core::Event;
-use text_lines::{first_line, text_of};
 pub use error::ScriptError;
 use event::said_by;
 pub use header::{Header, header_of};
 use std::alloc::Global;
+use text_lines::{first_line, text_of};
 
 /// Events for a frontier, and the numbers that it is made with.
 #[derive(Debug, PartialEq, Eq, Drop)]

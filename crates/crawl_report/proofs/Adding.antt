@@ -60,11 +60,11 @@ queue_more out mid more counts k d below p q =
     adds_same out more _ _ (sym (map-append f (enumerate_from 0 (take k counts)) ((k, count) ∷ [])) ∙ ap (map f) (sym next))
     (adds_both out mid more (map f (enumerate_from 0 (take k counts))) (line.queue k count ∷ []) p q)
 
--- ---- texts that are referred to
+-- ---- what is referred to
 
-pub pointed_line_at : (f : List ℕ → Line) (out mid more : Out) (xs : List (Bor (List ℕ))) (k : ℕ) (d : Bor (List ℕ)) → k < length xs → Adds out mid (map f (pointed (take k xs))) → Adds mid more (f (get_or xs k d).now ∷ []) → Adds out more (map f (pointed (take (k + 1) xs)))
-pointed_line_at f out mid more xs k d below p q =
-    adds_same out more _ _ (sym (map-append f (pointed (take k xs)) ((get_or xs k d).now ∷ [])) ∙ ap (map f) (sym (map_more (λ (y : Bor (List ℕ)). y.now) xs k d below)))
+pub pointed_line_at : {X : Type 0} (f : X → Line) (out mid more : Out) (xs : List (Bor X)) (k : ℕ) (d : Bor X) → k < length xs → Adds out mid (map f (pointed (take k xs))) → Adds mid more (f (get_or xs k d).now ∷ []) → Adds out more (map f (pointed (take (k + 1) xs)))
+pointed_line_at {X} f out mid more xs k d below p q =
+    adds_same out more _ _ (sym (map-append f (pointed (take k xs)) ((get_or xs k d).now ∷ [])) ∙ ap (map f) (sym (map_more (λ (y : Bor X). y.now) xs k d below)))
     (adds_both out mid more (map f (pointed (take k xs))) (f (get_or xs k d).now ∷ []) p q)
 
 -- ---- a whole report

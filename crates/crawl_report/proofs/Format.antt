@@ -8,7 +8,7 @@ use Rattle.std.specs.List.Sorted.{IsSortedByKey}
 use Rattle.std.specs.Ordering.{nat_cmp}
 use Rattle.crawl_pages.specs.Pages.{is_missing}
 use Rattle.crawl_pages.specs.ResultOrder.{results_by_url}
-use Rattle.crawl_report.specs.ReportText.{result_line, total_line}
+use Rattle.crawl_report.specs.ReportText.{report, result_line, total_line}
 use Rattle.crawl_pages.specs.declared.page.Page.{Page}
 use Rattle.crawl_pages.specs.declared.page.Page.TheVariants.{Found, Moved, Missing}
 use Rattle.crawl_pages.specs.declared.page.PageResult.{PageResult}
@@ -60,6 +60,12 @@ missing_sources pages sorted =
 
 pub queues_alone : (counts : List ℕ) → flat_map text_line (rows.queue_lines counts) ≡ queue_lines counts
 queues_alone counts = same_queues (enumerate_from 0 counts)
+
+-- the lines of results in order, and then of their total
+pub report_lines : (results : List PageResult) → flat_map text_line (result_lines (results_by_url results) ++ total_of results ∷ []) ≡ report results
+report_lines results =
+    flat_map-append text_line (result_lines (results_by_url results)) (total_of results ∷ [])
+    ∙ (λ i. same_results (results_by_url results) i ++ append-nil (total_line results) i)
 
 told_queues : (with_queues : Bool) (counts : List ℕ) → flat_map text_line (rows.queue_lines (if with_queues then counts else [])) ≡ (if with_queues then queue_lines counts else [])
 told_queues true counts = queues_alone counts

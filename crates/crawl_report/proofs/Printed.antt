@@ -1,6 +1,6 @@
--- Lines that are printed alone, and put together.
-use Rattle.std.proofs.Common.{◌≡◌, ℕ, ◌+◌, ◌<◌, Bool, Global, List, [], ◌∷◌, ◌++◌, Vec, length, take, get_or, append-nil, refl, sym, ap, ◌∙◌}
-use Rattle.std.proofs.lemmas.List.{append_assoc, map-append, take_more}
+-- Chunks of lines, and what they are together.
+use Rattle.std.proofs.Common.{◌≡◌, ℕ, Bool, Global, List, [], ◌∷◌, ◌++◌, Vec, append-nil, sym, ap, ◌∙◌}
+use Rattle.std.proofs.lemmas.List.{append_assoc, map-append}
 use Rattle.std.proofs.lemmas.List.Concat.{flat_map-append}
 use Rattle.std.specs.List.{flat_map}
 use Rattle.crawl_pages.specs.declared.page.PageResult.{PageResult}
@@ -29,13 +29,6 @@ whole_report json report front back of_results of_rest =
 -- a part more
 pub joined_push : (parts : List (Vec ℕ Global)) (part : Vec ℕ Global) → joined (parts ++ part ∷ []) ≡ joined parts ++ part.items
 joined_push parts part = flat_map-append (λ (p : Vec ℕ Global). p.items) parts (part ∷ []) ∙ ap (λ t. joined parts ++ t) (append-nil part.items)
-
--- as many parts as were looked at, and one more
-pub joined_more : (parts : List (Vec ℕ Global)) (k : ℕ) (d part : Vec ℕ Global) (text : List ℕ) → k < length parts → part ≡ get_or parts k d → text ≡ joined (take k parts) → text ++ part.items ≡ joined (take (k + 1) parts)
-joined_more parts k d part text below at so_far =
-    (λ i. so_far i ++ (at i).items)
-    ∙ sym (joined_push (take k parts) (get_or parts k d))
-    ∙ ap joined (sym (take_more parts k d below))
 
 -- the parts of both halves
 pub put_together : (json : Bool) (xs ys : List (Vec ℕ Global)) (front back pages : List PageResult) → front ++ back ≡ pages

@@ -1,13 +1,15 @@
 //! The report of a crawl: a line for each result, then the total.
-ghost use Rattle.std.specs.Prelude.{◌≡◌, ◌+◌, ◌++◌, Some, IfOk, OnOk, length, map, count_by, string_bytes};
-ghost use Rattle.std.specs.List.{flat_map};
-ghost use Rattle.crawl_pages.specs.Pages.{is_found, is_missing, is_moved};
+ghost use Rattle.std.specs.Prelude.{◌≡◌, IfOk};
 ghost use Rattle.crawl_pages.specs.ResultOrder.{results_by_url};
-ghost use Rattle.crawl_report.specs.ReportText.{result_text, result_line, total_line, report, moved_part};
+ghost use Rattle.crawl_report.specs.Printing.{Adds};
+ghost use Rattle.crawl_report.specs.ReportText.{report};
+ghost use Rattle.crawl_report.specs.Rows.{result_lines};
+ghost use Rattle.crawl_report.specs.Tallies.{pointed};
 
-use crawl_pages::{Links, NoMemory, Page, PageResult};
+use crate::out::Out;
+use crate::printing::{row_of, total_of};
+use crawl_pages::{NoMemory, PageResult};
 use std::alloc::Global;
-use std::fmt;
 
 /// The report of the results, each line ended by LF.
 ///
@@ -22,14 +24,14 @@ pub fn report_text(alloc: Global, results: &[PageResult]) -> Result<Vec<u8>, NoM
     ensures { IfOk result (λ text. text.items ≡ report results.now) }
 {
     let ordered = results_by_url(alloc, results)?;
-    let mut text = result_lines(alloc, &ordered)?;
-    push_total(&mut text, results)?;
+    let lines = with_each(Out::new(alloc, false), &ordered)?;
+    let text = lines.with(total_of(results))?;
     Ok(text.into_bytes())
 }
 
-// Sorts references, so that no URL is copied.
+/// Returns references to the results, in ascending byte order of URL. No URL is copied.
 fn results_by_url(alloc: Global, results: &[PageResult]) -> Result<Vec<&PageResult>, NoMemory>
-    ensures { IfOk result (λ ordered. map (λ x. x.now) ordered.items ≡ results_by_url results.now) }
+    ensures { IfOk result (λ ordered. pointed ordered.items ≡ results_by_url results.now) }
 {
     let mut ordered = references(alloc, results)?;
     ordered.sort_by(|a, b| a.url.cmp(&b.url))?;
@@ -37,101 +39,17 @@ fn results_by_url(alloc: Global, results: &[PageResult]) -> Result<Vec<&PageResu
 }
 
 fn references(alloc: Global, results: &[PageResult]) -> Result<Vec<&PageResult>, NoMemory>
-    ensures { IfOk result (λ all. map (λ x. x.now) all.items ≡ results.now) }
+    ensures { IfOk result (λ all. pointed all.items ≡ results.now) }
 {
     results.iter().collect(alloc)
 }
 
-fn result_lines(alloc: Global, results: &[&PageResult]) -> Result<String, NoMemory>
-    ensures { IfOk result (λ text. string_bytes text ≡ flat_map result_line (map (λ x. x.now) results.now)) }
+/// Prints a line for each of these results.
+fn with_each(mut out: Out, results: &[&PageResult]) -> Result<Out, NoMemory>
+    ensures { IfOk result (λ more. Adds out more (result_lines (pointed results.now))) }
 {
-    let mut text = String::new(alloc);
     for one in results {
-        let line = ResultText(*one);
-        writeln!(text, "{line}")?;
+        out = out.with(row_of(one))?;
     }
-    Ok(text)
-}
-
-fn push_total(text: &mut String, results: &[PageResult]) -> Result<(), NoMemory>
-    ensures { OnOk result (string_bytes text.new ≡ string_bytes text.old ++ total_line results.now) }
-{
-    let all = results.len();
-    let found = count_found(results);
-    let missing = count_missing(results);
-    write!(text, "total {all} ok {found} missing {missing}")?;
-    push_moved(text, count_moved(results))?;
-    writeln!(text)
-}
-
-fn push_moved(text: &mut String, count: usize) -> Result<(), NoMemory>
-    ensures { OnOk result (string_bytes text.new ≡ string_bytes text.old ++ moved_part count) }
-{
-    if count == 0 {
-        return Ok(());
-    }
-    write!(text, " moved {count}")
-}
-
-fn count_found(results: &[PageResult]) -> usize
-    ensures { result ≡ count_by (λ r. is_found r.page) results.now }
-{
-    results.iter().filter(|one| is_found(&one.page)).count()
-}
-
-fn count_missing(results: &[PageResult]) -> usize
-    ensures { result ≡ count_by (λ r. is_missing r.page) results.now }
-{
-    results.iter().filter(|one| is_missing(&one.page)).count()
-}
-
-fn count_moved(results: &[PageResult]) -> usize
-    ensures { result ≡ count_by (λ r. is_moved r.page) results.now }
-{
-    results.iter().filter(|one| is_moved(&one.page)).count()
-}
-
-fn is_found(page: &Page) -> bool
-    ensures { result ≡ is_found page.now }
-{
-    matches!(page, Page::Found { .. })
-}
-
-fn is_missing(page: &Page) -> bool
-    ensures { result ≡ is_missing page.now }
-{
-    matches!(page, Page::Missing)
-}
-
-fn is_moved(page: &Page) -> bool
-    ensures { result ≡ is_moved page.now }
-{
-    matches!(page, Page::Moved { .. })
-}
-
-/// A result as the report's reader sees it.
-#[derive(Clone, Copy)]
-struct ResultText<'a>(&'a PageResult);
-
-impl fmt::Display for ResultText<'_> {
-    ghost output = { λ result. Some (result_text result.0.now) };
-
-    fn fmt<W: fmt::Write>(&self, f: &mut fmt::Formatter<W>) -> fmt::Result {
-        let url = &self.0.url;
-        match &self.0.page {
-            Page::Found { links, skipped } => {
-                let count = count_links(links, *skipped);
-                write!(f, "ok {count} {skipped} {url}")
-            }
-            Page::Moved { .. } => write!(f, "moved {url}"),
-            Page::Missing => write!(f, "missing {url}"),
-        }
-    }
-}
-
-// A `u64` might not hold the sum.
-fn count_links(links: &Links, skipped: u64) -> u128
-    ensures { result ≡ length links.now + skipped }
-{
-    links.as_slice().len() as u128 + u128::from(skipped)
+    Ok(out)
 }

@@ -16,18 +16,18 @@ use crawl_pages::{NoMemory, Page, PageResult};
 use std::alloc::Global;
 use std::thread::Threads;
 
-/// Room is made for the lines of so many results at once.
+/// Room is made for the lines of this number of results at a time.
 const AT_ONCE: usize = 32;
 
-/// About so many bytes of a result's line are not its URL's.
+/// About how many bytes a result's line has in addition to its URL.
 const BESIDE: usize = 16;
 
-/// The report's bytes: a line for each row, as text or as a JSON object, each ended by LF.
+/// Returns the report: a line for each row, as text or as a JSON object, each ended by LF.
 ///
 /// The rows come in this order: the results, their total, the queues, the parts in the order of `Parts`.
 ///
 /// # Errors
-/// Out of memory alone.
+/// Only out of memory.
 pub fn print(alloc: Global, report: &Report<'_>, json: bool) -> Result<Vec<u8>, NoMemory>
     ensures { IfOk result (λ text. text.items ≡ printed json report.now) }
 {
@@ -36,26 +36,10 @@ pub fn print(alloc: Global, report: &Report<'_>, json: bool) -> Result<Vec<u8>, 
     with_rest(alloc, results, report)
 }
 
-/// As [`print`], where four threads print the lines of the results, if there are many.
+/// Returns the same bytes as [`print`], in consecutive chunks. Four threads print the lines of the results if there are many.
 ///
 /// # Errors
-/// Out of memory alone. A thread that cannot be started is none: its part is printed by the thread that wanted it.
-pub fn print_in_threads<R: Threads + Sync>(
-    rt: &R,
-    alloc: Global,
-    report: &Report<'_>,
-    json: bool,
-) -> Result<Vec<u8>, NoMemory>
-    ensures { IfOk result (λ text. text.items ≡ printed json report.now) }
-{
-    let parts = print_in_parts(rt, alloc, report, json)?;
-    put_together(alloc, &parts)
-}
-
-/// As [`print_in_threads`], and the parts are not put together: the report's bytes are those of all, one behind the other.
-///
-/// # Errors
-/// Those of [`print_in_threads`].
+/// Only out of memory. If a thread cannot be started, the thread that asked for it prints its chunk.
 pub fn print_in_parts<R: Threads + Sync>(
     rt: &R,
     alloc: Global,
@@ -71,17 +55,7 @@ pub fn print_in_parts<R: Threads + Sync>(
     Ok(parts)
 }
 
-fn put_together(alloc: Global, parts: &[Vec<u8>]) -> Result<Vec<u8>, NoMemory>
-    ensures { IfOk result (λ text. text.items ≡ joined parts.now) }
-{
-    let mut text = Vec::new(alloc);
-    for part in parts {
-        text.extend_from_slice(part)?;
-    }
-    Ok(text)
-}
-
-/// The bytes of what is printed, and behind it of all lines but those of the results.
+/// Returns what is printed, followed by all lines except those of the results.
 fn with_rest(alloc: Global, results: Out, report: &Report<'_>) -> Result<Vec<u8>, NoMemory>
     ensures { IfOk result (λ text. text.items ≡ bytes_of results ++ flat_map (printed_line (is_json results)) (rows_behind report.now)) }
 {
@@ -91,7 +65,7 @@ fn with_rest(alloc: Global, results: Out, report: &Report<'_>) -> Result<Vec<u8>
     Ok(all.into_bytes())
 }
 
-/// What is printed, and behind it a line for each result.
+/// Returns what is printed, followed by a line for each result.
 pub(crate) fn with_results(mut out: Out, pages: &[PageResult]) -> Result<Out, NoMemory>
     ensures { IfOk result (λ more. Adds out more (result_lines pages.now)) }
 {
@@ -102,10 +76,9 @@ pub(crate) fn with_results(mut out: Out, pages: &[PageResult]) -> Result<Out, No
     Ok(out)
 }
 
-/// What is printed, with room for the lines of the next results where the index is that of the first of them.
+/// Returns what is printed. If the index is that of the first of [`AT_ONCE`] results, it has room for their lines.
 ///
-/// To print a line, its URL is looked for in memory. Their lengths are read one behind the other, so that those of all wait for
-/// memory at the same time.
+/// The lengths of their URLs are read one after another, so that all these reads wait for memory at the same time.
 fn with_room_at(out: Out, pages: &[PageResult], index: usize) -> Result<Out, NoMemory>
     requires { index < length pages.now }
     ensures { IfOk result (λ more. Adds out more []) }
@@ -126,7 +99,7 @@ fn room_for(pages: &[PageResult]) -> usize {
     room
 }
 
-fn row_of(one: &PageResult) -> Row<'_>
+pub(crate) fn row_of(one: &PageResult) -> Row<'_>
     ensures { line_of result ≡ page_line one.now.url one.now.page }
 {
     let url = one.url.as_str();
@@ -142,7 +115,7 @@ fn row_of(one: &PageResult) -> Row<'_>
     }
 }
 
-fn total_of(pages: &[PageResult]) -> Row<'static>
+pub(crate) fn total_of(pages: &[PageResult]) -> Row<'static>
     ensures { line_of result ≡ total_of pages.now }
 {
     Row::Total {

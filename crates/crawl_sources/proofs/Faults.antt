@@ -1,5 +1,5 @@
 -- The first fault of lines, as a relation.
-use Rattle.std.proofs.Common.{◌≡◌, ℕ, ◌+◌, List, [], ◌∷◌, ◌++◌, length, Option, Some, None, refl, sym, ap, ◌∙◌, subst, arith, append_assoc, append-nil, length-append}
+use Rattle.std.proofs.Common.{◌≡◌, ℕ, ◌+◌, List, [], ◌∷◌, ◌++◌, length, Option, Some, None, refl, sym, ap, ◌∙◌, arith, append_assoc, append-nil, length-append}
 use Rattle.std.specs.Option.{option_or}
 use Rattle.text_lines.specs.LeastFault.{SoundAfter, IsLeastFault}
 use Rattle.crawl_sources.specs.SeedFaults.{fault_after}

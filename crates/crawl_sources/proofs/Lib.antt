@@ -1,4 +1,3 @@
 pub mod Counts
 pub mod Faults
 pub mod Least
-pub mod Missing

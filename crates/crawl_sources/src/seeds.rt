@@ -6,8 +6,8 @@ ghost use Rattle.crawl_sources.specs.Seeds.{fault_of, line_fault, seed_url, seed
 ghost use Rattle.crawl_sources.specs.declared.seeds.SeedsFault.TheVariants as wrong;
 
 use crawl_keys::{CanonUrl, KeyError, canonical};
-use text_lines::{LineError, first_line, text_of};
 use std::alloc::{AllocFailed, Global};
+use text_lines::{LineError, first_line, text_of};
 
 /// Why bytes are no seeds, in the order of the checks of a line. Lines are numbered from 1.
 #[derive(Clone, Copy, Debug, PartialEq, Eq)]

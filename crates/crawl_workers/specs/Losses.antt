@@ -34,6 +34,29 @@ loss_of (refused.Crossed own found) = Some loss.Crossed
 loss_of refused.TooFar = Some loss.TooFar
 loss_of refused.NoMemory = Some loss.NoMemory
 
+-- this loss more, if there is one
+abbrev counted_in : Option Loss → Losses → Losses
+counted_in None losses = losses
+counted_in (Some why) losses = with_loss why losses
+
+-- these, and an offer that was refused for this reason; a URL that the filter does not allow is not lost
+abbrev pub with_refusal : OfferError → Losses → Losses
+with_refusal refusal losses = counted_in (loss_of refusal) losses
+
+-- both together, up to the greatest count
+abbrev pub sum : ℕ → ℕ → ℕ
+sum a b = min (a + b) (2 ^ 64 - 1)
+
+abbrev pub both_losses : Losses → Losses → Losses
+both_losses a b = record {
+  failed = sum a.failed b.failed;
+  unkept = sum a.unkept b.unkept;
+  full = sum a.full b.full;
+  too_far = sum a.too_far b.too_far;
+  crossed = sum a.crossed b.crossed;
+  no_memory = sum a.no_memory b.no_memory;
+}
+
 -- the loss of a link, and not of a URL that was taken
 abbrev pub is_of_link : Loss → Bool
 is_of_link loss.Failed = false

@@ -1,24 +1,24 @@
 //! What a worker lost, by cause.
-ghost use Rattle.std.specs.Prelude.{◌≡◌, ◌≢◌, Some};
+ghost use Rattle.std.specs.Prelude.{◌≡◌, ◌≢◌, Some, true};
 ghost use Rattle.crawl_frontier.specs.declared.error.OfferError.TheVariants as error;
-ghost use Rattle.crawl_workers.specs.Losses.{loss_of, no_losses, with_loss};
+ghost use Rattle.crawl_workers.specs.Losses.{all_losses, both_losses, loss_of, no_losses, with_loss, with_refusal};
 
 use crawl_frontier::OfferError;
 
-/// What a worker lost, by cause. A count that reaches the greatest u64 stays there.
+/// How much a worker lost, by why. Each count stays at the greatest u64 once there.
 #[derive(Clone, Copy, Debug, PartialEq, Eq)]
 pub struct Losses {
     /// URLs whose fetch failed.
     pub failed: u64,
-    /// URLs that were fetched, but there was no memory for the result.
+    /// URLs that were fetched, and for whose result there was no room.
     pub unkept: u64,
-    /// Links that were offered while the frontier was full.
+    /// Links that met as many pending URLs as the frontier allows.
     pub full: u64,
-    /// Links that are too many hops away from a seed.
+    /// Links that are more hops away than an entry holds.
     pub too_far: u64,
-    /// Links that were refused because another sender has this worker's id.
+    /// Links whose offer met another sender with this worker's id.
     pub crossed: u64,
-    /// Links that were refused because memory ran out.
+    /// Links for which there was not memory enough.
     pub no_memory: u64,
 }
 
@@ -35,7 +35,7 @@ pub(crate) enum Loss {
 
 impl Losses {
     /// Nothing was lost.
-    pub(crate) fn none() -> Losses
+    pub fn none() -> Losses
         ensures { result ≡ no_losses }
     {
         Losses {
@@ -45,6 +45,48 @@ impl Losses {
             too_far: 0,
             crossed: 0,
             no_memory: 0,
+        }
+    }
+
+    /// Whether nothing was lost.
+    pub fn is_none(&self) -> bool
+        ensures none { result ≡ true → all_losses self.now ≡ 0 }
+        ensures some { all_losses self.now ≡ 0 → result ≡ true }
+    {
+        self.failed == 0
+            && self.unkept == 0
+            && self.full == 0
+            && self.too_far == 0
+            && self.crossed == 0
+            && self.no_memory == 0
+    }
+
+    /// Adds up the losses of both. Each count stays at the greatest u64 once there.
+    pub fn plus(self, other: Losses) -> Losses
+        ensures { result ≡ both_losses self other }
+    {
+        Losses {
+            failed: self.failed.saturating_add(other.failed),
+            unkept: self.unkept.saturating_add(other.unkept),
+            full: self.full.saturating_add(other.full),
+            too_far: self.too_far.saturating_add(other.too_far),
+            crossed: self.crossed.saturating_add(other.crossed),
+            no_memory: self.no_memory.saturating_add(other.no_memory),
+        }
+    }
+
+    /// Also counts an offer that was refused for this reason. A URL that the filter does not allow is not lost, and no sender that
+    /// holds a unit finds the gate closed.
+    pub fn with_refusal(self, refused: OfferError) -> Losses
+        ensures { result ≡ with_refusal refused self }
+    {
+        match refused {
+            OfferError::Filtered | OfferError::Closed => self,
+            _ => {
+                let mut losses = self;
+                losses.count(loss_of(refused));
+                losses
+            }
         }
     }
 
@@ -63,8 +105,8 @@ impl Losses {
     }
 }
 
-/// The cause of loss of a link whose offer failed with this error. A link that the filter does not allow is not lost, and a
-/// worker that has a URL never finds the gate closed.
+/// Why a link is lost whose offer by a worker was refused for this reason. One that the filter does not allow is not lost, and
+/// no worker with a URL meets the gate closed.
 pub(crate) fn loss_of(refused: OfferError) -> Loss
     requires filter { refused ≢ error.Filtered }
     requires gate { refused ≢ error.Closed }

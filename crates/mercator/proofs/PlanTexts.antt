@@ -11,22 +11,18 @@ use Rattle.crawl_report.specs.Unreached.{asked_pages, unreached_of}
 use Rattle.crawl_report.specs.declared.report.Parts.{Parts}
 use Rattle.crawl_report.proofs.OneOrder.{one_order}
 use Rattle.crawl_pages.specs.declared.page.PageResult.{PageResult}
-use Rattle.mercator.specs.Crawls.{AreCounts}
+use Rattle.crawl_run.specs.Crawls.{AreCounts}
 use Rattle.crawl_keys.specs.HostFilter.{allows, filter_of, is_good}
 use Rattle.mercator.specs.Plans.{is_bad_suffix, is_input, known_bytes, known_seeds, lists_input, suffixes_of}
-use Rattle.mercator.specs.Ending.{EndsByText}
-use Rattle.crawl_workers.specs.Losses.{no_losses}
-use Rattle.crawl_workers.specs.declared.losses.Losses.{Losses}
 use Rattle.mercator.specs.Limits.{most_input_bytes}
-use Rattle.mercator.specs.Told.{AreFiles, AskForOneReport, AskForOneText, Counts, CountsCrawl, Explains, ExplainsCrawl, FailsCrawl, Gains, IsTold, OfFile, OfFiles}
-use Rattle.mercator.specs.WebCrawl.{AreUnreached, IsBegun, IsCountedAt, IsCrawlText, IsFound, IsNamedAt, IsTextOf, IsUnbegun, printed_with}
+use Rattle.mercator.specs.Told.{AreFiles, AskForOneReport, AskForOneText, FailsCrawl, Gains, IsTold, OfFile, OfFiles}
+use Rattle.mercator.specs.WebCrawl.{AreUnreached, IsBegun, IsCrawlText, IsFound, IsTextOf, IsUnbegun, printed_with}
 use Rattle.mercator.specs.declared.commands.planned.CrawlOptions.{CrawlOptions}
 use Rattle.mercator.specs.declared.commands.tell.Inputs.{Inputs}
 use Rattle.mercator.specs.declared.commands.tell.WebFound.{WebFound}
-use Rattle.mercator.specs.declared.commands.failure.Failure.{Failure}
 use Rattle.mercator.specs.declared.commands.fault.Fault.{Fault}
 use Rattle.mercator.specs.declared.commands.fault.Fault.TheVariants as wrong
-use Rattle.mercator.specs.declared.crawling.Crawled.{Crawled}
+use Rattle.crawl_run.specs.declared.whole_crawl.Crawled.{Crawled}
 use Rattle.mercator.specs.declared.commands.planned.Plan.{Plan}
 use Rattle.mercator.specs.declared.commands.planned.Plan.TheVariants as asks
 use Rattle.std.proofs.lemmas.Grind.{same_number_lists}
@@ -188,7 +184,7 @@ of_files file listed input bytes list P are holds = record {
 
 -- why nothing is found of them
 pub fails : (workers max : ℕ) (within : Option (String Global)) (file : List ℕ) (listed : Option (String Global)) (seeds : List (List ℕ)) (input : Option (List ℕ)) (fault : Fault) → is_bad_suffix within ≡ false
-    → OfFiles file listed input (λ bytes list. IsUnbegun workers max bytes list seeds fault) → FailsCrawl workers max within file listed seeds input fault
+    → OfFiles file listed input (λ bytes list. IsUnbegun workers max bytes list seeds (suffixes_of within) fault) → FailsCrawl workers max within file listed seeds input fault
 fails workers max within file listed seeds input wrong.CannotRead good of = good
 fails workers max within file listed seeds input wrong.CannotReadSeeds good of = absurd of.holds.holds
 fails workers max within file listed seeds input wrong.BadSuffix good of = absurd of.holds.holds
@@ -196,7 +192,7 @@ fails workers max within file listed seeds input wrong.NoMemory good of = tt
 fails workers max within file listed seeds input fault good of = (good, of)
 
 -- what a crawl of inputs finds is found in the files that they were read from
-pub found_in_files : (workers : ℕ) (within : Option (String Global)) (file : List ℕ) (listed : Option (String Global)) (texts : List (List ℕ)) (input : Option (List ℕ)) (inputs : Inputs) (result : Result WebFound Failure)
+pub found_in_files : (workers : ℕ) (within : Option (String Global)) (file : List ℕ) (listed : Option (String Global)) (texts : List (List ℕ)) (input : Option (List ℕ)) (inputs : Inputs) (result : Result WebFound Fault)
     → (is_bad_suffix within ≡ false) × (inputs.filter ≡ suffixes_of within) → AreFiles file listed input inputs.bytes.items inputs.list.items
     → IfOk result (λ found. (found.filter ≡ inputs.filter) × (found.bytes.items ≡ inputs.bytes.items)) → IfOk result (λ _. IsBegun inputs.bytes.items inputs.list.items texts)
     → IfOk result (λ found. IsFound workers inputs.bytes.items inputs.list.items texts inputs.filter found.crawled)
@@ -211,52 +207,11 @@ found_in_files workers within file listed texts input inputs (Ok found) suffix a
 )
 
 -- and a crawl of inputs fails as one of these files
-pub fails_in_files : (workers max : ℕ) (within : Option (String Global)) (file : List ℕ) (listed : Option (String Global)) (texts : List (List ℕ)) (input : Option (List ℕ)) (inputs : Inputs) (result : Result WebFound Failure)
-    → is_bad_suffix within ≡ false → AreFiles file listed input inputs.bytes.items inputs.list.items → IfErr result (λ failure. IsUnbegun workers max inputs.bytes.items inputs.list.items texts failure.fault)
-    → IfErr result (λ failure. FailsCrawl workers max within file listed texts input failure.fault)
-fails_in_files workers max within file listed texts input inputs (Ok found) good are unbegun = tt
-fails_in_files workers max within file listed texts input inputs (Err failure) good are unbegun =
-    fails workers max within file listed texts input failure.fault good (of_files file listed input inputs.bytes.items inputs.list.items (λ bytes list. IsUnbegun workers max bytes list texts failure.fault) are unbegun)
-
--- at a URL of these files, where it names one
-explained : (within : Option (String Global)) (file : List ℕ) (listed : Option (String Global)) (texts : List (List ℕ)) (input : Option (List ℕ)) (bytes list : List ℕ) (filter : List (List ℕ)) (fault : Fault) (culprit : Option (List ℕ)) → filter ≡ suffixes_of within
-    → AreFiles file listed input bytes list → IsNamedAt bytes list texts filter fault culprit → ExplainsCrawl within file listed texts input fault culprit
-explained within file listed texts input bytes list filter fault None is are at = at
-explained within file listed texts input bytes list filter fault (Some url) is are at =
-    of_files file listed input bytes list (λ bytes list. IsNamedAt bytes list texts (suffixes_of within) fault (Some url)) are (subst (λ s. IsNamedAt bytes list texts s fault (Some url)) is at)
-
-pub explains_files : (within : Option (String Global)) (file : List ℕ) (listed : Option (String Global)) (texts : List (List ℕ)) (input : Option (List ℕ)) (inputs : Inputs) (result : Result WebFound Failure) → inputs.filter ≡ suffixes_of within → AreFiles file listed input inputs.bytes.items inputs.list.items
-    → IfErr result (λ failure. IsNamedAt inputs.bytes.items inputs.list.items texts inputs.filter failure.fault failure.culprit) → IfErr result (λ failure. ExplainsCrawl within file listed texts input failure.fault failure.culprit)
-explains_files within file listed texts input inputs (Ok found) is are at = tt
-explains_files within file listed texts input inputs (Err failure) is are at = explained within file listed texts input inputs.bytes.items inputs.list.items inputs.filter failure.fault failure.culprit is are at
-
--- with what was lost, where it names one
-counted : (workers : ℕ) (within : Option (String Global)) (file : List ℕ) (listed : Option (String Global)) (texts : List (List ℕ)) (input : Option (List ℕ)) (bytes list : List ℕ) (filter : List (List ℕ)) (fault : Fault) (culprit : Option (List ℕ)) (losses : Losses) → filter ≡ suffixes_of within
-    → AreFiles file listed input bytes list → IsCountedAt workers bytes list texts filter fault culprit losses → CountsCrawl workers within file listed texts input fault culprit losses
-counted workers within file listed texts input bytes list filter fault None losses is are at = at
-counted workers within file listed texts input bytes list filter fault (Some url) losses is are at =
-    of_files file listed input bytes list (λ bytes list. IsCountedAt workers bytes list texts (suffixes_of within) fault (Some url) losses) are (subst (λ s. IsCountedAt workers bytes list texts s fault (Some url) losses) is at)
-
-pub counts_files : (workers : ℕ) (within : Option (String Global)) (file : List ℕ) (listed : Option (String Global)) (texts : List (List ℕ)) (input : Option (List ℕ)) (inputs : Inputs) (result : Result WebFound Failure) → inputs.filter ≡ suffixes_of within → AreFiles file listed input inputs.bytes.items inputs.list.items
-    → IfErr result (λ failure. IsCountedAt workers inputs.bytes.items inputs.list.items texts inputs.filter failure.fault failure.culprit failure.losses) → IfErr result (λ failure. CountsCrawl workers within file listed texts input failure.fault failure.culprit failure.losses)
-counts_files workers within file listed texts input inputs (Ok found) is are at = tt
-counts_files workers within file listed texts input inputs (Err failure) is are at =
-    counted workers within file listed texts input inputs.bytes.items inputs.list.items inputs.filter failure.fault failure.culprit failure.losses is are at
-
--- nothing is lost where no URL is named
-none_counted : (plan : Plan) (input : Option (List ℕ)) (fault : Fault) → Counts plan input fault None no_losses
-none_counted (asks.Crawl workers max queues file seeds within options) input fault = refl
-none_counted plan input fault = refl
-
-pub ends_without_loss : (plan : Plan) (input : Option (List ℕ)) (how : Result (Unit {0}) Fault) → IfErr how (λ fault. Counts plan input fault None no_losses)
-ends_without_loss plan input (Ok done) = tt
-ends_without_loss plan input (Err fault) = none_counted plan input fault
-
--- what is told whole is written without a URL
-pub written_at_none : (plan : Plan) (input : Option (List ℕ)) → Explains plan input wrong.CannotWrite None
-written_at_none (asks.Crawl workers max queues file seeds within options) input = tt
-written_at_none plan input = refl
-
-pub ends_at_none : (plan : Plan) (input : Option (List ℕ)) (text : List ℕ) (old new : Option (List ℕ)) (how : Result (Unit {0}) Fault) → EndsByText text old new how → IfErr how (λ fault. Explains plan input fault None)
-ends_at_none plan input text old new (Ok done) ends = tt
-ends_at_none plan input text old new (Err fault) ends = subst (λ f. Explains plan input f None) (sym ends) (written_at_none plan input)
+pub fails_in_files : (workers max : ℕ) (within : Option (String Global)) (file : List ℕ) (listed : Option (String Global)) (texts : List (List ℕ)) (input : Option (List ℕ)) (inputs : Inputs) (result : Result WebFound Fault)
+    → (is_bad_suffix within ≡ false) × (inputs.filter ≡ suffixes_of within) → AreFiles file listed input inputs.bytes.items inputs.list.items
+    → IfErr result (IsUnbegun workers max inputs.bytes.items inputs.list.items texts inputs.filter) → IfErr result (FailsCrawl workers max within file listed texts input)
+fails_in_files workers max within file listed texts input inputs (Ok found) suffix are unbegun = tt
+fails_in_files workers max within file listed texts input inputs (Err fault) suffix are unbegun =
+    fails workers max within file listed texts input fault suffix.0
+    (of_files file listed input inputs.bytes.items inputs.list.items (λ bytes list. IsUnbegun workers max bytes list texts (suffixes_of within) fault) are
+    (subst (λ s. IsUnbegun workers max inputs.bytes.items inputs.list.items texts s fault) suffix.1 unbegun))

@@ -1,28 +1,28 @@
 -- The pages of a saved web that can be reached are one list, and so its report is one text.
-use Rattle.std.proofs.Common.{◌≡◌, ℕ, Bool, List, [], ◌∷◌, map, ◌++◌, Option, Some, None, Result, Ok, refl, sym, ap, subst, ◌∙◌}
+use Rattle.std.proofs.Common.{◌≡◌, ℕ, ◌≤◌, Bool, List, [], ◌∷◌, length, map, ◌++◌, Result, Ok, refl, sym, ap, subst, ◌∙◌}
 use Rattle.crawl_certificate.specs.Certificate.{IsCrawl, result_urls}
-use Rattle.crawl_certificate.specs.declared.error.CertError.{CertError}
 use Rattle.crawl_certificate.proofs.OneCrawl.{one_crawl}
 use Rattle.crawl_keys.specs.HostFilter.{allows}
 use Rattle.crawl_keys.specs.declared.error.KeyError.{KeyError}
 use Rattle.crawl_sources.specs.Seeds.{seeds_in}
 use Rattle.saved_web.specs.SavedWeb.{page_of}
-use Rattle.crawl_report.specs.ReportText.{report}
 use Rattle.crawl_pages.specs.declared.page.Page.{Page}
 use Rattle.crawl_pages.specs.declared.page.PageResult.{PageResult}
 use Rattle.std.specs.Str.Lines.{lines}
 use Rattle.saved_web.specs.WebFaults.{IsSound}
-use Rattle.mercator.specs.Crawls.{AreCounts, IsFaultAt, IsJudgedAt}
-use Rattle.crawl_workers.specs.declared.losses.Losses.{Losses}
-use Rattle.mercator.specs.JudgedRuns.{CountsLosses}
-use Rattle.mercator.specs.Losses.{IsLost}
-use Rattle.mercator.specs.WebCrawl.{AreAllSeeds, IsFound, IsCountedAt, IsLostAt, IsNamedAt, IsSiteCrawl, IsSiteFault, IsCrawlReport, IsUnread}
-use Rattle.mercator.specs.Faults.{of_crawl}
+use Rattle.crawl_report.specs.ReportText.{report}
+use Rattle.crawl_run.specs.Crawls.{AreCounts, ComesIn, CrawlFails, IsJudgedAt}
+use Rattle.crawl_run.specs.JudgedRuns.{CountsLosses}
+use Rattle.crawl_run.specs.Losses.{IsLost}
+use Rattle.mercator.specs.WebCrawl.{AreAllSeeds, ComesOf, IsBegun, IsCrawlReport, IsFound, IsRefused, IsSiteCrawl, IsSiteFailure, IsUnbegun, IsUnread}
+use Rattle.mercator.specs.Faults.{of_crawl, of_crawl_by}
 use Rattle.mercator.specs.declared.commands.fault.Fault.{Fault}
 use Rattle.mercator.specs.declared.commands.fault.Fault.TheVariants as wrong
-use Rattle.mercator.specs.declared.crawling.Crawled.{Crawled}
-use Rattle.mercator.specs.declared.crawling.error.CrawlError.{CrawlError}
-use Rattle.mercator.specs.declared.crawling.error.CrawlError.TheVariants as crawl
+use Rattle.crawl_run.specs.declared.whole_crawl.Crawled.{Crawled}
+use Rattle.crawl_run.specs.declared.error.CrawlError.{CrawlError}
+use Rattle.crawl_run.specs.declared.error.CrawlError.TheVariants as crawl
+use Rattle.crawl_run.specs.declared.failure.CrawlFailure.{CrawlFailure}
+use Rattle.crawl_run.specs.declared.settings.Mode.{Mode}
 
 -- of texts that are all canonical, there is one list of URLs
 abbrev as_ok : List ℕ → Result (List ℕ) KeyError
@@ -56,29 +56,70 @@ found_of workers bytes listed texts suffixes meaning seeds found sound same name
   counted = counted;
 }
 
--- a fault of such a crawl is told with its URL
-site_fault : (bytes listed : List ℕ) (texts suffixes : List (List ℕ)) (meaning : List ℕ → Page) (seeds : List (List ℕ)) (error : CertError) (url : List ℕ) → IsSound (lines bytes) → ((url : List ℕ) → meaning url ≡ page_of (lines bytes) url)
-    → AreAllSeeds listed texts seeds → IsFaultAt meaning (allows suffixes) seeds error url → IsSiteFault bytes listed texts suffixes error url
-site_fault bytes listed texts suffixes meaning seeds error url sound same named at =
+-- a crawl of the saved web that failed so
+failed_of : (workers max : ℕ) (bytes listed : List ℕ) (texts suffixes : List (List ℕ)) (failure : CrawlFailure) (error : CrawlError) → failure.error ≡ error → IsBegun bytes listed texts → CrawlFails workers max failure.error
+    → IsSiteFailure workers bytes listed texts suffixes failure → IsUnbegun workers max bytes listed texts suffixes (of_crawl_by error failure)
+failed_of workers max bytes listed texts suffixes failure crawl.NoMemory is begun fails failed = tt
+failed_of workers max bytes listed texts suffixes failure error is begun fails failed = (begun, fails, failed)
+
+-- by a meaning that is the same at each URL
+pub unbegun_of : (workers max : ℕ) (bytes listed : List ℕ) (texts suffixes : List (List ℕ)) (meaning : List ℕ → Page) (seeds : List (List ℕ)) (failure : CrawlFailure) → IsSound (lines bytes) → ((url : List ℕ) → meaning url ≡ page_of (lines bytes) url)
+    → AreAllSeeds listed texts seeds → 1 ≤ length seeds → CrawlFails workers max failure.error → IsJudgedAt meaning (allows suffixes) seeds failure.error failure.culprit → IsLost failure.error failure.losses
+    → CountsLosses workers (allows suffixes) meaning seeds failure.error failure.culprit failure.losses → IsUnbegun workers max bytes listed texts suffixes (of_crawl failure)
+unbegun_of workers max bytes listed texts suffixes meaning seeds failure sound same named some fails judged lost counted =
     let both : meaning ≡ page_of (lines bytes) = λ i url. same url i in
-    record {
+    failed_of workers max bytes listed texts suffixes failure failure.error refl (record { sound = sound; seeds = seeds; named = named; some = some }) fails
+    (record {
       sound = sound;
       seeds = seeds;
       named = named;
-      fault = subst (λ m. IsFaultAt m (allows suffixes) seeds error url) both at;
-    }
+      judged = subst (λ m. IsJudgedAt m (allows suffixes) seeds failure.error failure.culprit) both judged;
+      lost = lost;
+      counted = subst (λ m. CountsLosses workers (allows suffixes) m seeds failure.error failure.culprit failure.losses) both counted;
+    })
 
-pub named_of : (bytes listed : List ℕ) (texts suffixes : List (List ℕ)) (meaning : List ℕ → Page) (seeds : List (List ℕ)) (error : CrawlError) (culprit : Option (List ℕ)) → IsSound (lines bytes) → ((url : List ℕ) → meaning url ≡ page_of (lines bytes) url)
-    → AreAllSeeds listed texts seeds → IsJudgedAt meaning (allows suffixes) seeds error culprit → IsNamedAt bytes listed texts suffixes (of_crawl error) culprit
-named_of bytes listed texts suffixes meaning seeds (crawl.Cert error) (Some url) sound same named at = site_fault bytes listed texts suffixes meaning seeds error url sound same named at
-named_of bytes listed texts suffixes meaning seeds crawl.NoMemory None sound same named at = at
-named_of bytes listed texts suffixes meaning seeds error None sound same named at = at
-named_of bytes listed texts suffixes meaning seeds error (Some url) sound same named at = at
+-- the same of a report
+refused_by : (workers max : ℕ) (bytes : List ℕ) (texts suffixes : List (List ℕ)) (failure : CrawlFailure) (error : CrawlError) → failure.error ≡ error → CrawlFails workers max failure.error
+    → IsSiteFailure workers bytes [] texts suffixes failure → IsRefused workers max bytes texts suffixes (of_crawl_by error failure)
+refused_by workers max bytes texts suffixes failure crawl.NoMemory is fails failed = tt
+refused_by workers max bytes texts suffixes failure error is fails failed = (fails, failed)
 
--- a fault before it is told with none
-pub unread_named : (bytes listed : List ℕ) (texts suffixes : List (List ℕ)) (fault : Fault) → IsUnread bytes listed texts fault → IsNamedAt bytes listed texts suffixes fault None
-unread_named bytes listed texts suffixes (wrong.Crawl error) is = absurd is
-unread_named bytes listed texts suffixes fault is = tt
+pub refused_of : (workers max : ℕ) (bytes : List ℕ) (texts suffixes : List (List ℕ)) (meaning : List ℕ → Page) (seeds : List (List ℕ)) (failure : CrawlFailure) → IsSound (lines bytes) → ((url : List ℕ) → meaning url ≡ page_of (lines bytes) url)
+    → AreAllSeeds [] texts seeds → CrawlFails workers max failure.error → IsJudgedAt meaning (allows suffixes) seeds failure.error failure.culprit → IsLost failure.error failure.losses
+    → CountsLosses workers (allows suffixes) meaning seeds failure.error failure.culprit failure.losses → IsRefused workers max bytes texts suffixes (of_crawl failure)
+refused_of workers max bytes texts suffixes meaning seeds failure sound same named fails judged lost counted =
+    let both : meaning ≡ page_of (lines bytes) = λ i url. same url i in
+    refused_by workers max bytes texts suffixes failure failure.error refl fails
+    (record {
+      sound = sound;
+      seeds = seeds;
+      named = named;
+      judged = subst (λ m. IsJudgedAt m (allows suffixes) seeds failure.error failure.culprit) both judged;
+      lost = lost;
+      counted = subst (λ m. CountsLosses workers (allows suffixes) m seeds failure.error failure.culprit failure.losses) both counted;
+    })
+
+pub unread_refused : (workers max : ℕ) (bytes : List ℕ) (texts suffixes : List (List ℕ)) (fault : Fault) → IsUnread bytes [] texts fault → IsRefused workers max bytes texts suffixes fault
+unread_refused workers max bytes texts suffixes (wrong.Crawl failure) is = absurd is
+unread_refused workers max bytes texts suffixes fault is = is
+
+-- the fault of a crawl in a mode
+comes_by : (mode : Mode) (failure : CrawlFailure) (error : CrawlError) → failure.error ≡ error → ComesIn mode failure.error → ComesOf mode (of_crawl_by error failure)
+comes_by mode failure crawl.NoMemory is comes = tt
+comes_by mode failure error is comes = comes
+
+pub comes_of : (mode : Mode) (failure : CrawlFailure) → ComesIn mode failure.error → ComesOf mode (of_crawl failure)
+comes_of mode failure comes = comes_by mode failure failure.error refl comes
+
+pub unread_comes : (mode : Mode) (bytes : List ℕ) (texts : List (List ℕ)) (fault : Fault) → IsUnread bytes [] texts fault → ComesOf mode fault
+unread_comes mode bytes texts (wrong.Crawl failure) is = absurd is
+unread_comes mode bytes texts fault is = tt
+
+-- why there are no web and seeds is why there is no crawl of them
+pub unread_unbegun : (workers max : ℕ) (bytes listed : List ℕ) (texts suffixes : List (List ℕ)) (fault : Fault) → IsUnread bytes listed texts fault → IsUnbegun workers max bytes listed texts suffixes fault
+unread_unbegun workers max bytes listed texts suffixes wrong.NoSeed is = absurd is
+unread_unbegun workers max bytes listed texts suffixes (wrong.Crawl failure) is = absurd is
+unread_unbegun workers max bytes listed texts suffixes fault is = is
 
 -- a file of seeds and texts have one list of seeds
 one_seeds : (listed : List ℕ) (texts seeds others : List (List ℕ)) → AreAllSeeds listed texts seeds → AreAllSeeds listed texts others → seeds ≡ others
@@ -94,26 +135,6 @@ one_site_crawl bytes listed texts suffixes pages others own other =
     let seeds : own.seeds ≡ other.seeds = one_seeds listed texts own.seeds other.seeds own.named other.named in
     one_crawl (page_of (lines bytes)) (allows suffixes) other.seeds pages others (subst (λ s. IsCrawl (page_of (lines bytes)) (allows suffixes) s pages) seeds own.found) other.found
 
-pub one_report : (bytes : List ℕ) (texts suffixes text other : _) → IsCrawlReport bytes texts suffixes text → IsCrawlReport bytes texts suffixes other → text ≡ other
+pub one_report : (bytes : List ℕ) (texts suffixes : List (List ℕ)) (text other : List ℕ) → IsCrawlReport bytes texts suffixes text → IsCrawlReport bytes texts suffixes other → text ≡ other
 one_report bytes texts suffixes text other own its =
     own.written ∙ ap report (one_site_crawl bytes [] texts suffixes own.pages its.pages own.crawl its.crawl) ∙ sym its.written
-
--- a fault of what is missing as a command tells it
-pub lost_at : (error : CrawlError) (culprit : Option (List ℕ)) (losses : Losses) → IsLost error losses → IsLostAt (of_crawl error) culprit losses
-lost_at error None losses is = tt
-lost_at crawl.NoMemory (Some url) losses is = tt
-lost_at error (Some url) losses is = is
-
--- what a crawl of a saved web lost, as a command tells it
-pub counted_of : (workers : ℕ) (bytes listed : List ℕ) (texts suffixes : List (List ℕ)) (meaning : List ℕ → Page) (seeds : List (List ℕ)) (error : CrawlError) (culprit : Option (List ℕ)) (losses : Losses) → IsSound (lines bytes) → ((url : List ℕ) → meaning url ≡ page_of (lines bytes) url)
-    → AreAllSeeds listed texts seeds → CountsLosses workers (allows suffixes) meaning seeds error culprit losses → IsCountedAt workers bytes listed texts suffixes (of_crawl error) culprit losses
-counted_of workers bytes listed texts suffixes meaning seeds error None losses sound same named counted = counted
-counted_of workers bytes listed texts suffixes meaning seeds (crawl.Cert error) (Some url) losses sound same named counted =
-    let both : meaning ≡ page_of (lines bytes) = λ i url. same url i in
-    record {
-      sound = sound;
-      seeds = seeds;
-      named = named;
-      counted = subst (λ m. CountsLosses workers (allows suffixes) m seeds (crawl.Cert error) (Some url) losses) both counted;
-    }
-counted_of workers bytes listed texts suffixes meaning seeds error (Some url) losses sound same named counted = absurd counted

@@ -17,8 +17,9 @@ use Rattle.mercator.specs.declared.commands.fault.Fault.{Fault}
 use Rattle.mercator.specs.declared.commands.fault.Fault.TheVariants as wrong
 use Rattle.mercator.specs.declared.commands.log_file.LogFault.{LogFault}
 use Rattle.mercator.specs.declared.commands.log_file.LogFault.TheVariants as unlogged
-use Rattle.mercator.specs.declared.crawling.error.CrawlError.{CrawlError}
-use Rattle.mercator.specs.declared.crawling.error.CrawlError.TheVariants as crawl
+use Rattle.crawl_run.specs.declared.error.CrawlError.{CrawlError}
+use Rattle.crawl_run.specs.declared.error.CrawlError.TheVariants as crawl
+use Rattle.crawl_run.specs.declared.failure.CrawlFailure.{CrawlFailure}
 use Rattle.crawl_replay.specs.declared.script.error.ScriptError.{ScriptError}
 use Rattle.crawl_replay.specs.declared.script.error.ScriptError.TheVariants as script
 use Rattle.shown_text.specs.Shown.{shown}
@@ -109,7 +110,7 @@ fault_text file (wrong.Seeds fault) = codes "seeds: " ++ seeds_text fault
 fault_text file wrong.NoSeed = codes "seeds: no seed in the list or on the command line"
 fault_text file (wrong.Web fault) = codes "saved web: " ++ web_text fault
 fault_text file (wrong.Script fault) = codes "script: " ++ script_text fault
-fault_text file (wrong.Crawl error) = crawl_text error
+fault_text file (wrong.Crawl failure) = crawl_text failure.error
 fault_text file (wrong.Log fault) = codes "log " ++ file ++ codes ": " ++ log_text fault
 
 -- the line that reports it; hidden characters in the name of the file are escaped
@@ -126,10 +127,15 @@ losses_line losses =
     codes "mercator: lost: " ++ (decimal losses.full ++ (codes " above --max-pending, " ++ (decimal losses.too_far ++ (codes " too far from a seed, " ++ (decimal losses.crossed
     ++ (codes " from a duplicate sender, " ++ (decimal losses.failed ++ (codes " not fetched, " ++ (decimal (losses.no_memory + losses.unkept) ++ (codes " out of memory" ++ 10 ∷ []))))))))))
 
--- the lines that report an error at this URL, and the losses
-abbrev pub culprit_lines : List ℕ → Fault → Option (List ℕ) → Losses → List ℕ
-culprit_lines file fault None losses = []
-culprit_lines file fault (Some url) losses = culprit_line file fault url ++ losses_line losses
+-- the lines that report the first URL at which a crawl failed, and what it lost
+abbrev pub culprit_lines : List ℕ → CrawlFailure → Option (List ℕ) → List ℕ
+culprit_lines file failure None = []
+culprit_lines file failure (Some url) = culprit_line file (wrong.Crawl failure) url ++ losses_line failure.losses
+
+-- the lines of an error in addition to its own, if they are asked for: only the failure of a crawl has any
+abbrev pub more_lines : List ℕ → Fault → List ℕ
+more_lines file (wrong.Crawl failure) = culprit_lines file failure failure.culprit
+more_lines file fault = []
 
 -- the line that reports that the last line of this log had no end, and was removed
 abbrev pub torn_line : List ℕ → List ℕ

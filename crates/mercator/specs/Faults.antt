@@ -1,5 +1,5 @@
--- The fault of a command that a refusal leads to: want of memory is one fault, wherever it comes.
-use Rattle.std.specs.Prelude.{ℕ, None}
+-- The error of a command for each error of a part of it: out of memory is one error, wherever it occurs.
+use Rattle.std.specs.Prelude.{ℕ, if◌then◌else◌}
 use Rattle.crawl_keys.specs.declared.error.KeyError.{KeyError}
 use Rattle.crawl_keys.specs.declared.error.KeyError.TheVariants as key
 use Rattle.crawl_keys.specs.declared.filter.error.FilterError.{FilterError}
@@ -10,23 +10,22 @@ use Rattle.crawl_sources.specs.declared.seeds.SeedsFault.{SeedsFault}
 use Rattle.crawl_sources.specs.declared.seeds.SeedsFault.TheVariants as seeds
 use Rattle.crawl_session.specs.declared.serving.ServeError.{ServeError}
 use Rattle.crawl_session.specs.declared.serving.ServeError.TheVariants as serving
-use Rattle.crawl_workers.specs.Losses.{no_losses}
 use Rattle.mercator.specs.declared.commands.fault.Fault.{Fault}
 use Rattle.mercator.specs.declared.commands.fault.Fault.TheVariants as wrong
-use Rattle.mercator.specs.declared.commands.failure.Failure.{Failure}
 use Rattle.mercator.specs.declared.commands.input.Unread.{Unread}
 use Rattle.mercator.specs.declared.commands.input.Unread.TheVariants as unread
-use Rattle.mercator.specs.declared.crawling.error.CrawlError.{CrawlError}
-use Rattle.mercator.specs.declared.crawling.error.CrawlError.TheVariants as crawl
+use Rattle.crawl_run.specs.Crawls.{is_incomplete}
+use Rattle.crawl_run.specs.declared.error.CrawlError.{CrawlError}
+use Rattle.crawl_run.specs.declared.error.CrawlError.TheVariants as crawl
+use Rattle.crawl_run.specs.declared.failure.CrawlFailure.{CrawlFailure}
 use Rattle.crawl_replay.specs.declared.script.error.ScriptError.{ScriptError}
 use Rattle.crawl_replay.specs.declared.script.error.ScriptError.TheVariants as script
 
--- the fault that each refusal of a part leads to
 abbrev pub of_unread : Unread → Fault
 of_unread unread.NoMemory = wrong.NoMemory
 of_unread _ = wrong.CannotRead
 
--- the same of a file of seeds
+-- for a file of seeds
 abbrev pub of_unread_seeds : Unread → Fault
 of_unread_seeds unread.NoMemory = wrong.NoMemory
 of_unread_seeds _ = wrong.CannotReadSeeds
@@ -56,22 +55,20 @@ of_session serving.CannotRead = wrong.CannotRead
 of_session serving.CannotWrite = wrong.CannotWrite
 of_session serving.NoMemory = wrong.NoMemory
 
-abbrev pub of_crawl : CrawlError → Fault
-of_crawl crawl.NoMemory = wrong.NoMemory
-of_crawl error = wrong.Crawl error
+-- the error for a crawl that failed so, because of this
+abbrev pub of_crawl_by : CrawlError → CrawlFailure → Fault
+of_crawl_by crawl.NoMemory failure = wrong.NoMemory
+of_crawl_by error failure = wrong.Crawl failure
 
--- told with no URL
-abbrev pub without_url : Fault → Failure
-without_url fault = record { fault = fault; culprit = None; losses = no_losses }
+abbrev pub of_crawl : CrawlFailure → Fault
+of_crawl failure = of_crawl_by failure.error failure
 
--- the status of a fault: 2 where a crawl is incomplete, since it was not certified, has no account or had no thread
+-- the exit status for an error: 2 if a crawl is incomplete, otherwise 1
 abbrev pub status_of_fault : Fault → ℕ
-status_of_fault (wrong.Crawl (crawl.Run error)) = 2
-status_of_fault (wrong.Crawl (crawl.Finish error)) = 2
-status_of_fault (wrong.Crawl (crawl.Cert error)) = 2
+status_of_fault (wrong.Crawl failure) = if is_incomplete failure.error then 2 else 1
 status_of_fault fault = 1
 
--- the fault of the seed with this number
+-- for the seed with this number
 abbrev pub of_seed : ℕ → KeyError → Fault
 of_seed number key.NoMemory = wrong.NoMemory
 of_seed number refusal = wrong.Seed number refusal

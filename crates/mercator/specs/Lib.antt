@@ -1,15 +1,11 @@
 pub mod Compaction
-pub mod Crawls
 pub mod Ending
 pub mod FaultText
 pub mod Faults
 pub mod Input
-pub mod JudgedRuns
 pub mod KeyLine
 pub mod Limits
 pub mod LogFile
-pub mod Losses
-pub mod LosslessRuns
 pub mod Plans
 pub mod Told
 pub mod WebCrawl

@@ -4,7 +4,7 @@ use Rattle.std.specs.Io.KnownBytes.{Appends}
 use Rattle.std.specs.declared.alloc.Global.{Global}
 use Rattle.crawl_keys.specs.CanonicalText.{canonical}
 use Rattle.mercator.specs.Ending.{Begins}
-use Rattle.mercator.specs.FaultText.{culprit_lines, fault_line, torn_line}
+use Rattle.mercator.specs.FaultText.{fault_line, more_lines, torn_line}
 use Rattle.mercator.specs.Faults.{status_of_fault}
 use Rattle.mercator.specs.KeyLine.{IsKeyLine}
 use Rattle.mercator.specs.Limits.{most_input_bytes}
@@ -17,9 +17,7 @@ use Rattle.crawl_session.specs.Sessions.{answers, session_text, state_after}
 use Rattle.crawl_session.specs.Settings.{Settings}
 use Rattle.crawl_session.specs.declared.part.Part.{Part}
 use Rattle.std.specs.Str.Lines.{lines}
-use Rattle.crawl_workers.specs.Losses.{no_losses}
-use Rattle.crawl_workers.specs.declared.losses.Losses.{Losses}
-use Rattle.mercator.specs.WebCrawl.{IsAtNone, IsBegun, IsCountedAt, IsCrawlText, IsLostAt, IsNamedAt, IsUnbegun}
+use Rattle.mercator.specs.WebCrawl.{IsBegun, IsCrawlText, IsUnbegun}
 use Rattle.mercator.specs.declared.commands.planned.CrawlOptions.{CrawlOptions}
 use Rattle.mercator.specs.declared.commands.planned.Plan.{Plan}
 use Rattle.mercator.specs.declared.commands.planned.SessionPlan.{SessionPlan}
@@ -102,17 +100,7 @@ FailsCrawl workers max within file listed seeds input wrong.CannotRead = is_bad_
 FailsCrawl workers max within file listed seeds input wrong.CannotReadSeeds = (is_bad_suffix within ≡ false) × IsSome listed
 FailsCrawl workers max within file listed seeds input wrong.NoMemory = Unit {0}
 FailsCrawl workers max within file listed seeds input fault =
-    (is_bad_suffix within ≡ false) × OfFiles file listed input (λ bytes list. IsUnbegun workers max bytes list seeds fault)
-
--- at which URL a crawl fails: that of the certificate's error, by the bytes of its files; any other error has none
-abbrev pub ExplainsCrawl : Option (String Global) → List ℕ → Option (String Global) → List (List ℕ) → Option (List ℕ) → Fault → Option (List ℕ) → Type 0
-ExplainsCrawl within file listed seeds input fault None = IsAtNone fault
-ExplainsCrawl within file listed seeds input fault (Some url) = OfFiles file listed input (λ bytes list. IsNamedAt bytes list seeds (suffixes_of within) fault (Some url))
-
--- what a crawl with this many workers lost if it fails at a URL, by the bytes of its files
-abbrev pub CountsCrawl : ℕ → Option (String Global) → List ℕ → Option (String Global) → List (List ℕ) → Option (List ℕ) → Fault → Option (List ℕ) → Losses → Type 0
-CountsCrawl workers within file listed seeds input fault None losses = losses ≡ no_losses
-CountsCrawl workers within file listed seeds input fault (Some url) losses = OfFiles file listed input (λ bytes list. IsCountedAt workers bytes list seeds (suffixes_of within) fault (Some url) losses)
+    (is_bad_suffix within ≡ false) × OfFiles file listed input (λ bytes list. IsUnbegun workers max bytes list seeds (suffixes_of within) fault)
 
 -- why a key is not printed: the text has no canonical URL, with this error; or memory runs out
 abbrev pub FailsKey : List ℕ → Fault → Type 0
@@ -171,18 +159,6 @@ MayLose (asks.Crawl workers max queues file seeds within options) input =
     (is_bad_suffix within ≡ false) × OfFiles (string_bytes file) options.listed input (λ bytes list. IsBegun bytes list (map string_bytes seeds.items))
 MayLose _ input = ⊥
 
--- at which URL the plan's command ends with this error; only a crawl has one
-abbrev pub Explains : Plan → Option (List ℕ) → Fault → Option (List ℕ) → Type 0
-Explains (asks.Crawl workers max queues file seeds within options) input fault culprit =
-    ExplainsCrawl within (string_bytes file) options.listed (map string_bytes seeds.items) input fault culprit
-Explains plan input fault culprit = culprit ≡ None
-
--- what the plan's command lost if it ends with this error; only a crawl loses something
-abbrev pub Counts : Plan → Option (List ℕ) → Fault → Option (List ℕ) → Losses → Type 0
-Counts (asks.Crawl workers max queues file seeds within options) input fault culprit losses =
-    CountsCrawl workers within (string_bytes file) options.listed (map string_bytes seeds.items) input fault culprit losses
-Counts plan input fault culprit losses = losses ≡ no_losses
-
 -- the plan's output was appended to what a writer holds, if that is known
 pub record Gains (plan : Plan) (input old new : Option (List ℕ)) : Type 0 where
   pub text : List ℕ
@@ -204,23 +180,16 @@ abbrev pub TellsFault : Plan → Option (List ℕ) → Option (List ℕ) → Lis
 TellsFault (asks.ServeLog asked) old new line = (middle : Option (List ℕ)) × MayNote (asks.ServeLog asked) old middle × Begins middle new line
 TellsFault plan old new line = Begins old new line
 
--- the lines that report an error: its own, and if the plan asks for them, those about its URL and what was lost
-abbrev pub told_lines : Plan → Fault → Option (List ℕ) → Losses → List ℕ
-told_lines plan fault culprit losses =
-    if explains plan then fault_line (told_file plan fault) fault ++ culprit_lines (told_file plan fault) fault culprit losses
-    else fault_line (told_file plan fault) fault
+-- the lines that report an error: its own, and if the plan asks for them, those about the URL of a crawl's failure and what was lost
+abbrev pub told_lines : Plan → Fault → List ℕ
+told_lines plan fault = fault_line (told_file plan fault) fault ++ (if explains plan then more_lines (told_file plan fault) fault else [])
 
 -- a command ended with an error: the status is that of the error, and the writer for errors gained the error's lines, up to where
 -- it failed
 pub record EndsByFault (plan : Plan) (ended : ℕ) (input err_old err_new : Option (List ℕ)) (Unwritten : Type 0) : Type 0 where
   pub fault : Fault
   pub status : ended ≡ status_of_fault fault
-  pub culprit : Option (List ℕ)
-  pub named : Explains plan input fault culprit
-  pub losses : Losses
-  pub lost : IsLostAt fault culprit losses
-  pub counted : Counts plan input fault culprit losses
-  pub told : TellsFault plan err_old err_new (told_lines plan fault culprit losses)
+  pub told : TellsFault plan err_old err_new (told_lines plan fault)
   pub why : EndsBy plan input fault Unwritten
 
 -- both crawls print the same sections, in the same form

@@ -7,6 +7,7 @@ use Rattle.std.specs.Ordering.{nat_cmp}
 use Rattle.std.specs.Str.Lines.{lines}
 use Rattle.crawl_keys.specs.CanonicalText.{canonical}
 use Rattle.crawl_report.specs.Json.{printed_line}
+use Rattle.crawl_report.specs.ReportText.{report}
 use Rattle.crawl_report.specs.Rows.{plain_parts, rows_with}
 use Rattle.crawl_report.specs.Today.{told_text}
 use Rattle.crawl_report.specs.Unreached.{asked_pages, unreached_of}
@@ -19,17 +20,13 @@ use Rattle.mercator.specs.declared.commands.fault.Fault.{Fault}
 use Rattle.mercator.specs.declared.commands.fault.Fault.TheVariants as wrong
 use Rattle.mercator.specs.declared.commands.planned.CrawlOptions.{CrawlOptions}
 use Rattle.crawl_certificate.specs.Certificate.{IsCrawl, result_urls}
-use Rattle.crawl_certificate.specs.declared.error.CertError.{CertError}
 use Rattle.crawl_keys.specs.HostFilter.{allows}
-use Rattle.mercator.specs.Crawls.{AreCounts, ComesIn, CrawlFails, IsFaultAt, NamesNone}
-use Rattle.crawl_workers.specs.Losses.{no_losses}
-use Rattle.crawl_workers.specs.declared.losses.Losses.{Losses}
-use Rattle.mercator.specs.JudgedRuns.{IsLossAt}
-use Rattle.mercator.specs.Losses.{IsLost}
-use Rattle.mercator.specs.declared.crawling.Crawled.{Crawled}
-use Rattle.mercator.specs.declared.crawling.Mode.{Mode}
-use Rattle.mercator.specs.declared.crawling.error.CrawlError.TheVariants as crawl
-use Rattle.crawl_report.specs.ReportText.{report}
+use Rattle.crawl_run.specs.Crawls.{AreCounts, ComesIn, CrawlFails, IsJudgedAt}
+use Rattle.crawl_run.specs.JudgedRuns.{CountsLosses}
+use Rattle.crawl_run.specs.Losses.{IsLost}
+use Rattle.crawl_run.specs.declared.whole_crawl.Crawled.{Crawled}
+use Rattle.crawl_run.specs.declared.failure.CrawlFailure.{CrawlFailure}
+use Rattle.crawl_run.specs.declared.settings.Mode.{Mode}
 use Rattle.crawl_pages.specs.declared.page.PageResult.{PageResult}
 
 -- these are the canonical URLs of the texts
@@ -45,13 +42,7 @@ pub record AreAllSeeds (listed : List ℕ) (texts seeds : List (List ℕ)) : Typ
   pub named : AreSeeds texts others
   pub joined : seeds ≡ first ++ others
 
--- the bytes are a saved web, those listed a seeds file, and each seed has a canonical URL
-pub record IsCrawlable (bytes listed : List ℕ) (texts : List (List ℕ)) : Type 0 where
-  pub sound : IsSound (lines bytes)
-  pub seeds : List (List ℕ)
-  pub named : AreAllSeeds listed texts seeds
-
--- those of a crawl of the program, which begins from one seed at least
+-- the bytes are a saved web, those listed a seeds file, each seed has a canonical URL, and there is at least one
 pub record IsBegun (bytes listed : List ℕ) (texts : List (List ℕ)) : Type 0 where
   pub sound : IsSound (lines bytes)
   pub seeds : List (List ℕ)
@@ -84,57 +75,30 @@ IsUnread bytes listed texts (wrong.Seed number refusal) = IsSound (lines bytes) 
 IsUnread bytes listed texts wrong.NoMemory = Unit {0}
 IsUnread bytes listed texts _ = ⊥
 
--- why a crawl with these numbers finds no pages, in this order: there are no web and seeds; or the crawl fails, by its error
-abbrev pub IsRefused : ℕ → ℕ → List ℕ → List ℕ → List (List ℕ) → Fault → Type 0
-IsRefused workers max bytes listed texts (wrong.Crawl error) = IsCrawlable bytes listed texts × CrawlFails workers max error
-IsRefused workers max bytes listed texts fault = IsUnread bytes listed texts fault
-
--- the same of a crawl of the program, where it is a fault that there is no seed
-abbrev pub IsUnbegun : ℕ → ℕ → List ℕ → List ℕ → List (List ℕ) → Fault → Type 0
-IsUnbegun workers max bytes listed texts wrong.NoSeed = IsSound (lines bytes) × AreAllSeeds listed texts []
-IsUnbegun workers max bytes listed texts (wrong.Crawl error) = IsBegun bytes listed texts × CrawlFails workers max error
-IsUnbegun workers max bytes listed texts fault = IsUnread bytes listed texts fault
-
--- the bytes are a saved web, and the certificate of a crawl of it from the seeds has this fault; no URL below this one has it
-pub record IsSiteFault (bytes listed : List ℕ) (texts suffixes : List (List ℕ)) (error : CertError) (url : List ℕ) : Type 0 where
+-- the bytes are a saved web, and a run of this many workers over it from the seeds failed so: an error of the certificate has the
+-- least URL with this error, and what was lost
+pub record IsSiteFailure (workers : ℕ) (bytes listed : List ℕ) (texts suffixes : List (List ℕ)) (failure : CrawlFailure) : Type 0 where
   pub sound : IsSound (lines bytes)
   pub seeds : List (List ℕ)
   pub named : AreAllSeeds listed texts seeds
-  pub fault : IsFaultAt (page_of (lines bytes)) (allows suffixes) seeds error url
+  pub judged : IsJudgedAt (page_of (lines bytes)) (allows suffixes) seeds failure.error failure.culprit
+  pub lost : IsLost failure.error failure.losses
+  pub counted : CountsLosses workers (allows suffixes) (page_of (lines bytes)) seeds failure.error failure.culprit failure.losses
 
--- the bytes are a saved web, and a run of so many workers over it from the seeds lost so much and has this fault at this URL
-pub record IsSiteLoss (workers : ℕ) (bytes listed : List ℕ) (texts suffixes : List (List ℕ)) (error : CertError) (url : List ℕ) (losses : Losses) : Type 0 where
-  pub sound : IsSound (lines bytes)
-  pub seeds : List (List ℕ)
-  pub named : AreAllSeeds listed texts seeds
-  pub counted : IsLossAt workers (allows suffixes) (page_of (lines bytes)) seeds error url losses
+-- why a crawl with these numbers finds no pages, in this order: there are no web and seeds; there is no seed; or the crawl failed
+abbrev pub IsUnbegun : ℕ → ℕ → List ℕ → List ℕ → List (List ℕ) → List (List ℕ) → Fault → Type 0
+IsUnbegun workers max bytes listed texts suffixes wrong.NoSeed = IsSound (lines bytes) × AreAllSeeds listed texts []
+IsUnbegun workers max bytes listed texts suffixes (wrong.Crawl failure) = IsBegun bytes listed texts × CrawlFails workers max failure.error × IsSiteFailure workers bytes listed texts suffixes failure
+IsUnbegun workers max bytes listed texts suffixes fault = IsUnread bytes listed texts fault
 
--- a fault that is told with no URL
-abbrev pub IsAtNone : Fault → Type 0
-IsAtNone (wrong.Crawl error) = NamesNone error
-IsAtNone fault = Unit {0}
+-- why there is no report of a crawl with these numbers, in this order: there are no web and seeds; or the crawl failed
+abbrev pub IsRefused : ℕ → ℕ → List ℕ → List (List ℕ) → List (List ℕ) → Fault → Type 0
+IsRefused workers max bytes texts suffixes (wrong.Crawl failure) = CrawlFails workers max failure.error × IsSiteFailure workers bytes [] texts suffixes failure
+IsRefused workers max bytes texts suffixes fault = IsUnread bytes [] texts fault
 
--- a fault of a seed, a page or a link that is missing, which is told at a URL, is told with a loss at least
-abbrev pub IsLostAt : Fault → Option (List ℕ) → Losses → Type 0
-IsLostAt fault None losses = Unit {0}
-IsLostAt (wrong.Crawl error) (Some url) losses = IsLost error losses
-IsLostAt fault (Some url) losses = Unit {0}
-
--- a fault of the certificate is told with such a URL, and another fault with none
-abbrev pub IsNamedAt : List ℕ → List ℕ → List (List ℕ) → List (List ℕ) → Fault → Option (List ℕ) → Type 0
-IsNamedAt bytes listed texts suffixes fault None = IsAtNone fault
-IsNamedAt bytes listed texts suffixes (wrong.Crawl (crawl.Cert error)) (Some url) = IsSiteFault bytes listed texts suffixes error url
-IsNamedAt bytes listed texts suffixes fault (Some url) = ⊥
-
--- a fault of the certificate is told with what its run lost, and another fault with no losses
-abbrev pub IsCountedAt : ℕ → List ℕ → List ℕ → List (List ℕ) → List (List ℕ) → Fault → Option (List ℕ) → Losses → Type 0
-IsCountedAt workers bytes listed texts suffixes fault None losses = losses ≡ no_losses
-IsCountedAt workers bytes listed texts suffixes (wrong.Crawl (crawl.Cert error)) (Some url) losses = IsSiteLoss workers bytes listed texts suffixes error url losses
-IsCountedAt workers bytes listed texts suffixes fault (Some url) losses = ⊥
-
--- a fault of a crawl in this mode
+-- a fault that a crawl in this mode can end by: workers that take turns never lack a thread
 abbrev pub ComesOf : Mode → Fault → Type 0
-ComesOf mode (wrong.Crawl error) = ComesIn mode error
+ComesOf mode (wrong.Crawl failure) = ComesIn mode failure.error
 ComesOf mode _ = Unit {0}
 
 -- the bytes are a saved web, and these are its pages at exactly the URLs that can be reached from the seeds by URLs that the

@@ -1,13 +1,11 @@
 //! The program, as a function of its arguments, an input and two writers.
-ghost use Rattle.std.specs.Prelude.{◌≡◌, ◌≤◌, ◌<◌, ◌⊎◌, List, ℕ, [], None, false, string_bytes, IfOk, IfErr, IsErr};
+ghost use Rattle.std.specs.Prelude.{◌≡◌, ◌≤◌, ◌<◌, ◌⊎◌, List, ℕ, [], false, string_bytes, IfOk, IfErr, IsErr};
 ghost use Rattle.std.specs.Io.KnownBytes.{Appends};
 ghost use Rattle.mercator.specs.Ending.{Begins};
 ghost use Rattle.mercator.specs.FaultText.{fault_line};
 ghost use Rattle.mercator.specs.Faults.{status_of_fault};
 ghost use Rattle.mercator.specs.Plans.{IsShown, IsWithinLimits, has_log, reads_input};
-ghost use Rattle.crawl_workers.specs.Losses.{no_losses};
-ghost use Rattle.mercator.specs.WebCrawl.{IsLostAt};
-ghost use Rattle.mercator.specs.Told.{CannotTell, Counts, EndsBy, EndsByFault, Explains, FailsWithoutPlan, Gains, IsDoneWithNote, MayLose, MayNote, TellsWords};
+ghost use Rattle.mercator.specs.Told.{CannotTell, EndsBy, EndsByFault, FailsWithoutPlan, Gains, IsDoneWithNote, MayLose, MayNote, TellsWords};
 ghost use Rattle.mercator.specs.declared.commands.planned.Plan.{Plan};
 ghost use Rattle.mercator.specs.declared.commands.words.PlanError.{PlanError};
 ghost use Rattle.mercator.specs.declared.commands.fault.Fault.TheVariants as wrong;
@@ -16,7 +14,6 @@ mod arguments;
 mod command_line;
 mod compacting;
 mod crawl_text;
-mod failure;
 mod fault;
 mod fault_text;
 mod folder_words;
@@ -32,19 +29,17 @@ mod serving;
 mod source;
 mod tell;
 mod web_crawl;
+mod web_report;
 mod window;
 mod words;
 mod writing;
 
-use crate::crawling::{Observe, Unobserved, no_losses};
 use compacting::compact_log;
-use crawl_keys::CanonUrl;
-use crawl_workers::Losses;
-use failure::Failure;
+use crawl_run::{Observe, Unobserved};
 pub use fault::Fault;
-pub use input::{INPUT_LIMIT, InputLimits, READ_LIMIT, Unread, read_input};
-pub use log_file::{LockFile, LogFault, NoLocks};
-pub use planned::{CrawlOptions, LogPlan, Plan, SessionPlan};
+pub use input::{InputLimits, Unread, read_input};
+use log_file::{LockFile, NoLocks};
+pub use planned::Plan;
 pub use platform::Platform;
 use resuming::serve_log;
 use serving::serve_plan;
@@ -54,7 +49,7 @@ use std::io::{Read, Write};
 use std::sync::Wait;
 use std::thread::Threads;
 use tell::tell;
-pub use web_crawl::{Report, crawl_saved_web, crawl_saved_web_in_threads, report_of_saved_web};
+pub use web_report::{Report, report_of_saved_web};
 pub use words::{BAD_COMMAND_LINE, PlanError, plan, whole_command};
 pub use writing::fault_line;
 use writing::{begin, end, end_by_parts, tell_ended, tell_fault};
@@ -172,7 +167,7 @@ pub fn run_words_with<
 /// leaves the answers before it.
 ///
 /// This call is meant for a process that ends afterwards: the pages of a crawl are not freed, since the end of the process
-/// frees them faster. A process that crawls repeatedly calls [`crawl_saved_web`], which frees everything.
+/// frees them faster. A process that crawls repeatedly calls [`crawl_with`](crate::crawl_with), whose result it can free.
 pub fn run_plan<
     R: Files + Threads + Wait + Sync,
     L: LockFile<R::File>,
@@ -209,38 +204,11 @@ pub fn run_plan<
     ensures unreported { result ≡ 2 → out.new ≡ out.old }
     ensures unread { reads_input plan.now ≡ false → input.new ≡ input.old }
 {
-    let ended = run(platform, alloc, plan, input, out, err);
-    match ended.how {
+    match run(platform, alloc, plan, input, out, err) {
         Ok(()) => 0,
         Err(fault) => {
-            let failure = Failure {
-                fault,
-                culprit: ended.culprit,
-                losses: ended.losses,
-            };
-            tell_ended(alloc, err, plan, &failure);
+            tell_ended(alloc, err, plan, &fault);
             fault.status()
-        }
-    }
-}
-
-/// How a plan's command ended; for a crawl that is not certified, also at which URL, and what was lost.
-#[derive(Drop)]
-struct Ended {
-    how: Result<(), Fault>,
-    culprit: Option<CanonUrl>,
-    losses: Losses,
-}
-
-impl Ended {
-    /// Ended without a URL or losses.
-    fn at_none(how: Result<(), Fault>) -> Ended
-        ensures { result ≡ record { how = how; culprit = None; losses = no_losses } }
-    {
-        Ended {
-            how,
-            culprit: None,
-            losses: no_losses(),
         }
     }
 }
@@ -269,33 +237,24 @@ fn run<
     input: &mut I,
     out: &mut O,
     err: &mut E,
-) -> Ended
+) -> Result<(), Fault>
     requires { IsWithinLimits plan.now }
-    ensures done { IfOk result.how (λ _. Gains plan.now (I.remaining input.old) (O.contents out.old) (O.contents out.new)) }
-    ensures fault { IfErr result.how (λ fault. EndsBy plan.now (I.remaining input.old) fault (out.new ≡ out.old)) }
-    ensures named { IfErr result.how (λ fault. Explains plan.now (I.remaining input.old) fault result.culprit) }
-    ensures lost { IfErr result.how (λ fault. IsLostAt fault result.culprit result.losses) }
-    ensures counted { IfErr result.how (λ fault. Counts plan.now (I.remaining input.old) fault result.culprit result.losses) }
-    ensures refused { CannotTell plan.now (I.remaining input.old) → IfErr result.how (λ fault. status_of_fault fault ≡ 1) × IsErr result.how × (out.new ≡ out.old) }
-    ensures incomplete { IfErr result.how (λ fault. status_of_fault fault ≡ 2 → MayLose plan.now (I.remaining input.old) × (out.new ≡ out.old)) }
+    ensures done { IfOk result (λ _. Gains plan.now (I.remaining input.old) (O.contents out.old) (O.contents out.new)) }
+    ensures fault { IfErr result (λ fault. EndsBy plan.now (I.remaining input.old) fault (out.new ≡ out.old)) }
+    ensures refused { CannotTell plan.now (I.remaining input.old) → IfErr result (λ fault. status_of_fault fault ≡ 1) × IsErr result × (out.new ≡ out.old) }
+    ensures incomplete { IfErr result (λ fault. status_of_fault fault ≡ 2 → MayLose plan.now (I.remaining input.old) × (out.new ≡ out.old)) }
     ensures unread { reads_input plan.now ≡ false → input.new ≡ input.old }
     ensures silent { has_log plan.now ≡ false → err.new ≡ err.old }
     ensures noted { MayNote plan.now (E.contents err.old) (E.contents err.new) }
 {
     match plan {
-        Plan::Serve(asked) => Ended::at_none(serve_plan(alloc, asked, input, out)),
-        Plan::ServeLog(asked) => {
-            Ended::at_none(serve_log(platform, alloc, asked, input, out, err))
+        Plan::Serve(asked) => serve_plan(alloc, asked, input, out),
+        Plan::ServeLog(asked) => serve_log(platform, alloc, asked, input, out, err),
+        Plan::Compact { log, new } => compact_log(platform, alloc, log, new),
+        _ => {
+            let parts = tell(platform, alloc, plan, input)?;
+            end_by_parts(out, &parts)
         }
-        Plan::Compact { log, new } => Ended::at_none(compact_log(platform, alloc, log, new)),
-        _ => match tell(platform, alloc, plan, input) {
-            Ok(parts) => Ended::at_none(end_by_parts(out, &parts)),
-            Err(failure) => Ended {
-                how: Err(failure.fault),
-                culprit: failure.culprit,
-                losses: failure.losses,
-            },
-        },
     }
 }
 
@@ -315,7 +274,7 @@ fn show<O: Write, E: Write>(alloc: Global, error: PlanError, out: &mut O, err: &
             begin(err, text.as_bytes());
             status
         }
-        PlanError::NoMemory => fail(alloc, Fault::NoMemory, err),
+        PlanError::NoMemory => fail(alloc, &Fault::NoMemory, err),
     }
 }
 
@@ -327,14 +286,14 @@ fn show_help<O: Write, E: Write>(alloc: Global, text: String, out: &mut O, err: 
 {
     match end(out, text.as_bytes()) {
         Ok(()) => 0,
-        Err(fault) => fail(alloc, fault, err),
+        Err(fault) => fail(alloc, &fault, err),
     }
 }
 
 /// Reports an error without a plan.
-fn fail<E: Write>(alloc: Global, fault: Fault, err: &mut E) -> u8
-    ensures status { result ≡ status_of_fault fault }
-    ensures told { Begins (E.contents err.old) (E.contents err.new) (fault_line [] fault) }
+fn fail<E: Write>(alloc: Global, fault: &Fault, err: &mut E) -> u8
+    ensures status { result ≡ status_of_fault fault.now }
+    ensures told { Begins (E.contents err.old) (E.contents err.new) (fault_line [] fault.now) }
 {
     tell_fault(alloc, err, fault);
     fault.status()

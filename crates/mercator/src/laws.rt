@@ -1,26 +1,15 @@
 //! Theorems that connect the definitions of this crate and of the crates below it. Each is the contract of a function that
 //! does nothing when it is called.
-ghost use Rattle.std.specs.Prelude.{◌≡◌, ℕ, ◌+◌, ◌-◌, ◌^◌, List, length, map, Some, ◌<◌, Bool, false};
-ghost use Rattle.std.specs.List.{All, Contains, flat_map};
-ghost use Rattle.crawl_certificate.specs.AccountEntries.{entries_in};
-ghost use Rattle.crawl_certificate.specs.CertFaults.{seed_missing, not_fetched, link_missing};
-ghost use Rattle.crawl_certificate.specs.Certificate.{NothingLost};
-ghost use Rattle.crawl_frontier.specs.Accounts.{Accounts};
-ghost use Rattle.crawl_frontier.specs.Parts.{SenderId};
-ghost use Rattle.crawl_queues.specs.declared.entry.Entry.{Entry};
-ghost use Rattle.crawl_pages.specs.declared.page.Page.{Page};
+ghost use Rattle.std.specs.Prelude.{◌≡◌, ℕ, List, Some, Bool};
 ghost use Rattle.crawl_pages.specs.declared.page.PageResult.{PageResult};
-ghost use Rattle.crawl_workers.specs.Logs.{AllLogged};
-ghost use Rattle.crawl_workers.specs.declared.losses.Losses.{Losses};
-ghost use Rattle.mercator.specs.JudgedRuns.{IsRun};
-ghost use Rattle.mercator.specs.LosslessRuns.{Share, IsWithoutLoss};
 ghost use Rattle.mercator.specs.Told.{AskForOneText, Gains};
-ghost use Rattle.mercator.specs.WebCrawl.{IsCrawlText, IsPlain, IsPlainText, IsSiteCrawl, IsCrawlReport};
+ghost use Rattle.mercator.specs.WebCrawl.{IsCrawlReport, IsCrawlText, IsPlain, IsPlainText, IsSiteCrawl};
 ghost use Rattle.mercator.specs.declared.commands.planned.CrawlOptions.{CrawlOptions};
 ghost use Rattle.mercator.specs.declared.commands.planned.Plan.{Plan};
 
-// The laws of scripts are in the crate of scripts.
+// Laws of the crates below.
 pub use crawl_replay::laws::{hosts_keep_to_their_subqueues, lines_mean_what_the_format_says};
+pub use crawl_run::laws::{nothing_lost_lacks_nothing, urls_without_a_result_are_lost};
 
 /// What a crawl finds and prints depends only on the saved web, the seeds and the filter.
 ///
@@ -42,31 +31,4 @@ pub fn same_bytes_for_any_workers()
 pub fn plain_crawls_tell_the_report()
     ensures { (workers : ℕ) (with_queues with_sources : Bool) (options : CrawlOptions) (bytes listed : List ℕ) (seeds suffixes : List (List ℕ)) (text : List ℕ)
         → IsPlain with_sources options → IsCrawlText workers with_queues options bytes listed seeds suffixes text → IsPlainText workers with_queues with_sources bytes listed seeds suffixes text }
-{}
-
-/// A run that loses nothing lacks nothing.
-///
-/// Suppose that all workers of a frontier began with nothing taken and lost nothing, and that the run has an account.
-/// Suppose also that the sender of the seeds has a line in its log for each seed that the filter allows, as it has if the
-/// offers returned Ok ([`crawl_workers::laws::what_is_logged`]). Then the certificate, given all results, finds none of its
-/// first three errors.
-pub fn nothing_lost_lacks_nothing()
-    ensures whole { (workers : ℕ) (allowed : List ℕ → Bool) (meaning : List ℕ → Page) (seeds : List (List ℕ)) (shares : List Share) (senders : List SenderId) (queues : List (List Entry))
-        → 0 < workers → Accounts workers (map (λ share. share.now) shares) senders queues → All (IsWithoutLoss workers allowed meaning) shares
-        → (sender : SenderId) → Contains senders sender → AllLogged workers allowed sender.book.log seeds
-        → NothingLost allowed seeds (entries_in queues) (flat_map (λ share. share.found) shares) }
-    ensures faults { (workers : ℕ) (allowed : List ℕ → Bool) (meaning : List ℕ → Page) (seeds : List (List ℕ)) (shares : List Share) (senders : List SenderId) (queues : List (List Entry))
-        → 0 < workers → Accounts workers (map (λ share. share.now) shares) senders queues → All (IsWithoutLoss workers allowed meaning) shares
-        → (sender : SenderId) → Contains senders sender → AllLogged workers allowed sender.book.log seeds
-        → (seed_missing allowed seeds (entries_in queues) ≡ false) × (not_fetched (entries_in queues) (flat_map (λ share. share.found) shares) ≡ false)
-        × (link_missing allowed (entries_in queues) (flat_map (λ share. share.found) shares) ≡ false) }
-{
-    crawl_certificate::laws::nothing_lost();
-}
-
-/// A run that [`crawl_explained`](crate::crawl_explained) reports as failed lost exactly the URLs of its entries without a
-/// result: their fetch failed, or there was no memory for the result. If the count has reached its maximum, more may be lost.
-pub fn urls_without_a_result_are_lost()
-    ensures { (workers : ℕ) (allowed : List ℕ → Bool) (meaning : List ℕ → Page) (seeds : List (List ℕ)) (entries : List Entry) (results : List PageResult) (losses : Losses)
-        → IsRun workers allowed meaning seeds entries results losses → losses.failed + losses.unkept < 2 ^ 64 - 1 → length entries ≡ length results + losses.failed + losses.unkept }
 {}

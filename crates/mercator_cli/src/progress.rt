@@ -1,5 +1,5 @@
 //! The progress of a crawl, on standard error.
-use mercator::Observe;
+use crawl_run::Observe;
 use std::io::Eprint;
 use std::sync::atomic::{AtomicU64, Ordering};
 use std::time::{Clock, Instant};

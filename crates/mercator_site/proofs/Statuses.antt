@@ -1,51 +1,33 @@
--- The statuses of faults.
-use Rattle.std.specs.Prelude.{◌≡◌, ◌⊎◌, ◌≤◌, ℕ}
+-- The statuses of errors.
+use Rattle.std.specs.Prelude.{◌≡◌, ◌⊎◌, ◌≤◌, ℕ, Bool, true, false, if◌then◌else◌}
 use Rattle.std.proofs.Common.{arith, refl, inl, inr}
-use Rattle.mercator.specs.Faults.{status_of_fault}
-use Rattle.mercator.specs.declared.commands.fault.Fault.{Fault}
-use Rattle.mercator.specs.declared.commands.fault.Fault.TheVariants as ended
-use Rattle.mercator.specs.declared.crawling.error.CrawlError.{CrawlError}
-use Rattle.mercator.specs.declared.crawling.error.CrawlError.TheVariants as uncrawled
-use Rattle.mercator_site.specs.Faults.{of_crawl, status_of}
+use Rattle.crawl_run.specs.Crawls.{is_incomplete}
+use Rattle.crawl_run.specs.declared.error.CrawlError.{CrawlError}
+use Rattle.crawl_run.specs.declared.error.CrawlError.TheVariants as uncrawled
+use Rattle.crawl_run.specs.declared.failure.CrawlFailure.{CrawlFailure}
+use Rattle.mercator_site.specs.Faults.{of_crawl, of_crawl_by, status_of}
 
-crawl_unfinished : (error : CrawlError) → (status_of_fault (ended.Crawl error) ≡ 1) ⊎ (status_of_fault (ended.Crawl error) ≡ 2)
-crawl_unfinished (uncrawled.Frontier error) = inl refl
-crawl_unfinished (uncrawled.Run error) = inr refl
-crawl_unfinished (uncrawled.Finish error) = inr refl
-crawl_unfinished (uncrawled.Cert error) = inr refl
-crawl_unfinished uncrawled.NoMemory = inl refl
+-- the status of a crawl's error
+abbrev status : Bool → ℕ
+status incomplete = if incomplete then 2 else 1
 
--- a fault has one of two statuses
-pub unfinished : (why : Fault) → (status_of_fault why ≡ 1) ⊎ (status_of_fault why ≡ 2)
-unfinished ended.CannotRead = inl refl
-unfinished ended.CannotReadSeeds = inl refl
-unfinished (ended.Script error) = inl refl
-unfinished (ended.Web error) = inl refl
-unfinished (ended.Seeds error) = inl refl
-unfinished ended.NoSeed = inl refl
-unfinished (ended.Seed number refusal) = inl refl
-unfinished (ended.Url refusal) = inl refl
-unfinished (ended.Crawl error) = crawl_unfinished error
-unfinished ended.BadSuffix = inl refl
-unfinished ended.CannotWrite = inl refl
-unfinished (ended.Log why) = inl refl
-unfinished ended.NoMemory = inl refl
+incomplete_by : (incomplete : Bool) → status incomplete ≡ 2 → incomplete ≡ true
+incomplete_by true two = refl
+incomplete_by false two = absurd (omega (arith, two))
 
--- that of a crawl's fault stays
-pub crawl_status : (why : Fault) → status_of (of_crawl why) ≡ status_of_fault why
-crawl_status ended.CannotRead = refl
-crawl_status ended.CannotReadSeeds = refl
-crawl_status (ended.Script error) = refl
-crawl_status (ended.Web error) = refl
-crawl_status (ended.Seeds error) = refl
-crawl_status ended.NoSeed = refl
-crawl_status (ended.Seed number refusal) = refl
-crawl_status (ended.Url refusal) = refl
-crawl_status (ended.Crawl error) = refl
-crawl_status ended.BadSuffix = refl
-crawl_status ended.CannotWrite = refl
-crawl_status (ended.Log why) = refl
-crawl_status ended.NoMemory = refl
+by_status : (failure : CrawlFailure) → status (is_incomplete failure.error) ≡ 2 → is_incomplete failure.error ≡ true
+by_status failure two = incomplete_by (is_incomplete failure.error) two
+
+two_by : (error : CrawlError) (failure : CrawlFailure) → failure.error ≡ error → status_of (of_crawl_by error failure) ≡ 2 → is_incomplete failure.error ≡ true
+two_by uncrawled.NoMemory failure is two = absurd (omega (arith, two))
+two_by (uncrawled.Frontier error) failure is two = by_status failure two
+two_by (uncrawled.Run error) failure is two = by_status failure two
+two_by (uncrawled.Finish error) failure is two = by_status failure two
+two_by (uncrawled.Cert error) failure is two = by_status failure two
+
+-- status 2 is that of an incomplete crawl
+pub two_of : (failure : CrawlFailure) → status_of (of_crawl failure) ≡ 2 → is_incomplete failure.error ≡ true
+two_of failure two = two_by failure.error failure refl two
 
 -- a command over a folder that is run ends with no status of a bad command line
 pub at_most_four : (status : ℕ) → (status ≤ 2) ⊎ (status ≡ 4) → status ≤ 4

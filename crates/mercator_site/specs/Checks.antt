@@ -7,10 +7,12 @@ use Rattle.check_report.specs.Printing.{printed_text, printed_json, printed_anno
 use Rattle.check_report.specs.declared.value.Findings.{Findings}
 use Rattle.check_report.specs.declared.value.Contents.{Contents}
 use Rattle.crawl_keys.specs.CanonicalText.{canonical, resolve}
+use Rattle.crawl_keys.specs.HostFilter.{allows}
 use Rattle.crawl_keys.specs.HostKey.{host_key}
+use Rattle.crawl_certificate.specs.Certificate.{IsCrawl}
 use Rattle.saved_web.specs.SavedWeb.{page_of}
+use Rattle.saved_web.specs.WebFaults.{IsSound}
 use Rattle.crawl_pages.specs.declared.page.PageResult.{PageResult}
-use Rattle.mercator.specs.WebCrawl.{IsSiteCrawl}
 use Rattle.mercator_site.specs.Asks.{Asks}
 use Rattle.mercator_site.specs.External.{AreExternal, Row, row_of}
 use Rattle.mercator_site.specs.Own.{AreOwn, own_of}
@@ -47,7 +49,8 @@ pub record IsTopCrawl (top web : List ℕ) (links : List (List ℕ)) (pages : Li
   pub begun : List (List ℕ)
   pub resolved : map (resolve url) (starts links) ≡ map Ok begun
   pub own : AreOwn url begun
-  pub crawl : IsSiteCrawl web [] begun (host_key url ∷ []) pages
+  pub sound : IsSound (lines web)
+  pub found : IsCrawl (page_of (lines web)) (allows (host_key url ∷ [])) begun pages
 
 -- these are the rows of the pages' external links, if they are listed
 abbrev pub AreOthersListed : Bool → List ℕ → List PageResult → Option (List Row) → Type 0

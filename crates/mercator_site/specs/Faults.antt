@@ -1,10 +1,13 @@
 -- The errors of the commands for a folder.
-use Rattle.std.specs.Prelude.{◌≡◌, ℕ, List, [], ◌∷◌, ◌++◌, codes, map, string_bytes, Ok}
+use Rattle.std.specs.Prelude.{◌≡◌, ℕ, true, if◌then◌else◌, List, [], ◌∷◌, ◌++◌, codes, map, string_bytes, Ok}
+use Rattle.std.specs.Str.Lines.{lines}
 use Rattle.crawl_keys.specs.CanonicalText.{canonical, resolve}
 use Rattle.mercator.specs.FaultText.{fault_line}
-use Rattle.mercator.specs.Faults.{status_of_fault}
-use Rattle.mercator.specs.WebCrawl.{IsRefused}
-use Rattle.mercator.specs.declared.commands.fault.Fault.{Fault}
+use Rattle.crawl_run.specs.Crawls.{CrawlFails, is_incomplete}
+use Rattle.crawl_run.specs.declared.error.CrawlError.{CrawlError}
+use Rattle.crawl_run.specs.declared.error.CrawlError.TheVariants as crawl
+use Rattle.crawl_run.specs.declared.failure.CrawlFailure.{CrawlFailure}
+use Rattle.saved_web.specs.WebFaults.{IsSound}
 use Rattle.mercator.specs.declared.commands.fault.Fault.TheVariants as ended
 use Rattle.mercator_site.specs.Checks.{starts}
 use Rattle.mercator_site.specs.Own.{AreOwn}
@@ -24,13 +27,17 @@ of_site unmade.TooLarge = wrong.TooLarge
 of_site unmade.NoMemory = wrong.NoMemory
 of_site (unmade.Io why) = wrong.CannotReadFolder
 
-abbrev pub of_crawl : Fault → SiteFault
-of_crawl ended.NoMemory = wrong.NoMemory
-of_crawl why = wrong.Crawl why
+-- the error for a crawl that failed so, because of this
+abbrev pub of_crawl_by : CrawlError → CrawlFailure → SiteFault
+of_crawl_by crawl.NoMemory failure = wrong.NoMemory
+of_crawl_by error failure = wrong.Crawl failure
+
+abbrev pub of_crawl : CrawlFailure → SiteFault
+of_crawl failure = of_crawl_by failure.error failure
 
 -- the exit status of an error: 2 if a crawl is incomplete, otherwise 1
 abbrev pub status_of : SiteFault → ℕ
-status_of (wrong.Crawl why) = status_of_fault why
+status_of (wrong.Crawl failure) = if is_incomplete failure.error then 2 else 1
 status_of fault = 1
 
 -- a line about something with this name
@@ -46,7 +53,7 @@ site_line name wrong.BadHost = note_line (codes "BASE") (codes "the host may con
 site_line name wrong.NoFiles = note_line name (codes "no files")
 site_line name wrong.BadSeed = note_line (codes "--seed") (codes "not a URL below BASE")
 site_line name wrong.TooLarge = note_line name (codes "more than 1073741824 bytes of links")
-site_line name (wrong.Crawl why) = fault_line name why
+site_line name (wrong.Crawl failure) = fault_line name (ended.Crawl failure)
 site_line name wrong.CannotWrite = fault_line name ended.CannotWrite
 site_line name wrong.NoMemory = fault_line name ended.NoMemory
 
@@ -57,10 +64,11 @@ pub record IsTopIncomplete (top web : List ℕ) (links : List (List ℕ)) (worke
   pub begun : List (List ℕ)
   pub resolved : map (resolve url) (starts links) ≡ map Ok begun
   pub own : AreOwn url begun
+  pub sound : IsSound (lines web)
   pub max : ℕ
-  pub why : Fault
-  pub incomplete : status_of_fault why ≡ 2
-  pub refused : IsRefused workers max web [] begun why
+  pub error : CrawlError
+  pub incomplete : is_incomplete error ≡ true
+  pub fails : CrawlFails workers max error
 
 -- the crawl of a check is incomplete: that of the saved web of a site
 pub record IsSiteIncomplete (options : CheckOptions) : Type 0 where

@@ -8,8 +8,7 @@ ghost use Rattle.mercator_site.specs.Faults.{IsTopIncomplete, status_of};
 ghost use Rattle.mercator_site.specs.Sources.{IsSourceOf};
 ghost use Rattle.saved_site.specs.Linked.{page_at};
 
-use crate::bodies::{Files, InMemory};
-use crate::crawl::{crawl_site, crawl_source, host_of};
+use crate::crawl::{crawl_source, host_of};
 use crate::external::external_links;
 use crate::fault::SiteFault;
 use crate::options::CheckForm;
@@ -18,15 +17,23 @@ use crate::print::print_check;
 use check_report::{Contents, External};
 use crawl_keys::CanonUrl;
 use crawl_pages::PageResult;
-use mercator::Crawled;
+use crawl_run::Crawled;
 use saved_site::{
-    Alias, LinkPlaces, LinkedSite, PageAnchors, Rules, SiteFiles, SiteNames, Web, files_pages,
+    Alias, FileBytes, InMemory, LinkPlaces, LinkedSite, PageAnchors, Rules, SiteFiles, SiteNames,
+    site_pages,
 };
-use site_check::{Asked, Bodies, Checked, check_site};
+use site_check::{CheckInput, Checked, check_site};
 use std::alloc::{AllocError, Global};
 use std::mem::forget;
 use std::sync::Wait;
 use std::thread::Threads;
+
+/// Files in memory: their names and contents, in the same order.
+#[derive(Clone, Copy)]
+pub struct Files<'a> {
+    pub names: &'a [String],
+    pub bodies: &'a [Vec<u8>],
+}
 
 /// The settings of a check.
 #[derive(Clone, Copy)]
@@ -93,64 +100,24 @@ pub fn report_of_files<R: Threads + Wait + Sync>(
         seeds: settings.seeds,
     };
     let pages = SiteFiles::new(alloc, input)?;
-    let site = files_pages(rt, alloc, &pages, settings.seeds, files.bodies)?;
-    let bodies = InMemory { files };
-    report_of_pages(rt, alloc, site, &pages, &bodies, settings)
+    let bytes = InMemory {
+        bodies: files.bodies,
+    };
+    let site = site_pages(rt, &pages, settings.seeds, Vec::new(alloc), &bytes)?;
+    report_of_pages(rt, alloc, site, &pages, &bytes, settings)
 }
 
-/// Checks a site by its saved web. The crawl starts at the top or at the seeds, and stays on the top's host. The bytes of the saved
-/// web are freed before the results are searched for pages.
+/// Checks a site by its pages in memory, which are those of a saved web whose bytes are not needed. The crawl starts at the top or at
+/// the seeds, and stays on the top's host.
 ///
 /// # Errors
 /// `BadHost`, `BadSeed`, `NoMemory`; `Crawl` if the crawl is incomplete.
-pub fn report_of_site<R: Threads + Wait + Sync, B: Bodies + Sync>(
-    rt: &R,
-    alloc: Global,
-    web: Web,
-    files: &SiteFiles<'_>,
-    bodies: &B,
-    settings: CheckSettings<'_>,
-) -> Result<CheckReport, SiteFault>
-    ensures done { IfOk result (λ report. IsCheck (string_bytes files.now.site.top) web.bytes.items web.aliases.items (asks_in settings.entry) report.is_broken report.text.items) }
-    ensures named { IfOk result (λ report. IsNamedCheck settings.entry.name.now (string_bytes files.now.site.top) web.bytes.items web.aliases.items (asks_in settings.entry) report.is_broken report.text.items) }
-    ensures incomplete { IfErr result (λ fault. status_of fault ≡ 2 → IsTopIncomplete (string_bytes files.now.site.top) web.bytes.items (map string_bytes settings.entry.seeds.now) settings.entry.workers) }
-{
-    let Web {
-        bytes,
-        aliases,
-        anchors,
-        places,
-        ..
-    } = web;
-    let crawled = crawl_site(
-        rt,
-        alloc,
-        bytes.as_slice(),
-        files.top(),
-        settings.seeds,
-        settings.workers,
-    )?;
-    drop(bytes);
-    let found = FoundSite {
-        crawled,
-        aliases,
-        anchors,
-        places,
-    };
-    report_of_found(rt, alloc, found, files, bodies, settings)
-}
-
-/// Checks a site by its pages in memory, as [`report_of_site`] does by its saved web. The pages are those of a saved web whose bytes
-/// are not needed.
-///
-/// # Errors
-/// As for [`report_of_site`].
-pub fn report_of_pages<R: Threads + Wait + Sync, B: Bodies + Sync>(
+pub fn report_of_pages<R: Threads + Wait + Sync, B: FileBytes + Sync>(
     rt: &R,
     alloc: Global,
     site: LinkedSite,
     files: &SiteFiles<'_>,
-    bodies: &B,
+    bytes: &B,
     settings: CheckSettings<'_>,
 ) -> Result<CheckReport, SiteFault>
     ensures done { (web : List ℕ) → IsSourceOf (page_at site.pages) web → IfOk result (λ report. IsCheck (string_bytes files.now.site.top) web site.aliases.items (asks_in settings.entry) report.is_broken report.text.items) }
@@ -172,7 +139,7 @@ pub fn report_of_pages<R: Threads + Wait + Sync, B: Bodies + Sync>(
         settings.seeds,
         settings.workers,
     )?;
-    // Not freed, for the same reason as below.
+    // Not freed: the process exits soon, and the system frees everything faster.
     forget(pages);
     let found = FoundSite {
         crawled,
@@ -180,16 +147,16 @@ pub fn report_of_pages<R: Threads + Wait + Sync, B: Bodies + Sync>(
         anchors,
         places,
     };
-    report_of_found(rt, alloc, found, files, bodies, settings)
+    report_of_found(rt, alloc, found, files, bytes, settings)
 }
 
 /// Checks a site by the results of its crawl.
-fn report_of_found<R: Threads + Wait + Sync, B: Bodies + Sync>(
+fn report_of_found<R: Threads + Wait + Sync, B: FileBytes + Sync>(
     rt: &R,
     alloc: Global,
     found: FoundSite,
     files: &SiteFiles<'_>,
-    bodies: &B,
+    bytes: &B,
     settings: CheckSettings<'_>,
 ) -> Result<CheckReport, SiteFault>
     ensures named { (web : List ℕ) → IsTopCrawl (string_bytes files.now.site.top) web (map string_bytes settings.entry.seeds.now) found.crawled.result → IfOk result (λ report. IsNamedCheck settings.entry.name.now (string_bytes files.now.site.top) web found.aliases.items (asks_in settings.entry) report.is_broken report.text.items) }
@@ -210,9 +177,8 @@ fn report_of_found<R: Threads + Wait + Sync, B: Bodies + Sync>(
         anchors.as_slice(),
         places.as_slice(),
     );
-    let checked = check_site(rt, alloc, pages, files, bodies, input)?;
+    let checked = check_site(rt, alloc, pages, files, bytes, input)?;
     let report = report_of(alloc, &checked, &others, settings)?;
-    // Not freed: the process exits soon, and the system frees everything faster.
     forget(crawled);
     forget(aliases);
     forget(anchors);
@@ -227,12 +193,12 @@ fn input_of<'a>(
     aliases: &'a [Alias],
     anchors: &'a [PageAnchors],
     places: &'a [LinkPlaces],
-) -> Asked<'a>
+) -> CheckInput<'a>
     ensures front { result.front.now ≡ settings.entry.front.now }
     ensures ignores { result.ignores.now ≡ settings.entry.ignores.now }
     ensures aliases { result.aliases.now ≡ aliases.now }
 {
-    Asked {
+    CheckInput {
         front: settings.front,
         ignores: settings.ignores,
         aliases,

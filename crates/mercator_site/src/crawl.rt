@@ -9,32 +9,11 @@ use crate::fault::SiteFault;
 use crate::start::starts;
 use crawl_keys::{CanonUrl, Filter, FilterError, KeyError, canonical};
 use crawl_limits::PENDING_LIMIT;
-use saved_web::{SavedWeb, WebInThreads};
-use mercator::{CrawlSettings, Crawled, Fault, Mode, SessionFetch, crawl_with};
+use crawl_pages::SessionFetch;
+use crawl_run::{CrawlSettings, Crawled, Mode, crawl_with};
 use std::alloc::Global;
 use std::sync::Wait;
 use std::thread::Threads;
-
-/// Crawls the saved web of a site from these links on its top, within the top's host.
-pub(crate) fn crawl_site<R: Threads + Wait + Sync>(
-    rt: &R,
-    alloc: Global,
-    web: &[u8],
-    top: &str,
-    links: &[String],
-    workers: u32,
-) -> Result<Crawled, SiteFault>
-    ensures found { IfOk result (λ found. IsTopCrawl top.now web.now (map string_bytes links.now) found.result) }
-    ensures incomplete { IfErr result (λ fault. status_of fault ≡ 2 → IsTopIncomplete top.now web.now (map string_bytes links.now) workers) }
-{
-    match SavedWeb::read_in_threads(rt, alloc, web) {
-        Ok(pages) => {
-            let source = WebInThreads::new(rt, alloc, &pages, true);
-            crawl_source(rt, alloc, &source, top, links, workers)
-        }
-        Err(fault) => Err(SiteFault::from(Fault::from(fault))),
-    }
-}
 
 /// Crawls a source that has the pages of the saved web.
 pub(crate) fn crawl_source<F: SessionFetch + Sync, R: Threads + Wait + Sync>(
@@ -59,7 +38,7 @@ pub(crate) fn crawl_source<F: SessionFetch + Sync, R: Threads + Wait + Sync>(
     };
     match crawl_with(rt, alloc, source, &settings, seeds.as_slice()) {
         Ok(found) => Ok(found),
-        Err(error) => Err(SiteFault::from(Fault::from(error))),
+        Err(failure) => Err(SiteFault::from(failure)),
     }
 }
 

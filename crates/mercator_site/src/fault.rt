@@ -3,12 +3,12 @@ ghost use Rattle.std.specs.Prelude.{◌≡◌, ◌⊎◌};
 ghost use Rattle.mercator_site.specs.Faults.{of_crawl, of_site, status_of};
 ghost use Rattle.mercator_site.specs.declared.fault.SiteFault.TheVariants as wrong;
 
-use mercator::Fault;
+use crawl_run::{CrawlError, CrawlFailure};
 use saved_site::SiteError;
 use std::alloc::{AllocError, AllocFailed};
 
 /// An error of a command for a folder.
-#[derive(Clone, Copy, Debug, PartialEq, Eq)]
+#[derive(Drop)]
 pub enum SiteFault {
     /// The folder cannot be read.
     CannotReadFolder,
@@ -24,8 +24,8 @@ pub enum SiteFault {
     BadSeed,
     /// The saved web exceeds the limit of a crawl.
     TooLarge,
-    /// The crawl of the site failed.
-    Crawl(Fault),
+    /// The crawl of the site failed. The reason is never that memory ran out.
+    Crawl(CrawlFailure),
     /// A write or a flush failed.
     CannotWrite,
     /// An allocation failed.
@@ -34,12 +34,12 @@ pub enum SiteFault {
 
 impl SiteFault {
     /// The exit status for this error: 2 if a crawl is incomplete, otherwise 1.
-    pub fn status(self) -> u8
-        ensures status { result ≡ status_of self }
+    pub fn status(&self) -> u8
+        ensures status { result ≡ status_of self.now }
         ensures unfinished { (result ≡ 1) ⊎ (result ≡ 2) }
     {
         match self {
-            SiteFault::Crawl(fault) => fault.status(),
+            SiteFault::Crawl(failure) => { if failure.error.is_incomplete() { 2 } else { 1 } }
             _ => 1,
         }
     }
@@ -75,13 +75,13 @@ impl From<SiteError> for SiteFault {
     }
 }
 
-impl From<Fault> for SiteFault {
-    ghost from_gives = { λ why fault. fault ≡ of_crawl why };
+impl From<CrawlFailure> for SiteFault {
+    ghost from_gives = { λ failure fault. fault ≡ of_crawl failure };
 
-    fn from(fault: Fault) -> SiteFault {
-        match fault {
-            Fault::NoMemory => SiteFault::NoMemory,
-            _ => SiteFault::Crawl(fault),
+    fn from(failure: CrawlFailure) -> SiteFault {
+        match failure.error {
+            CrawlError::NoMemory => SiteFault::NoMemory,
+            _ => SiteFault::Crawl(failure),
         }
     }
 }

@@ -7,14 +7,13 @@ ghost use Rattle.mercator_site.specs.Faults.{IsSiteIncomplete, status_of};
 ghost use Rattle.saved_site.specs.Below.{IsWebAt};
 ghost use Rattle.saved_site.specs.Meaning.{IsSiteWeb};
 
-use crate::bodies::OnDisk;
 use crate::check::{CheckReport, CheckSettings, report_of_pages};
 use crate::fault::SiteFault;
 use crate::options::{CheckOptions, SiteOptions};
 use crate::writing::{print_note, print_notes};
 use saved_site::{
-    FolderNames, Note, Rules, SiteFiles, SiteNames, Web, folder_files_pages, folder_names,
-    folder_web,
+    FolderNames, Note, OnDisk, Rules, SiteFiles, SiteNames, Web, folder_names, folder_web,
+    site_pages,
 };
 use site_check::read_ignores;
 use std::alloc::{AllocError, Global};
@@ -119,12 +118,12 @@ fn report_of_names<R: Files<File: Send, Dir: Send> + Threads + Wait + Sync, E: W
 {
     let folder = options.site.folder.as_str();
     let files = SiteFiles::new(alloc, input)?;
-    let site = folder_files_pages(rt, alloc, folder, &files, input.seeds, Vec::new(alloc))?;
+    let bytes = OnDisk { rt, alloc, folder };
+    let site = site_pages(rt, &files, input.seeds, Vec::new(alloc), &bytes)?;
     print_page_notes(alloc, err, options.paths, &files, site.notes.as_slice())?;
     print_no_index(alloc, err, input)?;
-    let bodies = OnDisk { rt, alloc, folder };
     let settings = settings_of(options, files.top(), known);
-    let report = report_of_pages(rt, alloc, site, &files, &bodies, settings)?;
+    let report = report_of_pages(rt, alloc, site, &files, &bytes, settings)?;
     Ok(report)
 }
 

@@ -1,7 +1,6 @@
 //! The commands for a folder of HTML pages: `site` prints its saved web, `check` reports its broken links.
 #![tactic(auto)]
 
-mod bodies;
 mod check;
 mod crawl;
 mod external;
@@ -14,8 +13,7 @@ mod program;
 mod start;
 mod writing;
 
-pub use bodies::Files;
-pub use check::{CheckReport, CheckSettings, report_of_files, report_of_pages, report_of_site};
+pub use check::{CheckReport, CheckSettings, Files, report_of_files, report_of_pages};
 pub use fault::SiteFault;
 pub use folder::{report_of_folder, web_of_folder};
 pub use options::{CheckForm, CheckOptions, SiteOptions, SitePlan, site_plan};

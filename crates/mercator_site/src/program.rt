@@ -109,8 +109,9 @@ fn show_help<O: Write, E: Write>(alloc: Global, text: &[u8], out: &mut O, err: &
     match write_text(out, text) {
         Ok(()) => 0,
         Err(fault) => {
+            let status = fault.status();
             print_fault(alloc, err, "", fault);
-            fault.status()
+            status
         }
     }
 }
@@ -164,8 +165,9 @@ pub fn run_site_plan<R: Files<File: Send, Dir: Send> + Threads + Wait + Sync, O:
     match run(rt, alloc, plan, out, err) {
         Ok(is_broken) => if is_broken { BROKEN } else { 0 },
         Err(fault) => {
-            print_fault(alloc, err, subject_of(plan, fault), fault);
-            fault.status()
+            let status = fault.status();
+            print_fault(alloc, err, subject_of(plan, &fault), fault);
+            status
         }
     }
 }
@@ -208,7 +210,7 @@ fn run_check<R: Files<File: Send, Dir: Send> + Threads + Wait + Sync, O: Write, 
 }
 
 /// The name that an error is about.
-fn subject_of(plan: &SitePlan, fault: SiteFault) -> &str {
+fn subject_of<'a>(plan: &'a SitePlan, fault: &SiteFault) -> &'a str {
     match (plan, fault) {
         (SitePlan::Check(options), SiteFault::CannotReadKnown) => match &options.known {
             Some(file) => file.as_str(),

@@ -1,7 +1,6 @@
 //! The URLs at which the crawl of a check starts.
 ghost use Rattle.std.specs.Prelude.{◌≡◌, ◌∷◌, [], true, IfErr, IfOk, map, string_bytes, Ok};
-ghost use Rattle.crawl_keys.specs.CanonicalText.{canonical, resolve};
-ghost use Rattle.mercator.specs.WebCrawl.{AreSeeds};
+ghost use Rattle.crawl_keys.specs.CanonicalText.{resolve};
 ghost use Rattle.mercator_site.specs.Checks.{starts};
 ghost use Rattle.mercator_site.specs.Faults.{status_of};
 ghost use Rattle.mercator_site.specs.Own.{AreOwn};
@@ -20,7 +19,6 @@ pub(crate) fn starts(
 ) -> Result<Vec<CanonUrl>, SiteFault>
     ensures begun { IfOk result (λ seeds. map (resolve top.now) (starts (map string_bytes links.now)) ≡ map Ok seeds.items) }
     ensures own { IfOk result (λ seeds. AreOwn top.now seeds.items) }
-    ensures stable { IfOk result (λ seeds. AreSeeds seeds.items seeds.items) }
     ensures plain { IfErr result (λ fault. status_of fault ≡ 1) }
 {
     match links.split_first() {
@@ -32,7 +30,6 @@ pub(crate) fn starts(
 fn top_alone(alloc: Global, top: &CanonUrl) -> Result<Vec<CanonUrl>, SiteFault>
     ensures resolved { IfOk result (λ seeds. map (resolve top.now) ([] ∷ []) ≡ map Ok seeds.items) }
     ensures own { IfOk result (λ seeds. AreOwn top.now seeds.items) }
-    ensures stable { IfOk result (λ seeds. AreSeeds seeds.items seeds.items) }
     ensures plain { IfErr result (λ fault. status_of fault ≡ 1) }
 {
     let mut seeds = Vec::new(alloc);
@@ -43,7 +40,6 @@ fn top_alone(alloc: Global, top: &CanonUrl) -> Result<Vec<CanonUrl>, SiteFault>
 fn seeds_of(alloc: Global, top: &CanonUrl, links: &[String]) -> Result<Vec<CanonUrl>, SiteFault>
     ensures resolved { IfOk result (λ seeds. map (resolve top.now) (map string_bytes links.now) ≡ map Ok seeds.items) }
     ensures own { IfOk result (λ seeds. AreOwn top.now seeds.items) }
-    ensures stable { IfOk result (λ seeds. AreSeeds seeds.items seeds.items) }
     ensures plain { IfErr result (λ fault. status_of fault ≡ 1) }
 {
     let mut seeds = Vec::new(alloc);
@@ -57,21 +53,11 @@ fn seeds_of(alloc: Global, top: &CanonUrl, links: &[String]) -> Result<Vec<Canon
 fn seed_of(alloc: Global, top: &CanonUrl, link: &str) -> Result<CanonUrl, SiteFault>
     ensures resolved { IfOk result (λ seed. resolve top.now link.now ≡ Ok seed) }
     ensures own { IfOk result (λ seed. begins top.now seed ≡ true) }
-    ensures stable { IfOk result (λ seed. canonical seed ≡ Ok seed) }
     ensures plain { IfErr result (λ fault. status_of fault ≡ 1) }
 {
     match resolve(alloc, top, link) {
-        Ok(url) if is_own(top, &url) => Ok(stable(url)),
+        Ok(url) if is_own(top, &url) => Ok(url),
         Err(KeyError::NoMemory) => Err(SiteFault::NoMemory),
         _ => Err(SiteFault::BadSeed),
     }
-}
-
-/// Returns the URL unchanged. Its contract says that the text of a canonical URL is canonical.
-fn stable(url: CanonUrl) -> CanonUrl
-    ensures same { result ≡ url }
-    ensures stable { canonical result ≡ Ok result }
-{
-    let _text = url.as_str();
-    url
 }

@@ -83,7 +83,7 @@ fn line_of(alloc: Global, name: &str, fault: SiteFault) -> Result<String, AllocE
 {
     match fault {
         SiteFault::CannotReadFolder | SiteFault::CannotReadKnown => {
-            fault_line(alloc, name, Fault::CannotRead)
+            fault_line(alloc, name, &Fault::CannotRead)
         }
         SiteFault::BadBase => note_line(
             alloc,
@@ -98,9 +98,9 @@ fn line_of(alloc: Global, name: &str, fault: SiteFault) -> Result<String, AllocE
         SiteFault::NoFiles => note_line(alloc, name, "no files"),
         SiteFault::BadSeed => note_line(alloc, "--seed", "not a URL below BASE"),
         SiteFault::TooLarge => note_line(alloc, name, "more than 1073741824 bytes of links"),
-        SiteFault::Crawl(fault) => fault_line(alloc, name, fault),
-        SiteFault::CannotWrite => fault_line(alloc, name, Fault::CannotWrite),
-        SiteFault::NoMemory => fault_line(alloc, name, Fault::NoMemory),
+        SiteFault::Crawl(failure) => fault_line(alloc, name, &Fault::Crawl(failure)),
+        SiteFault::CannotWrite => fault_line(alloc, name, &Fault::CannotWrite),
+        SiteFault::NoMemory => fault_line(alloc, name, &Fault::NoMemory),
     }
 }
 

@@ -1,9 +1,9 @@
 -- Ids in one block, and one more behind them.
 use Rattle.std.proofs.Common.{◌≡◌, ◌∙◌, ℕ, zero, suc, ◌+◌, ◌-◌, ◌<◌, ◌≤◌, List, [], ◌∷◌, ◌++◌, length, take, drop, get_or, length-append, refl, sym, ap, subst, arith}
-use Rattle.std.proofs.lemmas.List.{drop-append-le, drop_at, get_or-map, length-drop, length-map, map-append, map_more, take-append-le, take_all}
+use Rattle.std.proofs.lemmas.List.{drop-append-le, drop_at, get_or-map, length-drop, length-map, length-take, map-append, map_more, take-append-le, take_all}
 use Rattle.std.specs.Borrow.{Bor}
 use Rattle.std.specs.Cmp.Lexicographic.{slice_cmp}
-use Rattle.std.specs.List.{slice_range}
+use Rattle.std.specs.List.{flat_map, slice_range}
 use Rattle.std.specs.List.Sorted.{IsSorted}
 use Rattle.std.specs.Ordering.{is_lt, nat_cmp}
 use Rattle.page_anchors.specs.Ids.{DoBound, pointed, texts_from}
@@ -31,6 +31,18 @@ pub id_within : (from : ℕ) (ends : List ℕ) (count k : ℕ) → DoBound from 
 id_within from [] count k bound below = absurd (omega (arith, below))
 id_within from (end ∷ ends) count zero bound below = (bound.0, up_to end ends count bound.1)
 id_within from (end ∷ ends) count (suc k) bound below = id_within end ends count k bound.1 (omega (arith, below))
+
+-- together the ids are the bytes
+bytes_of : (bytes : List ℕ) (from : ℕ) (ends : List ℕ) → DoBound from ends (length bytes) → from + length (flat_map (λ (id : List ℕ). id) (texts_from bytes from ends)) ≡ length bytes
+bytes_of bytes from [] bound = omega (arith, bound)
+bytes_of bytes from (end ∷ ends) bound =
+    let first = slice_range bytes from end in
+    let rest = texts_from bytes end ends in
+    let within : end ≤ length bytes = up_to end ends (length bytes) bound.1 in
+    omega (arith, bytes_of bytes end ends bound.1, bound.0, within, length-append first (flat_map (λ (id : List ℕ). id) rest), length-take (end - from) (drop from bytes), length-drop from bytes)
+
+pub all_bytes : (bytes ends : List ℕ) → DoBound 0 ends (length bytes) → length bytes ≡ length (flat_map (λ (id : List ℕ). id) (texts_from bytes 0 ends))
+all_bytes bytes ends bound = omega (arith, bytes_of bytes 0 ends bound)
 
 -- ---- one more
 

@@ -1,5 +1,6 @@
 //! The ids of a document, in one block of memory.
 ghost use Rattle.std.specs.Prelude.{◌≡◌, ◌∷◌, ◌++◌, ◌<◌, ◌≤◌, [], IfOk, OnErr, OnOk, get_or, length, slice_index_or};
+ghost use Rattle.std.specs.List.{flat_map};
 ghost use Rattle.std.specs.List.Sorted.{IsPermutation};
 ghost use Rattle.page_anchors.specs.Ids.{DoBound, pointed, texts_from};
 ghost use Rattle.page_anchors.specs.Indicated.{DoAscend};
@@ -41,11 +42,30 @@ impl Ids {
         }
     }
 
+    /// No ids, with room for `count` ids of `length` bytes together.
+    ///
+    /// # Errors
+    /// Out of memory.
+    pub fn with_room(alloc: Global, count: usize, length: usize) -> Result<Ids, NoMemory>
+        ensures { IfOk result (λ ids. ids ≡ []) }
+    {
+        let bytes = Vec::with_capacity(alloc, length)?;
+        let ends = Vec::with_capacity(alloc, count)?;
+        Ok(Ids { bytes, ends })
+    }
+
     /// The number of ids.
     pub fn len(&self) -> usize
         ensures { result ≡ length self.now }
     {
         self.ends.as_slice().len()
+    }
+
+    /// The number of bytes of all ids.
+    pub fn byte_count(&self) -> usize
+        ensures { result ≡ length (flat_map (λ id. id) self.now) }
+    {
+        self.bytes.as_slice().len()
     }
 
     /// The id with this index.
@@ -87,15 +107,6 @@ impl Ids {
         let mut sorted = Ids::with_room(alloc, ids.len(), self.bytes.len())?;
         sorted.push_all(ids.as_slice())?;
         Ok(sorted)
-    }
-
-    /// No ids, with room for `count` ids of `length` bytes together.
-    fn with_room(alloc: Global, count: usize, length: usize) -> Result<Ids, NoMemory>
-        ensures { IfOk result (λ ids. ids ≡ []) }
-    {
-        let bytes = Vec::with_capacity(alloc, length)?;
-        let ends = Vec::with_capacity(alloc, count)?;
-        Ok(Ids { bytes, ends })
     }
 
     fn pointers(&self, alloc: Global) -> Result<Vec<&[u8]>, NoMemory>

@@ -11,7 +11,7 @@ use Rattle.saved_site.proofs.Says as lemma
 use Rattle.saved_site.proofs.Sound.{AllPages, links, under_lines, page_lines, at_link, at_moved, at_page, at_header, web_cut}
 use Rattle.saved_site.specs.Meaning.{under_page, page_in}
 use Rattle.saved_site.specs.Pages.{web_text, fits_under}
-use Rattle.saved_site.specs.Texts.{fits, all_fit}
+use Rattle.document_links.specs.Texts.{fits, all_fit}
 use Rattle.saved_site.specs.declared.page.SitePage.{SitePage}
 use Rattle.saved_site.specs.declared.page.Under.{Under}
 use Rattle.saved_site.specs.declared.page.Under.TheVariants.{Links, Moved}

@@ -1,6 +1,4 @@
-pub mod Behind
 pub mod BelowTop
-pub mod Errors
 pub mod Found
 pub mod Gaps
 pub mod KnownTexts
@@ -11,10 +9,7 @@ pub mod Linkers
 pub mod PageByPage
 pub mod PageLengths
 pub mod Parts
-pub mod Plain
-pub mod Printing
 pub mod Says
 pub mod SiteSource
 pub mod Slashes
 pub mod Sound
-pub mod WindowsBytes

@@ -13,7 +13,7 @@ use Rattle.text_lines.specs.Fields.{at_space}
 use Rattle.saved_web.specs.WebLines.{said_apart, line_of_text, line_of}
 use Rattle.saved_web.specs.declared.line.Line.{Line}
 use Rattle.saved_web.specs.declared.line.Line.TheVariants as line_says
-use Rattle.saved_site.specs.Texts.{is_inner, fits}
+use Rattle.document_links.specs.Texts.{is_inner, fits}
 
 -- the line is a text, whatever its number, and says this
 pub record Says (line : List ℕ) (said : Line (List ℕ)) : Type 0 where

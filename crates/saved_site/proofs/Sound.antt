@@ -25,11 +25,13 @@ use Rattle.saved_web.specs.declared.error.WebError.{WebError}
 use Rattle.saved_web.specs.declared.error.WebError.TheVariants as wrong
 use Rattle.saved_web.specs.declared.line.Line.{Line}
 use Rattle.saved_web.specs.declared.line.Line.TheVariants as line_says
-use Rattle.saved_site.proofs.Lines.{first_line, fits_inner, line_on}
+use Rattle.document_links.proofs.Fitting.{fits_inner}
+use Rattle.saved_site.proofs.Lines.{first_line, line_on}
 use Rattle.saved_site.proofs.Says as lemma
 use Rattle.saved_site.proofs.Says.{Says}
 use Rattle.saved_site.specs.Pages.{under_text, page_text, web_text, is_behind, AscendsBehind, fits_under, IsPage}
-use Rattle.saved_site.specs.Texts.{fits, all_fit, page_line, link_line, link_lines}
+use Rattle.document_links.specs.Texts.{fits, all_fit}
+use Rattle.saved_site.specs.Lines.{page_line, link_line, link_lines}
 use Rattle.saved_site.specs.declared.page.SitePage.{SitePage}
 use Rattle.saved_site.specs.declared.page.Under.{Under}
 use Rattle.saved_site.specs.declared.page.Under.TheVariants.{Links, Moved}

@@ -3,13 +3,10 @@ pub mod Below
 pub mod Errors
 pub mod Files
 pub mod Leads
+pub mod Lines
 pub mod LinkTables
 pub mod Linked
 pub mod LinkedPages
 pub mod Meaning
 pub mod Pages
-pub mod Pieces
-pub mod Places
 pub mod Printed
-pub mod Texts
-pub mod Windows

@@ -4,7 +4,8 @@ use Rattle.std.specs.Cmp.Lexicographic.{slice_cmp}
 use Rattle.std.specs.List.{flat_map}
 use Rattle.std.specs.Ordering.{is_lt, nat_cmp}
 use Rattle.crawl_keys.specs.CanonicalText.{canonical}
-use Rattle.saved_site.specs.Texts.{fits, all_fit, page_line, link_lines, moved_line}
+use Rattle.document_links.specs.Texts.{fits, all_fit}
+use Rattle.saved_site.specs.Lines.{page_line, link_lines, moved_line}
 use Rattle.saved_site.specs.declared.page.Under.{Under}
 use Rattle.saved_site.specs.declared.page.Under.TheVariants.{Links, Moved}
 use Rattle.saved_site.specs.declared.page.SitePage.{SitePage}

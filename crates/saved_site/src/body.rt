@@ -53,7 +53,10 @@ impl Body {
 
     /// Reads to the end, or until there are more than `most` bytes, which it returns. Unlike `read_to_end`, it does not clear the room
     /// first.
-    pub(crate) fn read<I: Read>(&mut self, input: &mut I, most: usize) -> io::Result<bool> {
+    ///
+    /// # Errors
+    /// Those of the input; out of memory.
+    pub fn read<I: Read>(&mut self, input: &mut I, most: usize) -> io::Result<bool> {
         let limit = most.saturating_add(1);
         for _ in 0..u64::MAX {
             if self.used >= limit || !self.read_some(input, limit)? {

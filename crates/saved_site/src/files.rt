@@ -6,9 +6,9 @@ ghost use Rattle.saved_site.specs.Errors.{IsOfFiles};
 ghost use Rattle.saved_site.specs.Files.{name_at, page_file, page_of, pages_of};
 
 use crate::error::SiteError;
-use crate::make::SiteInput;
 use crate::notes::Note;
 use crate::site::{Entry, Rules, Site, Source};
+use crate::site_input::SiteInput;
 use crate::web::SiteNames;
 use std::alloc::{AllocError, Global};
 

@@ -2,64 +2,49 @@
 //! them.
 #![tactic(auto)]
 
-mod anchors;
-mod base_href;
+mod aliases;
 mod below;
 mod body;
-mod charset;
-mod cleaning;
-mod contents;
-mod document;
 mod error;
 mod escapes;
+mod file_bytes;
 mod files;
 mod folder;
 mod folder_links;
-mod found_links;
-mod in_query;
-mod indices;
 mod kinds;
-mod link_lines;
+mod line_text;
 mod linked;
-mod make;
-mod maker;
-mod making;
+mod new_page;
 mod notes;
 mod on_disk;
 mod output;
 mod page;
-mod places;
+mod page_maker;
 mod print;
 mod printer;
 mod rounds;
 mod site;
+mod site_input;
 mod spellings;
 mod targets;
+mod task_queue;
 mod tasks;
-mod text;
-mod texts;
-mod unknown;
 mod walk;
 mod web;
+mod web_maker;
 
-pub use anchors::{AnchorLink, AnchorLinks, Anchors};
 pub use body::Body;
 pub use error::SiteError;
+pub use file_bytes::{FileBytes, InMemory, SiteFile};
 pub use files::SiteFiles;
 pub use folder_links::FolderLink;
-pub use link_lines::LinkLines;
+pub use line_text::LineText;
 pub use linked::LinkedPages;
 pub use notes::{Left, Note};
-pub use on_disk::{folder_body, folder_files_pages, folder_files_web, folder_web, folder_web_of};
+pub use on_disk::{OnDisk, folder_web};
 pub use page::{SitePage, Under};
-pub use places::{TextPlace, text_places};
-pub use print::print_web;
 pub use site::Rules;
 pub use targets::Target;
-pub use text::LineText;
-pub use texts::LinkCounts;
 pub use walk::{FolderNames, folder_names};
-pub use web::{
-    Alias, LinkPlaces, LinkedSite, PageAnchors, SiteNames, Summary, Web, files_pages, files_web,
-    site_web,
-};
+pub use web::{Alias, LinkPlaces, LinkedSite, PageAnchors, SiteNames, Summary, Web};
+pub use web_maker::{site_pages, site_web};

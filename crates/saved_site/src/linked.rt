@@ -1,8 +1,6 @@
 //! The pages of a site as a source of a crawl, whose links are the indices of URLs.
-ghost use Rattle.std.specs.Prelude.{◌≡◌, ◌∷◌, [], true, IfOk, IfErr};
+ghost use Rattle.std.specs.Prelude.{◌≡◌, IfOk, IfErr};
 ghost use Rattle.std.specs.List.{flat_map};
-ghost use Rattle.crawl_pages.specs.declared.page.Page.TheVariants as variant;
-ghost use Rattle.saved_site.specs.Aliases.{AreAliases, alias_page};
 ghost use Rattle.saved_site.specs.Linked.{AreKept, IsSiteSource, page_at, page_with};
 
 mod known_texts;
@@ -13,7 +11,6 @@ mod page_list;
 mod part;
 mod url_list;
 
-use crate::web::Alias;
 use crawl_keys::CanonUrl;
 use crawl_pages::{FetchError, Page, SessionFetch};
 pub(crate) use linker::Linker;
@@ -52,59 +49,6 @@ impl LinkedPages {
         let parts = parts_of(alloc, top, linkers)?;
         Ok(LinkedPages { parts })
     }
-
-    /// Those of these aliases whose page has only the link to the own URL. All have, but this is checked since it is promised.
-    pub(crate) fn aliases_among(
-        &self,
-        alloc: Global,
-        aliases: Vec<Alias>,
-    ) -> Result<Vec<Alias>, AllocError>
-        ensures { IfOk result (λ all. AreAliases self.now all.items) }
-    {
-        let mut all = Vec::with_capacity(alloc, aliases.len())?;
-        'aliases: for alias in aliases {
-            let has_alias = self.has_alias(alloc, &alias)?;
-            if has_alias {
-                all.push(alias)?;
-            }
-        }
-        Ok(all)
-    }
-
-    fn has_alias(&self, alloc: Global, alias: &Alias) -> Result<bool, AllocError>
-        ensures { IfOk result (λ has. has ≡ true → page_at self.now alias.now.url ≡ alias_page alias.now) }
-    {
-        match self.fetch_in(alloc, &mut (), &alias.url) {
-            Ok(page) => Ok(is_alias_page(&page, &alias.own)),
-            Err(_) => Err(AllocError),
-        }
-    }
-}
-
-/// Whether a page has only the link to this URL.
-fn is_alias_page(page: &Page, own: &CanonUrl) -> bool
-    ensures { result ≡ true → page.now ≡ variant.Found (own.now ∷ []) 0 }
-{
-    match page {
-        Page::Found { links, skipped } => *skipped == 0 && is_only(links.as_slice(), own),
-        Page::Moved { .. } => false,
-        Page::Missing => false,
-    }
-}
-
-fn is_only(links: &[CanonUrl], own: &CanonUrl) -> bool
-    ensures { result ≡ true → links.now ≡ own.now ∷ [] }
-{
-    match links {
-        [one] => is_same(one, own),
-        _ => false,
-    }
-}
-
-fn is_same(one: &CanonUrl, other: &CanonUrl) -> bool
-    ensures { result ≡ true → one.now ≡ other.now }
-{
-    one.as_str() == other.as_str()
 }
 
 /// The pages that threads have made. Those of another site are left out.

@@ -3,10 +3,10 @@ ghost use Rattle.std.specs.Prelude.{IfOk};
 ghost use Rattle.saved_site.specs.Printed.{HasPrinted};
 
 use crate::linked::Linker;
-use crate::make::NewPage;
-use crate::maker::Maker;
+use crate::new_page::{NewPage, SiteAnchors};
 use crate::notes::Note;
 use crate::page::SitePage;
+use crate::page_maker::PageMaker;
 use crate::printer::Printer;
 use crate::web::{Alias, LinkPlaces, PageAnchors, Summary};
 use crawl_keys::CanonUrl;
@@ -65,7 +65,7 @@ impl SiteData {
             counts,
             own,
             anchors,
-            indices,
+            positions,
             notes,
             ..
         } = page;
@@ -74,10 +74,14 @@ impl SiteData {
             self.late.push(page)?;
         }
         self.push_alias(&url, own)?;
-        self.push_places(&url, indices)?;
+        self.push_places(&url, positions)?;
         self.push_notes(&url, notes)?;
-        if let Some(anchors) = anchors {
-            self.anchors.push(PageAnchors { url, anchors })?;
+        if let Some(SiteAnchors { anchors, targets }) = anchors {
+            self.anchors.push(PageAnchors {
+                url,
+                anchors,
+                targets,
+            })?;
         }
         Ok(())
     }
@@ -107,7 +111,7 @@ impl SiteData {
     }
 
     /// Adds the pages that the makers of a round have looked up.
-    pub(crate) fn add_makers(&mut self, makers: Vec<Maker>) -> Result<(), AllocError> {
+    pub(crate) fn add_makers(&mut self, makers: Vec<PageMaker>) -> Result<(), AllocError> {
         for maker in makers {
             let (linker, summary) = maker.into_linked();
             self.summary.join(summary);

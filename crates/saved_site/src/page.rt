@@ -1,18 +1,18 @@
 //! A page of a site.
 ghost use Rattle.std.specs.Prelude.{◌≡◌, false, true, IfSome, IsNone};
-ghost use Rattle.saved_site.specs.Texts.{fits};
+ghost use Rattle.document_links.specs.Texts.{fits};
 
 mod lines;
 
-use crate::link_lines::LinkLines;
-use crate::text::{LINK_FRONT, LineText, fits};
+use crate::line_text::LineText;
 use crawl_keys::CanonUrl;
+use document_links::{LINK_FRONT, LinkTexts, fits};
 
 /// The contents of a page.
 #[derive(Drop)]
 pub enum Under {
     /// A page with links.
-    Links(LinkLines),
+    Links(LinkTexts),
     /// A redirect to this URL.
     Moved(LineText),
 }

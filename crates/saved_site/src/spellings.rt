@@ -1,12 +1,12 @@
 //! Links with another spelling or query, or through a symbolic link, for which a server returns a page of the site.
 ghost use Rattle.std.specs.Prelude.{◌≡◌, bytes_eq};
 
-use crate::base_href::{base_of, resolved};
 use crate::escapes::{push_query, push_respelled};
 use crate::site::{Rules, Site};
-use crate::text::{LINK_FRONT, fits};
+use crate::site_input::SiteInput;
 use crawl_keys::{Base, CanonUrl};
-use memchr::{memchr, memchr2, memrchr};
+use document_links::{LINK_FRONT, LinkTexts, base_of, fits, resolved};
+use memchr::memchr2;
 use std::alloc::{AllocError, Global};
 
 /// A URL, and the number of the page that a server returns for it.
@@ -16,124 +16,99 @@ pub(crate) struct Spelling {
     pub(crate) entry: usize,
 }
 
-/// The other spellings of pages, or pages with a query, among the links in the lines of the page at a URL.
-pub(crate) fn spellings(
+/// The other spellings of pages, or pages with a query, among the links of the page at a URL.
+pub(crate) fn link_spellings(
     alloc: Global,
-    site: &Site,
-    rules: &Rules,
+    input: SiteInput<'_>,
     url: &CanonUrl,
-    lines: &[u8],
+    links: &LinkTexts,
 ) -> Result<Vec<Spelling>, AllocError> {
-    let mut found = Vec::new(alloc);
-    let is_linked = !site.linked.is_empty();
-    if (rules.exact && !is_linked) || mark_in(lines, is_linked).is_none() {
-        return Ok(found);
+    let mut all = Vec::new(alloc);
+    let first = first_spelling(input, links);
+    if first == links.len() {
+        return Ok(all);
     }
     let base = base_of(alloc, url)?;
-    let mut last = Last { line: &[] };
-    let mut rest = lines;
-    for _ in 0..lines.len() {
-        let Some((line, behind)) = next_line(rest, is_linked) else {
-            break;
-        };
-        rest = behind;
-        if !last.is_again(line)
-            && let Some(text) = text_of(line)
-            && let Some(spelling) = spelling_at(alloc, site, rules, &base, text)?
+    let mut last = LastText { text: "" };
+    for index in first..links.len() {
+        let text = links.text(index);
+        if can_spell(input, text)
+            && !last.is_again(text)
+            && let Some(spelling) = spelling_at(alloc, input, &base, text.as_bytes())?
         {
-            found.push(spelling)?;
+            all.push(spelling)?;
         }
     }
-    Ok(found)
+    Ok(all)
 }
 
-/// The line that was looked at last.
+/// The index of the first text that can be another spelling, or the number of texts.
+fn first_spelling(input: SiteInput<'_>, links: &LinkTexts) -> usize {
+    for index in 0..links.len() {
+        if can_spell(input, links.text(index)) {
+            return index;
+        }
+    }
+    links.len()
+}
+
+/// Whether the URL of a link with this text can be another spelling. If no symbolic link leads to a folder, the text must have an escape
+/// or a query.
+pub(crate) fn can_spell(input: SiteInput<'_>, text: &str) -> bool {
+    if input.site.linked.is_empty() {
+        !input.rules.exact && memchr2(b'?', b'%', text.as_bytes()).is_some()
+    } else {
+        true
+    }
+}
+
+/// The last text that was resolved.
 #[derive(Drop)]
-struct Last<'a> {
-    line: &'a [u8],
+struct LastText<'a> {
+    text: &'a str,
 }
 
-impl<'a> Last<'a> {
-    /// Whether a line is that one again. It is the last one from now on.
-    fn is_again(&mut self, line: &'a [u8]) -> bool
-        ensures again { result ≡ bytes_eq self.old.line.now line.now }
-        ensures last { self.new.line.now ≡ line.now }
+impl<'a> LastText<'a> {
+    /// Whether a text is the last one again. It is the last one from now on.
+    fn is_again(&mut self, text: &'a str) -> bool
+        ensures again { result ≡ bytes_eq self.old.text.now text.now }
+        ensures last { self.new.text.now ≡ text.now }
     {
-        let is_again = self.line == line;
-        self.line = line;
+        let is_again = self.text == text;
+        self.text = text;
         is_again
     }
 }
 
-/// The first position in some lines of an escape or a query. Only the URLs of such links can be other spellings, unless symbolic links
-/// lead to folders; then it is that of the first line.
-fn mark_in(lines: &[u8], is_linked: bool) -> Option<usize> {
-    if is_linked && !lines.is_empty() {
-        return Some(0);
-    }
-    memchr2(b'?', b'%', lines)
-}
-
-/// The line at that position, and the lines after it.
-fn next_line(lines: &[u8], is_linked: bool) -> Option<(&[u8], &[u8])> {
-    let mark = mark_in(lines, is_linked)?;
-    let (front, marked) = lines.split_at(mark.min(lines.len()));
-    let begin = match memrchr(b'\n', front) {
-        Some(end) => end.saturating_add(1),
-        None => 0,
-    };
-    let end = mark.saturating_add(memchr(b'\n', marked).unwrap_or(marked.len()));
-    Some((
-        lines.get(begin..end).unwrap_or(&[]),
-        lines.get(end.saturating_add(1)..).unwrap_or(&[]),
-    ))
-}
-
-/// The same among links on the top.
-pub(crate) fn seed_spellings(
+/// The spelling that a link with this text on the page at a URL has, if it has one.
+pub(crate) fn text_spelling(
     alloc: Global,
-    site: &Site,
-    rules: &Rules,
-    top: &CanonUrl,
-    seeds: &[String],
-) -> Result<Vec<Spelling>, AllocError> {
-    let mut found = Vec::new(alloc);
-    if rules.exact && site.linked.is_empty() {
-        return Ok(found);
+    input: SiteInput<'_>,
+    url: &CanonUrl,
+    text: &str,
+) -> Result<Option<Spelling>, AllocError> {
+    if input.rules.exact && input.site.linked.is_empty() {
+        return Ok(None);
     }
-    let base = base_of(alloc, top)?;
-    for seed in seeds {
-        if let Some(spelling) = spelling_at(alloc, site, rules, &base, seed.as_str().as_bytes())? {
-            found.push(spelling)?;
-        }
-    }
-    Ok(found)
-}
-
-/// The text of the line of a link or of a redirect.
-fn text_of(line: &[u8]) -> Option<&[u8]> {
-    match line.strip_prefix(b"link ") {
-        Some(text) => Some(text),
-        None => line.strip_prefix(b"moved "),
-    }
+    let base = base_of(alloc, url)?;
+    spelling_at(alloc, input, &base, text.as_bytes())
 }
 
 /// The spelling that a link has, if its URL is not that of a page. A page whose URL does not fit in a line has no other spellings.
 fn spelling_at(
     alloc: Global,
-    site: &Site,
-    rules: &Rules,
+    input: SiteInput<'_>,
     base: &Base,
     text: &[u8],
 ) -> Result<Option<Spelling>, AllocError> {
     let Some(url) = resolved(alloc, base, text)? else {
         return Ok(None);
     };
-    let Some(plain) = plain_of(alloc, site, rules, url.as_str())? else {
+    let Some(plain) = plain_of(alloc, input.site, input.rules, url.as_str())? else {
         return Ok(None);
     };
-    match site.find(plain.as_str()) {
-        Some(entry) if has_line(site, entry) => Ok(Some(Spelling { url, entry })),
+    match input.site.find(plain.as_str()) {
+        Some(entry) if has_line(input.site, entry) => Ok(Some(Spelling { url, entry })),
         _ => Ok(None),
     }
 }

@@ -1,6 +1,7 @@
 //! The pages that are to be made.
-use crate::make::{NewPage, SiteInput, Task};
-use crate::spellings::{Spelling, seed_spellings};
+use crate::new_page::NewPage;
+use crate::site_input::{SiteInput, Task};
+use crate::spellings::{Spelling, text_spelling};
 use crawl_keys::CanonUrl;
 use std::alloc::{AllocError, Global};
 use std::collections::BTreeSet;
@@ -40,32 +41,33 @@ impl SpelledTasks {
         input: SiteInput<'_>,
         seeds: &[String],
     ) -> Result<(), AllocError> {
-        if seeds.is_empty() {
-            return Ok(());
-        }
         let top = input.site.top_url();
-        let spellings = seed_spellings(self.alloc, input.site, input.rules, top, seeds)?;
-        self.add(spellings.as_slice())
+        for seed in seeds {
+            if let Some(spelling) = text_spelling(self.alloc, input, top, seed.as_str())? {
+                self.add(&spelling)?;
+            }
+        }
+        Ok(())
     }
 
     /// Adds the pages that links of new pages spell, and frees the lists of these.
     pub(crate) fn add_spelled(&mut self, pages: &mut [NewPage]) -> Result<(), AllocError> {
         for page in pages.iter_mut() {
             let spellings = mem::replace(&mut page.spellings, Vec::new(self.alloc));
-            self.add(spellings.as_slice())?;
+            for spelling in &spellings {
+                self.add(spelling)?;
+            }
         }
         Ok(())
     }
 
-    fn add(&mut self, spellings: &[Spelling]) -> Result<(), AllocError> {
-        for spelling in spellings {
-            if !self.known.contains(&spelling.url) {
-                self.known.insert(spelling.url.clone()?)?;
-                self.tasks.push(Task {
-                    url: spelling.url.clone()?,
-                    entry: spelling.entry,
-                })?;
-            }
+    fn add(&mut self, spelling: &Spelling) -> Result<(), AllocError> {
+        if !self.known.contains(&spelling.url) {
+            self.known.insert(spelling.url.clone()?)?;
+            self.tasks.push(Task {
+                url: spelling.url.clone()?,
+                entry: spelling.entry,
+            })?;
         }
         Ok(())
     }

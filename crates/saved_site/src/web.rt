@@ -1,34 +1,12 @@
-//! Makes the saved web of a site.
-ghost use Rattle.std.specs.Prelude.{IfErr, IfOk, string_bytes};
-ghost use Rattle.saved_site.specs.Aliases.{AreAliases};
-ghost use Rattle.saved_site.specs.Below.{IsWebAt, IsWebBelow};
-ghost use Rattle.saved_site.specs.Errors.{IsOfFiles, IsOfWeb};
-ghost use Rattle.saved_site.specs.Linked.{IsSiteSource};
-ghost use Rattle.saved_site.specs.Meaning.{IsSiteWeb};
-ghost use Rattle.saved_site.specs.Printed.{HasPrinted};
-
-use crate::anchors::Anchors;
-use crate::contents::{Contents, InMemory};
-use crate::error::SiteError;
-use crate::files::SiteFiles;
+//! The pages of a site, as a saved web and as a source for a crawl, and what is known of them.
 use crate::folder_links::FolderLink;
 use crate::linked::LinkedPages;
-use crate::make::SiteInput;
-use crate::making::Making;
 use crate::notes::Note;
-use crate::output::{SiteData, SiteOutput};
 use crate::page::SitePage;
-use crate::print::HEADER_LENGTH;
-use crate::printer::Printer;
-use crate::rounds::make_all;
 use crate::site::Rules;
-use crate::texts::LinkCounts;
+use crate::targets::Target;
 use crawl_keys::CanonUrl;
-use std::alloc::Global;
-use std::thread::Threads;
-
-/// The most bytes of a saved web, which is the limit of a crawl.
-pub(crate) const WEB_LIMIT: usize = 1 << 30;
+use document_links::{Anchors, LinkCounts};
 
 /// A saved web and what is known of its pages.
 #[derive(Drop)]
@@ -82,6 +60,8 @@ pub struct LinkPlaces {
 pub struct PageAnchors {
     pub url: CanonUrl,
     pub anchors: Anchors,
+    /// The targets of its links to anchors; `Anchors::links_to` takes their indices.
+    pub targets: Vec<Target>,
 }
 
 /// The counts of a saved web.
@@ -107,193 +87,8 @@ pub struct SiteNames<'a> {
     pub seeds: &'a [String],
 }
 
-/// Makes the saved web of files in memory. `bodies` has their contents, in the order of their names.
-///
-/// # Errors
-/// `BadBase`, `NoFiles`, `TooLarge`, `NoMemory`.
-#[tactic(auto, using(crate::proofs::Errors::web_of_files))]
-pub fn site_web<R: Threads + Sync>(
-    rt: &R,
-    alloc: Global,
-    input: SiteNames<'_>,
-    bodies: &[Vec<u8>],
-) -> Result<Web, SiteError>
-    ensures web { IfOk result (λ web. IsSiteWeb web.bytes.items) }
-    ensures below { IfOk result (λ web. IsWebAt input.entry.base.now web.bytes.items) }
-    ensures error { IfErr result IsOfFiles }
-{
-    let files = SiteFiles::new(alloc, input)?;
-    let web = files_web(rt, alloc, &files, input.seeds, bodies)?;
-    Ok(web)
-}
-
-/// Makes the saved web of a site whose files are in memory. `bodies` has their contents, in the order of their names; `seeds` are
-/// those of `SiteNames`.
-///
-/// # Errors
-/// `TooLarge`, `NoMemory`.
-pub fn files_web<R: Threads + Sync>(
-    rt: &R,
-    alloc: Global,
-    files: &SiteFiles<'_>,
-    seeds: &[String],
-    bodies: &[Vec<u8>],
-) -> Result<Web, SiteError>
-    ensures web { IfOk result (λ web. IsSiteWeb web.bytes.items) }
-    ensures below { IfOk result (λ web. IsWebBelow (string_bytes files.now.site.top) web.bytes.items) }
-    ensures error { IfErr result IsOfWeb }
-{
-    let contents = InMemory { bodies };
-    web_of(rt, files, seeds, Vec::new(alloc), &contents)
-}
-
-/// Makes the pages of that saved web, without its bytes.
-///
-/// # Errors
-/// Those of `files_web`.
-pub fn files_pages<R: Threads + Sync>(
-    rt: &R,
-    alloc: Global,
-    files: &SiteFiles<'_>,
-    seeds: &[String],
-    bodies: &[Vec<u8>],
-) -> Result<LinkedSite, SiteError>
-    ensures source { IfOk result (λ site. IsSiteSource (string_bytes files.now.site.top) site.pages) }
-    ensures aliases { IfOk result (λ site. AreAliases site.pages site.aliases.items) }
-    ensures error { IfErr result IsOfWeb }
-{
-    let contents = InMemory { bodies };
-    pages_of(rt, files, seeds, Vec::new(alloc), &contents)
-}
-
-/// Makes the saved web of a site, after these notes about its names.
-pub(crate) fn web_of<R: Threads + Sync, C: Contents + Sync>(
-    rt: &R,
-    files: &SiteFiles<'_>,
-    seeds: &[String],
-    told: Vec<Note>,
-    contents: &C,
-) -> Result<Web, SiteError>
-    ensures web { IfOk result (λ web. IsSiteWeb web.bytes.items) }
-    ensures below { IfOk result (λ web. IsWebBelow (string_bytes files.now.site.top) web.bytes.items) }
-    ensures error { IfErr result IsOfWeb }
-{
-    let input = files.input(false);
-    let output = output_of(rt, input, files, seeds, told, contents)?;
-    finish(input.top, output)
-}
-
-/// Makes the pages of that saved web.
-pub(crate) fn pages_of<R: Threads + Sync, C: Contents + Sync>(
-    rt: &R,
-    files: &SiteFiles<'_>,
-    seeds: &[String],
-    told: Vec<Note>,
-    contents: &C,
-) -> Result<LinkedSite, SiteError>
-    ensures source { IfOk result (λ site. IsSiteSource (string_bytes files.now.site.top) site.pages) }
-    ensures aliases { IfOk result (λ site. AreAliases site.pages site.aliases.items) }
-    ensures error { IfErr result IsOfWeb }
-{
-    let input = files.input(true);
-    let output = output_of(rt, input, files, seeds, told, contents)?;
-    finish_linked(input.top, output)
-}
-
-/// Makes all pages of a site.
-fn output_of<R: Threads + Sync, C: Contents + Sync>(
-    rt: &R,
-    input: SiteInput<'_>,
-    files: &SiteFiles<'_>,
-    seeds: &[String],
-    told: Vec<Note>,
-    contents: &C,
-) -> Result<SiteOutput, SiteError>
-    ensures web { IfOk result (λ output. HasPrinted input.entry.top.now output.web) }
-    ensures error { IfErr result IsOfWeb }
-{
-    let alloc = *told.allocator();
-    let mut data = SiteData::new(alloc, told);
-    files.copy_doubles(&mut data.notes)?;
-    let making = Making::new(alloc, input, seeds)?;
-    let web = Printer::new(alloc)?;
-    let none = SiteOutput { web, data };
-    make_all(rt, input, contents, making, none)
-}
-
-fn finish(top: &str, output: SiteOutput) -> Result<Web, SiteError>
-    requires { HasPrinted top.now output.web }
-    ensures web { IfOk result (λ web. IsSiteWeb web.bytes.items) }
-    ensures below { IfOk result (λ web. IsWebBelow top.now web.bytes.items) }
-    ensures error { IfErr result IsOfWeb }
-{
-    let SiteOutput { web, mut data } = output;
-    data.sort()?;
-    let SiteData {
-        late,
-        summary,
-        notes,
-        aliases,
-        anchors,
-        places,
-        ..
-    } = data;
-    let bytes = web.into_web(top, late.as_slice())?;
-    check_length(bytes.len())?;
-    Ok(Web {
-        bytes,
-        summary: summary.with_aliases(aliases.as_slice()),
-        notes,
-        aliases,
-        anchors,
-        places,
-    })
-}
-
-/// The same without the bytes of the saved web, whose number must still be within the limit.
-fn finish_linked(top: &str, output: SiteOutput) -> Result<LinkedSite, SiteError>
-    ensures source { IfOk result (λ site. IsSiteSource top.now site.pages) }
-    ensures aliases { IfOk result (λ site. AreAliases site.pages site.aliases.items) }
-    ensures error { IfErr result IsOfWeb }
-{
-    let SiteOutput { mut data, .. } = output;
-    data.sort()?;
-    let SiteData {
-        summary,
-        notes,
-        aliases,
-        anchors,
-        places,
-        linkers,
-        byte_count,
-        ..
-    } = data;
-    check_length(byte_count.saturating_add(HEADER_LENGTH))?;
-    let alloc = *notes.allocator();
-    let pages = LinkedPages::new(alloc, top, linkers)?;
-    let aliases = pages.aliases_among(alloc, aliases)?;
-    Ok(LinkedSite {
-        pages,
-        summary: summary.with_aliases(aliases.as_slice()),
-        notes,
-        aliases,
-        anchors,
-        places,
-    })
-}
-
-/// Whether a saved web is within the limit.
-fn check_length(byte_count: usize) -> Result<(), SiteError>
-    ensures { IfErr result IsOfWeb }
-{
-    if byte_count > WEB_LIMIT {
-        return Err(SiteError::TooLarge);
-    }
-    Ok(())
-}
-
 impl Summary {
-    fn with_aliases(self, aliases: &[Alias]) -> Summary {
+    pub(crate) fn with_aliases(self, aliases: &[Alias]) -> Summary {
         Summary {
             aliases: aliases.len() as u64,
             ..self

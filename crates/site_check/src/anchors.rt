@@ -7,162 +7,23 @@ ghost use Rattle.site_check.specs.Parts.{part_text};
 ghost use Rattle.site_check.specs.Told.{rows_in};
 
 use crate::ignored::is_ignored;
-use crate::lacked::{Lacked, LackedPart, Part, sort_by_part};
 use crate::located::take_places;
+use crate::missing_anchors::{Anchor, AnchorCount, MissingAnchorLink, sort_by_anchor};
 use crate::shown::shown;
+use crate::site_pages::{DocumentUrl, Pages};
 use check_report::{Broken, Kind, Place};
-use crawl_keys::CanonUrl;
-use crawl_pages::{NoMemory, Page, PageResult};
-use page_anchors::is_indicated;
-use saved_site::{Alias, AnchorLink, AnchorLinks, Anchors, PageAnchors, SiteFiles, Target};
+use crawl_pages::NoMemory;
+use document_links::{AnchorLink, Anchors};
+use saved_site::{PageAnchors, SiteFiles};
 use std::alloc::Global;
 
-/// The results of a crawl, the anchors of the site's documents, and the aliases of the site, in the order of their URLs.
-#[derive(Clone, Copy)]
-pub(crate) struct Pages<'a> {
-    pub(crate) results: &'a [PageResult],
-    pub(crate) anchors: &'a [PageAnchors],
-    pub(crate) aliases: &'a [Alias],
-    /// For each page of the site, the number of the document with the same URL, if there is one.
-    pub(crate) documents: &'a [Option<usize>],
-}
-
-/// For each page of a site, the number of the document with the same URL. Both are in the order of their URLs, and are read once.
-pub(crate) fn documents_of(
-    alloc: Global,
-    files: &SiteFiles<'_>,
-    anchors: &[PageAnchors],
-) -> Result<Vec<Option<usize>>, NoMemory> {
-    let mut all = Vec::new(alloc);
-    let mut next: usize = 0;
-    for number in 0..files.page_count() {
-        let mut found = None;
-        if let Some((url, _)) = files.page(number) {
-            next = next_document(anchors, next, url);
-            found = document_at(anchors, next, url);
-        }
-        all.push(found)?;
-    }
-    Ok(all)
-}
-
-/// The number of the first document from this one on whose URL is not before this one.
-fn next_document(anchors: &[PageAnchors], from: usize, url: &str) -> usize {
-    let (_, behind) = anchors.split_at(from.min(anchors.len()));
-    let passed = behind
-        .iter()
-        .position(|page| page.url.as_str() >= url)
-        .unwrap_or(behind.len());
-    from.saturating_add(passed)
-}
-
-/// The number of this document, if it has this URL.
-fn document_at(anchors: &[PageAnchors], number: usize, url: &str) -> Option<usize> {
-    match anchors.get(number) {
-        Some(page) if page.url.as_str() == url => Some(number),
-        _ => None,
-    }
-}
-
-/// A document by one of its URLs: its own, or an alias.
-#[derive(Clone, Copy)]
-struct DocumentUrl<'a> {
-    url: &'a CanonUrl,
-    /// The number of the document.
-    number: usize,
-}
-
-impl<'a> Pages<'a> {
-    /// The document that a link leads to, directly or by one redirect.
-    fn find_target(&self, files: &SiteFiles<'_>, target: &Target) -> Option<DocumentUrl<'a>> {
-        match target {
-            Target::Page(number) => match self.documents.get(*number) {
-                Some(Some(document)) => self.document(*document),
-                _ => self.find(files.page(*number)?.0),
-            },
-            Target::Other(url) => self.find(url.as_str()),
-        }
-    }
-
-    /// The document that a URL leads to, directly or by one redirect.
-    fn find(&self, url: &str) -> Option<DocumentUrl<'a>> {
-        if let Some(found) = self.find_document(url) {
-            return Some(found);
-        }
-        let results = self.results;
-        let number = results
-            .binary_search_by(|one| one.url.as_str().cmp(url))
-            .ok()?;
-        match &results.get(number)?.page {
-            Page::Moved { to: Some(to) } => self.find_document(to.as_str()),
-            _ => None,
-        }
-    }
-
-    /// The document with this URL or this alias.
-    fn find_document(&self, url: &str) -> Option<DocumentUrl<'a>> {
-        if let Some(number) = self.find_own(url) {
-            return self.document(number);
-        }
-        let aliases = self.aliases;
-        let number = aliases
-            .binary_search_by(|alias| alias.url.as_str().cmp(url))
-            .ok()?;
-        let alias = aliases.get(number)?;
-        Some(DocumentUrl {
-            url: &alias.url,
-            number: self.find_own(alias.own.as_str())?,
-        })
-    }
-
-    /// The number of the document with this URL.
-    fn find_own(&self, url: &str) -> Option<usize> {
-        let anchors = self.anchors;
-        anchors
-            .binary_search_by(|page| page.url.as_str().cmp(url))
-            .ok()
-    }
-
-    /// The document with this number, by its own URL.
-    fn document(&self, number: usize) -> Option<DocumentUrl<'a>> {
-        let anchors = self.anchors;
-        let page = anchors.get(number)?;
-        Some(DocumentUrl {
-            url: &page.url,
-            number,
-        })
-    }
-
-    /// The anchors of a result's page, if it was found and is a document.
-    fn anchors_of(&self, one: &PageResult) -> Option<&'a Anchors> {
-        let anchors = self.anchors;
-        if !is_found(&one.page) {
-            return None;
-        }
-        let page = anchors.get(self.find_own(one.url.as_str())?)?;
-        Some(&page.anchors)
-    }
-
-    /// Whether a document has the anchor that a fragment names, or there is no such document.
-    fn has_part(&self, alloc: Global, number: usize, fragment: &[u8]) -> Result<bool, NoMemory> {
-        match self.anchors.get(number) {
-            Some(page) => is_indicated(alloc, &page.anchors.ids, fragment),
-            None => Ok(true),
-        }
-    }
-}
-
-fn is_found(page: &Page) -> bool {
-    matches!(page, Page::Found { .. })
-}
-
-/// Links of the result with this number to anchors of a document.
+/// Links of the result with this number to anchors of a document, by the index of their target.
 #[derive(Clone, Copy)]
 struct LinksTo<'a> {
     document: DocumentUrl<'a>,
     source: usize,
     anchors: &'a Anchors,
-    to: &'a AnchorLinks,
+    target: usize,
 }
 
 /// The links to anchors of documents in each result whose number has the remainder `rest` by `of`.
@@ -176,9 +37,9 @@ fn every_links<'a>(
     let mut all = Vec::new(alloc);
     for (source, result) in pages.results.iter().enumerate() {
         if source.checked_rem(of) == Some(rest)
-            && let Some(anchors) = pages.anchors_of(result)
+            && let Some(page) = pages.anchors_of(result)
         {
-            push_links(pages, files, source, anchors, &mut all)?;
+            push_links(pages, files, source, page, &mut all)?;
         }
     }
     Ok(all)
@@ -189,16 +50,16 @@ fn push_links<'a>(
     pages: Pages<'a>,
     files: &SiteFiles<'_>,
     source: usize,
-    anchors: &'a Anchors,
+    page: &'a PageAnchors,
     all: &mut Vec<LinksTo<'a>>,
 ) -> Result<(), NoMemory> {
-    for to in &anchors.groups {
-        if let Some(document) = pages.find_target(files, &to.to) {
+    for (target, to) in page.targets.iter().enumerate() {
+        if let Some(document) = pages.find_target(files, to) {
             all.push(LinksTo {
                 document,
                 source,
-                anchors,
-                to,
+                anchors: &page.anchors,
+                target,
             })?;
         }
     }
@@ -213,14 +74,14 @@ pub(crate) fn every_lacked<'a>(
     files: &SiteFiles<'_>,
     rest: usize,
     of: usize,
-) -> Result<Vec<Lacked<'a>>, NoMemory> {
+) -> Result<Vec<MissingAnchorLink<'a>>, NoMemory> {
     let mut links = every_links(alloc, pages, files, rest, of)?;
     links.sort_by(|a: &LinksTo<'_>, b: &LinksTo<'_>| a.document.number.cmp(&b.document.number))?;
     let mut all = Vec::new(alloc);
     for own in &links {
         push_lacked(alloc, pages, *own, &mut all)?;
     }
-    sort_by_part(&mut all)?;
+    sort_by_anchor(&mut all)?;
     Ok(all)
 }
 
@@ -229,9 +90,9 @@ fn push_lacked<'a>(
     alloc: Global,
     pages: Pages<'a>,
     links: LinksTo<'a>,
-    all: &mut Vec<Lacked<'a>>,
+    all: &mut Vec<MissingAnchorLink<'a>>,
 ) -> Result<(), NoMemory> {
-    let (begin, end) = links.to.numbers();
+    let (begin, end) = links.anchors.links_to(links.target);
     for number in begin..end {
         if let Some(link) = links.anchors.link(number) {
             push_link(alloc, pages, links, link, all)?;
@@ -246,13 +107,13 @@ fn push_link<'a>(
     pages: Pages<'a>,
     links: LinksTo<'a>,
     link: AnchorLink<'a>,
-    all: &mut Vec<Lacked<'a>>,
+    all: &mut Vec<MissingAnchorLink<'a>>,
 ) -> Result<(), NoMemory> {
     let DocumentUrl { url, number } = links.document;
     let fragment = link.fragment;
     if !pages.has_part(alloc, number, fragment)? {
-        all.push(Lacked {
-            part: Part { url, fragment },
+        all.push(MissingAnchorLink {
+            anchor: Anchor { url, fragment },
             source: links.source,
             index: link.index,
         })?;
@@ -262,7 +123,7 @@ fn push_link<'a>(
 
 /// An anchor that a document lacks, as it is printed.
 #[derive(Drop)]
-pub(crate) struct ToldPart {
+pub(crate) struct MissingAnchor {
     pub(crate) text: String,
     /// The number of pages that link to it.
     pages: u64,
@@ -274,12 +135,12 @@ pub(crate) struct ToldPart {
 pub(crate) fn told_parts(
     alloc: Global,
     front: &str,
-    lacking: &[LackedPart<'_>],
-) -> Result<Vec<ToldPart>, NoMemory> {
+    lacking: &[AnchorCount<'_>],
+) -> Result<Vec<MissingAnchor>, NoMemory> {
     let mut parts = Vec::new(alloc);
     for (number, lacked) in lacking.iter().enumerate() {
-        parts.push(ToldPart {
-            text: part_text(alloc, front, lacked.part)?,
+        parts.push(MissingAnchor {
+            text: part_text(alloc, front, lacked.anchor)?,
             pages: lacked.pages,
             number,
         })?;
@@ -288,10 +149,10 @@ pub(crate) fn told_parts(
 }
 
 /// The text of an anchor: the URL of its document, `#`, and the fragment.
-fn part_text(alloc: Global, front: &str, part: Part<'_>) -> Result<String, NoMemory> {
-    let mut text = String::from_str(alloc, shown(front, part.url.as_str()))?;
+fn part_text(alloc: Global, front: &str, anchor: Anchor<'_>) -> Result<String, NoMemory> {
+    let mut text = String::from_str(alloc, shown(front, anchor.url.as_str()))?;
     text.push('#')?;
-    let fragment = String::from_utf8_lossy(alloc, part.fragment)?;
+    let fragment = String::from_utf8_lossy(alloc, anchor.fragment)?;
     text.push_str(fragment.as_str())?;
     Ok(text)
 }
@@ -301,7 +162,7 @@ fn part_text(alloc: Global, front: &str, part: Part<'_>) -> Result<String, NoMem
 pub(crate) fn part_rows(
     alloc: Global,
     ignores: &[String],
-    parts: &[ToldPart],
+    parts: &[MissingAnchor],
     pages: usize,
     found: &mut [Vec<Place>],
 ) -> Result<Vec<Broken>, NoMemory>
@@ -320,7 +181,7 @@ pub(crate) fn part_rows(
 /// Appends the row of an anchor, unless an entry matches it.
 fn push_part(
     ignores: &[String],
-    part: &ToldPart,
+    part: &MissingAnchor,
     places: Vec<Place>,
     all: &mut Vec<Broken>,
 ) -> Result<(), NoMemory>

@@ -12,51 +12,26 @@ ghost use Rattle.site_check.specs.Parts.{part_text};
 ghost use Rattle.site_check.specs.Told.{rows_in, way_of};
 ghost use Rattle.site_check.specs.Totals.{totals_of};
 
-use crate::anchors::{Pages, ToldPart, documents_of, part_rows, told_parts};
+use crate::anchors::{MissingAnchor, part_rows, told_parts};
 use crate::ignored::unused;
-use crate::lacked::{LackedParts, lacking, sort_by_part};
+use crate::input::CheckInput;
 use crate::leads::{Lead, Maps, link_indices, targets};
 use crate::linked::{Linked, is_missing, linked_results};
-use crate::located::{PlaceOf, by_number};
+use crate::located::{TargetPlace, by_number};
+use crate::missing_anchors::{AnchorCounts, lacking, sort_by_anchor};
 use crate::names::{Named, names_of};
 use crate::rows::{broken_rows, redirect_rows};
 use crate::shown::shown;
+use crate::site_pages::{Pages, Site, documents_of};
 use crate::threads::{lacked_by, leads_by, locate_by};
 use crate::totals::totals_of;
 use crate::unreached::unreached;
 use crate::worst::worst;
 use check_report::{Broken, FileCount, Findings, Redirect, Totals};
 use crawl_pages::{NoMemory, PageResult};
-use saved_site::{Alias, Body, LinkPlaces, PageAnchors, SiteFiles};
+use saved_site::{FileBytes, SiteFiles};
 use std::alloc::Global;
 use std::thread::{Threads, join};
-
-/// Reads the files of a site, for several threads at the same time.
-pub trait Bodies {
-    /// Reads the file with this name into an empty body, and returns whether it can be read.
-    ///
-    /// # Errors
-    /// Out of memory.
-    fn read(&self, name: &str, body: &mut Body) -> Result<bool, NoMemory>;
-}
-
-/// The settings of a check.
-#[derive(Clone, Copy)]
-pub struct Asked<'a> {
-    /// The prefix that is removed from URLs that begin with it.
-    pub front: &'a str,
-    /// The ignore list: each entry matches the targets that begin with it.
-    pub ignores: &'a [String],
-    /// The aliases of the site, in the order of their URLs.
-    pub aliases: &'a [Alias],
-    /// The anchors of the site's documents, in the order of their URLs. If there are none, no missing anchor is reported.
-    pub anchors: &'a [PageAnchors],
-    /// The positions of the links in the site's documents, in the order of their URLs. If there are none, links to missing pages are
-    /// reported without locations.
-    pub places: &'a [LinkPlaces],
-    /// Whether unreached files are listed.
-    pub unreached: bool,
-}
 
 /// The results of a check.
 #[derive(Drop)]
@@ -105,46 +80,39 @@ impl Checked {
 ///
 /// # Errors
 /// Out of memory.
-pub fn check_site<'f, R: Threads + Sync, B: Bodies + Sync>(
+pub fn check_site<'f, R: Threads + Sync, B: FileBytes + Sync>(
     rt: &R,
     alloc: Global,
     results: &[PageResult],
     files: &'f SiteFiles<'f>,
-    bodies: &B,
-    asked: Asked<'_>,
+    bytes: &B,
+    input: CheckInput<'_>,
 ) -> Result<Checked, NoMemory>
     // The rows of missing pages are the missing results, in order, each with the number of results that link to it, without those
     // that an entry matches.
-    ensures broken { IfOk result (λ checked. rows_in checked.broken.items ≡ broken_of asked.entry.front.now (map string_bytes asked.entry.ignores.now) results.now) }
+    ensures broken { IfOk result (λ checked. rows_in checked.broken.items ≡ broken_of input.entry.front.now (map string_bytes input.entry.ignores.now) results.now) }
     // The rows of redirects are the moved results that are linked to.
-    ensures redirects { IfOk result (λ checked. map way_of checked.redirects.items ≡ redirects_of asked.entry.front.now results.now) }
+    ensures redirects { IfOk result (λ checked. map way_of checked.redirects.items ≡ redirects_of input.entry.front.now results.now) }
     // For a missing page the only page with its file name is suggested, unless a link to the missing page is in the file of that page.
-    ensures names { IfOk result (λ checked. AreNamed asked.entry.front.now files.now checked.broken.items) }
+    ensures names { IfOk result (λ checked. AreNamed input.entry.front.now files.now checked.broken.items) }
     // The unused entries are those that match no missing page and no missing anchor.
-    ensures ignores { IfOk result (λ checked. AreUnused asked.entry.front.now (map string_bytes asked.entry.ignores.now) results.now (parts_in checked.broken.items) (map string_bytes checked.unused_ignores.items)) }
+    ensures ignores { IfOk result (λ checked. AreUnused input.entry.front.now (map string_bytes input.entry.ignores.now) results.now (parts_in checked.broken.items) (map string_bytes checked.unused_ignores.items)) }
     // The totals count the pages at files' own URLs, their links, the pages at aliases, and the rows.
-    ensures totals { IfOk result (λ checked. checked.totals ≡ totals_of asked.entry.aliases.now results.now checked.broken.items checked.redirects.items) }
+    ensures totals { IfOk result (λ checked. checked.totals ≡ totals_of input.entry.aliases.now results.now checked.broken.items checked.redirects.items) }
 {
-    let documents = documents_of(alloc, files, asked.anchors)?;
-    let site = site_of(results, files, asked, documents.as_slice());
+    let documents = documents_of(alloc, files, input.anchors)?;
+    let site = site_of(results, files, input, documents.as_slice());
     let linked = linked_results(rt, alloc, results, files.threads())?;
     let all = linked.as_slice();
-    let sought = sought_by(rt, alloc, asked, site, all)?;
-    let places = locate_by(rt, alloc, site, sought.leads.as_slice(), bodies)?;
-    told(alloc, asked, site, all, &sought, places)
-}
-
-/// The results of a crawl of a site, and its files.
-#[derive(Clone, Copy)]
-pub(crate) struct Site<'p, 'f> {
-    pub(crate) pages: Pages<'p>,
-    pub(crate) files: &'f SiteFiles<'f>,
+    let sought = sought_by(rt, alloc, input, site, all)?;
+    let places = locate_by(rt, alloc, site, sought.leads.as_slice(), bytes)?;
+    told(alloc, input, site, all, &sought, places)
 }
 
 fn site_of<'p, 'f>(
     results: &'p [PageResult],
     files: &'f SiteFiles<'f>,
-    asked: Asked<'p>,
+    input: CheckInput<'p>,
     documents: &'p [Option<usize>],
 ) -> Site<'p, 'f>
     ensures files { result.files.now ≡ files.now }
@@ -153,8 +121,8 @@ fn site_of<'p, 'f>(
     Site {
         pages: Pages {
             results,
-            anchors: asked.anchors,
-            aliases: asked.aliases,
+            anchors: input.anchors,
+            aliases: input.aliases,
             documents,
         },
         files,
@@ -163,8 +131,8 @@ fn site_of<'p, 'f>(
 
 /// The links whose locations are reported.
 #[derive(Drop)]
-struct Sought<'p> {
-    lacking: LackedParts<'p>,
+struct BrokenLinks<'p> {
+    lacking: AnchorCounts<'p>,
     /// The links to missing pages and missing anchors, page by page, in the order of a page's text.
     leads: Vec<Lead>,
 }
@@ -172,36 +140,36 @@ struct Sought<'p> {
 fn sought_by<'p, R: Threads + Sync>(
     rt: &R,
     alloc: Global,
-    asked: Asked<'p>,
+    input: CheckInput<'p>,
     site: Site<'p, '_>,
     linked: &[Linked<'p>],
-) -> Result<Sought<'p>, NoMemory> {
+) -> Result<BrokenLinks<'p>, NoMemory> {
     let threads = site.files.threads().max(1);
     let (leads, lacked) = join(
         rt,
-        move || page_leads(rt, alloc, asked, site, linked),
+        move || page_leads(rt, alloc, input, site, linked),
         move || lacked_by(rt, alloc, site, threads),
     );
     let mut leads = leads?;
     let mut lacked = lacked?;
-    sort_by_part(&mut lacked)?;
+    sort_by_anchor(&mut lacked)?;
     let lacking = lacking(alloc, lacked, linked.len(), &mut leads)?;
     leads.sort_by(|a: &Lead, b: &Lead| (a.source, a.index).cmp(&(b.source, b.index)))?;
-    Ok(Sought { lacking, leads })
+    Ok(BrokenLinks { lacking, leads })
 }
 
 /// The links to missing pages that are not ignored, directly or by a redirect.
 fn page_leads<'p, R: Threads + Sync>(
     rt: &R,
     alloc: Global,
-    asked: Asked<'p>,
+    input: CheckInput<'p>,
     site: Site<'p, '_>,
     linked: &[Linked<'p>],
 ) -> Result<Vec<Lead>, NoMemory>
-    ensures { IfOk result (λ all. all.items ≡ leads_from (number_in (targets_of asked.entry.front.now (map string_bytes asked.entry.ignores.now) (map result_at linked.now))) (indices_in asked.entry.places.now) 0 site.entry.pages.results.now) }
+    ensures { IfOk result (λ all. all.items ≡ leads_from (number_in (targets_of input.entry.front.now (map string_bytes input.entry.ignores.now) (map result_at linked.now))) (indices_in input.entry.places.now) 0 site.entry.pages.results.now) }
 {
-    let numbers = targets(alloc, asked.front, asked.ignores, linked)?;
-    let indices = link_indices(alloc, asked.places)?;
+    let numbers = targets(alloc, input.front, input.ignores, linked)?;
+    let indices = link_indices(alloc, input.places)?;
     let maps = Maps {
         numbers: &numbers,
         indices: &indices,
@@ -212,27 +180,27 @@ fn page_leads<'p, R: Threads + Sync>(
 /// The results of a check, with the locations of the links.
 fn told(
     alloc: Global,
-    asked: Asked<'_>,
+    input: CheckInput<'_>,
     site: Site<'_, '_>,
     linked: &[Linked<'_>],
-    sought: &Sought<'_>,
-    places: Vec<PlaceOf>,
+    sought: &BrokenLinks<'_>,
+    places: Vec<TargetPlace>,
 ) -> Result<Checked, NoMemory>
-    ensures broken { IfOk result (λ checked. rows_in checked.broken.items ≡ flat_map (rows_with asked.entry.front.now (map string_bytes asked.entry.ignores.now)) (map linked_at linked.now)) }
-    ensures redirects { IfOk result (λ checked. map way_of checked.redirects.items ≡ flat_map (ways_with asked.entry.front.now) (map linked_at linked.now)) }
-    ensures names { IfOk result (λ checked. AreNamed asked.entry.front.now site.entry.files.now checked.broken.items) }
-    ensures ignores { IfOk result (λ checked. (results : List PageResult) → missing_texts asked.entry.front.now results ≡ flat_map (text_at asked.entry.front.now) (map result_at linked.now) → AreUnused asked.entry.front.now (map string_bytes asked.entry.ignores.now) results (parts_in checked.broken.items) (map string_bytes checked.unused_ignores.items)) }
-    ensures totals { IfOk result (λ checked. checked.totals ≡ totals_of asked.entry.aliases.now site.entry.pages.results.now checked.broken.items checked.redirects.items) }
+    ensures broken { IfOk result (λ checked. rows_in checked.broken.items ≡ flat_map (rows_with input.entry.front.now (map string_bytes input.entry.ignores.now)) (map linked_at linked.now)) }
+    ensures redirects { IfOk result (λ checked. map way_of checked.redirects.items ≡ flat_map (ways_with input.entry.front.now) (map linked_at linked.now)) }
+    ensures names { IfOk result (λ checked. AreNamed input.entry.front.now site.entry.files.now checked.broken.items) }
+    ensures ignores { IfOk result (λ checked. (results : List PageResult) → missing_texts input.entry.front.now results ≡ flat_map (text_at input.entry.front.now) (map result_at linked.now) → AreUnused input.entry.front.now (map string_bytes input.entry.ignores.now) results (parts_in checked.broken.items) (map string_bytes checked.unused_ignores.items)) }
+    ensures totals { IfOk result (λ checked. checked.totals ≡ totals_of input.entry.aliases.now site.entry.pages.results.now checked.broken.items checked.redirects.items) }
 {
     let results = site.pages.results;
-    let parts = told_parts(alloc, asked.front, &sought.lacking)?;
-    let broken = broken_all(alloc, asked, site, linked, parts.as_slice(), places)?;
-    let redirects = redirect_rows(alloc, asked.front, linked)?;
-    let unused_ignores = unused_entries(alloc, asked, linked, parts.as_slice())?;
-    let unreached = unreached_asked(alloc, asked, site)?;
+    let parts = told_parts(alloc, input.front, &sought.lacking)?;
+    let broken = broken_all(alloc, input, site, linked, parts.as_slice(), places)?;
+    let redirects = redirect_rows(alloc, input.front, linked)?;
+    let unused_ignores = unused_entries(alloc, input, linked, parts.as_slice())?;
+    let unreached = unreached_files(alloc, input, site)?;
     let totals = totals_of(
         alloc,
-        asked.aliases,
+        input.aliases,
         results,
         broken.as_slice(),
         redirects.as_slice(),
@@ -248,13 +216,13 @@ fn told(
     })
 }
 
-fn unreached_asked(
+fn unreached_files(
     alloc: Global,
-    asked: Asked<'_>,
+    input: CheckInput<'_>,
     site: Site<'_, '_>,
 ) -> Result<Vec<String>, NoMemory> {
-    if asked.unreached {
-        unreached(alloc, asked.front, site.pages.results, site.files)
+    if input.unreached {
+        unreached(alloc, input.front, site.pages.results, site.files)
     } else {
         Ok(Vec::new(alloc))
     }
@@ -263,15 +231,15 @@ fn unreached_asked(
 /// The rows of the missing pages and of these anchors, with the locations of the links to them.
 fn broken_all(
     alloc: Global,
-    asked: Asked<'_>,
+    input: CheckInput<'_>,
     site: Site<'_, '_>,
     linked: &[Linked<'_>],
-    parts: &[ToldPart],
-    places: Vec<PlaceOf>,
+    parts: &[MissingAnchor],
+    places: Vec<TargetPlace>,
 ) -> Result<Vec<Broken>, NoMemory>
-    ensures rows { IfOk result (λ all. rows_in all.items ≡ flat_map (rows_with asked.entry.front.now (map string_bytes asked.entry.ignores.now)) (map linked_at linked.now)) }
-    ensures names { IfOk result (λ all. AreNamed asked.entry.front.now site.entry.files.now all.items) }
-    ensures parts { IfOk result (λ all. parts_in all.items ≡ not_ignored (map string_bytes asked.entry.ignores.now) (map part_text parts.now)) }
+    ensures rows { IfOk result (λ all. rows_in all.items ≡ flat_map (rows_with input.entry.front.now (map string_bytes input.entry.ignores.now)) (map linked_at linked.now)) }
+    ensures names { IfOk result (λ all. AreNamed input.entry.front.now site.entry.files.now all.items) }
+    ensures parts { IfOk result (λ all. parts_in all.items ≡ not_ignored (map string_bytes input.entry.ignores.now) (map part_text parts.now)) }
 {
     let pages = linked.len();
     let mut found = by_number(alloc, places, pages.saturating_add(parts.len()))?;
@@ -280,8 +248,8 @@ fn broken_all(
         files: site.files,
         names: &names,
     };
-    let rows = broken_rows(alloc, asked, named, linked, found.as_mut_slice())?;
-    let parts = part_rows(alloc, asked.ignores, parts, pages, found.as_mut_slice())?;
+    let rows = broken_rows(alloc, input, named, linked, found.as_mut_slice())?;
+    let parts = part_rows(alloc, input.ignores, parts, pages, found.as_mut_slice())?;
     let all = with_parts(rows, parts)?;
     Ok(all)
 }
@@ -302,18 +270,18 @@ fn with_parts(rows: Vec<Broken>, parts: Vec<Broken>) -> Result<Vec<Broken>, NoMe
 /// The entries that match no missing page and none of these anchors.
 fn unused_entries(
     alloc: Global,
-    asked: Asked<'_>,
+    input: CheckInput<'_>,
     linked: &[Linked<'_>],
-    parts: &[ToldPart],
+    parts: &[MissingAnchor],
 ) -> Result<Vec<String>, NoMemory>
-    ensures { IfOk result (λ all. map string_bytes all.items ≡ unused (map string_bytes asked.entry.ignores.now) (map part_text parts.now ++ flat_map (text_at asked.entry.front.now) (map result_at linked.now))) }
+    ensures { IfOk result (λ all. map string_bytes all.items ≡ unused (map string_bytes input.entry.ignores.now) (map part_text parts.now ++ flat_map (text_at input.entry.front.now) (map result_at linked.now))) }
 {
     let told = texts_of(alloc, parts)?;
-    let pages = missing_texts(alloc, asked.front, linked)?;
-    unused(alloc, asked.ignores, told.as_slice(), pages.as_slice())
+    let pages = missing_texts(alloc, input.front, linked)?;
+    unused(alloc, input.ignores, told.as_slice(), pages.as_slice())
 }
 
-fn texts_of(alloc: Global, parts: &[ToldPart]) -> Result<Vec<&str>, NoMemory>
+fn texts_of(alloc: Global, parts: &[MissingAnchor]) -> Result<Vec<&str>, NoMemory>
     ensures { IfOk result (λ texts. pointed texts.items ≡ map part_text parts.now) }
 {
     let mut texts = Vec::new(alloc);

@@ -8,8 +8,8 @@ ghost use Rattle.site_check.specs.Ignored.{entries_in, entry_in, entry_of, has_n
 use crate::names::split_byte;
 use crate::shown::begins;
 use crawl_pages::NoMemory;
-use text_lines::first_line;
 use std::alloc::Global;
+use text_lines::first_line;
 
 /// Reads an ignore list, one entry per line. An entry matches the targets that begin with it. Empty lines and lines that start with
 /// `#` are skipped; white space around an entry and a byte order mark at the start are ignored.

@@ -8,8 +8,8 @@ ghost use Rattle.crawl_sources.specs.Sources.{sources_of};
 ghost use Rattle.crawl_sources.specs.Tallies.{pointed, count_of, IsTally};
 ghost use Rattle.site_check.specs.Broken.{is_unfound, linked, linked_at};
 
-use crawl_sources::{Tallies, tally_links, tally_of};
 use crawl_pages::{NoMemory, Page, PageResult};
+use crawl_sources::{Tallies, tally_links, tally_of};
 use std::alloc::Global;
 use std::thread::{Threads, join};
 

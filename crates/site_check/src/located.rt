@@ -1,9 +1,10 @@
 //! The locations of broken links. Only files that have one are read again.
-use crate::check::{Bodies, Site};
 use crate::leads::Lead;
+use crate::site_pages::Site;
 use check_report::Place;
 use crawl_pages::NoMemory;
-use saved_site::{Body, TextPlace, text_places};
+use document_links::{TextPlace, text_places};
+use saved_site::{Body, FileBytes, SiteFile};
 use std::alloc::Global;
 use std::mem;
 use std::sync::atomic::{AtomicUsize, Ordering};
@@ -19,7 +20,7 @@ pub(crate) fn take_places(alloc: Global, found: &mut [Vec<Place>], number: usize
 /// The locations of the links to each of `count` targets, in order.
 pub(crate) fn by_number(
     alloc: Global,
-    places: Vec<PlaceOf>,
+    places: Vec<TargetPlace>,
     count: usize,
 ) -> Result<Vec<Vec<Place>>, NoMemory> {
     let counts = place_counts(alloc, places.as_slice(), count)?;
@@ -32,7 +33,11 @@ pub(crate) fn by_number(
 }
 
 /// The number of links to each target.
-fn place_counts(alloc: Global, places: &[PlaceOf], count: usize) -> Result<Vec<usize>, NoMemory> {
+fn place_counts(
+    alloc: Global,
+    places: &[TargetPlace],
+    count: usize,
+) -> Result<Vec<usize>, NoMemory> {
     let mut counts = vec![in alloc; 0usize; count]?;
     for one in places {
         if let Some(own) = counts.get_mut(one.number) {
@@ -53,7 +58,7 @@ fn with_room(alloc: Global, counts: &[usize]) -> Result<Vec<Vec<Place>>, NoMemor
 
 /// The location of a link, and the number of its target.
 #[derive(Drop)]
-pub(crate) struct PlaceOf {
+pub(crate) struct TargetPlace {
     number: usize,
     place: Place,
 }
@@ -87,34 +92,38 @@ fn split_page(leads: &[Lead]) -> (&[Lead], &[Lead]) {
 
 /// The locations of the links of the pages that one of several threads takes. Each takes the next until there is none, and reads its
 /// file again, if that can be read.
-pub(crate) fn every_place<B: Bodies>(
+pub(crate) fn every_place<B: FileBytes>(
     alloc: Global,
     site: Site<'_, '_>,
     pages: &[&[Lead]],
-    bodies: &B,
+    bytes: &B,
     next: &AtomicUsize,
-) -> Result<Vec<PlaceOf>, NoMemory> {
+) -> Result<Vec<TargetPlace>, NoMemory> {
     let mut all = Vec::new(alloc);
     let mut body = Body::new(alloc);
     for _ in 0..pages.len() {
         let Some(leads) = pages.get(next.fetch_add(1, Ordering::SeqCst)) else {
             break;
         };
-        if let Some(name) = name_of(site, *leads) {
+        if let Some(file) = file_of(site, *leads) {
             body.clear();
-            if bodies.read(name, &mut body)? {
-                push_places(alloc, *leads, name, body.as_slice(), &mut all)?;
+            if bytes.read(file, &mut body)?.is_none() {
+                push_places(alloc, *leads, file.name, body.as_slice(), &mut all)?;
             }
         }
     }
     Ok(all)
 }
 
-/// The name of the file of the page that has these links.
-fn name_of<'f>(site: Site<'_, 'f>, leads: &[Lead]) -> Option<&'f str> {
+/// The file of the page that has these links.
+fn file_of<'f>(site: Site<'_, 'f>, leads: &[Lead]) -> Option<SiteFile<'f>> {
     let one = site.pages.results.get(leads.first()?.source)?;
-    let file = site.files.file_of(one.url.as_str())?;
-    site.files.name(file)
+    let index = site.files.file_of(one.url.as_str())?;
+    Some(SiteFile {
+        index,
+        name: site.files.name(index)?,
+        is_document: true,
+    })
 }
 
 fn push_places(
@@ -122,14 +131,14 @@ fn push_places(
     leads: &[Lead],
     name: &str,
     body: &[u8],
-    all: &mut Vec<PlaceOf>,
+    all: &mut Vec<TargetPlace>,
 ) -> Result<(), NoMemory> {
     let indices = indices_of(alloc, leads)?;
     let places = text_places(alloc, body, indices.as_slice())?;
     for (lead, place) in leads.iter().zip(places.iter()) {
         let place = place_in(alloc, name, *place)?;
         let number = lead.number;
-        all.push(PlaceOf { number, place })?;
+        all.push(TargetPlace { number, place })?;
     }
     Ok(())
 }
@@ -148,9 +157,9 @@ fn place_in(alloc: Global, name: &str, place: TextPlace) -> Result<Place, NoMemo
 }
 
 /// Adds these locations to those of their targets.
-fn add_places(places: Vec<PlaceOf>, found: &mut [Vec<Place>]) -> Result<(), NoMemory> {
+fn add_places(places: Vec<TargetPlace>, found: &mut [Vec<Place>]) -> Result<(), NoMemory> {
     for one in places {
-        let PlaceOf { number, place } = one;
+        let TargetPlace { number, place } = one;
         if let Some(own) = found.get_mut(number) {
             own.push(place)?;
         }

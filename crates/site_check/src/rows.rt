@@ -7,8 +7,8 @@ ghost use Rattle.site_check.specs.Ignored.{parts_in};
 ghost use Rattle.site_check.specs.Names.{AreNamed, AreNames};
 ghost use Rattle.site_check.specs.Told.{rows_in, way_of};
 
-use crate::check::Asked;
 use crate::ignored::is_ignored;
+use crate::input::CheckInput;
 use crate::linked::Linked;
 use crate::located::take_places;
 use crate::names::{Named, same_name};
@@ -21,41 +21,41 @@ use std::alloc::Global;
 /// The rows of the pages that are not there, in order, with where links to each stand.
 pub(crate) fn broken_rows<'n>(
     alloc: Global,
-    asked: Asked<'_>,
+    input: CheckInput<'_>,
     named: Named<'_, 'n>,
     linked: &[Linked<'n>],
     found: &mut [Vec<Place>],
 ) -> Result<Vec<Broken>, NoMemory>
     requires { AreNames named.files.now named.names.now }
-    ensures rows { IfOk result (λ all. rows_in all.items ≡ flat_map (rows_with asked.entry.front.now (map string_bytes asked.entry.ignores.now)) (map linked_at linked.now)) }
-    ensures names { IfOk result (λ all. AreNamed asked.entry.front.now named.entry.files.now all.items) }
+    ensures rows { IfOk result (λ all. rows_in all.items ≡ flat_map (rows_with input.entry.front.now (map string_bytes input.entry.ignores.now)) (map linked_at linked.now)) }
+    ensures names { IfOk result (λ all. AreNamed input.entry.front.now named.entry.files.now all.items) }
     ensures parts { IfOk result (λ all. parts_in all.items ≡ []) }
 {
     let mut all = Vec::new(alloc);
     for (index, one) in linked.iter().enumerate() {
         let places = take_places(alloc, found, index);
-        push_row(alloc, asked, named, one, places, &mut all)?;
+        push_row(alloc, input, named, one, places, &mut all)?;
     }
     Ok(all)
 }
 
 fn push_row<'n>(
     alloc: Global,
-    asked: Asked<'_>,
+    input: CheckInput<'_>,
     named: Named<'_, 'n>,
     one: &Linked<'n>,
     places: Vec<Place>,
     all: &mut Vec<Broken>,
 ) -> Result<(), NoMemory>
     requires { AreNames named.files.now named.names.now }
-    ensures rows { OnOk result (rows_in all.new.items ≡ rows_in all.old.items ++ rows_with asked.entry.front.now (map string_bytes asked.entry.ignores.now) (linked_at one.now)) }
-    ensures names { OnOk result (AreNamed asked.entry.front.now named.entry.files.now all.old.items → AreNamed asked.entry.front.now named.entry.files.now all.new.items) }
+    ensures rows { OnOk result (rows_in all.new.items ≡ rows_in all.old.items ++ rows_with input.entry.front.now (map string_bytes input.entry.ignores.now) (linked_at one.now)) }
+    ensures names { OnOk result (AreNamed input.entry.front.now named.entry.files.now all.old.items → AreNamed input.entry.front.now named.entry.files.now all.new.items) }
     ensures parts { OnOk result (parts_in all.new.items ≡ parts_in all.old.items) }
 {
     match one.result.page {
         Page::Missing => {
-            let text = shown(asked.front, one.result.url.as_str());
-            push_missing(alloc, asked, named, (text, one.pages), places, all)
+            let text = shown(input.front, one.result.url.as_str());
+            push_missing(alloc, input, named, (text, one.pages), places, all)
         }
         Page::Moved { .. } => Ok(()),
         Page::Found { .. } => Ok(()),
@@ -65,22 +65,22 @@ fn push_row<'n>(
 /// A row of a page that is told so and that so many pages link to, unless that is known.
 fn push_missing<'n>(
     alloc: Global,
-    asked: Asked<'_>,
+    input: CheckInput<'_>,
     named: Named<'_, 'n>,
     told: (&'n str, u64),
     places: Vec<Place>,
     all: &mut Vec<Broken>,
 ) -> Result<(), NoMemory>
     requires { AreNames named.files.now named.names.now }
-    ensures rows { OnOk result (rows_in all.new.items ≡ rows_in all.old.items ++ row_for (map string_bytes asked.entry.ignores.now) told.entry.0.now told.entry.1) }
-    ensures names { OnOk result (AreNamed asked.entry.front.now named.entry.files.now all.old.items → AreNamed asked.entry.front.now named.entry.files.now all.new.items) }
+    ensures rows { OnOk result (rows_in all.new.items ≡ rows_in all.old.items ++ row_for (map string_bytes input.entry.ignores.now) told.entry.0.now told.entry.1) }
+    ensures names { OnOk result (AreNamed input.entry.front.now named.entry.files.now all.old.items → AreNamed input.entry.front.now named.entry.files.now all.new.items) }
     ensures parts { OnOk result (parts_in all.new.items ≡ parts_in all.old.items) }
 {
     let (text, pages) = told;
-    if is_ignored(asked.ignores, text) {
+    if is_ignored(input.ignores, text) {
         return Ok(());
     }
-    let name = same_name(alloc, asked.front, named, text, places.as_slice())?;
+    let name = same_name(alloc, input.front, named, text, places.as_slice())?;
     let target = String::from_str(alloc, text)?;
     all.push(Broken {
         target,

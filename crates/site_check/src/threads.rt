@@ -3,11 +3,12 @@ ghost use Rattle.std.specs.Prelude.{◌≡◌, ◌++◌, ◌+◌, ◌<◌, ◌^�
 ghost use Rattle.site_check.specs.Leads.{indices_at, leads_from, number_at};
 
 use crate::anchors::every_lacked;
-use crate::check::{Bodies, Site};
-use crate::lacked::Lacked;
 use crate::leads::{Lead, Maps, leads_from};
-use crate::located::{PlaceOf, by_page, every_place};
+use crate::located::{TargetPlace, by_page, every_place};
+use crate::missing_anchors::MissingAnchorLink;
+use crate::site_pages::Site;
 use crawl_pages::{NoMemory, PageResult};
+use saved_site::FileBytes;
 use std::alloc::Global;
 use std::sync::atomic::AtomicUsize;
 use std::thread;
@@ -108,7 +109,7 @@ pub(crate) fn lacked_by<'p, R: Threads + Sync>(
     alloc: Global,
     site: Site<'p, '_>,
     count: usize,
-) -> Result<Vec<Lacked<'p>>, NoMemory> {
+) -> Result<Vec<MissingAnchorLink<'p>>, NoMemory> {
     let pages = site.pages;
     let files = site.files;
     let parts = thread::map_indices(
@@ -121,13 +122,13 @@ pub(crate) fn lacked_by<'p, R: Threads + Sync>(
 }
 
 /// Where these links stand, which stand together by their pages. Each thread reads the pages that it looks at.
-pub(crate) fn locate_by<R: Threads + Sync, B: Bodies + Sync>(
+pub(crate) fn locate_by<R: Threads + Sync, B: FileBytes + Sync>(
     rt: &R,
     alloc: Global,
     site: Site<'_, '_>,
     leads: &[Lead],
-    bodies: &B,
-) -> Result<Vec<PlaceOf>, NoMemory> {
+    bytes: &B,
+) -> Result<Vec<TargetPlace>, NoMemory> {
     let pages = by_page(alloc, leads)?;
     let pages = pages.as_slice();
     let next = AtomicUsize::new(0);
@@ -137,7 +138,7 @@ pub(crate) fn locate_by<R: Threads + Sync, B: Bodies + Sync>(
         rt,
         alloc,
         count,
-        &|_: usize| { every_place(alloc, site, pages, bodies, next) },
+        &|_: usize| { every_place(alloc, site, pages, bytes, next) },
     )?;
     joined(alloc, parts)
 }

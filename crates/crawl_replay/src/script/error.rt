@@ -2,8 +2,8 @@ ghost use Rattle.std.specs.Prelude.{◌≡◌};
 ghost use Rattle.crawl_replay.specs.ScriptFaults.{fault_of};
 ghost use Rattle.crawl_replay.specs.declared.script.error.ScriptError.TheVariants as wrong;
 
-use text_lines::LineError;
 use std::alloc::{AllocError, AllocFailed};
+use text_lines::LineError;
 use thiserror::Error;
 
 /// Why bytes are no script, in the order of the checks. Lines are numbered from 1.

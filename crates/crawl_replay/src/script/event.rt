@@ -12,8 +12,8 @@ use crate::numbers::{number32, number64};
 use crate::script::error::ScriptError;
 use crawl_core::{Event, Text};
 use crawl_keys::{KeyError, canonical};
-use text_lines::{split_space, text_of};
 use std::alloc::Global;
+use text_lines::{split_space, text_of};
 
 /// The event that the line with this number says, to a frontier with so many workers, or nothing for an empty line.
 ///

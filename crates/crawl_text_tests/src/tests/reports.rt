@@ -1,8 +1,7 @@
 //! Reports and their sources, of results in any order, with duplicates, or that no crawl has.
 use crate::tests::results::{Asked, result_at};
-use crawl_sources::sources_text;
 use crawl_pages::{Page, PageResult};
-use crawl_report::report_text;
+use crawl_report::{Parts, Report, Sources, print, report_text};
 use std::alloc::Global;
 
 /// Results in their order of arrival, their report, and where its missing URLs are linked from.
@@ -153,6 +152,7 @@ const ROWS: &[Row] = &[
 fn reports_and_sources(rt: HostRuntime) {
     for row in ROWS {
         assert!(rt; is_told(rt.alloc(), row), "{}", row.report);
+        assert!(rt; is_printed(rt.alloc(), row), "{}", row.sources);
     }
 }
 
@@ -160,7 +160,6 @@ fn is_told(alloc: Global, row: &Row) -> bool {
     let mut results = Vec::new(alloc);
     push_results(alloc, &mut results, row.results)
         && is_report(alloc, &results, row.report)
-        && are_sources(alloc, &results, row.sources)
         && are_copied(&results)
 }
 
@@ -187,10 +186,33 @@ fn is_report(alloc: Global, results: &[PageResult], expected: &str) -> bool {
     }
 }
 
-fn are_sources(alloc: Global, results: &[PageResult], expected: &str) -> bool {
-    match sources_text(alloc, results) {
-        Ok(text) => text.as_slice() == expected.as_bytes(),
-        Err(_) => false,
+// Whether the results, in the order of their URLs, are printed as their report and then its sources.
+fn is_printed(alloc: Global, row: &Row) -> bool {
+    let Ok(mut asked) = Vec::from_slice(alloc, row.results) else {
+        return false;
+    };
+    let mut results = Vec::new(alloc);
+    asked.sort_by(|a, b| a.1.cmp(b.1)).is_ok()
+        && push_results(alloc, &mut results, &asked)
+        && is_text(alloc, &results, row)
+}
+
+fn is_text(alloc: Global, results: &[PageResult], row: &Row) -> bool {
+    let report = Report {
+        pages: results,
+        queues: &[],
+        unreached: &[],
+        parts: Parts {
+            sources: Sources::First,
+            ..Parts::none()
+        },
+    };
+    let Ok(text) = print(alloc, &report, false) else {
+        return false;
+    };
+    match text.as_slice().strip_prefix(row.report.as_bytes()) {
+        Some(rest) => rest == row.sources.as_bytes(),
+        None => false,
     }
 }
 

@@ -5,9 +5,9 @@ ghost use Rattle.mercator.specs.declared.commands.fault.Fault.TheVariants as wro
 
 use crate::commands::input::Unread;
 use crate::commands::log_file::LogFault;
-use crate::crawling::CrawlError;
 use crawl_keys::{FilterError, KeyError};
 use crawl_replay::ScriptError;
+use crawl_run::{CrawlError, CrawlFailure};
 use crawl_sources::SeedsFault;
 use saved_web::WebError;
 use std::alloc::{AllocError, AllocFailed};
@@ -21,7 +21,7 @@ use std::alloc::{AllocError, AllocFailed};
 /// ```rust
 /// let status = Fault::NoMemory.status();
 /// ```
-#[derive(Clone, Copy, Debug, PartialEq, Eq)]
+#[derive(Drop)]
 pub enum Fault {
     /// FILE, or the input, cannot be read or exceeds a limit.
     CannotRead,
@@ -40,7 +40,7 @@ pub enum Fault {
     /// The URL of `mercator key` has no canonical URL.
     Url(KeyError),
     /// A crawl has no certified result. The reason is never that memory ran out.
-    Crawl(CrawlError),
+    Crawl(CrawlFailure),
     /// The suffix of `--within` cannot be the end of a host.
     BadSuffix,
     /// A write or a flush failed.
@@ -55,11 +55,11 @@ impl Fault {
     ghost use Rattle.mercator.specs.Faults as spec;
 
     /// Returns the exit status: 2 if a crawl was made but not certified, or could not start a thread, else 1.
-    pub fn status(self) -> u8
-        ensures { result ≡ spec.status_of_fault self }
+    pub fn status(&self) -> u8
+        ensures { result ≡ spec.status_of_fault self.now }
     {
         match self {
-            Fault::Crawl(CrawlError::Run(_) | CrawlError::Finish(_) | CrawlError::Cert(_)) => 2,
+            Fault::Crawl(failure) => { if failure.error.is_incomplete() { 2 } else { 1 } }
             _ => 1,
         }
     }
@@ -131,13 +131,13 @@ impl From<WebError> for Fault {
     }
 }
 
-impl From<CrawlError> for Fault {
-    ghost from_gives = { λ crawl fault. fault ≡ of_crawl crawl };
+impl From<CrawlFailure> for Fault {
+    ghost from_gives = { λ failure fault. fault ≡ of_crawl failure };
 
-    fn from(fault: CrawlError) -> Fault {
-        match fault {
+    fn from(failure: CrawlFailure) -> Fault {
+        match failure.error {
             CrawlError::NoMemory => Fault::NoMemory,
-            _ => Fault::Crawl(fault),
+            _ => Fault::Crawl(failure),
         }
     }
 }

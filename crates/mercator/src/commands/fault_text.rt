@@ -4,10 +4,10 @@ ghost use Rattle.mercator.specs.FaultText.{fault_text, line_text, words_text, lo
 
 use crate::commands::fault::Fault;
 use crate::commands::log_file::LogFault;
-use crate::crawling::CrawlError;
 use crawl_certificate::CertError;
 use crawl_frontier::FinishError;
 use crawl_replay::ScriptError;
+use crawl_run::CrawlError;
 use crawl_sources::SeedsFault;
 use saved_web::WebError;
 use std::fmt;
@@ -19,11 +19,11 @@ pub struct FaultText<'a> {
     /// The name of the file, with its hidden characters escaped.
     pub file: &'a str,
     /// The error.
-    pub fault: Fault,
+    pub fault: &'a Fault,
 }
 
 impl fmt::Display for FaultText<'_> {
-    ghost output = { λ told. Some (fault_text told.file.now told.fault) };
+    ghost output = { λ told. Some (fault_text told.file.now told.fault.now) };
 
     fn fmt<W: fmt::Write>(&self, f: &mut fmt::Formatter<W>) -> fmt::Result {
         match self.fault {
@@ -34,27 +34,33 @@ impl fmt::Display for FaultText<'_> {
             Fault::CannotWrite => f.write_str("cannot write"),
             Fault::NoMemory => f.write_str("out of memory"),
             Fault::BadSuffix => f.write_str("bad suffix"),
-            Fault::Url(why) => write!(f, "URL: {why}"),
-            Fault::Seed(number, why) => write!(f, "seed {number}: {why}"),
+            Fault::Url(why) => {
+                let why = *why;
+                write!(f, "URL: {why}")
+            }
+            Fault::Seed(number, why) => {
+                let (number, why) = (*number, *why);
+                write!(f, "seed {number}: {why}")
+            }
             Fault::Seeds(fault) => About {
                 what: "seeds",
-                words: seeds_words(fault),
+                words: seeds_words(*fault),
             }
             .fmt(f),
             Fault::NoSeed => f.write_str("seeds: no seed in the list or on the command line"),
             Fault::Web(fault) => About {
                 what: "saved web",
-                words: web_words(fault),
+                words: web_words(*fault),
             }
             .fmt(f),
             Fault::Script(fault) => About {
                 what: "script",
-                words: script_words(fault),
+                words: script_words(*fault),
             }
             .fmt(f),
-            Fault::Crawl(error) => CrawlText(error).fmt(f),
+            Fault::Crawl(failure) => CrawlText(failure.error).fmt(f),
             Fault::Log(fault) => {
-                let (file, words) = (self.file, log_words(fault));
+                let (file, words) = (self.file, log_words(*fault));
                 write!(f, "log {file}: {words}")
             }
         }

@@ -11,12 +11,12 @@ ghost use Rattle.mercator.specs.LogFile.{has_sync, items, line_end, line_len, ma
 use crate::commands::fault::Fault;
 use crate::commands::window::Window;
 use crawl_session::{ServeError, whole_len};
-use text_lines::{LINE_LIMIT, first_line};
 use memchr::memchr;
 use std::alloc::{AllocError, Global};
 use std::fs::{File, OpenFile, TryLockError};
 use std::io::{self, ErrorKind, Read, Write};
 use std::rt::LibcRuntime;
+use text_lines::{LINE_LIMIT, first_line};
 
 /// The most bytes of a line that a log needs. They show that the line is too long, whether or not it ends in CR LF.
 const HELD_LIMIT: usize = LINE_LIMIT + 2;

@@ -130,8 +130,8 @@ impl Plan {
 
     /// Returns the file that this error is about: the file of seeds if that cannot be read, the log if that cannot be used, else
     /// FILE.
-    pub fn told_file(&self, fault: Fault) -> &str
-        ensures { result.now ≡ told_file self.now fault }
+    pub fn told_file(&self, fault: &Fault) -> &str
+        ensures { result.now ≡ told_file self.now fault.now }
     {
         match (self, fault) {
             (Plan::Crawl { file, options, .. }, Fault::CannotReadSeeds) => {

@@ -8,21 +8,20 @@ ghost use Rattle.mercator.specs.Limits.{most_input_bytes};
 ghost use Rattle.mercator.specs.Plans.{IsTelling, IsWithinLimits, is_input, is_bad_suffix, known_bytes, known_seeds, lists_input, reads_input, suffixes_of};
 ghost use Rattle.crawl_replay.specs.Replay.{IsReplay};
 ghost use Rattle.crawl_report.specs.Printing.{joined};
-ghost use Rattle.mercator.specs.Told.{AreFiles, Counts, CountsCrawl, Explains, ExplainsCrawl, IsTold, Fails, FailsReplay, FailsCrawl, FailsKey, OfFile, OfFiles};
-ghost use Rattle.mercator.specs.WebCrawl.{IsAtNone, IsBegun, IsCountedAt, IsFound, IsLostAt, IsNamedAt, IsTextOf, IsUnbegun};
+ghost use Rattle.mercator.specs.Told.{AreFiles, IsTold, Fails, FailsReplay, FailsCrawl, FailsKey, OfFile, OfFiles};
+ghost use Rattle.mercator.specs.WebCrawl.{IsBegun, IsFound, IsTextOf, IsUnbegun};
 ghost use Rattle.mercator.specs.declared.commands.fault.Fault.TheVariants as wrong;
 
 use crate::commands::crawl_text::{alone, crawl_text};
-use crate::commands::failure::Failure;
 use crate::commands::fault::Fault;
 use crate::commands::planned::{CrawlOptions, Plan};
 use crate::commands::platform::Platform;
 use crate::commands::source::read_file;
-use crate::commands::web_crawl::crawl_with_web;
-use crate::crawling::{CrawlSettings, Crawled, Mode, Observe};
+use crate::commands::web_crawl::crawl_saved_web;
 use crate::key::key_line;
 use crawl_keys::{Filter, FilterError};
 use crawl_replay::replay_text;
+use crawl_run::{CrawlSettings, Crawled, Mode, Observe};
 use std::alloc::Global;
 use std::fs::Files;
 use std::io::Read;
@@ -41,18 +40,15 @@ pub fn tell<R: Files + Threads + Wait + Sync, L, V: Observe + Sync, I: Read>(
     alloc: Global,
     plan: &Plan,
     input: &mut I,
-) -> Result<Vec<Vec<u8>>, Failure>
+) -> Result<Vec<Vec<u8>>, Fault>
     requires limits { IsWithinLimits plan.now }
     requires telling { IsTelling plan.now }
     ensures text { IfOk result (λ parts. IsTold plan.now (I.remaining input.old) (joined parts.items)) }
-    ensures fault { IfErr result (λ failure. Fails plan.now (I.remaining input.old) failure.fault) }
-    ensures named { IfErr result (λ failure. Explains plan.now (I.remaining input.old) failure.fault failure.culprit) }
-    ensures lost { IfErr result (λ failure. IsLostAt failure.fault failure.culprit failure.losses) }
-    ensures counted { IfErr result (λ failure. Counts plan.now (I.remaining input.old) failure.fault failure.culprit failure.losses) }
+    ensures fault { IfErr result (Fails plan.now (I.remaining input.old)) }
     ensures unread { reads_input plan.now ≡ false → input.new ≡ input.old }
 {
     match plan {
-        Plan::Replay { file } => Ok(tell_replay(platform.rt, alloc, file, input)?),
+        Plan::Replay { file } => tell_replay(platform.rt, alloc, file, input),
         Plan::Crawl {
             workers,
             max,
@@ -77,7 +73,7 @@ pub fn tell<R: Files + Threads + Wait + Sync, L, V: Observe + Sync, I: Read>(
             forget(found);
             Ok(parts)
         }
-        Plan::Key { url, workers } => Ok(tell_key(alloc, url, *workers)?),
+        Plan::Key { url, workers } => tell_key(alloc, url, *workers),
         Plan::Serve(_) | Plan::ServeLog(_) | Plan::Compact { .. } => {
             unreachable!("a session answers while it reads, and a compaction has no output")
         }
@@ -132,14 +128,11 @@ fn crawl_files<R: Files + Threads + Wait + Sync, L, V: Observe + Sync, I: Read>(
     alloc: Global,
     asked: &AskedCrawl<'_>,
     input: &mut I,
-) -> Result<WebFound, Failure>
+) -> Result<WebFound, Fault>
     requires one_input { (is_input asked.now.file.now && lists_input asked.now.listed.now) ≡ false }
     ensures found { IfOk result (λ found. (is_bad_suffix asked.now.within.now ≡ false) × (found.filter ≡ suffixes_of asked.now.within.now)
         × OfFiles asked.now.file.now asked.now.listed.now (I.remaining input.old) (λ bytes list. (bytes ≡ found.bytes.items) × IsBegun bytes list (map string_bytes asked.now.seeds.now) × IsFound asked.now.workers bytes list (map string_bytes asked.now.seeds.now) (suffixes_of asked.now.within.now) found.crawled)) }
-    ensures fault { IfErr result (λ failure. FailsCrawl asked.now.workers asked.now.max asked.now.within.now asked.now.file.now asked.now.listed.now (map string_bytes asked.now.seeds.now) (I.remaining input.old) failure.fault) }
-    ensures named { IfErr result (λ failure. ExplainsCrawl asked.now.within.now asked.now.file.now asked.now.listed.now (map string_bytes asked.now.seeds.now) (I.remaining input.old) failure.fault failure.culprit) }
-    ensures lost { IfErr result (λ failure. IsLostAt failure.fault failure.culprit failure.losses) }
-    ensures counted { IfErr result (λ failure. CountsCrawl asked.now.workers asked.now.within.now asked.now.file.now asked.now.listed.now (map string_bytes asked.now.seeds.now) (I.remaining input.old) failure.fault failure.culprit failure.losses) }
+    ensures fault { IfErr result (FailsCrawl asked.now.workers asked.now.max asked.now.within.now asked.now.file.now asked.now.listed.now (map string_bytes asked.now.seeds.now) (I.remaining input.old)) }
     ensures unfiltered { is_bad_suffix asked.now.within.now ≡ true → input.new ≡ input.old }
     ensures unread { (is_input asked.now.file.now || lists_input asked.now.listed.now) ≡ false → input.new ≡ input.old }
 {
@@ -158,7 +151,6 @@ fn read_inputs<R: Files, I: Read>(
     ensures suffix { IfOk result (λ inputs. (is_bad_suffix asked.now.within.now ≡ false) × (inputs.filter ≡ suffixes_of asked.now.within.now)) }
     ensures files { IfOk result (λ inputs. AreFiles asked.now.file.now asked.now.listed.now (I.remaining input.old) inputs.bytes.items inputs.list.items) }
     ensures fault { IfErr result (FailsCrawl asked.now.workers asked.now.max asked.now.within.now asked.now.file.now asked.now.listed.now (map string_bytes asked.now.seeds.now) (I.remaining input.old)) }
-    ensures early { IfErr result IsAtNone }
     ensures unfiltered { is_bad_suffix asked.now.within.now ≡ true → input.new ≡ input.old }
     ensures unread { (is_input asked.now.file.now || lists_input asked.now.listed.now) ≡ false → input.new ≡ input.old }
 {
@@ -178,14 +170,11 @@ fn crawl_inputs<R: Threads + Wait + Sync, L, V: Observe + Sync>(
     alloc: Global,
     asked: &AskedCrawl<'_>,
     inputs: Inputs,
-) -> Result<WebFound, Failure>
+) -> Result<WebFound, Fault>
     ensures same { IfOk result (λ found. (found.filter ≡ inputs.filter) × (found.bytes.items ≡ inputs.bytes.items)) }
     ensures begun { IfOk result (λ _. IsBegun inputs.bytes.items inputs.list.items (map string_bytes asked.now.seeds.now)) }
     ensures found { IfOk result (λ found. IsFound asked.now.workers inputs.bytes.items inputs.list.items (map string_bytes asked.now.seeds.now) inputs.filter found.crawled) }
-    ensures fault { IfErr result (λ failure. IsUnbegun asked.now.workers asked.now.max inputs.bytes.items inputs.list.items (map string_bytes asked.now.seeds.now) failure.fault) }
-    ensures named { IfErr result (λ failure. IsNamedAt inputs.bytes.items inputs.list.items (map string_bytes asked.now.seeds.now) inputs.filter failure.fault failure.culprit) }
-    ensures lost { IfErr result (λ failure. IsLostAt failure.fault failure.culprit failure.losses) }
-    ensures counted { IfErr result (λ failure. IsCountedAt asked.now.workers inputs.bytes.items inputs.list.items (map string_bytes asked.now.seeds.now) inputs.filter failure.fault failure.culprit failure.losses) }
+    ensures fault { IfErr result (IsUnbegun asked.now.workers asked.now.max inputs.bytes.items inputs.list.items (map string_bytes asked.now.seeds.now) inputs.filter) }
 {
     let Inputs {
         filter,
@@ -198,7 +187,7 @@ fn crawl_inputs<R: Threads + Wait + Sync, L, V: Observe + Sync>(
         mode: Mode::Threads,
         filter: &filter,
     };
-    let (web, crawled) = crawl_with_web(platform, alloc, &bytes, &list, asked.seeds, &settings)?;
+    let (web, crawled) = crawl_saved_web(platform, alloc, &bytes, &list, asked.seeds, &settings)?;
     // Its list and its index are two blocks, whose memory the report can use.
     drop(web);
     Ok(WebFound {

@@ -2,10 +2,9 @@
 ghost use Rattle.std.specs.Prelude.{◌≡◌, ◌++◌, [], IfOk, string_bytes};
 ghost use Rattle.crawl_report.specs.Printing.{joined};
 ghost use Rattle.mercator.specs.Ending.{Begins, EndsByText};
-ghost use Rattle.mercator.specs.FaultText.{culprit_line, culprit_lines, fault_line, losses_line};
+ghost use Rattle.mercator.specs.FaultText.{culprit_line, fault_line, losses_line, more_lines};
 ghost use Rattle.mercator.specs.Told.{told_lines};
 
-use crate::commands::failure::Failure;
 use crate::commands::fault::Fault;
 use crate::commands::fault_text::FaultText;
 use crate::commands::planned::Plan;
@@ -39,55 +38,57 @@ pub fn end_by_parts<O: Write>(out: &mut O, parts: &[Vec<u8>]) -> Result<(), Faul
 
 /// Reports an error that belongs to no plan. What `err` does not accept of the line is dropped; so is the line if there is no
 /// memory for it.
-pub fn tell_fault<E: Write>(alloc: Global, err: &mut E, fault: Fault)
-    ensures { Begins (E.contents err.old) (E.contents err.new) (fault_line [] fault) }
+pub fn tell_fault<E: Write>(alloc: Global, err: &mut E, fault: &Fault)
+    ensures { Begins (E.contents err.old) (E.contents err.new) (fault_line [] fault.now) }
 {
     if let Ok(line) = fault_line(alloc, "", fault) {
         begin(err, line.as_bytes());
     }
 }
 
-/// Reports the failure of a plan's command, as [`tell_fault`] does. If the plan asks for it, further lines have its URL and what
-/// was lost.
-pub fn tell_ended<E: Write>(alloc: Global, err: &mut E, plan: &Plan, failure: &Failure)
-    ensures { Begins (E.contents err.old) (E.contents err.new) (told_lines plan.now failure.now.fault failure.now.culprit failure.now.losses) }
+/// Reports the error of a plan's command, as [`tell_fault`] does. If the plan asks for it, further lines have the first URL at which
+/// a crawl failed, and what was lost.
+pub fn tell_ended<E: Write>(alloc: Global, err: &mut E, plan: &Plan, fault: &Fault)
+    ensures { Begins (E.contents err.old) (E.contents err.new) (told_lines plan.now fault.now) }
 {
-    if let Ok(lines) = told_lines(alloc, plan, failure) {
+    if let Ok(lines) = told_lines(alloc, plan, fault) {
         begin(err, lines.as_bytes());
     }
 }
 
-fn told_lines(alloc: Global, plan: &Plan, failure: &Failure) -> Result<String, AllocError>
-    ensures { IfOk result (λ lines. string_bytes lines ≡ told_lines plan.now failure.now.fault failure.now.culprit failure.now.losses) }
+fn told_lines(alloc: Global, plan: &Plan, fault: &Fault) -> Result<String, AllocError>
+    ensures { IfOk result (λ lines. string_bytes lines ≡ told_lines plan.now fault.now) }
 {
-    let file = plan.told_file(failure.fault);
+    let file = plan.told_file(fault);
+    let mut lines = fault_line(alloc, file, fault)?;
     if plan.explains() {
-        lines_at(alloc, file, failure)
-    } else {
-        fault_line(alloc, file, failure.fault)
-    }
-}
-
-/// Returns the line of an error, followed by the lines about its URL and the losses.
-fn lines_at(alloc: Global, file: &str, failure: &Failure) -> Result<String, AllocError>
-    ensures { IfOk result (λ lines. string_bytes lines ≡ fault_line file.now failure.now.fault ++ culprit_lines file.now failure.now.fault failure.now.culprit failure.now.losses) }
-{
-    let mut lines = fault_line(alloc, file, failure.fault)?;
-    if let Some(url) = &failure.culprit {
-        push_culprit(alloc, &mut lines, file, failure.fault, url)?;
-        push_losses(&mut lines, failure.losses)?;
+        push_more(alloc, &mut lines, file, fault)?;
     }
     Ok(lines)
+}
+
+/// Appends the lines about the URL of a crawl's failure and the losses, if the error has a URL.
+fn push_more(alloc: Global, lines: &mut String, file: &str, fault: &Fault) -> Result<(), AllocError>
+    ensures { IfOk result (λ _. string_bytes lines.new ≡ string_bytes lines.old ++ more_lines file.now fault.now) }
+{
+    let Fault::Crawl(failure) = fault else {
+        return Ok(());
+    };
+    let Some(url) = &failure.culprit else {
+        return Ok(());
+    };
+    push_culprit(alloc, lines, file, fault, url)?;
+    push_losses(lines, failure.losses)
 }
 
 fn push_culprit(
     alloc: Global,
     lines: &mut String,
     file: &str,
-    fault: Fault,
+    fault: &Fault,
     url: &CanonUrl,
 ) -> Result<(), AllocError>
-    ensures { IfOk result (λ _. string_bytes lines.new ≡ string_bytes lines.old ++ culprit_line file.now fault url.now) }
+    ensures { IfOk result (λ _. string_bytes lines.new ≡ string_bytes lines.old ++ culprit_line file.now fault.now url.now) }
 {
     let name = shown(alloc, file)?;
     let text = FaultText {
@@ -123,10 +124,10 @@ fn push_losses(lines: &mut String, losses: Losses) -> Result<(), AllocError>
 /// `mercator_site` reports a folder that cannot be read as `mercator: cannot read NAME`:
 ///
 /// ```rust
-/// fault_line(alloc, name, Fault::CannotRead)
+/// fault_line(alloc, name, &Fault::CannotRead)
 /// ```
-pub fn fault_line(alloc: Global, file: &str, fault: Fault) -> Result<String, AllocError>
-    ensures { IfOk result (λ line. string_bytes line ≡ fault_line file.now fault) }
+pub fn fault_line(alloc: Global, file: &str, fault: &Fault) -> Result<String, AllocError>
+    ensures { IfOk result (λ line. string_bytes line ≡ fault_line file.now fault.now) }
 {
     let file = shown(alloc, file)?;
     let text = FaultText {

@@ -3,11 +3,11 @@ use crate::tests::runs::words;
 use crate::tests::webs::{NOTHING, RING, RING_REPORT, TWO_LINKS, TWO_LINKS_REPORT};
 use crawl_certificate::CertError;
 use crawl_frontier::FrontierError;
-use crawl_keys::Filter;
+use crawl_keys::{CanonUrl, Filter, canonical};
 use crawl_report::report_text;
-use mercator::{
-    CrawlError, CrawlSettings, Crawled, Fault, Mode, Report, crawl_saved_web, report_of_saved_web,
-};
+use crawl_run::{CrawlError, Crawled, Mode, crawl};
+use crawl_sources::read_seeds;
+use saved_web::SavedWeb;
 use std::alloc::Global;
 use std::sync::Wait;
 use std::thread::Threads;
@@ -28,7 +28,7 @@ struct Row {
 enum Expected {
     /// The report, and the queues that have URLs, with how many.
     Report(&'static str, &'static [(usize, u64)]),
-    Fault(Fault),
+    Fails(CrawlError),
 }
 
 const ROWS: [Row; 11] = [
@@ -78,7 +78,7 @@ const ROWS: [Row; 11] = [
         seeds: "http://a.test/",
         workers: 1,
         max_pending: 2,
-        expected: Expected::Fault(Fault::Crawl(CrawlError::Cert(CertError::LinkMissing))),
+        expected: Expected::Fails(CrawlError::Cert(CertError::LinkMissing)),
     },
     Row {
         name: "full_gate_loses_link",
@@ -94,7 +94,7 @@ const ROWS: [Row; 11] = [
         seeds: "http://a.test/",
         workers: 0,
         max_pending: 1,
-        expected: Expected::Fault(Fault::Crawl(CrawlError::Frontier(FrontierError::BadWorkers))),
+        expected: Expected::Fails(CrawlError::Frontier(FrontierError::BadWorkers)),
     },
     Row {
         name: "numbers_past_their_limits",
@@ -102,7 +102,7 @@ const ROWS: [Row; 11] = [
         seeds: "http://a.test/",
         workers: 513,
         max_pending: 0,
-        expected: Expected::Fault(Fault::Crawl(CrawlError::Frontier(FrontierError::BadWorkers))),
+        expected: Expected::Fails(CrawlError::Frontier(FrontierError::BadWorkers)),
     },
     Row {
         name: "numbers_past_their_limits",
@@ -110,7 +110,7 @@ const ROWS: [Row; 11] = [
         seeds: "http://a.test/",
         workers: 1,
         max_pending: 0,
-        expected: Expected::Fault(Fault::Crawl(CrawlError::Frontier(FrontierError::BadLimit))),
+        expected: Expected::Fails(CrawlError::Frontier(FrontierError::BadLimit)),
     },
     Row {
         name: "numbers_past_their_limits",
@@ -118,7 +118,7 @@ const ROWS: [Row; 11] = [
         seeds: "http://a.test/",
         workers: 512,
         max_pending: (1 << 40) + 1,
-        expected: Expected::Fault(Fault::Crawl(CrawlError::Frontier(FrontierError::BadLimit))),
+        expected: Expected::Fails(CrawlError::Frontier(FrontierError::BadLimit)),
     },
 ];
 
@@ -142,57 +142,73 @@ fn are_counts(found: &[u64], counts: &[(usize, u64)]) -> bool {
     true
 }
 
-fn report_from<R: Threads + Wait + Sync>(
+/// The canonical URLs of these texts.
+fn urls_of(alloc: Global, texts: &[String]) -> Option<Vec<CanonUrl>> {
+    let mut urls = Vec::new(alloc);
+    for text in texts {
+        urls.push(canonical(alloc, text.as_str()).ok()?).ok()?;
+    }
+    Some(urls)
+}
+
+/// The result of the row's crawl from these seeds.
+fn result_from<R: Threads + Wait + Sync>(
     rt: &R,
     alloc: Global,
     row: &Row,
-    seeds: &[String],
+    seeds: &[CanonUrl],
     mode: Mode,
-) -> Result<Report, Fault> {
-    match Filter::new(alloc, &[]) {
-        Ok(every) => {
-            let settings = CrawlSettings {
-                workers: row.workers,
-                max_pending: row.max_pending,
-                mode,
-                filter: &every,
-            };
-            report_of_saved_web(rt, alloc, row.web.as_bytes(), seeds, &settings)
-        }
-        Err(_) => Err(Fault::NoMemory),
-    }
+) -> Option<Result<Crawled, CrawlError>> {
+    let every = Filter::new(alloc, &[]).ok()?;
+    let web = SavedWeb::read(alloc, row.web.as_bytes()).ok()?;
+    let (workers, max_pending) = (row.workers, row.max_pending);
+    Some(crawl(rt, alloc, &web, &every, seeds, workers, max_pending, mode))
 }
 
 /// The result of the row's crawl.
-fn report_of<R: Threads + Wait + Sync>(
+fn result_of<R: Threads + Wait + Sync>(
     rt: &R,
     alloc: Global,
     row: &Row,
     mode: Mode,
-) -> Result<Report, Fault> {
-    match words(alloc, row.seeds) {
-        Ok(seeds) => report_from(rt, alloc, row, &seeds, mode),
-        Err(_) => Err(Fault::NoMemory),
+) -> Option<Result<Crawled, CrawlError>> {
+    let texts = words(alloc, row.seeds).ok()?;
+    let seeds = urls_of(alloc, &texts)?;
+    result_from(rt, alloc, row, &seeds, mode)
+}
+
+/// Whether these pages have this report.
+fn has_report(alloc: Global, found: &Crawled, report: &str) -> bool {
+    match report_text(alloc, found.result.pages()) {
+        Ok(text) => text.as_slice() == report.as_bytes(),
+        Err(_) => false,
     }
 }
 
-fn is_expected(row: &Row, found: &Report, text: &str, counts: &[(usize, u64)]) -> bool {
-    found.text.as_slice() == text.as_bytes()
+fn is_expected(
+    alloc: Global,
+    row: &Row,
+    found: &Crawled,
+    report: &str,
+    counts: &[(usize, u64)],
+) -> bool {
+    has_report(alloc, found, report)
         && found.counts.len() == row.workers as usize
         && are_counts(&found.counts, counts)
 }
 
 /// Whether the result is the expected one.
 fn holds<R: Threads + Wait + Sync>(rt: &R, alloc: Global, row: &Row, mode: Mode) -> bool {
-    match report_of(rt, alloc, row, mode) {
-        Ok(found) => match &row.expected {
-            Expected::Report(text, counts) => is_expected(row, &found, text, counts),
-            Expected::Fault(_) => false,
+    match result_of(rt, alloc, row, mode) {
+        Some(Ok(found)) => match &row.expected {
+            Expected::Report(report, counts) => is_expected(alloc, row, &found, report, counts),
+            Expected::Fails(_) => false,
         },
-        Err(fault) => match &row.expected {
+        Some(Err(error)) => match &row.expected {
             Expected::Report(..) => false,
-            Expected::Fault(expected) => fault == *expected,
+            Expected::Fails(expected) => error == *expected,
         },
+        None => false,
     }
 }
 
@@ -227,45 +243,25 @@ const REPORT_OF_BOTH: &str = "ok 3 1 http://a.test/\n\
     missing http://x.test/\n\
     total 5 ok 3 missing 2\n";
 
-fn has_both(alloc: Global, found: &Crawled) -> bool {
-    match report_text(alloc, found.result.pages()) {
-        Ok(text) => text.as_slice() == REPORT_OF_BOTH.as_bytes(),
-        Err(_) => false,
-    }
-}
-
-/// Whether a crawl of the ring from a file of seeds and those given has the pages of both.
-fn list_is_crawled<R: Threads + Wait + Sync>(
+/// The pages of a crawl of the ring from a file of seeds and those given.
+fn crawled_from<R: Threads + Wait + Sync>(
     rt: &R,
     alloc: Global,
     given: &[String],
-    every: &Filter,
-) -> bool {
-    let (web, listed) = (RING.as_bytes(), LISTED.as_bytes());
-    let settings = CrawlSettings {
-        workers: 2,
-        max_pending: 100,
-        mode: Mode::Turns,
-        filter: every,
-    };
-    match crawl_saved_web(rt, alloc, web, listed, given, &settings) {
-        Ok(found) => has_both(alloc, &found),
-        Err(_) => false,
-    }
-}
-
-fn is_crawled_beside<R: Threads + Wait + Sync>(rt: &R, alloc: Global, given: &[String]) -> bool {
-    match Filter::new(alloc, &[]) {
-        Ok(every) => list_is_crawled(rt, alloc, given, &every),
-        Err(_) => false,
-    }
+) -> Option<Crawled> {
+    let every = Filter::new(alloc, &[]).ok()?;
+    let web = SavedWeb::read(alloc, RING.as_bytes()).ok()?;
+    let mut seeds = read_seeds(alloc, LISTED.as_bytes()).ok()?;
+    let mut others = urls_of(alloc, given)?;
+    seeds.append(&mut others).ok()?;
+    crawl(rt, alloc, &web, &every, &seeds, 2, 100, Mode::Turns).ok()
 }
 
 #[test]
 fn seeds_of_a_file_before_those_given(rt: HostRuntime) {
-    let crawled = match words(rt.alloc(), "http://x.test/") {
-        Ok(given) => is_crawled_beside(&rt, rt.alloc(), &given),
-        Err(_) => false,
+    let found = match words(rt.alloc(), "http://x.test/") {
+        Ok(given) => crawled_from(&rt, rt.alloc(), &given),
+        Err(_) => None,
     };
-    assert!(rt; crawled);
+    assert!(rt; found.is_some_and(|found| has_report(rt.alloc(), &found, REPORT_OF_BOTH)));
 }

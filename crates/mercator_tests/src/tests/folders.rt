@@ -1,13 +1,14 @@
-//! Files in memory: their saved web, their pages, and a check of them.
+//! Files in memory: their saved web, their pages, and a check of them. A file that grows while it is read.
 use crawl_keys::{CanonUrl, canonical};
 use crawl_pages::{Fetch, Page, SessionFetch};
-use saved_web::SavedWeb;
 use mercator_site::{
-    CheckForm, CheckReport, CheckSettings, Files, report_of_files, report_of_site,
+    CheckForm, CheckReport, CheckSettings, Files, report_of_files, report_of_pages,
 };
-use saved_site::{Body, Rules, SiteFiles, SiteNames, files_pages, files_web, site_web};
-use site_check::Bodies;
+use saved_site::{Body, InMemory, Rules, SiteFiles, SiteNames, site_pages, site_web};
+use saved_web::SavedWeb;
 use std::alloc::{AllocError, Global};
+use std::io;
+use std::io::Read;
 use std::sync::Wait;
 use std::thread::Threads;
 
@@ -52,6 +53,12 @@ impl OneFile {
             seeds: &[],
         }
     }
+
+    fn bytes(&self) -> InMemory<'_> {
+        InMemory {
+            bodies: self.bodies.as_slice(),
+        }
+    }
 }
 
 fn is_its_page(page: &Page) -> bool {
@@ -70,7 +77,8 @@ fn has_web<R: Threads + Sync>(
     site: &OneFile,
     top: &CanonUrl,
 ) -> Option<bool> {
-    let web = site_web(rt, alloc, site.input(), site.bodies.as_slice()).ok()?;
+    let files = SiteFiles::new(alloc, site.input()).ok()?;
+    let web = site_web(rt, &files, &[], Vec::new(alloc), &site.bytes()).ok()?;
     let pages = SavedWeb::read(alloc, web.bytes.as_slice()).ok()?;
     let page = pages.fetch(alloc, top).ok()?;
     Some(is_its_page(&page))
@@ -83,18 +91,9 @@ fn has_pages<R: Threads + Sync>(
     top: &CanonUrl,
 ) -> Option<bool> {
     let files = SiteFiles::new(alloc, site.input()).ok()?;
-    let linked = files_pages(rt, alloc, &files, &[], site.bodies.as_slice()).ok()?;
+    let linked = site_pages(rt, &files, &[], Vec::new(alloc), &site.bytes()).ok()?;
     let page = linked.pages.fetch_in(alloc, &mut (), top).ok()?;
     Some(is_its_page(&page))
-}
-
-impl Bodies for OneFile {
-    fn read(&self, _name: &str, body: &mut Body) -> Result<bool, AllocError> {
-        for bytes in &self.bodies {
-            body.push(bytes.as_slice())?;
-        }
-        Ok(true)
-    }
 }
 
 fn settings(none: &[String]) -> CheckSettings<'_> {
@@ -126,14 +125,14 @@ fn is_checked<R: Threads + Wait + Sync>(rt: &R, alloc: Global, site: &OneFile) -
     Some(lists_its_link(&report))
 }
 
-fn is_checked_by_its_web<R: Threads + Wait + Sync>(
+fn is_checked_by_its_pages<R: Threads + Wait + Sync>(
     rt: &R,
     alloc: Global,
     site: &OneFile,
 ) -> Option<bool> {
     let files = SiteFiles::new(alloc, site.input()).ok()?;
-    let web = files_web(rt, alloc, &files, &[], site.bodies.as_slice()).ok()?;
-    let report = report_of_site(rt, alloc, web, &files, site, settings(&[])).ok()?;
+    let linked = site_pages(rt, &files, &[], Vec::new(alloc), &site.bytes()).ok()?;
+    let report = report_of_pages(rt, alloc, linked, &files, &site.bytes(), settings(&[])).ok()?;
     Some(lists_its_link(&report))
 }
 
@@ -148,8 +147,34 @@ fn files_in_memory(rt: HostRuntime) {
             assert!(rt; has_web(&rt, alloc, site, top) == Some(true));
             assert!(rt; has_pages(&rt, alloc, site, top) == Some(true));
             assert!(rt; is_checked(&rt, alloc, site) == Some(true));
-            assert!(rt; is_checked_by_its_web(&rt, alloc, site) == Some(true));
+            assert!(rt; is_checked_by_its_pages(&rt, alloc, site) == Some(true));
         }
         _ => assert!(rt; false),
     }
+}
+
+/// A file that grows while it is read: it never ends.
+#[derive(Drop)]
+struct Growing {
+    /// The number of bytes that were read.
+    read: usize,
+}
+
+impl Read for Growing {
+    fn read(&mut self, buf: &mut [u8]) -> io::Result<usize> {
+        buf.fill(b'a');
+        self.read = self.read.saturating_add(buf.len());
+        Ok(buf.len())
+    }
+}
+
+// Of a file that had three million bytes, one more is read, which shows that it grew.
+#[test]
+fn file_that_grows(rt: HostRuntime) {
+    let mut file = Growing { read: 0 };
+    let mut body = Body::new(rt.alloc());
+    let is_longer = body.read(&mut file, 3_000_000);
+    assert!(rt; matches!(is_longer, Ok(true)));
+    assert!(rt; file.read == 3_000_001);
+    assert!(rt; body.as_slice().len() == 3_000_001);
 }

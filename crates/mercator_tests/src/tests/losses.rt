@@ -3,9 +3,9 @@ use crate::tests::sources::WithoutHost;
 use crate::tests::webs::RING;
 use crawl_keys::{CanonUrl, Filter, canonical};
 use crawl_pages::WithoutSession;
-use saved_web::SavedWeb;
+use crawl_run::{CrawlSettings, Mode, crawl_with};
 use crawl_workers::Losses;
-use mercator::{CrawlSettings, Mode, crawl_explained};
+use saved_web::SavedWeb;
 use std::alloc::Global;
 use std::sync::Wait;
 use std::thread::Threads;
@@ -38,7 +38,7 @@ fn lost_from<R: Threads + Wait + Sync>(
         filter: &every,
     };
     let source = WithoutSession { fetcher: source };
-    match crawl_explained(rt, alloc, &source, &settings, &[seed]) {
+    match crawl_with(rt, alloc, &source, &settings, &[seed]) {
         Ok(_) => None,
         Err(failure) => Some(failure.losses),
     }

@@ -1,7 +1,7 @@
-//! Calls for reports that no command uses: text by threads, and only the queues.
+//! A report that threads may print, and the text of the queues, which no command prints alone.
 use crawl_keys::canonical;
-use crawl_report::{Parts, Report, print_in_threads};
 use crawl_pages::{Page, PageResult};
+use crawl_report::{Parts, Report, print_in_parts};
 use mercator::queue_text;
 use std::alloc::Global;
 use std::thread::Threads;
@@ -28,7 +28,12 @@ fn printed<R: Threads + Sync>(rt: &R, alloc: Global) -> Option<Vec<u8>> {
         unreached: &[],
         parts: Parts::none(),
     };
-    print_in_threads(rt, alloc, &report, false).ok()
+    let chunks = print_in_parts(rt, alloc, &report, false).ok()?;
+    let mut text = Vec::new(alloc);
+    for chunk in &chunks {
+        text.extend_from_slice(chunk).ok()?;
+    }
+    Some(text)
 }
 
 #[test]

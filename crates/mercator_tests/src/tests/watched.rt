@@ -4,8 +4,8 @@ ghost use Rattle.saved_web.specs.KnownPages.{page_at};
 use crawl_keys::{CanonUrl, Filter, canonical};
 use crawl_pages::{Fetch, FetchError, Page, WithoutSession};
 use crawl_report::report_text;
+use crawl_run::{CrawlSettings, Mode, Observe, Watched, crawl_with};
 use saved_web::SavedWeb;
-use mercator::{CrawlSettings, Mode, Observe, crawl_watched};
 use std::alloc::{AllocError, Global};
 use std::sync::Wait;
 use std::sync::atomic::{AtomicU64, Ordering};
@@ -72,10 +72,11 @@ fn report_from<R: Threads + Wait + Sync>(
     seeds: &[CanonUrl],
 ) -> Option<Vec<u8>> {
     let source = WithoutSession { fetcher: source };
-    match crawl_watched(rt, alloc, &source, heard, settings, seeds) {
-        Ok(found) => report_text(alloc, found.result.pages()).ok(),
-        Err(_) => None,
-    }
+    let found = match heard {
+        Some(heard) => crawl_with(rt, alloc, &Watched::new(&source, heard), settings, seeds),
+        None => crawl_with(rt, alloc, &source, settings, seeds),
+    };
+    report_text(alloc, found.ok()?.result.pages()).ok()
 }
 
 fn report_by<R: Threads + Wait + Sync>(

@@ -9,17 +9,17 @@ ghost use Rattle.saved_site.specs.LinkedPages.{IsLed, page_led};
 ghost use Rattle.saved_site.specs.Meaning.{under_page};
 ghost use Rattle.saved_site.specs.declared.linked.link_table.LinkTable.{LinkTable};
 
-use crate::link_lines::{LinkLines, next_text};
+use crate::line_text::LineText;
 use crate::linked::known_texts::{KnownTexts, TextKey};
 use crate::linked::linked_page::Leads;
 use crate::linked::url_list::UrlList;
 use crate::page::Under;
-use crate::text::LineText;
 use crawl_keys::{Base, CanonUrl, KeyError, is_of_folder};
+use document_links::LinkTexts;
 use std::alloc::{AllocError, Global};
 use std::mem;
 
-/// Of a folder so many texts are known.
+/// The most texts that are known of a folder.
 const MOST_TEXTS: usize = 4_096;
 
 /// The URLs that links lead to, and what is known of links by their texts on the pages of a folder.
@@ -96,12 +96,12 @@ impl LinkTable {
         }
     }
 
-    /// Puts the indices of the links' URLs in place of those before, and tells how many links lead to no URL.
+    /// Replaces the indices by those of these links' URLs, and returns the number of links that lead to no URL.
     fn find_indices(
         &mut self,
         alloc: Global,
         base: &Base,
-        links: &LinkLines,
+        links: &LinkTexts,
         indices: &mut Vec<u32>,
     ) -> Result<u64, AllocError>
         requires { IsTableOf base.now self.old }
@@ -112,9 +112,12 @@ impl LinkTable {
     {
         indices.clear();
         let mut skipped: u64 = 0;
-        let mut rest = links.as_bytes();
-        while let Some((text, more)) = next_text(rest) {
-            rest = more;
+        let count = links.len();
+        let mut number = 0;
+        // Not a `for`: the proof needs the end of each arm.
+        'texts: while number < count {
+            let text = links.text(number);
+            number += 1;
             match self.index(alloc, base, text)? {
                 Some(index) => indices.push(index)?,
                 None => skipped += 1,

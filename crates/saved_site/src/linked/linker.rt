@@ -6,7 +6,6 @@ ghost use Rattle.saved_site.specs.LinkedPages.{IsLed, IsLonger, IsPageList, page
 ghost use Rattle.saved_site.specs.LinkTables.{IsTableOf};
 ghost use Rattle.saved_site.specs.Meaning.{under_page};
 
-use crate::base_href::base_of;
 use crate::below::is_below;
 use crate::linked::link_table::LinkTable;
 use crate::linked::linked_page::LinkedPage;
@@ -15,6 +14,7 @@ use crate::linked::part::Part;
 use crate::page::SitePage;
 use crate::print::is_behind;
 use crawl_keys::{Base, CanonUrl};
+use document_links::base_of;
 use std::alloc::{AllocError, Global};
 use std::marker::Model;
 
@@ -76,7 +76,7 @@ impl Linker {
         requires { is_kept self.0 page.now.url ≡ true }
         ensures { IfOk result (λ linker. linker ≡ (self.0, with_found self.0 self.1 (found_of page.now))) }
     {
-        // For the proof: it stands in lines.
+        // For the proof: the page fits in lines.
         page.stands();
         let base = base_of(self.alloc, page.url())?;
         let Linker {

@@ -1,24 +1,29 @@
 //! The lines of a page.
 ghost use Rattle.std.specs.Prelude.{◌≡◌, ◌<◌, ◌≤◌, ◌^◌, ◌++◌, true, Ok, OnOk, length};
 ghost use Rattle.crawl_keys.specs.CanonicalText.{canonical};
+ghost use Rattle.document_links.specs.Texts.{all_fit};
 ghost use Rattle.saved_site.specs.Pages.{page_text, under_text, fits_under, IsPage};
-ghost use Rattle.saved_site.specs.Texts.{page_line, moved_line};
+ghost use Rattle.saved_site.specs.Lines.{page_line, link_line, link_lines, moved_line};
 
 use super::{SitePage, Under};
 use crawl_keys::CanonUrl;
+use document_links::LinkTexts;
 use std::alloc::AllocError;
 
-/// How many bytes of the line of a page stand around its URL.
+/// The number of bytes around the URL in the line of a page.
 const PAGE_AROUND: usize = 6;
 
-/// How many bytes of the line of a redirect stand around its text.
+/// The number of bytes around the text in the line of a link.
+const LINK_AROUND: usize = 6;
+
+/// The number of bytes around the text in the line of a redirect.
 const MOVED_AROUND: usize = 7;
 
 impl SitePage {
-    /// Appends its lines.
+    /// Appends the lines of the page.
     ///
     /// # Errors
-    /// Where a growth was refused.
+    /// Out of memory.
     pub(crate) fn print(&self, web: &mut Vec<u8>) -> Result<(), AllocError>
         ensures text { OnOk result (web.new.items ≡ web.old.items ++ page_text self.now) }
         ensures page { OnOk result (IsPage self.now) }
@@ -27,7 +32,7 @@ impl SitePage {
         self.under.print(web)
     }
 
-    /// It stands in lines.
+    /// For the proof: the URL and all texts fit in lines.
     pub(crate) fn stands(&self)
         ensures { IsPage self.now }
     {
@@ -35,7 +40,7 @@ impl SitePage {
         self.under.stands();
     }
 
-    /// How many bytes its lines have, as far as they can be counted.
+    /// The number of bytes of the lines, as far as it can be counted.
     #[tactic(auto, using(crate::proofs::PageLengths::page_length))]
     pub(crate) fn byte_count(&self) -> usize
         ensures most { result ≤ length (page_text self.now) }
@@ -63,7 +68,7 @@ impl Under {
         ensures fit { OnOk result (fits_under self.now ≡ true) }
     {
         match self {
-            Under::Links(links) => web.extend_from_slice(links.as_bytes()),
+            Under::Links(links) => print_links(links, web),
             Under::Moved(text) => print_moved(text.as_bytes(), web),
         }
     }
@@ -73,7 +78,7 @@ impl Under {
     {
         match self {
             Under::Links(links) => {
-                let _ = links.as_bytes();
+                let _ = links.len();
             }
             Under::Moved(text) => {
                 let _ = text.as_bytes();
@@ -83,13 +88,43 @@ impl Under {
 
     #[tactic(auto, using(crate::proofs::PageLengths::moved_length))]
     fn byte_count(&self) -> usize
-        ensures { result ≡ length (under_text self.now) }
+        ensures most { result ≤ length (under_text self.now) }
+        ensures all { length (under_text self.now) < 2 ^ 64 → result ≡ length (under_text self.now) }
     {
         match self {
-            Under::Links(links) => links.as_bytes().len(),
+            Under::Links(links) => links_length(links),
             Under::Moved(text) => text.as_bytes().len() + MOVED_AROUND,
         }
     }
+}
+
+/// The number of bytes of the lines of links, as far as it can be counted.
+#[tactic(auto, using(crate::proofs::PageLengths::links_length))]
+fn links_length(links: &LinkTexts) -> usize
+    ensures most { result ≤ length (link_lines links.now) }
+    ensures all { length (link_lines links.now) < 2 ^ 64 → result ≡ length (link_lines links.now) }
+{
+    let around = links.len().saturating_mul(LINK_AROUND);
+    around.saturating_add(links.byte_count())
+}
+
+fn print_links(links: &LinkTexts, web: &mut Vec<u8>) -> Result<(), AllocError>
+    ensures text { OnOk result (web.new.items ≡ web.old.items ++ link_lines links.now) }
+    ensures fit { all_fit links.now ≡ true }
+{
+    for index in 0..links.len() {
+        print_link(links.text(index), web)?;
+    }
+    Ok(())
+}
+
+fn print_link(text: &str, web: &mut Vec<u8>) -> Result<(), AllocError>
+    ensures { OnOk result (web.new.items ≡ web.old.items ++ link_line text.now) }
+{
+    web.extend_from_slice(b"link ")?;
+    web.extend_from_slice(text.as_bytes())?;
+    web.push(b'\n')?;
+    Ok(())
 }
 
 fn print_moved(text: &[u8], web: &mut Vec<u8>) -> Result<(), AllocError>

@@ -1,4 +1,4 @@
-use Rattle.mercator.proofs.SiteCrawls.{one_site_crawl, one_report}
+use Rattle.mercator.proofs.SiteCrawls.{one_report, one_site_crawl}
 use Rattle.mercator.proofs.PlanTexts.{one_output}
 use Rattle.mercator.proofs.laws.same_bytes_for_any_workers.Goals as goal
 

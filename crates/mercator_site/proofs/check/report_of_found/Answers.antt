@@ -41,7 +41,7 @@ returns-clause-named g c = λ web crawled.
         pages = all;
         crawled = crawl;
         own = pages;
-        are_own = c.own_results-pages.ensures crawl.crawl.found.ascends ∙ ap (λ o. own_of o all) same_top;
+        are_own = c.own_results-pages.ensures crawl.found.ascends ∙ ap (λ o. own_of o all) same_top;
         found = report.found;
         rows =
             ap rows_in report.rows ∙ c.in_ok-checked.ensures.broken ∙ ap (λ f. broken_of f (map string_bytes input.ignores.now) pages) same_front

@@ -11,6 +11,5 @@ loop-link-preserved c =
     let IsOwn : List ℕ → Type 0 = λ url. begins top url ≡ true in
     record {
       resolved = grind (arith, common_steps);
-      stable = grind (arith, common_steps);
       own = subst (AreOwn top) (sym c.in_ok-push.ensures.items) (All-append IsOwn _ _ c.loop-link.invariant.own (All-cons IsOwn _ [] c.in_ok-seed_of.ensures.own (All-nil IsOwn)));
     }

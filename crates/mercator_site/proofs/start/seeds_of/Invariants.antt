@@ -1,12 +1,10 @@
 use Rattle.std.proofs.Common.{◌≡◌, map, take, Ok, string_bytes}
 use Rattle.crawl_keys.specs.CanonicalText.{resolve}
-use Rattle.mercator.specs.WebCrawl.{AreSeeds}
 use Rattle.mercator_site.specs.Own.{AreOwn}
 use Rattle.mercator_site.proofs.start.seeds_of.Given as goal
 
 abbrev pub invariant-loop-link : goal.invariant-loop-link
 invariant-loop-link l = record {
   resolved : map (resolve l.top) (map string_bytes (take l.link-index l.links)) ≡ map Ok l.seeds.items;
-  stable : AreSeeds l.seeds.items l.seeds.items;
   own : AreOwn l.top l.seeds.items;
 }

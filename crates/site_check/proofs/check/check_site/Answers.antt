@@ -11,30 +11,30 @@ use Rattle.site_check.proofs.check.check_site.Goals as goal
 
 pub returns-clause-broken : goal.returns-clause-broken
 returns-clause-broken g c =
-    let front = c.args.asked.front.now in
-    let entries = map string_bytes c.args.asked.ignores.now in
+    let front = c.args.input.front.now in
+    let entries = map string_bytes c.args.input.ignores.now in
     IfOk-weaker c.told.result _ _ (λ (checked : Checked) own.
     own ∙ ap (λ ls. flat_map (rows_with front entries) ls) (ap (map linked_at) c.as_slice-all.ensures.value ∙ c.in_ok-linked.ensures)
     ∙ rows_of_all front entries c.args.results.now) c.told.ensures.broken
 
 pub returns-clause-redirects : goal.returns-clause-redirects
 returns-clause-redirects g c =
-    let front = c.args.asked.front.now in
+    let front = c.args.input.front.now in
     IfOk-weaker c.told.result _ _ (λ (checked : Checked) own.
     own ∙ ap (λ ls. flat_map (ways_with front) ls) (ap (map linked_at) c.as_slice-all.ensures.value ∙ c.in_ok-linked.ensures)
     ∙ ways_of_all front c.args.results.now) c.told.ensures.redirects
 
 pub returns-clause-names : goal.returns-clause-names
 returns-clause-names g c =
-    let P : SiteFiles → Type 0 = λ files. IfOk c.told.result (λ (checked : Checked). AreNamed c.args.asked.front.now files checked.broken.items) in
+    let P : SiteFiles → Type 0 = λ files. IfOk c.told.result (λ (checked : Checked). AreNamed c.args.input.front.now files checked.broken.items) in
     subst P c.site_of-site.ensures.files c.told.ensures.names
 
 pub returns-clause-ignores : goal.returns-clause-ignores
 returns-clause-ignores g c =
     IfOk-weaker c.told.result _ _ (λ (checked : Checked) own.
-    own c.args.results.now (texts_of_all c.args.asked.front.now c.args.results.now c.as_slice-all.result.now (ap (map linked_at) c.as_slice-all.ensures.value ∙ c.in_ok-linked.ensures))) c.told.ensures.ignores
+    own c.args.results.now (texts_of_all c.args.input.front.now c.args.results.now c.as_slice-all.result.now (ap (map linked_at) c.as_slice-all.ensures.value ∙ c.in_ok-linked.ensures))) c.told.ensures.ignores
 
 pub returns-clause-totals : goal.returns-clause-totals
 returns-clause-totals g c =
     IfOk-weaker c.told.result _ _ (λ (checked : Checked) own.
-    own ∙ ap (λ results. totals_of c.args.asked.aliases.now results checked.broken.items checked.redirects.items) c.site_of-site.ensures.results) c.told.ensures.totals
+    own ∙ ap (λ results. totals_of c.args.input.aliases.now results checked.broken.items checked.redirects.items) c.site_of-site.ensures.results) c.told.ensures.totals

@@ -7,8 +7,8 @@ use Rattle.site_check.proofs.check.told.Goals as goal
 
 pub returns-clause-ignores : goal.returns-clause-ignores
 returns-clause-ignores c = λ results texts.
-    let entries = map string_bytes c.args.asked.ignores.now in
-    let missing = flat_map (text_at c.args.asked.front.now) (map result_at c.args.linked.now) in
+    let entries = map string_bytes c.args.input.ignores.now in
+    let missing = flat_map (text_at c.args.input.front.now) (map result_at c.args.linked.now) in
     record {
       parts = map part_text c.in_ok-parts.parts.items;
       told_parts = c.in_ok-broken.ensures.parts ∙ ap (λ parts. not_ignored entries (map part_text parts)) c.as_slice.ensures.value;

@@ -8,7 +8,7 @@ use Rattle.site_check.proofs.rows.broken_rows.Given as goal
 
 abbrev pub invariant-loop-index : goal.invariant-loop-index
 invariant-loop-index l = record {
-  rows : rows_in l.all.items ≡ flat_map (rows_with l.asked.front.now (map string_bytes l.asked.ignores.now)) (map linked_at (take l.index l.linked));
-  names : AreNamed l.asked.front.now l.named.files.now l.all.items;
+  rows : rows_in l.all.items ≡ flat_map (rows_with l.input.front.now (map string_bytes l.input.ignores.now)) (map linked_at (take l.index l.linked));
+  names : AreNamed l.input.front.now l.named.files.now l.all.items;
   parts : parts_in l.all.items ≡ [];
 }

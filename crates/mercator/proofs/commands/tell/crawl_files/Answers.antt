@@ -1,5 +1,5 @@
 use Rattle.std.proofs.Common.{Global, map, string_bytes}
-use Rattle.mercator.proofs.PlanTexts.{counts_files, explains_files, fails_in_files, found_in_files}
+use Rattle.mercator.proofs.PlanTexts.{fails_in_files, found_in_files}
 use Rattle.mercator.proofs.commands.tell.crawl_files.Goals as goal
 
 pub returns-clause-found : goal.returns-clause-found
@@ -12,16 +12,4 @@ pub returns-clause-fault : goal.returns-clause-fault
 returns-clause-fault g c =
     let asked = c.args.asked.now in
     fails_in_files asked.workers asked.max asked.within.now asked.file.now asked.listed.now (map (string_bytes {Z = Global}) asked.seeds.now) (g.I.Read.remaining c.args.input.now) c.in_ok-inputs.inputs c.crawl_inputs.result
-    c.in_ok-inputs.ensures.suffix.0 c.in_ok-inputs.ensures.files c.crawl_inputs.ensures.fault
-
-pub returns-clause-named : goal.returns-clause-named
-returns-clause-named g c =
-    let asked = c.args.asked.now in
-    explains_files asked.within.now asked.file.now asked.listed.now (map (string_bytes {Z = Global}) asked.seeds.now) (g.I.Read.remaining c.args.input.now) c.in_ok-inputs.inputs c.crawl_inputs.result
-    c.in_ok-inputs.ensures.suffix.1 c.in_ok-inputs.ensures.files c.crawl_inputs.ensures.named
-
-pub returns-clause-counted : goal.returns-clause-counted
-returns-clause-counted g c =
-    let asked = c.args.asked.now in
-    counts_files asked.workers asked.within.now asked.file.now asked.listed.now (map (string_bytes {Z = Global}) asked.seeds.now) (g.I.Read.remaining c.args.input.now) c.in_ok-inputs.inputs c.crawl_inputs.result
-    c.in_ok-inputs.ensures.suffix.1 c.in_ok-inputs.ensures.files c.crawl_inputs.ensures.counted
+    c.in_ok-inputs.ensures.suffix c.in_ok-inputs.ensures.files c.crawl_inputs.ensures.fault

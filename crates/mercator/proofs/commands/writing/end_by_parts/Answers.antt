@@ -1,12 +1,19 @@
-use Rattle.std.proofs.Common.{◌≡◌, ℕ, Option, Result, Ok, Err, List, [], ◌++◌, take, append-nil, refl, ap, subst, ◌∙◌}
+use Rattle.std.proofs.Common.{◌≡◌, ℕ, ◌+◌, ◌<◌, Option, Result, Ok, Err, List, [], ◌++◌, length, take, get_or, Vec, Global, append-nil, refl, sym, ap, subst, ◌∙◌}
 use Rattle.std.proofs.KnownBytes.{Appends-nil, Appends-trans}
-use Rattle.std.proofs.lemmas.List.{take_all}
+use Rattle.std.proofs.lemmas.List.{take_all, take_more}
 use Rattle.std.specs.Io.KnownBytes.{Appends}
 use Rattle.crawl_report.specs.Printing.{joined}
-use Rattle.crawl_report.proofs.Printed.{joined_more}
+use Rattle.crawl_report.proofs.Printed.{joined_push}
 use Rattle.mercator.specs.Ending.{EndsByText}
 use Rattle.mercator.specs.declared.commands.fault.Fault.{Fault}
 use Rattle.mercator.proofs.commands.writing.end_by_parts.Goals as goal
+
+-- as many parts as were looked at, and one more
+joined_more : (parts : List (Vec ℕ Global)) (k : ℕ) (d part : Vec ℕ Global) (text : List ℕ) → k < length parts → part ≡ get_or parts k d → text ≡ joined (take k parts) → text ++ part.items ≡ joined (take (k + 1) parts)
+joined_more parts k d part text below at so_far =
+    (λ i. so_far i ++ (at i).items)
+    ∙ sym (joined_push (take k parts) (get_or parts k d))
+    ∙ ap joined (sym (take_more parts k d below))
 
 -- what was written, and then nothing more
 ended : (front all : List ℕ) (old mid new : Option (List ℕ)) (result : Result (Unit {0}) Fault) → front ≡ all → Appends old mid front → EndsByText [] mid new result → EndsByText all old new result

@@ -1,67 +1,68 @@
-use Rattle.std.proofs.Common.{◌≡◌, ℕ, ◌+◌, ◌∷◌, Option, Some, None, ap, sym, subst, ◌∙◌, arith}
-use Rattle.std.proofs.lemmas.Bool.{and_parts}
+use Rattle.std.proofs.Common.{◌≡◌, ℕ, ◌+◌, ◌<◌, [], ◌∷◌, drop, length, get_or, drop_of_length-le, Option, Some, None, ap, refl, sym, subst, ◌∙◌, arith}
+use Rattle.std.proofs.lemmas.List.{drop_more}
 use Rattle.saved_web.specs.SavedWeb.{link_url}
 use Rattle.saved_site.specs.Leads.{LeadsTo}
-use Rattle.saved_site.specs.Texts.{all_fit, fits, texts_in}
-use Rattle.saved_site.proofs.Lines.{texts_in-link_lines}
-use Rattle.saved_site.proofs.LinkIndices.{none_count, looked_start, looked_some, looked_none, count_some, count_none}
+use Rattle.saved_site.proofs.LinkIndices.{none_count, looked_start, looked_some, looked_none, looked_all, count_some, count_none}
 use Rattle.saved_site.proofs.linked.link_table.LinkTable.find_indices.Goals as goal
 
-pub loop-text-init : goal.loop-text-init
-loop-text-init c =
+pub texts-init : goal.texts-init
+texts-init c =
     let links = c.args.links.now in
-    let rest = c.as_bytes-rest.result.now in
-    let texts : texts_in rest ≡ links = ap texts_in c.as_bytes-rest.ensures.lines ∙ texts_in-link_lines links c.as_bytes-rest.ensures.fit in
-    let counted : none_count c.args.base.now (texts_in rest) ≡ none_count c.args.base.now links = ap (none_count c.args.base.now) texts in
     record {
-      fit = ap all_fit texts ∙ c.as_bytes-rest.ensures.fit;
       table = c.requires;
       keep = λ k url at. at;
+      within = omega arith;
       few = omega arith;
-      looked = looked_start c.args.base.now links c.args.self.now.urls c.clear.new.self.items rest c.clear.ensures.items texts;
-      counted = omega (arith, counted);
+      looked = looked_start c.args.base.now links c.args.self.now.urls c.clear.new.self.items links c.clear.ensures.items refl;
+      counted = omega arith;
     }
 
-pub loop-text-preserved-in-Continue-branch-3 : goal.loop-text-preserved-in-Continue-branch-3
-loop-text-preserved-in-Continue-branch-3 c =
+pub texts-preserved-in-Continue-branch-3 : goal.texts-preserved-in-Continue-branch-3
+texts-preserved-in-Continue-branch-3 c =
     let base = c.args.base.now in
-    let rest = c.loop-text.rest.now in
-    let text = c.in-Some.text.now in
-    let more = c.in-Some.more.now in
-    let old = c.loop-text.self.urls in
+    let links = c.args.links.now in
+    let number = c.texts.number in
+    let text = c.text-text.result.now in
+    let rest = drop number links in
+    let more = drop (number + 1) links in
+    let old = c.texts.self.urls in
     let new = c.index.new.self.urls in
-    let l = c.loop-text.invariant in
-    let next : texts_in rest ≡ text ∷ texts_in more = c.in-Some.ensures.next in
-    let leads : LeadsTo new (Some c.in-Some-2.index) (link_url base text) =
-    subst (λ (o : Option ℕ). LeadsTo new o (link_url base text)) c.in-Some-2.is c.in_ok-index.ensures.leads in
-    let same : none_count base (texts_in rest) ≡ none_count base (texts_in more) = count_some base new rest text more c.in-Some-2.index next leads in
+    let l = c.texts.invariant in
+    let within : number < length links = omega (arith, c.len-count.ensures.count, c.texts-test.true) in
+    let next : rest ≡ text ∷ more = drop_more links number [] within ∙ ap (λ t. t ∷ more) (sym c.text-text.ensures.text) in
+    let leads : LeadsTo new (Some c.in-Some.index) (link_url base text) =
+    subst (λ (o : Option ℕ). LeadsTo new o (link_url base text)) c.in-Some.is c.in_ok-index.ensures.leads in
+    let same : none_count base rest ≡ none_count base more = count_some base new text rest more c.in-Some.index next leads in
     record {
-      fit = (and_parts (fits 5 text) (all_fit (texts_in more)) (ap all_fit (sym next) ∙ l.fit)).1;
       table = c.in_ok-index.ensures.known;
       keep = λ k url at. c.index.ensures.keep k url (l.keep k url at);
-      few = omega (arith, l.few, c.in-Some.ensures.shorter);
-      looked = looked_some base c.args.links.now old new c.loop-text.indices.items c.push.new.self.items rest text more c.in-Some-2.index l.looked c.index.ensures.keep next c.in_ok-push-in-Some-2.ensures.items leads;
+      within = omega (arith, within);
+      few = omega (arith, l.few);
+      looked = looked_some base links old new c.texts.indices.items c.push.new.self.items text rest more c.in-Some.index l.looked c.index.ensures.keep next c.in_ok-push-in-Some.ensures.items leads;
       counted = omega (arith, l.counted, same);
     }
 
-pub loop-text-preserved : goal.loop-text-preserved
-loop-text-preserved c =
+pub texts-preserved : goal.texts-preserved
+texts-preserved c =
     let base = c.args.base.now in
-    let rest = c.loop-text.rest.now in
-    let text = c.in-Some.text.now in
-    let more = c.in-Some.more.now in
-    let old = c.loop-text.self.urls in
+    let links = c.args.links.now in
+    let number = c.texts.number in
+    let text = c.text-text.result.now in
+    let rest = drop number links in
+    let more = drop (number + 1) links in
+    let old = c.texts.self.urls in
     let new = c.index.new.self.urls in
-    let l = c.loop-text.invariant in
-    let next : texts_in rest ≡ text ∷ texts_in more = c.in-Some.ensures.next in
+    let l = c.texts.invariant in
+    let within : number < length links = omega (arith, c.len-count.ensures.count, c.texts-test.true) in
+    let next : rest ≡ text ∷ more = drop_more links number [] within ∙ ap (λ t. t ∷ more) (sym c.text-text.ensures.text) in
     let leads : LeadsTo new None (link_url base text) =
     subst (λ (o : Option ℕ). LeadsTo new o (link_url base text)) c.in-None.is c.in_ok-index.ensures.leads in
-    let one : none_count base (texts_in rest) ≡ 1 + none_count base (texts_in more) = count_none base new rest text more next leads in
+    let one : none_count base rest ≡ 1 + none_count base more = count_none base new text rest more next leads in
     record {
-      fit = (and_parts (fits 5 text) (all_fit (texts_in more)) (ap all_fit (sym next) ∙ l.fit)).1;
       table = c.in_ok-index.ensures.known;
       keep = λ k url at. c.index.ensures.keep k url (l.keep k url at);
-      few = omega (arith, l.few, c.in-Some.ensures.shorter);
-      looked = looked_none base c.args.links.now old new c.loop-text.indices.items rest text more l.looked c.index.ensures.keep next leads;
+      within = omega (arith, within);
+      few = omega (arith, l.few);
+      looked = looked_none base links old new c.texts.indices.items text rest more l.looked c.index.ensures.keep next leads;
       counted = omega (arith, l.counted, one);
     }

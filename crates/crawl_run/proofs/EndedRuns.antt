@@ -1,0 +1,214 @@
+-- From the ends of a run's workers to what the run left: its workers, its results, and what it lost.
+use Rattle.std.proofs.Common.{◌≡◌, ◌⊎◌, inl, inr, ℕ, ◌+◌, ◌-◌, ◌^◌, ◌<◌, ◌≤◌, min, Bool, true, false, true≢false, List, [], ◌∷◌, ◌++◌, map, refl, sym, ap, subst, ◌∙◌, arith, Option, Some, Result, Ok, Err, IfOk}
+use Rattle.std.proofs.lemmas.Bool.{cases_lt}
+use Rattle.std.proofs.lemmas.List.{append_assoc, take_all}
+use Rattle.std.proofs.lemmas.List.Elements.{All-nil, All-cons, All-head, All-tail}
+use Rattle.std.specs.List.{All, flat_map}
+use Rattle.crawl_certificate.proofs.Lists.{here}
+use Rattle.crawl_certificate.specs.Certificate.{ArePages, NothingLost}
+use Rattle.crawl_certificate.specs.CertFaults.{first_fault, first_of, link_missing, not_fetched, seed_missing, twice, unfounded}
+use Rattle.crawl_certificate.specs.Culprits.{IsCulprit, is_at_fault, no_memory}
+use Rattle.crawl_certificate.specs.declared.culprit.Culprit.{Culprit}
+use Rattle.crawl_certificate.specs.declared.error.CertError.{CertError}
+use Rattle.crawl_certificate.specs.declared.error.CertError.TheVariants as cert
+use Rattle.crawl_certificate.specs.AccountEntries.{entries_in, entries_of}
+use Rattle.crawl_frontier.specs.Accounts.{Accounts, AccountId}
+use Rattle.crawl_frontier.specs.FreshParts.{AllFresh}
+use Rattle.crawl_frontier.specs.Offers.{IsFiltered, OfferWordsBeside}
+use Rattle.crawl_frontier.specs.declared.error.OfferError.{OfferError}
+use Rattle.crawl_frontier.specs.declared.error.OfferError.TheVariants as refused
+use Rattle.crawl_frontier.specs.Parts.{WorkerId, SenderId}
+use Rattle.crawl_queues.specs.declared.entry.Entry.{Entry}
+use Rattle.crawl_gate.specs.Seat.{GateId, SeatId}
+use Rattle.crawl_pages.specs.declared.page.Page.{Page}
+use Rattle.crawl_pages.specs.declared.page.PageResult.{PageResult}
+use Rattle.crawl_workers.specs.Logs.{AllLogged}
+use Rattle.crawl_workers.specs.Losses.{all_losses, both_losses, sum, with_refusal}
+use Rattle.crawl_workers.specs.Ran.{Ran}
+use Rattle.crawl_workers.specs.Runs.{AllRan}
+use Rattle.crawl_workers.specs.declared.losses.Losses.{Losses}
+use Rattle.crawl_workers.specs.declared.worker_end.WorkerEnd.{WorkerEnd}
+use Rattle.crawl_run.specs.Crawls.{IsUncertified, losses_at, of_cert}
+use Rattle.crawl_run.specs.Losses.{IsLost, losses_with}
+use Rattle.crawl_run.specs.LosslessRuns.{IsWithoutLoss, Share, all_closed, all_found}
+use Rattle.crawl_run.specs.declared.run_output.RunOutput as left
+use Rattle.crawl_run.specs.declared.error.CrawlError.{CrawlError}
+use Rattle.crawl_run.specs.declared.error.CrawlError.TheVariants as wrong
+use Rattle.crawl_run.proofs.WithoutLoss.{run_without_loss}
+
+-- ---- one end more
+
+pub closed_on : {K : _} (e : WorkerEnd K) (rest all : List (WorkerEnd K)) (so_far whole : List WorkerId) → all ≡ e ∷ rest → so_far ++ all_closed all ≡ whole → (so_far ++ e.closed ∷ []) ++ all_closed rest ≡ whole
+closed_on {K} e rest all so_far whole is before = append_assoc so_far (e.closed ∷ []) (all_closed rest) ∙ ap (λ (es : List (WorkerEnd K)). so_far ++ all_closed es) (sym is) ∙ before
+
+pub found_on : {K : _} (e : WorkerEnd K) (rest all : List (WorkerEnd K)) (so_far whole : List PageResult) → all ≡ e ∷ rest → so_far ++ all_found all ≡ whole → (so_far ++ e.results.items) ++ all_found rest ≡ whole
+found_on {K} e rest all so_far whole is before = append_assoc so_far e.results.items (all_found rest) ∙ ap (λ (es : List (WorkerEnd K)). so_far ++ all_found es) (sym is) ∙ before
+
+pub losses_on : {K : _} (e : WorkerEnd K) (rest all : List (WorkerEnd K)) (so_far whole : Losses) → all ≡ e ∷ rest → losses_with so_far all ≡ whole → losses_with (both_losses so_far e.losses) rest ≡ whole
+losses_on {K} e rest all so_far whole is before = ap (λ (es : List (WorkerEnd K)). losses_with so_far es) (sym is) ∙ before
+
+-- ---- no losses
+
+sum_none : (most a b : ℕ) → 0 < most → min (a + b) most ≡ 0 → (a ≡ 0) × (b ≡ 0)
+sum_none most a b some none = (omega (arith, some, none), omega (arith, some, none))
+
+all_none : (a b c d e f : ℕ) → a + b + c + d + e + f ≡ 0 → (a ≡ 0) × (b ≡ 0) × (c ≡ 0) × (d ≡ 0) × (e ≡ 0) × (f ≡ 0)
+all_none a b c d e f none = (omega (arith, none), omega (arith, none), omega (arith, none), omega (arith, none), omega (arith, none), omega (arith, none))
+
+none_of_all : (a b c d e f : ℕ) → (a ≡ 0) × (b ≡ 0) × (c ≡ 0) × (d ≡ 0) × (e ≡ 0) × (f ≡ 0) → a + b + c + d + e + f ≡ 0
+none_of_all a b c d e f each = omega (arith, each.0, each.1, each.2, each.3, each.4, each.5)
+
+both_none : (a b : Losses) → all_losses (both_losses a b) ≡ 0 → (all_losses a ≡ 0) × (all_losses b ≡ 0)
+both_none a b none =
+    let most : ℕ = 2 ^ 64 - 1 in
+    let some : 0 < most = omega arith in
+    let each = all_none (sum a.failed b.failed) (sum a.unkept b.unkept) (sum a.full b.full) (sum a.too_far b.too_far) (sum a.crossed b.crossed) (sum a.no_memory b.no_memory) none in
+    let failed = sum_none most a.failed b.failed some each.0 in
+    let unkept = sum_none most a.unkept b.unkept some each.1 in
+    let full = sum_none most a.full b.full some each.2 in
+    let too_far = sum_none most a.too_far b.too_far some each.3 in
+    let crossed = sum_none most a.crossed b.crossed some each.4 in
+    let no_memory = sum_none most a.no_memory b.no_memory some each.5 in (
+      none_of_all a.failed a.unkept a.full a.too_far a.crossed a.no_memory (failed.0, unkept.0, full.0, too_far.0, crossed.0, no_memory.0),
+      none_of_all b.failed b.unkept b.full b.too_far b.crossed b.no_memory (failed.1, unkept.1, full.1, too_far.1, crossed.1, no_memory.1),
+    )
+
+none_with : {K : _} (before : Losses) (ends : List (WorkerEnd K)) → all_losses (losses_with before ends) ≡ 0 → (all_losses before ≡ 0) × All (λ (e : WorkerEnd K). all_losses e.losses ≡ 0) ends
+none_with {K} before [] none = (none, All-nil (λ (e : WorkerEnd K). all_losses e.losses ≡ 0))
+none_with {K} before (e ∷ es) none =
+    let rest = none_with (both_losses before e.losses) es none in
+    let own = both_none before e.losses rest.0 in
+    (own.0, All-cons (λ (x : WorkerEnd K). all_losses x.losses ≡ 0) e es own.1 rest.1)
+
+lost_none : (most lost all : ℕ) → all ≡ 0 → lost ≡ min all most → lost ≡ 0
+lost_none most lost all none is = omega (arith, none, is)
+
+-- ---- a run in which nothing is lost
+
+abbrev shares_of : {K : _} → List WorkerId → List (WorkerEnd K) → List Share
+shares_of [] ends = []
+shares_of (w ∷ ws) [] = []
+shares_of (w ∷ ws) (e ∷ es) = record { start = w; now = e.closed; found = e.results.items } ∷ shares_of ws es
+
+shares_closed : {K : _} (workers : ℕ) (allowed : List ℕ → Bool) (meaning : List ℕ → Page) (starts : List WorkerId) (ends : List (WorkerEnd K)) → AllRan workers allowed meaning starts ends → map (λ (share : Share). share.now) (shares_of starts ends) ≡ all_closed ends
+shares_closed {K} workers allowed meaning [] [] ran = refl
+shares_closed {K} workers allowed meaning (w ∷ ws) (e ∷ es) ran = ap (λ (cs : List WorkerId). e.closed ∷ cs) (shares_closed workers allowed meaning ws es ran.1)
+shares_closed {K} workers allowed meaning starts ends ran = absurd ran
+
+shares_found : {K : _} (workers : ℕ) (allowed : List ℕ → Bool) (meaning : List ℕ → Page) (starts : List WorkerId) (ends : List (WorkerEnd K)) → AllRan workers allowed meaning starts ends → flat_map (λ (share : Share). share.found) (shares_of starts ends) ≡ all_found ends
+shares_found {K} workers allowed meaning [] [] ran = refl
+shares_found {K} workers allowed meaning (w ∷ ws) (e ∷ es) ran = ap (λ (rs : List PageResult). e.results.items ++ rs) (shares_found workers allowed meaning ws es ran.1)
+shares_found {K} workers allowed meaning starts ends ran = absurd ran
+
+shares_whole : {K : _} (gate : GateId) (workers n : ℕ) (allowed : List ℕ → Bool) (meaning : List ℕ → Page) (starts : List WorkerId) (ends : List (WorkerEnd K)) → AllFresh gate workers n starts → AllRan workers allowed meaning starts ends → All (λ (e : WorkerEnd K). all_losses e.losses ≡ 0) ends → All (IsWithoutLoss workers allowed meaning) (shares_of starts ends)
+shares_whole {K} gate workers n allowed meaning [] [] fresh ran none = All-nil (IsWithoutLoss workers allowed meaning)
+shares_whole {K} gate workers n allowed meaning [] (e ∷ es) fresh ran none = absurd ran
+shares_whole {K} gate workers n allowed meaning (w ∷ ws) [] fresh ran none = absurd ran
+shares_whole {K} gate workers n allowed meaning (w ∷ ws) (e ∷ es) fresh ran none =
+    let own = All-head (λ (x : WorkerEnd K). all_losses x.losses ≡ 0) e es none in
+    let zero : e.lost ≡ 0 = lost_none (2 ^ 64 - 1) e.lost (all_losses e.losses) own ran.0.1.all in
+    let whole = subst (λ lost. Ran workers allowed meaning w e.closed e.results.items lost) zero ran.0.0 in
+    All-cons (IsWithoutLoss workers allowed meaning) (record { start = w; now = e.closed; found = e.results.items }) (shares_of ws es) (fresh.2, whole)
+    (shares_whole gate workers (n + 1) allowed meaning ws es fresh.5 ran.1 (All-tail (λ (x : WorkerEnd K). all_losses x.losses ≡ 0) e es none))
+
+-- the entries of the account have what was asked for, where nothing was lost
+pub nothing_lost : {K : _} (gate : GateId) (workers : ℕ) (allowed : List ℕ → Bool) (meaning : List ℕ → Page) (seeds : List (List ℕ)) (starts : List WorkerId) (ends : List (WorkerEnd K)) (sender : SenderId) (before losses : Losses) (account : AccountId) (results : List PageResult)
+    → 0 < workers → account.workers ≡ workers → AllFresh gate workers 0 starts → AllRan workers allowed meaning starts ends → Accounts workers (all_closed ends) (sender ∷ []) account.queues → results ≡ all_found ends → losses ≡ losses_with before ends
+    → (all_losses before ≡ 0 → AllLogged workers allowed sender.book.log seeds) → all_losses losses ≡ 0 → NothingLost allowed seeds (entries_of account) results
+nothing_lost {K} gate workers allowed meaning seeds starts ends sender before losses account results some many fresh ran own found lost logged none =
+    let shares = shares_of starts ends in
+    let of_none = none_with before ends (subst (λ (l : Losses). all_losses l ≡ 0) lost none) in
+    let accounts : Accounts workers (map (λ (share : Share). share.now) shares) (sender ∷ []) account.queues =
+    subst (λ closed. Accounts workers closed (sender ∷ []) account.queues) (sym (shares_closed workers allowed meaning starts ends ran)) own in
+    let whole = run_without_loss workers allowed meaning seeds shares (sender ∷ []) account.queues some accounts (shares_whole gate workers 0 allowed meaning starts ends fresh ran of_none.1) sender (here sender []) (logged of_none.0) in
+    let entries : entries_of account ≡ entries_in account.queues = ap entries_in (take_all account.workers account.queues (omega (arith, own.len, many))) in
+    let given : results ≡ flat_map (λ (share : Share). share.found) shares = found ∙ sym (shares_found workers allowed meaning starts ends ran) in
+    subst (λ es. NothingLost allowed seeds es results) (sym entries) (subst (λ rs. NothingLost allowed seeds (entries_in account.queues) rs) (sym given) whole)
+
+-- ---- a fault of what is missing
+
+one_at_least : (n : ℕ) → (n ≡ 0 → ⊥) → 1 ≤ n
+one_at_least n some = elim (cases_lt 0 n) [
+  | inl more ↦ omega (arith, more)
+  | inr none ↦ absurd (some (omega (arith, none)))
+]
+
+abbrev tells_missing : Option CertError → Bool
+tells_missing (Some cert.SeedMissing) = true
+tells_missing (Some cert.NotFetched) = true
+tells_missing (Some cert.LinkMissing) = true
+tells_missing _ = false
+
+none_missing : (d e : Bool) → tells_missing (first_of false false false d e) ≡ false
+none_missing true e = refl
+none_missing false true = refl
+none_missing false false = refl
+
+-- nothing is missing where nothing was lost
+abbrev pub LacksNothing : (List ℕ → Bool) → List (List ℕ) → List Entry → List PageResult → Losses → Type 0
+LacksNothing allowed seeds entries results losses =
+    all_losses losses ≡ 0 → (seed_missing allowed seeds entries ≡ false) × (not_fetched entries results ≡ false) × (link_missing allowed entries results ≡ false)
+
+missing_lost : (allowed : List ℕ → Bool) (seeds : List (List ℕ)) (entries : List Entry) (results : List PageResult) (cause : CertError) (losses : Losses) → tells_missing (Some cause) ≡ true → LacksNothing allowed seeds entries results losses
+    → first_fault allowed seeds entries results ≡ Some cause → 1 ≤ all_losses losses
+missing_lost allowed seeds entries results cause losses tells lacks first =
+    one_at_least (all_losses losses) (λ none.
+    let each = lacks none in
+    let unfound = unfounded allowed seeds entries results in
+    let again = twice results in
+    let untold : tells_missing (first_fault allowed seeds entries results) ≡ false =
+    (λ i. tells_missing (first_of (each.0 i) (each.1 i) (each.2 i) unfound again)) ∙ none_missing unfound again in
+    true≢false (sym tells ∙ ap tells_missing (sym first) ∙ untold))
+
+cause_lost : (allowed : List ℕ → Bool) (seeds : List (List ℕ)) (entries : List Entry) (results : List PageResult) (cause : CertError) (losses : Losses) → LacksNothing allowed seeds entries results losses → first_fault allowed seeds entries results ≡ Some cause → IsLost (of_cert cause) losses
+cause_lost allowed seeds entries results cert.SeedMissing losses lacks first = missing_lost allowed seeds entries results cert.SeedMissing losses refl lacks first
+cause_lost allowed seeds entries results cert.NotFetched losses lacks first = missing_lost allowed seeds entries results cert.NotFetched losses refl lacks first
+cause_lost allowed seeds entries results cert.LinkMissing losses lacks first = missing_lost allowed seeds entries results cert.LinkMissing losses refl lacks first
+cause_lost allowed seeds entries results cause losses lacks first = tt
+
+-- so the culprit of a run in which nothing was lost tells nothing that is missing
+pub culprit_lost : (allowed : List ℕ → Bool) (seeds : List (List ℕ)) (entries : List Entry) (results : List PageResult) (culprit : Culprit) (losses : Losses) → LacksNothing allowed seeds entries results losses
+    → IsCulprit (first_fault allowed seeds entries results) (is_at_fault allowed seeds entries results) culprit ⊎ (culprit ≡ no_memory) → IsLost (of_cert culprit.cause) (losses_at culprit.url losses)
+culprit_lost allowed seeds entries results culprit losses lacks told = elim told [
+  | inl found ↦ subst (λ (url : Option (List ℕ)). IsLost (of_cert culprit.cause) (losses_at url losses)) (sym found.named) (cause_lost allowed seeds entries results culprit.cause losses lacks found.cause)
+  | inr memory ↦ subst (λ (c : Culprit). IsLost (of_cert c.cause) (losses_at c.url losses)) (sym memory) tt
+]
+
+-- an error without a certificate tells nothing that is missing
+pub uncertified_lost : (error : CrawlError) (losses : Losses) → IsUncertified error → IsLost error losses
+uncertified_lost (wrong.Cert error) losses is = absurd is
+uncertified_lost error losses is = tt
+
+-- ---- a seed that is refused
+
+one_lost : (most a b c d e f : ℕ) → 0 < most → (a + b + min (c + 1) most + d + e + f ≡ 0 → ⊥) × (a + b + c + min (d + 1) most + e + f ≡ 0 → ⊥) × (a + b + c + d + min (e + 1) most + f ≡ 0 → ⊥) × (a + b + c + d + e + min (f + 1) most ≡ 0 → ⊥)
+one_lost most a b c d e f some = (λ none. omega (arith, some, none), λ none. omega (arith, some, none), λ none. omega (arith, some, none), λ none. omega (arith, some, none))
+
+-- it is lost, unless the filter does not allow it
+pub refusal_line : (error : OfferError) (before : Losses) (allowed : Bool) (Line : Type 0) (held held' pass pass' : SeatId) → OfferWordsBeside held held' pass pass' (Err error) → (IsFiltered (Err error) → allowed ≡ false) → all_losses (with_refusal error before) ≡ 0 → (all_losses before ≡ 0) × (allowed ≡ true → Line)
+refusal_line refused.Filtered before allowed Line h h' p p' words filtered none = (none, λ is. absurd (true≢false (sym is ∙ filtered tt)))
+refusal_line refused.Closed before allowed Line h h' p p' words filtered none = absurd words
+refusal_line refused.Full b allowed Line h h' p p' words filtered none = absurd ((one_lost (2 ^ 64 - 1) b.failed b.unkept b.full b.too_far b.crossed b.no_memory (omega arith)).0 none)
+refusal_line refused.TooFar b allowed Line h h' p p' words filtered none = absurd ((one_lost (2 ^ 64 - 1) b.failed b.unkept b.full b.too_far b.crossed b.no_memory (omega arith)).1 none)
+refusal_line (refused.Crossed own found) b allowed Line h h' p p' words filtered none = absurd ((one_lost (2 ^ 64 - 1) b.failed b.unkept b.full b.too_far b.crossed b.no_memory (omega arith)).2 none)
+refusal_line refused.NoMemory b allowed Line h h' p p' words filtered none = absurd ((one_lost (2 ^ 64 - 1) b.failed b.unkept b.full b.too_far b.crossed b.no_memory (omega arith)).3 none)
+
+pub refusal_filtered : (error : OfferError) (before : Losses) → IsFiltered (Err error) → with_refusal error before ≡ before
+refusal_filtered refused.Filtered before is = refl
+refusal_filtered error before is = absurd is
+
+-- ---- what a run answers
+
+pub found_of : {E : Type 0} (result : Result left.RunOutput E) (meaning : List ℕ → Page) (found : List PageResult) → ArePages meaning found → IfOk result (λ ran. ran.results.items ≡ found) → IfOk result (λ ran. ArePages meaning ran.results.items)
+found_of (Ok ran) meaning found pages is = subst (ArePages meaning) (sym is) pages
+found_of (Err e) meaning found pages is = tt
+
+pub nothing_lost_of : {K : _} {E : Type 0} (result : Result left.RunOutput E) (gate : GateId) (workers : ℕ) (allowed : List ℕ → Bool) (meaning : List ℕ → Page) (seeds : List (List ℕ)) (starts : List WorkerId) (ends : List (WorkerEnd K)) (sender : SenderId) (before : Losses)
+    (closed : List WorkerId) (found : List PageResult) (losses : Losses)
+    → 0 < workers → AllFresh gate workers 0 starts → AllRan workers allowed meaning starts ends → closed ≡ all_closed ends → found ≡ all_found ends → losses ≡ losses_with before ends → (all_losses before ≡ 0 → AllLogged workers allowed sender.book.log seeds)
+    → IfOk result (λ ran. ran.account.workers ≡ workers) → IfOk result (λ ran. Accounts workers closed (sender ∷ []) ran.account.queues) → IfOk result (λ ran. ran.results.items ≡ found) → IfOk result (λ ran. ran.losses ≡ losses)
+    → IfOk result (λ ran. all_losses ran.losses ≡ 0 → NothingLost allowed seeds (entries_of ran.account) ran.results.items)
+nothing_lost_of {K} (Ok ran) gate workers allowed meaning seeds starts ends sender before closed found losses some fresh did closed_is found_is losses_are logged many own results lost =
+    let account : Accounts workers (all_closed ends) (sender ∷ []) ran.account.queues = subst (λ (c : List WorkerId). Accounts workers c (sender ∷ []) ran.account.queues) closed_is own in
+    λ none. nothing_lost gate workers allowed meaning seeds starts ends sender before ran.losses ran.account ran.results.items some many fresh did account (results ∙ found_is) (lost ∙ losses_are) logged none
+nothing_lost_of {K} (Err e) gate workers allowed meaning seeds starts ends sender before closed found losses some fresh did closed_is found_is losses_are logged many own results lost = tt

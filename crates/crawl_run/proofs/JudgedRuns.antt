@@ -1,0 +1,214 @@
+-- What the seeds and the workers of a run lost together, and the run that lost it.
+use Rattle.std.proofs.Common.{◌≡◌, ◌⊎◌, inl, inr, ℕ, ◌+◌, ◌-◌, ◌^◌, min, Bool, true≢false, List, [], ◌∷◌, ◌++◌, map, append-nil, append_assoc, refl, sym, ap, subst, ◌∙◌, arith, Option, Some, Result, Ok, Err, IfOk}
+use Rattle.std.proofs.lemmas.List.{map-append, take_all}
+use Rattle.std.proofs.lemmas.List.Sums.{sum_by_push}
+use Rattle.std.specs.List.{sum_by}
+use Rattle.crawl_certificate.specs.AccountEntries.{entries_in, entries_of}
+use Rattle.crawl_certificate.specs.CertFaults.{first_fault}
+use Rattle.crawl_certificate.specs.Culprits.{IsCulprit, is_at_fault, no_memory}
+use Rattle.crawl_certificate.specs.Least.{IsLeast}
+use Rattle.crawl_certificate.specs.declared.culprit.Culprit.{Culprit}
+use Rattle.crawl_certificate.specs.declared.error.CertError.{CertError}
+use Rattle.crawl_certificate.specs.declared.error.CertError.TheVariants as cert
+use Rattle.crawl_frontier.specs.Accounts.{Accounts}
+use Rattle.crawl_queues.specs.Books.{fresh_book}
+use Rattle.crawl_frontier.specs.FreshParts.{AllFresh}
+use Rattle.crawl_frontier.specs.Parts.{SeederId, SenderId, WorkerId}
+use Rattle.crawl_queues.specs.declared.entry.Entry.{Entry}
+use Rattle.crawl_frontier.specs.declared.error.OfferError.{OfferError}
+use Rattle.crawl_frontier.specs.declared.error.OfferError.TheVariants as refused
+use Rattle.crawl_frontier.specs.declared.offer.Offer.{Offer}
+use Rattle.crawl_gate.specs.Seat.{GateId}
+use Rattle.crawl_pages.specs.declared.page.Page.{Page}
+use Rattle.crawl_pages.specs.declared.page.PageResult.{PageResult}
+use Rattle.crawl_workers.specs.Losses.{both_losses, no_losses, with_refusal}
+use Rattle.crawl_workers.specs.Runs.{AllRan}
+use Rattle.crawl_workers.specs.declared.losses.Losses.{Losses}
+use Rattle.crawl_workers.specs.declared.worker_end.WorkerEnd.{WorkerEnd}
+use Rattle.crawl_run.specs.Crawls.{losses_at, of_cert}
+use Rattle.crawl_run.specs.JudgedRuns.{AllOffered, AreOffered, CountsLosses, IsRun, IsSeedOffer}
+use Rattle.crawl_run.specs.Losses.{losses_with, lost_seed, together}
+use Rattle.crawl_run.specs.LosslessRuns.{all_closed, all_found, all_lost}
+use Rattle.crawl_run.specs.declared.run_output.RunOutput as left
+
+-- ---- one more
+
+least_of_sum : (most s x : ℕ) → min (min s most + x) most ≡ min (s + x) most
+least_of_sum most s x = omega arith
+
+stays : (most s : ℕ) → min s most ≡ min (min s most + 0) most
+stays most s = omega arith
+
+kind_more : (kind : Losses → ℕ) (all : List Losses) (l : Losses) → min (min (sum_by kind all) (2 ^ 64 - 1) + kind l) (2 ^ 64 - 1) ≡ min (sum_by kind (all ++ l ∷ [])) (2 ^ 64 - 1)
+kind_more kind all l = least_of_sum (2 ^ 64 - 1) (sum_by kind all) (kind l) ∙ ap (λ n. min n (2 ^ 64 - 1)) (sym (sum_by_push kind all l))
+
+together_more : (all : List Losses) (l : Losses) → both_losses (together all) l ≡ together (all ++ l ∷ [])
+together_more all l = λ i. record {
+  failed = kind_more (λ (x : Losses). x.failed) all l i;
+  unkept = kind_more (λ (x : Losses). x.unkept) all l i;
+  full = kind_more (λ (x : Losses). x.full) all l i;
+  too_far = kind_more (λ (x : Losses). x.too_far) all l i;
+  crossed = kind_more (λ (x : Losses). x.crossed) all l i;
+  no_memory = kind_more (λ (x : Losses). x.no_memory) all l i;
+}
+
+-- so it is of the ends of workers
+with_ends : {K : _} (all : List Losses) (ends : List (WorkerEnd K)) → losses_with (together all) ends ≡ together (all ++ all_lost ends)
+with_ends {K} all [] = ap together (sym (append-nil all))
+with_ends {K} all (e ∷ es) = ap (λ (l : Losses). losses_with l es) (together_more all e.losses) ∙ with_ends (all ++ e.losses ∷ []) es ∙ ap together (append_assoc all (e.losses ∷ []) (all_lost es))
+
+-- ---- a seed more
+
+-- what the offer of a seed was answered
+abbrev Answer : Type 0
+Answer = Result Offer OfferError
+
+-- what is lost with a seed whose offer had this answer, beside what was lost before
+abbrev with_offer : Answer → Losses → Losses
+with_offer (Ok offer) losses = losses
+with_offer (Err refusal) losses = with_refusal refusal losses
+
+-- a count that no seed is added to
+unchanged : (kind : Losses → ℕ) (all : List Losses) → min (sum_by kind all) (2 ^ 64 - 1) ≡ min (min (sum_by kind all) (2 ^ 64 - 1) + 0) (2 ^ 64 - 1)
+unchanged kind all = stays (2 ^ 64 - 1) (sum_by kind all)
+
+none_lost : (all : List Losses) → together all ≡ both_losses (together all) no_losses
+none_lost all = λ i. record {
+  failed = unchanged (λ (x : Losses). x.failed) all i;
+  unkept = unchanged (λ (x : Losses). x.unkept) all i;
+  full = unchanged (λ (x : Losses). x.full) all i;
+  too_far = unchanged (λ (x : Losses). x.too_far) all i;
+  crossed = unchanged (λ (x : Losses). x.crossed) all i;
+  no_memory = unchanged (λ (x : Losses). x.no_memory) all i;
+}
+
+both_offer : (all : List Losses) (offer : Answer) → with_offer offer (together all) ≡ both_losses (together all) (lost_seed offer)
+both_offer all (Ok taken) = none_lost all
+both_offer all (Err refused.Filtered) = none_lost all
+both_offer all (Err refused.Closed) = none_lost all
+both_offer all (Err refused.Full) = λ i. record {
+  failed = unchanged (λ (x : Losses). x.failed) all i;
+  unkept = unchanged (λ (x : Losses). x.unkept) all i;
+  full = (both_losses (together all) (lost_seed (Err refused.Full))).full;
+  too_far = unchanged (λ (x : Losses). x.too_far) all i;
+  crossed = unchanged (λ (x : Losses). x.crossed) all i;
+  no_memory = unchanged (λ (x : Losses). x.no_memory) all i;
+}
+both_offer all (Err refused.TooFar) = λ i. record {
+  failed = unchanged (λ (x : Losses). x.failed) all i;
+  unkept = unchanged (λ (x : Losses). x.unkept) all i;
+  full = unchanged (λ (x : Losses). x.full) all i;
+  too_far = (both_losses (together all) (lost_seed (Err refused.TooFar))).too_far;
+  crossed = unchanged (λ (x : Losses). x.crossed) all i;
+  no_memory = unchanged (λ (x : Losses). x.no_memory) all i;
+}
+both_offer all (Err (refused.Crossed own found)) = λ i. record {
+  failed = unchanged (λ (x : Losses). x.failed) all i;
+  unkept = unchanged (λ (x : Losses). x.unkept) all i;
+  full = unchanged (λ (x : Losses). x.full) all i;
+  too_far = unchanged (λ (x : Losses). x.too_far) all i;
+  crossed = (both_losses (together all) (lost_seed (Err (refused.Crossed own found)))).crossed;
+  no_memory = unchanged (λ (x : Losses). x.no_memory) all i;
+}
+both_offer all (Err refused.NoMemory) = λ i. record {
+  failed = unchanged (λ (x : Losses). x.failed) all i;
+  unkept = unchanged (λ (x : Losses). x.unkept) all i;
+  full = unchanged (λ (x : Losses). x.full) all i;
+  too_far = unchanged (λ (x : Losses). x.too_far) all i;
+  crossed = unchanged (λ (x : Losses). x.crossed) all i;
+  no_memory = (both_losses (together all) (lost_seed (Err refused.NoMemory))).no_memory;
+}
+
+offer_more : (offers : List Answer) (offer : Answer) → with_offer offer (together (map lost_seed offers)) ≡ together (map lost_seed (offers ++ offer ∷ []))
+offer_more offers offer = both_offer (map lost_seed offers) offer ∙ together_more (map lost_seed offers) (lost_seed offer) ∙ ap together (sym (map-append lost_seed offers (offer ∷ [])))
+
+-- the seeder has offered one seed more
+all_more : (workers : ℕ) (allowed : List ℕ → Bool) (s m s' : SeederId) (seeds : List (List ℕ)) (answers : List Answer) (seed : List ℕ) (answer : Answer)
+    → AllOffered workers allowed s m seeds answers → IsSeedOffer workers allowed m s' seed answer → AllOffered workers allowed s s' (seeds ++ seed ∷ []) (answers ++ answer ∷ [])
+all_more workers allowed s m s' [] [] seed answer each own = (s', subst (λ (x : SeederId). IsSeedOffer workers allowed x s' seed answer) each own, refl)
+all_more workers allowed s m s' (u ∷ seeds) (a ∷ answers) seed answer each own = (each.0, each.1, all_more workers allowed each.0 m s' seeds answers seed answer each.2 own)
+all_more workers allowed s m s' seeds answers seed answer each own = absurd each
+
+pub offered_more : (workers : ℕ) (allowed : List ℕ → Bool) (s m s' : SeederId) (seeds : List (List ℕ)) (seed : List ℕ) (answer : Answer) (before after : Losses) → IsSeedOffer workers allowed m s' seed answer → after ≡ with_offer answer before
+    → AreOffered workers allowed s m seeds before → AreOffered workers allowed s s' (seeds ++ seed ∷ []) after
+offered_more workers allowed s m s' seeds seed answer before after own counted so_far = record {
+  answers = so_far.answers ++ answer ∷ [];
+  each = all_more workers allowed s m s' seeds so_far.answers seed answer so_far.each own;
+  lost = counted ∙ ap (with_offer answer) so_far.lost ∙ offer_more so_far.answers answer;
+}
+
+pub none_offered : (workers : ℕ) (allowed : List ℕ → Bool) (s : SeederId) (losses : Losses) → losses ≡ no_losses → AreOffered workers allowed s s [] losses
+none_offered workers allowed s losses none = record { answers = []; each = refl; lost = none }
+
+-- ---- the ends of a run, whatever names its frontier
+
+abbrev renamed : {K : _} → WorkerEnd K → WorkerEnd (Unit {0})
+renamed e = record { closed = e.closed; results = e.results; lost = e.lost; losses = e.losses }
+
+abbrev all_renamed : {K : _} → List (WorkerEnd K) → List (WorkerEnd (Unit {0}))
+all_renamed [] = []
+all_renamed (e ∷ es) = renamed e ∷ all_renamed es
+
+same_closed : {K : _} (ends : List (WorkerEnd K)) → all_closed ends ≡ all_closed (all_renamed ends)
+same_closed {K} [] = refl
+same_closed {K} (e ∷ es) = ap (λ (cs : List WorkerId). e.closed ∷ cs) (same_closed es)
+
+same_found : {K : _} (ends : List (WorkerEnd K)) → all_found ends ≡ all_found (all_renamed ends)
+same_found {K} [] = refl
+same_found {K} (e ∷ es) = ap (λ (rs : List PageResult). e.results.items ++ rs) (same_found es)
+
+same_lost : {K : _} (ends : List (WorkerEnd K)) → all_lost ends ≡ all_lost (all_renamed ends)
+same_lost {K} [] = refl
+same_lost {K} (e ∷ es) = ap (λ (ls : List Losses). e.losses ∷ ls) (same_lost es)
+
+same_ran : {K : _} (workers : ℕ) (allowed : List ℕ → Bool) (meaning : List ℕ → Page) (starts : List WorkerId) (ends : List (WorkerEnd K)) → AllRan workers allowed meaning starts ends → AllRan workers allowed meaning starts (all_renamed ends)
+same_ran {K} workers allowed meaning [] [] ran = tt
+same_ran {K} workers allowed meaning (w ∷ ws) (e ∷ es) ran = (ran.0, same_ran workers allowed meaning ws es ran.1)
+same_ran {K} workers allowed meaning starts ends ran = absurd ran
+
+-- ---- what a run answers
+
+pub run_of : {K : _} {E : Type 0} (result : Result left.RunOutput E) (gate : GateId) (workers : ℕ) (allowed : List ℕ → Bool) (meaning : List ℕ → Page) (seeds : List (List ℕ)) (starts : List WorkerId) (ends : List (WorkerEnd K)) (seeder seeded : SeederId) (sender : SenderId) (before : Losses)
+    (closed : List WorkerId) (found : List PageResult) (losses : Losses)
+    → AllFresh gate workers 0 starts → AllRan workers allowed meaning starts ends → closed ≡ all_closed ends → found ≡ all_found ends → losses ≡ losses_with before ends → seeder.book ≡ fresh_book workers workers → AreOffered workers allowed seeder seeded seeds before → sender.book ≡ seeded.book
+    → IfOk result (λ ran. ran.account.workers ≡ workers) → IfOk result (λ ran. Accounts workers closed (sender ∷ []) ran.account.queues) → IfOk result (λ ran. ran.results.items ≡ found) → IfOk result (λ ran. ran.losses ≡ losses)
+    → IfOk result (λ ran. IsRun workers allowed meaning seeds (entries_of ran.account) ran.results.items ran.losses)
+run_of {K} (Ok ran) gate workers allowed meaning seeds starts ends seeder seeded sender before closed found losses fresh did closed_is found_is losses_are first offered last many own results lost = record {
+  gate = gate;
+  starts = starts;
+  ends = all_renamed ends;
+  seeder = seeder;
+  seeded = seeded;
+  sender = sender;
+  answers = offered.answers;
+  queues = ran.account.queues;
+  fresh = fresh;
+  ran = same_ran workers allowed meaning starts ends did;
+  first = first;
+  offered = offered.each;
+  last = last;
+  account = subst (λ (c : List WorkerId). Accounts workers c (sender ∷ []) ran.account.queues) (closed_is ∙ same_closed ends) own;
+  accepted = ap entries_in (take_all ran.account.workers ran.account.queues (omega (arith, own.len, many)));
+  found = results ∙ found_is ∙ same_found ends;
+  lost =
+      lost ∙ losses_are ∙ ap (λ (l : Losses). losses_with l ends) offered.lost ∙ with_ends (map lost_seed offered.answers) ends
+      ∙ ap (λ (ls : List Losses). together (map lost_seed offered.answers ++ ls)) (same_lost ends);
+}
+run_of {K} (Err e) gate workers allowed meaning seeds starts ends seeder seeded sender before closed found losses fresh did closed_is found_is losses_are first offered last many own results lost = tt
+
+-- ---- what is told of it
+
+cause_counted : (workers : ℕ) (allowed : List ℕ → Bool) (meaning : List ℕ → Page) (seeds : List (List ℕ)) (entries : List Entry) (results : List PageResult) (losses : Losses) (cause : CertError) (url : List ℕ) → IsRun workers allowed meaning seeds entries results losses
+    → first_fault allowed seeds entries results ≡ Some cause → IsLeast (is_at_fault allowed seeds entries results cause) (Some url) → CountsLosses workers allowed meaning seeds (of_cert cause) (Some url) losses
+cause_counted workers allowed meaning seeds entries results losses cert.NoMemory url run first least = absurd (true≢false (sym least.0))
+cause_counted workers allowed meaning seeds entries results losses cause url run first least = record { entries = entries; results = results; run = run; first = first; least = least }
+
+-- a culprit of such a run is told with its losses, and with none where memory ran out
+pub culprit_counted : (workers : ℕ) (allowed : List ℕ → Bool) (meaning : List ℕ → Page) (seeds : List (List ℕ)) (entries : List Entry) (results : List PageResult) (losses : Losses) (culprit : Culprit) → IsRun workers allowed meaning seeds entries results losses
+    → IsCulprit (first_fault allowed seeds entries results) (is_at_fault allowed seeds entries results) culprit ⊎ (culprit ≡ no_memory) → CountsLosses workers allowed meaning seeds (of_cert culprit.cause) culprit.url (losses_at culprit.url losses)
+culprit_counted workers allowed meaning seeds entries results losses culprit run told = elim told [
+  | inl found ↦
+      subst (λ (url : Option (List ℕ)). CountsLosses workers allowed meaning seeds (of_cert culprit.cause) url (losses_at url losses)) (sym found.named)
+      (cause_counted workers allowed meaning seeds entries results losses culprit.cause found.url run found.cause found.least)
+  | inr memory ↦ subst (λ (c : Culprit). CountsLosses workers allowed meaning seeds (of_cert c.cause) c.url (losses_at c.url losses)) (sym memory) refl
+]

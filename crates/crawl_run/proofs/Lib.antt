@@ -1,0 +1,5 @@
+pub mod EndedRuns
+pub mod JudgedRuns
+pub mod LostUrls
+pub mod RunResults
+pub mod WithoutLoss

@@ -1,0 +1,12 @@
+use Rattle.std.specs.List.{flat_map}
+use Rattle.crawl_certificate.specs.AccountEntries.{entries_in}
+use Rattle.crawl_run.specs.LosslessRuns.{Share}
+use Rattle.crawl_run.proofs.WithoutLoss.{run_without_loss}
+use Rattle.crawl_run.proofs.laws.nothing_lost_lacks_nothing.Goals as goal
+
+pub returns-clause-whole : goal.returns-clause-whole
+returns-clause-whole c = run_without_loss
+
+pub returns-clause-faults : goal.returns-clause-faults
+returns-clause-faults c workers allowed meaning seeds shares senders queues some account whole sender among logged =
+    c.nothing_lost.ensures allowed seeds (entries_in queues) (flat_map (λ (share : Share). share.found) shares) (run_without_loss workers allowed meaning seeds shares senders queues some account whole sender among logged)

@@ -1,0 +1,81 @@
+-- The run behind a crawl's fault, and all that was lost in it, by why.
+use Rattle.std.specs.Prelude.{◌≡◌, ◌↔◌, ℕ, Bool, false, List, [], ◌∷◌, ◌++◌, map, Option, Some, None, Result}
+use Rattle.crawl_certificate.specs.AccountEntries.{entries_in}
+use Rattle.crawl_certificate.specs.CertFaults.{first_fault}
+use Rattle.crawl_certificate.specs.Culprits.{is_at_fault}
+use Rattle.crawl_certificate.specs.Least.{IsLeast}
+use Rattle.crawl_certificate.specs.declared.error.CertError.{CertError}
+use Rattle.crawl_frontier.specs.Accounts.{Accounts}
+use Rattle.crawl_queues.specs.Books.{fresh_book}
+use Rattle.crawl_frontier.specs.FreshParts.{AllFresh}
+use Rattle.crawl_frontier.specs.Offers.{IsFiltered, OfferBooks, OfferWordsBeside}
+use Rattle.crawl_frontier.specs.Parts.{SeederId, SenderId, WorkerId}
+use Rattle.crawl_queues.specs.declared.entry.Entry.{Entry}
+use Rattle.crawl_frontier.specs.declared.error.OfferError.{OfferError}
+use Rattle.crawl_frontier.specs.declared.offer.Offer.{Offer}
+use Rattle.crawl_gate.specs.Seat.{GateId}
+use Rattle.crawl_pages.specs.declared.page.Page.{Page}
+use Rattle.crawl_pages.specs.declared.page.PageResult.{PageResult}
+use Rattle.crawl_workers.specs.Losses.{no_losses}
+use Rattle.crawl_workers.specs.Runs.{AllRan}
+use Rattle.crawl_workers.specs.declared.losses.Losses.{Losses}
+use Rattle.crawl_workers.specs.declared.worker_end.WorkerEnd.{WorkerEnd}
+use Rattle.crawl_run.specs.Losses.{lost_seed, together}
+use Rattle.crawl_run.specs.LosslessRuns.{all_closed, all_found, all_lost}
+use Rattle.crawl_run.specs.declared.error.CrawlError.{CrawlError}
+use Rattle.crawl_run.specs.declared.error.CrawlError.TheVariants as wrong
+
+-- The seeder offers a seed, with no hops, and has this answer: its books and the words that it met are those of the answer, which
+-- is a refusal by the filter exactly where the URL is not allowed.
+pub record IsSeedOffer (workers : ℕ) (allowed : List ℕ → Bool) (s s' : SeederId) (url : List ℕ) (answer : Result Offer OfferError) : Type 0 where
+  pub books : OfferBooks workers s.book s'.book url 0 answer
+  pub words : OfferWordsBeside s.opening s'.opening s.seat s'.seat answer
+  pub filtered : IsFiltered answer ↔ (allowed url ≡ false)
+
+-- it offers these seeds, one after another
+abbrev pub AllOffered : ℕ → (List ℕ → Bool) → SeederId → SeederId → List (List ℕ) → List (Result Offer OfferError) → Type 0
+AllOffered workers allowed s s' [] [] = s' ≡ s
+AllOffered workers allowed s s' (url ∷ seeds) (answer ∷ answers) = (m : SeederId) × IsSeedOffer workers allowed s m url answer × AllOffered workers allowed m s' seeds answers
+AllOffered workers allowed s s' seeds answers = ⊥
+
+-- from `s` to `s'` each seed was offered, and so much was lost with them
+pub record AreOffered (workers : ℕ) (allowed : List ℕ → Bool) (s s' : SeederId) (seeds : List (List ℕ)) (losses : Losses) : Type 0 where
+  pub answers : List (Result Offer OfferError)
+  pub each : AllOffered workers allowed s s' seeds answers
+  pub lost : losses ≡ together (map lost_seed answers)
+
+-- All workers of a new frontier ran to their ends; its seeder offered the seeds, and the sender that it became has its books. The
+-- run has an account with these entries, and these results; and what the seeds and the workers lost is together so much. The type
+-- in `ends` names the frontier, which is any.
+pub record IsRun (workers : ℕ) (allowed : List ℕ → Bool) (meaning : List ℕ → Page) (seeds : List (List ℕ)) (entries : List Entry) (results : List PageResult) (losses : Losses) : Type 0 where
+  pub gate : GateId
+  pub starts : List WorkerId
+  pub ends : List (WorkerEnd (Unit {0}))
+  pub seeder : SeederId
+  pub seeded : SeederId
+  pub sender : SenderId
+  pub answers : List (Result Offer OfferError)
+  pub queues : List (List Entry)
+  pub fresh : AllFresh gate workers 0 starts
+  pub ran : AllRan workers allowed meaning starts ends
+  pub first : seeder.book ≡ fresh_book workers workers
+  pub offered : AllOffered workers allowed seeder seeded seeds answers
+  pub last : sender.book ≡ seeded.book
+  pub account : Accounts workers (all_closed ends) (sender ∷ []) queues
+  pub accepted : entries ≡ entries_in queues
+  pub found : results ≡ all_found ends
+  pub lost : losses ≡ together (map lost_seed answers ++ all_lost ends)
+
+-- such a run lost so much, and its certificate has this fault; no URL below this one has it
+pub record IsLossAt (workers : ℕ) (allowed : List ℕ → Bool) (meaning : List ℕ → Page) (seeds : List (List ℕ)) (error : CertError) (url : List ℕ) (losses : Losses) : Type 0 where
+  pub entries : List Entry
+  pub results : List PageResult
+  pub run : IsRun workers allowed meaning seeds entries results losses
+  pub first : first_fault allowed seeds entries results ≡ Some error
+  pub least : IsLeast (is_at_fault allowed seeds entries results error) (Some url)
+
+-- a fault of a certificate is told with what its run lost, and another error with no losses
+abbrev pub CountsLosses : ℕ → (List ℕ → Bool) → (List ℕ → Page) → List (List ℕ) → CrawlError → Option (List ℕ) → Losses → Type 0
+CountsLosses workers allowed meaning seeds error None losses = losses ≡ no_losses
+CountsLosses workers allowed meaning seeds (wrong.Cert error) (Some url) losses = IsLossAt workers allowed meaning seeds error url losses
+CountsLosses workers allowed meaning seeds error (Some url) losses = ⊥

@@ -1,0 +1,5 @@
+pub mod Crawls
+pub mod JudgedRuns
+pub mod Limits
+pub mod Losses
+pub mod LosslessRuns

@@ -1,0 +1,38 @@
+//! How a crawl runs.
+
+use crawl_keys::Filter;
+
+/// How the workers of a crawl run. What a crawl finds does not depend on the mode.
+#[derive(Clone, Copy, Debug, PartialEq, Eq)]
+pub enum Mode {
+    /// All workers run on the calling thread and take turns, one URL each.
+    Turns,
+    /// Each worker runs in its own thread. A single worker runs on the calling thread.
+    Threads,
+}
+
+/// How a crawl runs. What it finds depends only on the filter.
+///
+/// # Example
+///
+/// As `mercator crawl` runs a crawl:
+///
+/// ```rust
+/// let settings = CrawlSettings {
+///     workers: asked.workers,
+///     max_pending: asked.max,
+///     mode: Mode::Threads,
+///     filter: &filter,
+/// };
+/// ```
+#[derive(Clone, Copy)]
+pub struct CrawlSettings<'f> {
+    /// The number of workers, each with its own queue: 1 to 512.
+    pub workers: u32,
+    /// The most URLs that are waiting or in progress at a time: 1 to 2^40. The seeding phase counts as one.
+    pub max_pending: u64,
+    /// Whether workers run in threads. A single worker runs on the calling thread.
+    pub mode: Mode,
+    /// Which hosts are crawled.
+    pub filter: &'f Filter,
+}

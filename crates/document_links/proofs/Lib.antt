@@ -1,0 +1,4 @@
+pub mod Behind
+pub mod Fitting
+pub mod Plain
+pub mod WindowsBytes

@@ -1,0 +1,9 @@
+use Rattle.std.proofs.Common.{◌≡◌, ◌+◌, length, count_by}
+use Rattle.document_links.specs.Places.{is_lf}
+use Rattle.document_links.proofs.places.line_feeds.Given as goal
+
+abbrev pub decreases-runs : goal.decreases-runs
+decreases-runs l = length l.rest
+
+abbrev pub invariant-runs : goal.invariant-runs
+invariant-runs l = l.count + count_by is_lf l.rest ≡ count_by is_lf l.bytes

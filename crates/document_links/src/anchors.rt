@@ -1,0 +1,236 @@
+//! The anchors of a document, and its links to anchors.
+use crate::cleaning::{push_without_breaks, trimmed_end};
+use crate::link_writer::LinkWriter;
+use crate::raw_links::{Piece, RawLinks};
+use crate::targets::Targets;
+use crawl_keys::CanonUrl;
+use memchr::memchr;
+use page_anchors::{Ids, is_indicated};
+use std::alloc::{AllocError, Global};
+
+/// A link to an anchor.
+#[derive(Clone, Copy)]
+pub struct AnchorLink<'a> {
+    /// The text after its first `#`.
+    pub fragment: &'a [u8],
+    /// The position in the document's text at which the attribute's value starts. `None` if it is beyond 4 GiB.
+    pub index: Option<u32>,
+}
+
+/// The start of a link's fragment, which ends at the start of the next, and the position of its value.
+#[derive(Clone, Copy)]
+struct KeptLink {
+    fragment: u32,
+    index: u32,
+}
+
+/// Stands for a position beyond 4 GiB.
+const FAR: u32 = u32::MAX;
+
+/// The anchors of a document, and its links to anchors.
+#[derive(Drop)]
+pub struct Anchors {
+    /// Each `id`, and each `name` of an `a`, in ascending byte order.
+    pub ids: Ids,
+    links: Vec<KeptLink>,
+    /// For each target, the number of links to it and to the targets before it.
+    ends: Vec<u32>,
+    /// The texts after the first `#` of these links, one after the other.
+    fragments: Vec<u8>,
+}
+
+/// The anchors of a document, and the targets of its links to anchors: the URLs of links with a `#`, in order. Links with the same text
+/// before the `#` have one target. Links to existing anchors of the document itself are dropped.
+#[derive(Drop)]
+pub struct AnchorTargets {
+    pub anchors: Anchors,
+    pub urls: Vec<CanonUrl>,
+}
+
+impl Anchors {
+    /// The number of the first link to the target with this index, and the number after the last.
+    pub fn links_to(&self, target: usize) -> (usize, usize) {
+        let begin = match target.checked_sub(1) {
+            Some(before) => self.end_of(before),
+            None => 0,
+        };
+        (begin, self.end_of(target))
+    }
+
+    /// The number after the last link to the target with this index.
+    fn end_of(&self, target: usize) -> usize {
+        match self.ends.get(target) {
+            Some(end) => *end as usize,
+            None => self.links.len(),
+        }
+    }
+
+    /// The link with this number.
+    pub fn link(&self, number: usize) -> Option<AnchorLink<'_>> {
+        let link = self.links.get(number)?;
+        let begin = link.fragment as usize;
+        let end = match self.links.get(number.saturating_add(1)) {
+            Some(next) => next.fragment as usize,
+            None => self.fragments.len(),
+        };
+        Some(AnchorLink {
+            fragment: self.fragments.as_slice().get(begin..end).unwrap_or(&[]),
+            index: known_index(link.index),
+        })
+    }
+
+    /// No links, of a document with these ids.
+    fn with(ids: Ids, alloc: Global) -> Anchors {
+        Anchors {
+            ids,
+            links: Vec::new(alloc),
+            ends: Vec::new(alloc),
+            fragments: Vec::new(alloc),
+        }
+    }
+
+    /// Appends the links to the next target, and returns whether one is left. `is_own` says whether the target is the document itself.
+    fn push_target(
+        &mut self,
+        raw: &RawLinks,
+        is_own: bool,
+        links: &[Numbered],
+    ) -> Result<bool, AllocError> {
+        let begin = self.links.len();
+        for link in links {
+            let fragment = trimmed_end(raw.text(link.fragment));
+            self.push_link(fragment, link.fragment.index, is_own)?;
+        }
+        let end = self.links.len();
+        if begin < end {
+            self.ends.push(in_four_bytes(end)?)?;
+        }
+        Ok(begin < end)
+    }
+
+    /// Appends a link, unless the document itself has the anchor.
+    fn push_link(&mut self, fragment: &[u8], index: usize, is_own: bool) -> Result<(), AllocError> {
+        let begin = self.fragments.len();
+        push_without_breaks(fragment, &mut self.fragments)?;
+        if is_own && self.has_part(begin)? {
+            self.fragments.truncate(begin);
+            return Ok(());
+        }
+        let fragment = in_four_bytes(begin)?;
+        let index = u32::try_from(index).unwrap_or(FAR);
+        self.links.push(KeptLink { fragment, index })?;
+        Ok(())
+    }
+
+    /// Whether the document has the anchor that the last fragment names, which starts at `begin`.
+    fn has_part(&self, begin: usize) -> Result<bool, AllocError> {
+        let fragment = self.fragments.as_slice().get(begin..).unwrap_or(&[]);
+        is_indicated(*self.fragments.allocator(), &self.ids, fragment)
+    }
+
+    /// Frees unused memory, since there are many such values and they are kept long.
+    fn shrink_to_fit(&mut self) {
+        self.links.shrink_to_fit();
+        self.ends.shrink_to_fit();
+        self.fragments.shrink_to_fit();
+    }
+}
+
+fn known_index(index: u32) -> Option<u32> {
+    if index == FAR { None } else { Some(index) }
+}
+
+/// The number in four bytes; out of memory beyond 4 GiB.
+fn in_four_bytes(number: usize) -> Result<u32, AllocError> {
+    match u32::try_from(number) {
+        Ok(number) => Ok(number),
+        Err(_) => Err(AllocError),
+    }
+}
+
+/// The anchors of a document at a URL, from its ids and links; `writer` resolves the links.
+///
+/// # Errors
+/// Out of memory.
+pub(crate) fn anchors_of(
+    alloc: Global,
+    ids: &Ids,
+    raw: &RawLinks,
+    writer: LinkWriter,
+    url: &CanonUrl,
+) -> Result<AnchorTargets, AllocError> {
+    let mut targets = Targets::new(alloc, writer, url)?;
+    let links = by_target(alloc, raw, &mut targets)?;
+    let targets = targets.into_urls();
+    let mut found = AnchorTargets::new(ids.ascending(alloc)?, alloc);
+    found.push_all(raw, url, targets, links.as_slice())?;
+    found.anchors.shrink_to_fit();
+    Ok(found)
+}
+
+impl AnchorTargets {
+    /// No links, of a document with these ids.
+    fn new(ids: Ids, alloc: Global) -> AnchorTargets {
+        AnchorTargets {
+            anchors: Anchors::with(ids, alloc),
+            urls: Vec::new(alloc),
+        }
+    }
+
+    /// Appends the links of the document at a URL, in the order of their targets' numbers.
+    fn push_all(
+        &mut self,
+        raw: &RawLinks,
+        url: &CanonUrl,
+        targets: Vec<Option<CanonUrl>>,
+        links: &[Numbered],
+    ) -> Result<(), AllocError> {
+        let mut rest = links;
+        for (number, target) in targets.into_iter().enumerate() {
+            let (own, more) = split_number(number, rest);
+            rest = more;
+            if let Some(to) = target {
+                let is_own = to.as_str() == url.as_str();
+                if self.anchors.push_target(raw, is_own, own)? {
+                    self.urls.push(to)?;
+                }
+            }
+        }
+        Ok(())
+    }
+}
+
+/// The number of a link's target, and the text after its first `#`.
+#[derive(Clone, Copy)]
+struct Numbered {
+    number: usize,
+    fragment: Piece,
+}
+
+/// The first links with this number, and the others.
+fn split_number(number: usize, links: &[Numbered]) -> (&[Numbered], &[Numbered]) {
+    let count = links
+        .iter()
+        .position(|one| one.number != number)
+        .unwrap_or(links.len());
+    links.split_at(count.min(links.len()))
+}
+
+/// The links with a `#`, in the order of the numbers of their targets.
+fn by_target<'t>(
+    alloc: Global,
+    raw: &'t RawLinks,
+    targets: &mut Targets<'t>,
+) -> Result<Vec<Numbered>, AllocError> {
+    let mut all: Vec<Numbered> = Vec::new(alloc);
+    for piece in &raw.pieces {
+        let text = raw.text(*piece);
+        if let Some(mark) = memchr(b'#', text) {
+            let number = targets.number_of(&text[..mark + 1])?;
+            let fragment = piece.behind(mark + 1);
+            all.push(Numbered { number, fragment })?;
+        }
+    }
+    all.sort_by(|a: &Numbered, b: &Numbered| a.number.cmp(&b.number))?;
+    Ok(all)
+}

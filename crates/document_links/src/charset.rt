@@ -1,0 +1,342 @@
+//! The encoding of a document.
+ghost use Rattle.std.specs.Prelude.{◌≡◌, ◌≢◌, ℕ, ◌≤◌, ◌<◌, length, true, IsAscii, IfOk, IfSome, IsNone};
+ghost use Rattle.document_links.specs.Places.{keeps_ascii};
+ghost use Rattle.document_links.specs.Windows.{character_of, likely_byte};
+
+use crate::cleaning::trimmed;
+use crate::document_start::{behind_first, behind_front, start_of};
+use memchr::memchr;
+use std::alloc::{AllocError, Global};
+
+/// Names of UTF-8. In a `meta`, those of UTF-16 mean it, too.
+const UTF8_NAMES: &str =
+    "utf-8 utf8 unicode-1-1-utf-8 unicode11utf8 unicode20utf8 x-unicode20utf8 utf_8 u8 utf-16 utf-16le utf-16be csunicode iso-10646-ucs-2 ucs-2 unicode unicodefeff unicodefffe";
+
+/// Names of windows-1252.
+const WINDOWS_NAMES: &str =
+    "windows-1252 iso-8859-1 latin1 us-ascii ascii ansi_x3.4-1968 cp1252 1252 cp819 csisolatin1 ibm819 iso-ir-100 iso8859-1 iso88591 iso_8859-1 iso_8859-1:1987 l1 x-cp1252";
+
+/// The encoding of a document.
+#[derive(Clone, Copy, Debug, PartialEq, Eq)]
+pub(crate) enum Charset {
+    Utf8,
+    Utf16Le,
+    Utf16Be,
+    Windows1252,
+    /// Another encoding. Only ASCII is read.
+    Other,
+}
+
+impl Charset {
+    /// Whether the queries of links are in UTF-8.
+    pub(crate) fn is_unicode(self) -> bool {
+        !matches!(self, Charset::Windows1252 | Charset::Other)
+    }
+}
+
+/// Finds the encoding of a document, by its first bytes, its head, and whether it is UTF-8.
+pub(crate) fn charset_of(body: &[u8]) -> Charset
+    ensures { IsAscii body.now → keeps_ascii result ≡ true }
+{
+    match body {
+        [0xef, 0xbb, 0xbf, ..] => Charset::Utf8,
+        [0xff, 0xfe, ..] => Charset::Utf16Le,
+        [0xfe, 0xff, ..] => Charset::Utf16Be,
+        _ => charset_unmarked(body),
+    }
+}
+
+/// The encoding of a document without a byte order mark.
+fn charset_unmarked(body: &[u8]) -> Charset
+    ensures { keeps_ascii result ≡ true }
+{
+    match declared(start_of(body)) {
+        Some(name) => charset_named(name, body),
+        None => undeclared(body, Charset::Windows1252),
+    }
+}
+
+fn undeclared(body: &[u8], otherwise: Charset) -> Charset
+    requires { keeps_ascii otherwise ≡ true }
+    ensures { keeps_ascii result ≡ true }
+{
+    if simdutf8::is_utf8(body) {
+        Charset::Utf8
+    } else {
+        otherwise
+    }
+}
+
+fn charset_named(name: &[u8], body: &[u8]) -> Charset
+    ensures { keeps_ascii result ≡ true }
+{
+    if is_among(name, UTF8_NAMES) {
+        Charset::Utf8
+    } else if is_among(name, WINDOWS_NAMES) {
+        Charset::Windows1252
+    } else {
+        undeclared(body, Charset::Other)
+    }
+}
+
+fn is_among(name: &[u8], names: &str) -> bool {
+    names
+        .split(' ')
+        .any(|known| known.as_bytes().eq_ignore_ascii_case(name))
+}
+
+/// The name of the encoding that the start of a document declares, by the HTML Standard's prescan.
+pub(crate) fn declared(start: &[u8]) -> Option<&[u8]> {
+    let mut rest = start;
+    while let Some(opened) = behind_byte(b'<', rest) {
+        let Some(behind) = behind_markup(opened) else {
+            return None;
+        };
+        rest = behind;
+        if let Some(name) = name_in_meta(opened) {
+            return Some(name);
+        }
+    }
+    None
+}
+
+/// What comes after the first byte of this value.
+fn behind_byte(byte: u8, text: &[u8]) -> Option<&[u8]>
+    ensures { IfSome result (λ behind. length behind.now < length text.now) }
+{
+    let index = memchr(byte, text)?;
+    Some(&text[index + 1..])
+}
+
+/// What comes after a comment, a tag or other markup, which starts after its `<`. `None` if the markup does not end.
+fn behind_markup(text: &[u8]) -> Option<&[u8]>
+    ensures { IfSome result (λ behind. length behind.now ≤ length text.now) }
+{
+    match text {
+        // The first two dashes may be the last two.
+        [b'!', b'-', b'-', ..] => behind_first(&text[1..], b"-->"),
+        [b'A'..=b'Z' | b'a'..=b'z', ..] => behind_tag(text),
+        [b'/', b'A'..=b'Z' | b'a'..=b'z', ..] => behind_tag(&text[1..]),
+        [b'!' | b'/' | b'?', ..] => behind_byte(b'>', text),
+        _ => Some(text),
+    }
+}
+
+/// What comes after a tag, which starts at its name. `None` if the tag does not end.
+fn behind_tag(text: &[u8]) -> Option<&[u8]>
+    ensures { IfSome result (λ behind. length behind.now ≤ length text.now) }
+{
+    let mut rest = &text[length_before(text, b"/>")..];
+    while let Some(found) = next_attribute(rest) {
+        rest = found.behind;
+    }
+    behind_byte(b'>', rest)
+}
+
+/// The name of an encoding in a tag that ends, if the tag is a `meta`. It starts after its `<`.
+fn name_in_meta(opened: &[u8]) -> Option<&[u8]> {
+    let (name, tag) = opened.split_at(length_before(opened, b"/>"));
+    if !name.eq_ignore_ascii_case(b"meta") {
+        return None;
+    }
+    let name = match value_of(tag, b"charset") {
+        Some(name) => trimmed(name),
+        None => trimmed(name_in_content(tag)),
+    };
+    if name.is_empty() { None } else { Some(name) }
+}
+
+/// The name in a tag's `content`, if that is the type of the document.
+fn name_in_content(tag: &[u8]) -> &[u8] {
+    match (value_of(tag, b"http-equiv"), value_of(tag, b"content")) {
+        (Some(header), Some(content)) if header.eq_ignore_ascii_case(b"content-type") => {
+            name_in_kind(content)
+        }
+        _ => &[],
+    }
+}
+
+/// The name after the first `charset=`; empty if there is none.
+fn name_in_kind(kind: &[u8]) -> &[u8] {
+    for index in 0..kind.len() {
+        if let Some(behind) = behind_front(&kind[index..], b"charset") {
+            if let [b'=', value @ ..] = skip_spaces(behind) {
+                return split_value(skip_spaces(value), b";").0;
+            }
+        }
+    }
+    &[]
+}
+
+/// An attribute of a tag, and what is behind it.
+#[derive(Clone, Copy)]
+struct Attribute<'a> {
+    name: &'a [u8],
+    value: &'a [u8],
+    behind: &'a [u8],
+}
+
+/// The value of a tag's first attribute of this name.
+fn value_of<'a>(tag: &'a [u8], name: &[u8]) -> Option<&'a [u8]> {
+    let mut rest = tag;
+    while let Some(found) = next_attribute(rest) {
+        if found.name.eq_ignore_ascii_case(name) {
+            return Some(found.value);
+        }
+        rest = found.behind;
+    }
+    None
+}
+
+/// The next attribute of a tag, or a `/` as an attribute without a name. `None` at the end of the tag.
+fn next_attribute(text: &[u8]) -> Option<Attribute<'_>>
+    ensures { IfSome result (λ found. length found.behind.now < length text.now) }
+{
+    match skip_spaces(text) {
+        [] | [b'>', ..] => None,
+        [b'/', behind @ ..] => Some(Attribute {
+            name: &[],
+            value: &[],
+            behind,
+        }),
+        text => {
+            let (name, rest) = text.split_at(1 + length_before(&text[1..], b"=/>"));
+            let (value, behind) = match skip_spaces(rest) {
+                [b'=', value @ ..] => split_value(skip_spaces(value), b">"),
+                rest => rest.split_at(0),
+            };
+            Some(Attribute {
+                name,
+                value,
+                behind,
+            })
+        }
+    }
+}
+
+/// A value and what comes after it. The value is in quotes, or ends before white space or one of these bytes. Both are empty if a quote
+/// does not end.
+fn split_value<'a>(text: &'a [u8], ends: &[u8]) -> (&'a [u8], &'a [u8])
+    ensures { length result.1.now ≤ length text.now }
+{
+    match text {
+        [quote @ (b'"' | b'\''), inside @ ..] => match memchr(*quote, inside) {
+            Some(end) => (&inside[..end], &inside[end + 1..]),
+            None => (&[], &[]),
+        },
+        _ => text.split_at(length_before(text, ends)),
+    }
+}
+
+fn skip_spaces(bytes: &[u8]) -> &[u8]
+    ensures { length result.now ≤ length bytes.now }
+{
+    for (index, byte) in bytes.iter().enumerate() {
+        if !is_space(*byte) {
+            return &bytes[index..];
+        }
+    }
+    &[]
+}
+
+/// The number of bytes before white space or one of these bytes.
+fn length_before(bytes: &[u8], ends: &[u8]) -> usize
+    ensures { result ≤ length bytes.now }
+{
+    for (index, byte) in bytes.iter().enumerate() {
+        if is_space(*byte) || ends.contains(byte) {
+            return index;
+        }
+    }
+    bytes.len()
+}
+
+fn is_space(byte: u8) -> bool {
+    matches!(byte, b'\t' | b'\n' | b'\x0c' | b'\r' | b' ')
+}
+
+/// The characters of 0x80 to 0x9f.
+static WINDOWS: [char; 32] = [
+    '\u{20ac}', '\u{81}', '\u{201a}', '\u{192}', '\u{201e}', '\u{2026}', '\u{2020}', '\u{2021}',
+    '\u{2c6}', '\u{2030}', '\u{160}', '\u{2039}', '\u{152}', '\u{8d}', '\u{17d}', '\u{8f}',
+    '\u{90}', '\u{2018}', '\u{2019}', '\u{201c}', '\u{201d}', '\u{2022}', '\u{2013}', '\u{2014}',
+    '\u{2dc}', '\u{2122}', '\u{161}', '\u{203a}', '\u{153}', '\u{9d}', '\u{17e}', '\u{178}',
+];
+
+/// The text of a document in windows-1252.
+pub(crate) fn from_windows(alloc: Global, body: &[u8]) -> Result<Vec<u8>, AllocError>
+    ensures { IsAscii body.now → IfOk result (λ text. text.items ≡ body.now) }
+{
+    let mut text = String::new(alloc);
+    for byte in body {
+        text.push(character_of(*byte))?;
+    }
+    Ok(text.into_bytes())
+}
+
+fn character_of(byte: u8) -> char
+    ensures own { byte < 128 → result ≡ byte }
+    ensures all { result ≡ character_of byte }
+{
+    match byte {
+        0x80..=0x9f => WINDOWS[(byte - 0x80) as usize],
+        _ => byte as char,
+    }
+}
+
+/// For each remainder of a character's number by 79, the only byte above ASCII that can be that character.
+static LIKELY: [u8; 79] = [
+    0x91, 0x92, 0x82, 0, 0x93, 0x94, 0x84, 0x83, 0x86, 0x87, 0x95, 0, 0, 0, 0x85, 0, 0, 0, 0, 0, 0,
+    0x98, 0x8c, 0x9c, 0x89, 0, 0, 0, 0, 0x99, 0, 0, 0, 0x8b, 0x9b, 0, 0x8a, 0x9a, 0, 0, 0, 0, 0, 0,
+    0, 0, 0, 0, 0, 0, 0, 0, 0, 0, 0, 0, 0, 0, 0, 0, 0x9f, 0, 0, 0, 0, 0x8e, 0x9e, 0, 0, 0x80, 0, 0,
+    0, 0, 0x96, 0x97, 0, 0, 0x88,
+];
+
+/// The byte for a character in windows-1252.
+#[tactic(auto, using(crate::proofs::WindowsBytes::likely))]
+pub(crate) fn windows_byte(character: char) -> Option<u8>
+    ensures byte { IfSome result (λ byte. character_of byte ≡ character) }
+    ensures none { IsNone result → (byte : ℕ) → byte < 256 → character_of byte ≢ character }
+{
+    let byte = likely_byte(character as u32);
+    if character_of(byte) == character {
+        Some(byte)
+    } else {
+        None
+    }
+}
+
+/// The only byte that can be the character with this number.
+fn likely_byte(number: u32) -> u8
+    ensures { result ≡ likely_byte number }
+{
+    if number < 0x100 {
+        number as u8
+    } else {
+        LIKELY[(number % 79) as usize]
+    }
+}
+
+/// The text of a document in UTF-16, without its byte order mark. A single byte at the end becomes U+FFFD.
+pub(crate) fn from_utf16(
+    alloc: Global,
+    body: &[u8],
+    is_little: bool,
+) -> Result<Vec<u8>, AllocError> {
+    let mut units = Vec::new(alloc);
+    let mut rest = body;
+    while let [first, second, behind @ ..] = rest {
+        rest = behind;
+        let pair = [*first, *second];
+        units.push(if is_little {
+            u16::from_le_bytes(pair)
+        } else {
+            u16::from_be_bytes(pair)
+        })?;
+    }
+    if !rest.is_empty() {
+        units.push(0xfffd)?;
+    }
+    let text = String::from_utf16_lossy(alloc, units.as_slice())?;
+    Ok(text.into_bytes())
+}

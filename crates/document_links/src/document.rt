@@ -1,0 +1,154 @@
+//! Reads a document.
+use crate::anchors::{AnchorTargets, anchors_of};
+use crate::charset::{Charset, charset_of, declared};
+use crate::document_start::{start_of, without_mark};
+use crate::document_text::utf8_text;
+use crate::link_texts::LinkTexts;
+use crate::link_writer::{LinkCounts, LinkWriter};
+use crate::raw_links::{RawIds, RawLinks};
+use crate::unknown::{has_unknown, keep_known};
+use crawl_keys::CanonUrl;
+use html_links::{Base, read_links, read_page, read_places};
+use std::alloc::{AllocError, Global};
+
+/// What is read of a document.
+#[derive(Clone, Copy)]
+pub struct ReadOptions {
+    /// Whether anchors and links to anchors are read.
+    pub anchors: bool,
+    /// Whether the positions of links are kept.
+    pub places: bool,
+    /// The number of bytes of link texts after which no more links are read.
+    pub byte_limit: usize,
+}
+
+/// What a document has.
+#[derive(Drop)]
+pub struct Document {
+    pub links: LinkTexts,
+    pub counts: LinkCounts,
+    /// Its anchors, if the options ask for them and they are known.
+    pub anchors: Option<AnchorTargets>,
+    /// The positions of its links, if the options ask for them.
+    pub positions: Vec<u32>,
+    /// The name of its encoding, if that is not a known one.
+    pub encoding: Option<String>,
+}
+
+impl Document {
+    /// A document without links.
+    pub fn empty(alloc: Global) -> Document {
+        Document {
+            links: LinkTexts::new(alloc),
+            counts: LinkCounts::default(),
+            anchors: None,
+            positions: Vec::new(alloc),
+            encoding: None,
+        }
+    }
+}
+
+/// Reads the document at a URL. `room` is memory for its links, which is reused.
+///
+/// # Errors
+/// Out of memory.
+pub fn read_document(
+    alloc: Global,
+    body: &[u8],
+    url: &CanonUrl,
+    options: ReadOptions,
+    room: &mut RawLinks,
+) -> Result<Document, AllocError> {
+    let charset = charset_of(body);
+    let mut document = match utf8_text(alloc, body, charset)? {
+        Some(text) => text_document(alloc, text.as_slice(), charset, url, options, room)?,
+        None => text_document(alloc, without_mark(body), charset, url, options, room)?,
+    };
+    document.encoding = unknown_encoding(alloc, body, charset)?;
+    Ok(document)
+}
+
+/// The name of a document's encoding, if that is not a known one.
+fn unknown_encoding(
+    alloc: Global,
+    body: &[u8],
+    charset: Charset,
+) -> Result<Option<String>, AllocError> {
+    match charset {
+        Charset::Other => {
+            let name = declared(start_of(body)).unwrap_or(&[]);
+            Ok(Some(String::from_utf8_lossy(alloc, name)?))
+        }
+        _ => Ok(None),
+    }
+}
+
+/// Reads a document in UTF-8. `charset` is its original encoding.
+fn text_document(
+    alloc: Global,
+    text: &[u8],
+    charset: Charset,
+    url: &CanonUrl,
+    options: ReadOptions,
+    raw: &mut RawLinks,
+) -> Result<Document, AllocError> {
+    let mut ids = RawIds::new(alloc);
+    raw.clear();
+    let base = read_known(alloc, text, charset, options, raw, &mut ids)?;
+    // The base also applies to the links before it, so all were found first.
+    let mut writer = LinkWriter::new(alloc, charset, base, url)?;
+    writer.make_room(url, raw, options.places)?;
+    writer.push_all(raw, options.byte_limit)?;
+    let links = writer.take_links();
+    let positions = writer.take_positions();
+    let counts = writer.counts;
+    // If an id is not known, no link to an anchor is known to be broken.
+    let anchors = if options.anchors && !ids.has_unknown {
+        Some(anchors_of(alloc, &ids.ids, raw, writer, url)?)
+    } else {
+        None
+    };
+    Ok(Document {
+        links,
+        counts,
+        anchors,
+        positions,
+        encoding: None,
+    })
+}
+
+/// Finds the known links of a document, and its known ids if the options ask for anchors.
+fn read_known(
+    alloc: Global,
+    text: &[u8],
+    charset: Charset,
+    options: ReadOptions,
+    raw: &mut RawLinks,
+    ids: &mut RawIds,
+) -> Result<Base, AllocError> {
+    let base = read_all(alloc, text, options, raw, ids)?;
+    match charset {
+        Charset::Other => {
+            ids.has_unknown = has_unknown(&ids.ids);
+            keep_known(base, raw)
+        }
+        _ => Ok(base),
+    }
+}
+
+/// Finds the links of a document, and its ids if the options ask for anchors.
+fn read_all(
+    alloc: Global,
+    text: &[u8],
+    options: ReadOptions,
+    raw: &mut RawLinks,
+    ids: &mut RawIds,
+) -> Result<Base, AllocError> {
+    if options.anchors {
+        read_page(alloc, text, raw, ids)
+    } else if options.places {
+        read_places(alloc, text, raw)
+    } else {
+        read_links(alloc, text, false, raw)
+    }
+}

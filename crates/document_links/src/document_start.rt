@@ -1,0 +1,110 @@
+//! The first bytes of a document.
+ghost use Rattle.std.specs.Prelude.{◌≡◌, ◌≤◌, ◌<◌, length, IfSome, IsAscii};
+
+use memchr::{memchr, memmem};
+
+/// The number of bytes at the start of a file in which it is looked for whether it is a document, and in which encoding.
+pub const START_LENGTH: usize = 1024;
+
+/// The first bytes of a file.
+pub(crate) fn start_of(body: &[u8]) -> &[u8] {
+    body.get(..START_LENGTH).unwrap_or(body)
+}
+
+/// Whether a file with this content is a document, by its first bytes.
+pub fn is_document(body: &[u8]) -> bool {
+    let text = skip_spaces(without_mark(start_of(body)));
+    let text = match text {
+        [
+            b'<',
+            b'?',
+            b'x' | b'X',
+            b'm' | b'M',
+            b'l' | b'L',
+            behind @ ..,
+        ] => match memchr(b'>', behind) {
+            Some(end) => skip_spaces(&behind[end + 1..]),
+            None => text,
+        },
+        _ => text,
+    };
+    begins_document(text) || has_document_behind_comment(text)
+}
+
+/// The document without the byte order mark of UTF-8.
+pub(crate) fn without_mark(body: &[u8]) -> &[u8]
+    ensures { IsAscii body.now → result.now ≡ body.now }
+{
+    match body {
+        [0xef, 0xbb, 0xbf, behind @ ..] => behind,
+        _ => body,
+    }
+}
+
+fn skip_spaces(bytes: &[u8]) -> &[u8]
+    ensures { length result.now ≤ length bytes.now }
+{
+    for (index, byte) in bytes.iter().enumerate() {
+        if !matches!(*byte, b'\t'..=b'\r' | b' ') {
+            return &bytes[index..];
+        }
+    }
+    &[]
+}
+
+/// Whether the text starts with a comment, and a document starts after its end or after a later `-->`.
+fn has_document_behind_comment(text: &[u8]) -> bool {
+    let Some(mut rest) = behind_front(text, b"<!--") else {
+        return false;
+    };
+    while let Some(behind) = behind_first(rest, b"-->") {
+        if begins_document(skip_spaces(behind)) {
+            return true;
+        }
+        rest = behind;
+    }
+    false
+}
+
+/// What comes after the first `needle`.
+pub(crate) fn behind_first<'a>(text: &'a [u8], needle: &[u8]) -> Option<&'a [u8]>
+    requires { 0 < length needle.now }
+    ensures { IfSome result (λ behind. length behind.now < length text.now) }
+{
+    let index = memmem::find(text, needle)?;
+    let behind = text.get(index + needle.len()..)?;
+    Some(behind)
+}
+
+/// Whether the bytes begin with the word `<html` or `<!doctype html`.
+fn begins_document(text: &[u8]) -> bool {
+    let word = match behind_front(text, b"<!doctype") {
+        Some(behind) => {
+            let word = skip_spaces(behind);
+            if word.len() == behind.len() {
+                return false;
+            }
+            behind_front(word, b"html")
+        }
+        None => behind_front(text, b"<html"),
+    };
+    match word {
+        Some(behind) => !behind
+            .first()
+            .is_some_and(|byte| byte.is_ascii_alphanumeric() || *byte == b'_'),
+        None => false,
+    }
+}
+
+/// What comes after this text, if the bytes begin with it in any case.
+pub(crate) fn behind_front<'a>(bytes: &'a [u8], text: &[u8]) -> Option<&'a [u8]> {
+    if bytes.len() < text.len() {
+        return None;
+    }
+    let (front, behind) = bytes.split_at(text.len());
+    if front.eq_ignore_ascii_case(text) {
+        Some(behind)
+    } else {
+        None
+    }
+}

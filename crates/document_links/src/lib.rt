@@ -1,0 +1,29 @@
+//! One HTML document, from its bytes: its encoding, its links and their positions, and its anchors.
+#![tactic(auto)]
+
+mod anchors;
+mod charset;
+mod cleaning;
+mod document;
+mod document_start;
+mod document_text;
+mod line_text;
+mod link_texts;
+mod link_writer;
+mod page_base;
+mod places;
+mod positions;
+mod query;
+mod raw_links;
+mod targets;
+mod unknown;
+
+pub use anchors::{AnchorLink, AnchorTargets, Anchors};
+pub use document::{Document, ReadOptions, read_document};
+pub use document_start::{START_LENGTH, is_document};
+pub use line_text::{LINK_FRONT, fits};
+pub use link_texts::LinkTexts;
+pub use link_writer::LinkCounts;
+pub use page_base::{base_of, resolved};
+pub use places::{TextPlace, text_places};
+pub use raw_links::RawLinks;

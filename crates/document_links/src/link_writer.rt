@@ -1,0 +1,212 @@
+//! The texts of a document's links, as a crawl reads them.
+ghost use Rattle.std.specs.Prelude.{◌≡◌, true};
+ghost use Rattle.document_links.specs.Texts.{fits};
+
+use crate::charset::Charset;
+use crate::cleaning::{
+    before_fragment, cut, has_breaks, is_over_lines, is_web, scheme_of, trimmed, without_breaks,
+};
+use crate::line_text::{LINK_FRONT, TEXT_LIMIT, fits, fits_plainly};
+use crate::link_texts::LinkTexts;
+use crate::page_base::{LinkMeaning, PageBase, meaning_of, page_base};
+use crate::positions::Positions;
+use crate::query::push_with_query;
+use crate::raw_links::RawLinks;
+use crawl_keys::CanonUrl;
+use html_links::Base;
+use std::alloc::{AllocError, Global};
+use std::mem;
+
+/// The counts of links.
+#[derive(Clone, Copy, Debug, PartialEq, Eq, Default)]
+pub struct LinkCounts {
+    /// The links.
+    pub links: u64,
+    /// Links over several lines, which were joined.
+    pub over_lines: u64,
+    /// Links that lost their fragment because they were too long.
+    pub without_fragment: u64,
+    /// Links with other schemes that were cut at the end of a line.
+    pub cut: u64,
+    /// Links that were skipped because they were too long.
+    pub left_out: u64,
+}
+
+impl LinkCounts {
+    /// Adds other counts.
+    pub fn add(&mut self, more: LinkCounts) {
+        self.links = self.links.saturating_add(more.links);
+        self.over_lines = self.over_lines.saturating_add(more.over_lines);
+        self.without_fragment = self.without_fragment.saturating_add(more.without_fragment);
+        self.cut = self.cut.saturating_add(more.cut);
+        self.left_out = self.left_out.saturating_add(more.left_out);
+    }
+}
+
+/// Writes the texts of links on a page: resolved by its `base`, in UTF-8, and short enough for a line.
+#[derive(Drop)]
+pub(crate) struct LinkWriter {
+    alloc: Global,
+    charset: Charset,
+    base: PageBase,
+    links: LinkTexts,
+    pub(crate) counts: LinkCounts,
+    /// The positions of the links, if the caller asks for them.
+    positions: Option<Positions>,
+}
+
+impl LinkWriter {
+    /// No links, of a page with this base at a URL.
+    pub(crate) fn new(
+        alloc: Global,
+        charset: Charset,
+        base: Base,
+        url: &CanonUrl,
+    ) -> Result<LinkWriter, AllocError> {
+        let base = match base {
+            Some(base) => page_base(alloc, base.as_slice(), url)?,
+            None => PageBase::None,
+        };
+        Ok(LinkWriter {
+            alloc,
+            charset,
+            base,
+            links: LinkTexts::new(alloc),
+            counts: LinkCounts::default(),
+            positions: None,
+        })
+    }
+
+    /// Makes room for these links of the page at a URL, and for their positions if `places` is set.
+    pub(crate) fn make_room(
+        &mut self,
+        url: &CanonUrl,
+        raw: &RawLinks,
+        places: bool,
+    ) -> Result<(), AllocError> {
+        let count = raw.pieces.len();
+        self.links = LinkTexts::with_room(self.alloc, count, raw.texts.len())?;
+        if places {
+            self.positions = Some(Positions::new(self.alloc, url, count)?);
+        }
+        Ok(())
+    }
+
+    /// Appends these links, up to the one with which the texts have more than `limit` bytes.
+    pub(crate) fn push_all(&mut self, raw: &RawLinks, limit: usize) -> Result<(), AllocError> {
+        for piece in &raw.pieces {
+            if self.links.byte_count() > limit {
+                break;
+            }
+            if let Some(positions) = &mut self.positions {
+                positions.begin_at(piece.index);
+            }
+            self.push(raw.text(*piece))?;
+        }
+        Ok(())
+    }
+
+    /// Takes the positions of the links. No more are kept after that.
+    pub(crate) fn take_positions(&mut self) -> Vec<u32> {
+        match self.positions.take() {
+            Some(positions) => positions.into_list(),
+            None => Vec::new(self.alloc),
+        }
+    }
+
+    /// Takes the texts of the links.
+    pub(crate) fn take_links(&mut self) -> LinkTexts {
+        mem::replace(&mut self.links, LinkTexts::new(self.alloc))
+    }
+
+    /// The text of a link as it is written: one text, or none if it is too long.
+    pub(crate) fn texts_of(&mut self, text: &[u8]) -> Result<LinkTexts, AllocError> {
+        self.push(text)?;
+        Ok(self.take_links())
+    }
+
+    /// Whether a link's text is written unchanged, and has no scheme.
+    pub(crate) fn keeps(&self, text: &[u8]) -> bool {
+        matches!(self.base, PageBase::None) && fits_plainly(text)
+    }
+
+    /// Appends the next link.
+    fn push(&mut self, text: &[u8]) -> Result<(), AllocError> {
+        if matches!(self.base, PageBase::None) && fits_plainly(text) {
+            return self.push_plain(text);
+        }
+        let text = trimmed(text);
+        if !has_breaks(text) {
+            return self.push_clean(text);
+        }
+        if is_over_lines(text) {
+            self.counts.over_lines = self.counts.over_lines.saturating_add(1);
+        }
+        let clean = without_breaks(self.alloc, text)?;
+        self.push_clean(clean.as_slice())
+    }
+
+    /// Appends a link without breaks. Letters in its query are escaped in the page's encoding.
+    fn push_clean(&mut self, text: &[u8]) -> Result<(), AllocError> {
+        if self.charset.is_unicode() || text.is_ascii() {
+            return self.push_meant(text);
+        }
+        let mut link = Vec::new(self.alloc);
+        push_with_query(text, &mut link)?;
+        self.push_meant(link.as_slice())
+    }
+
+    /// Appends the meaning of a link with the page's base.
+    fn push_meant(&mut self, text: &[u8]) -> Result<(), AllocError> {
+        match meaning_of(self.alloc, &self.base, text)? {
+            LinkMeaning::Same => self.push_short(text),
+            LinkMeaning::Url(url) => self.push_short(url.as_str().as_bytes()),
+            LinkMeaning::Text(other) => self.push_short(other.as_slice()),
+        }
+    }
+
+    /// Appends a link. If it does not fit in a line, appends a shorter one with the same meaning.
+    fn push_short(&mut self, text: &[u8]) -> Result<(), AllocError> {
+        if fits(LINK_FRONT, text) {
+            return self.push_text(text);
+        }
+        let front = before_fragment(text);
+        if fits(LINK_FRONT, front) {
+            self.counts.without_fragment = self.counts.without_fragment.saturating_add(1);
+            return self.push_text(front);
+        }
+        self.push_cut(text)
+    }
+
+    /// Appends the start of a long link with another scheme, which a crawl skips.
+    fn push_cut(&mut self, text: &[u8]) -> Result<(), AllocError> {
+        let front = cut(text, TEXT_LIMIT);
+        if !is_web(scheme_of(text)) && fits(LINK_FRONT, front) {
+            self.counts.cut = self.counts.cut.saturating_add(1);
+            return self.push_text(front);
+        }
+        self.counts.left_out = self.counts.left_out.saturating_add(1);
+        Ok(())
+    }
+
+    /// Appends a text without a colon.
+    fn push_plain(&mut self, text: &[u8]) -> Result<(), AllocError>
+        requires { fits 5 text.now ≡ true }
+    {
+        self.counts.links = self.counts.links.saturating_add(1);
+        if let Some(positions) = &mut self.positions {
+            positions.push_plain(text)?;
+        }
+        self.links.push(text)
+    }
+
+    fn push_text(&mut self, text: &[u8]) -> Result<(), AllocError>
+        requires { fits 5 text.now ≡ true }
+    {
+        self.counts.links = self.counts.links.saturating_add(1);
+        if let Some(positions) = &mut self.positions {
+            positions.push(text)?;
+        }
+        self.links.push(text)
+    }
+}

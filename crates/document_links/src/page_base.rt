@@ -1,0 +1,115 @@
+//! What links mean on a page with a `base`.
+ghost use Rattle.std.specs.Prelude.{◌≡◌, IfOk};
+
+use crate::cleaning::{is_web, scheme_of, trimmed, without_breaks};
+use crawl_keys::{Base, CanonUrl, KeyError};
+use std::alloc::{AllocError, Global};
+
+/// The base of the links of a page, by its `base`.
+#[derive(Drop)]
+pub(crate) enum PageBase {
+    /// A URL.
+    Url(Base),
+    /// Another scheme with its colon, which comes before links without a scheme.
+    Scheme(Vec<u8>),
+    /// No base.
+    None,
+}
+
+/// The meaning of a link.
+#[derive(Drop)]
+pub(crate) enum LinkMeaning {
+    Same,
+    Url(CanonUrl),
+    Text(Vec<u8>),
+}
+
+/// The base by the `href` of a page's `base`.
+pub(crate) fn page_base(
+    alloc: Global,
+    href: &[u8],
+    url: &CanonUrl,
+) -> Result<PageBase, AllocError> {
+    let text = without_breaks(alloc, trimmed(href))?;
+    match target_of(alloc, text.as_slice(), url)? {
+        Some(target) => Ok(PageBase::Url(base_of(alloc, &target)?)),
+        None => scheme_base(alloc, text.as_slice()),
+    }
+}
+
+/// The canonical URL of a link of the page at a URL, if it has one.
+fn target_of(alloc: Global, text: &[u8], url: &CanonUrl) -> Result<Option<CanonUrl>, AllocError> {
+    let page = base_of(alloc, url)?;
+    resolved(alloc, &page, text)
+}
+
+/// The base by a text without line breaks that begins with another scheme.
+fn scheme_base(alloc: Global, text: &[u8]) -> Result<PageBase, AllocError> {
+    match scheme_of(text) {
+        Some(scheme) if !is_web(Some(scheme)) && !is_no_base(scheme) => {
+            Ok(PageBase::Scheme(front_of(alloc, scheme)?))
+        }
+        _ => Ok(PageBase::None),
+    }
+}
+
+/// A scheme in small letters, with its colon.
+fn front_of(alloc: Global, scheme: &[u8]) -> Result<Vec<u8>, AllocError> {
+    let mut front = scheme.to_vec(alloc)?;
+    front.make_ascii_lowercase();
+    front.push(b':')?;
+    Ok(front)
+}
+
+/// Whether a base with this scheme is ignored.
+fn is_no_base(scheme: &[u8]) -> bool {
+    scheme.eq_ignore_ascii_case(b"data") || scheme.eq_ignore_ascii_case(b"javascript")
+}
+
+/// The meaning of a link with this base.
+pub(crate) fn meaning_of(
+    alloc: Global,
+    base: &PageBase,
+    text: &[u8],
+) -> Result<LinkMeaning, AllocError> {
+    match base {
+        PageBase::Url(url) => Ok(match resolved(alloc, url, text)? {
+            Some(url) => LinkMeaning::Url(url),
+            None => LinkMeaning::Same,
+        }),
+        PageBase::Scheme(front) if scheme_of(text).is_none() => {
+            let mut link = front.as_slice().to_vec(alloc)?;
+            link.extend_from_slice(text)?;
+            Ok(LinkMeaning::Text(link))
+        }
+        _ => Ok(LinkMeaning::Same),
+    }
+}
+
+/// The base of the page at a URL.
+///
+/// # Errors
+/// Out of memory.
+pub fn base_of(alloc: Global, url: &CanonUrl) -> Result<Base, AllocError>
+    ensures { IfOk result (λ base. base ≡ url.now) }
+{
+    match Base::new(alloc, url) {
+        Ok(base) => Ok(base),
+        Err(_) => Err(AllocError),
+    }
+}
+
+/// The canonical URL of a link, if it has one.
+///
+/// # Errors
+/// Out of memory.
+pub fn resolved(alloc: Global, base: &Base, text: &[u8]) -> Result<Option<CanonUrl>, AllocError> {
+    let Ok(text) = str::from_utf8(text) else {
+        return Ok(None);
+    };
+    match base.resolve(alloc, text) {
+        Ok(url) => Ok(Some(url)),
+        Err(KeyError::NoMemory) => Err(AllocError),
+        Err(_) => Ok(None),
+    }
+}

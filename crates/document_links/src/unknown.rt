@@ -1,0 +1,95 @@
+//! A document in an unknown encoding: only ASCII is read.
+ghost use Rattle.std.specs.Prelude.{◌≡◌, ◌<◌, ◌≤◌, IsAscii, IfOk};
+
+use crate::cleaning::{before_fragment, is_web, names_host, scheme_of, trimmed};
+use crate::raw_links::{Piece, RawLinks};
+use html_links::Base;
+use memchr::{memchr, memmem};
+use page_anchors::Ids;
+use std::alloc::{AllocError, Global};
+
+/// The character in place of a byte above ASCII. No byte of windows-1252 and no character reference is this character.
+const UNKNOWN: char = '\u{80}';
+
+/// The text of a document, with one character in place of each byte above ASCII.
+pub(crate) fn ascii_text(alloc: Global, body: &[u8]) -> Result<Vec<u8>, AllocError>
+    ensures { IsAscii body.now → IfOk result (λ text. text.items ≡ body.now) }
+{
+    let mut text = String::new(alloc);
+    for byte in body {
+        text.push(known_character(*byte))?;
+    }
+    Ok(text.into_bytes())
+}
+
+fn known_character(byte: u8) -> char
+    ensures own { byte < 128 → result ≡ byte }
+    ensures unknown { 128 ≤ byte → result ≡ 128 }
+{
+    if byte < 0x80 { byte as char } else { UNKNOWN }
+}
+
+/// Whether a text has no byte above ASCII.
+fn is_known(text: &[u8]) -> bool {
+    memmem::find(text, b"\xc2\x80").is_none()
+}
+
+/// Whether one of a document's ids is not known.
+pub(crate) fn has_unknown(ids: &Ids) -> bool {
+    for index in 0..ids.len() {
+        if !is_known(ids.id(index)) {
+            return true;
+        }
+    }
+    false
+}
+
+/// Keeps the known parts of a document's links, and returns its base if that is known. Otherwise only links are known that mean the
+/// same with every base.
+pub(crate) fn keep_known(base: Base, raw: &mut RawLinks) -> Result<Base, AllocError> {
+    let has_base = is_base_known(&base);
+    let known = known_pieces(raw, has_base)?;
+    raw.pieces = known;
+    if has_base { Ok(base) } else { Ok(None) }
+}
+
+fn is_base_known(base: &Base) -> bool {
+    match base {
+        Some(base) => is_known(before_fragment(base.as_slice())),
+        None => true,
+    }
+}
+
+fn known_pieces(raw: &RawLinks, has_base: bool) -> Result<Vec<Piece>, AllocError> {
+    let mut known = Vec::new(*raw.pieces.allocator());
+    for piece in &raw.pieces {
+        let text = raw.text(*piece);
+        if has_base || is_absolute(text) {
+            push_known(*piece, text, &mut known)?;
+        }
+    }
+    Ok(known)
+}
+
+/// Appends the known part of a link with this text: all of it, or up to its `#` if only the fragment is unknown.
+fn push_known(piece: Piece, text: &[u8], known: &mut Vec<Piece>) -> Result<(), AllocError> {
+    let front = before_fragment(text);
+    if is_known(text) {
+        known.push(piece)?;
+    } else if is_known(front) {
+        known.push(piece.front(front.len().saturating_add(1)))?;
+    }
+    Ok(())
+}
+
+/// Whether a link means the same with every base: it has a scheme, and after http or https also a host.
+fn is_absolute(text: &[u8]) -> bool {
+    let text = trimmed(text);
+    match scheme_of(text) {
+        Some(scheme) => {
+            let behind = text.get(scheme.len().saturating_add(1)..).unwrap_or(&[]);
+            !is_web(Some(scheme)) || names_host(behind)
+        }
+        None => false,
+    }
+}

@@ -1,5 +1,0 @@
-use Rattle.mercator.proofs.LostUrls.{lost_urls}
-use Rattle.mercator.proofs.laws.urls_without_a_result_are_lost.Goals as goal
-
-pub returns : goal.returns
-returns c = lost_urls

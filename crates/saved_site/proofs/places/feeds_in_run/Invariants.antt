@@ -1,6 +1,0 @@
-use Rattle.std.proofs.Common.{◌≡◌, count_by, take}
-use Rattle.saved_site.specs.Places.{is_lf}
-use Rattle.saved_site.proofs.places.feeds_in_run.Given as goal
-
-abbrev pub invariant-loop-byte : goal.invariant-loop-byte
-invariant-loop-byte l = l.count ≡ count_by is_lf (take l.byte-index l.run)

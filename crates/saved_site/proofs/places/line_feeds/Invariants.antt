@@ -1,9 +1,0 @@
-use Rattle.std.proofs.Common.{◌≡◌, ◌+◌, length, count_by}
-use Rattle.saved_site.specs.Places.{is_lf}
-use Rattle.saved_site.proofs.places.line_feeds.Given as goal
-
-abbrev pub decreases-runs : goal.decreases-runs
-decreases-runs l = length l.rest
-
-abbrev pub invariant-runs : goal.invariant-runs
-invariant-runs l = l.count + count_by is_lf l.rest ≡ count_by is_lf l.bytes

@@ -1,0 +1,64 @@
+//! The aliases of a site among its pages.
+ghost use Rattle.std.specs.Prelude.{◌≡◌, ◌∷◌, [], true, IfOk};
+ghost use Rattle.crawl_pages.specs.declared.page.Page.TheVariants as variant;
+ghost use Rattle.saved_site.specs.Aliases.{AreAliases, alias_page};
+ghost use Rattle.saved_site.specs.Linked.{page_at};
+
+use crate::linked::LinkedPages;
+use crate::web::Alias;
+use crawl_keys::CanonUrl;
+use crawl_pages::{Page, SessionFetch};
+use std::alloc::{AllocError, Global};
+
+/// The aliases whose page has only the link to the own URL. All have, but this is checked since it is promised.
+pub(crate) fn aliases_among(
+    alloc: Global,
+    pages: &LinkedPages,
+    aliases: Vec<Alias>,
+) -> Result<Vec<Alias>, AllocError>
+    ensures { IfOk result (λ all. AreAliases pages.now all.items) }
+{
+    let mut all = Vec::with_capacity(alloc, aliases.len())?;
+    'aliases: for alias in aliases {
+        let has_alias = has_alias(alloc, pages, &alias)?;
+        if has_alias {
+            all.push(alias)?;
+        }
+    }
+    Ok(all)
+}
+
+fn has_alias(alloc: Global, pages: &LinkedPages, alias: &Alias) -> Result<bool, AllocError>
+    ensures { IfOk result (λ has. has ≡ true → page_at pages.now alias.now.url ≡ alias_page alias.now) }
+{
+    match pages.fetch_in(alloc, &mut (), &alias.url) {
+        Ok(page) => Ok(is_alias_page(&page, &alias.own)),
+        Err(_) => Err(AllocError),
+    }
+}
+
+/// Whether a page has only the link to this URL.
+fn is_alias_page(page: &Page, own: &CanonUrl) -> bool
+    ensures { result ≡ true → page.now ≡ variant.Found (own.now ∷ []) 0 }
+{
+    match page {
+        Page::Found { links, skipped } => *skipped == 0 && is_only(links.as_slice(), own),
+        Page::Moved { .. } => false,
+        Page::Missing => false,
+    }
+}
+
+fn is_only(links: &[CanonUrl], own: &CanonUrl) -> bool
+    ensures { result ≡ true → links.now ≡ own.now ∷ [] }
+{
+    match links {
+        [one] => is_same(one, own),
+        _ => false,
+    }
+}
+
+fn is_same(one: &CanonUrl, other: &CanonUrl) -> bool
+    ensures { result ≡ true → one.now ≡ other.now }
+{
+    one.as_str() == other.as_str()
+}

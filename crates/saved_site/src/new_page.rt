@@ -1,0 +1,251 @@
+//! Makes the page of a task from the contents of its file.
+use crate::line_text::LineText;
+use crate::notes::{Left, Note};
+use crate::page::{SitePage, Under};
+use crate::print::WEB_LIMIT;
+use crate::site_input::{SiteInput, Task};
+use crate::spellings::{Spelling, can_spell, link_spellings, text_spelling};
+use crate::targets::{Target, targets_at};
+use crawl_keys::CanonUrl;
+use document_links::{
+    AnchorTargets, Anchors, Document, LINK_FRONT, LinkCounts, LinkTexts, RawLinks, ReadOptions,
+    fits, is_document, read_document,
+};
+use std::alloc::{AllocError, Global};
+
+/// A new page, and what is known of it.
+#[derive(Drop)]
+pub(crate) struct NewPage {
+    /// The number of its task.
+    pub(crate) number: usize,
+    pub(crate) url: CanonUrl,
+    /// The page, unless its URL is too long or its links were looked up.
+    pub(crate) page: Option<SitePage>,
+    /// The number of bytes of the page in a saved web, at least.
+    pub(crate) byte_count: usize,
+    pub(crate) spellings: Vec<Spelling>,
+    pub(crate) counts: LinkCounts,
+    /// The own URL of the file, if the page is an alias.
+    pub(crate) own: Option<CanonUrl>,
+    /// Its anchors and the targets of its links to anchors, if the rules ask for them, the page is a document, and they are known.
+    pub(crate) anchors: Option<SiteAnchors>,
+    /// The positions of its links, if the rules ask for them.
+    pub(crate) positions: Vec<u32>,
+    pub(crate) notes: Vec<Note>,
+}
+
+/// The anchors of a document, and the targets of its links to anchors.
+#[derive(Drop)]
+pub(crate) struct SiteAnchors {
+    pub(crate) anchors: Anchors,
+    pub(crate) targets: Vec<Target>,
+}
+
+/// Makes the page of a task. `room` is memory for its links. `body` has the contents of its file, if it has one that could be read.
+pub(crate) fn page_of(
+    alloc: Global,
+    input: SiteInput<'_>,
+    task: &Task,
+    body: Option<&[u8]>,
+    room: &mut RawLinks,
+) -> Result<NewPage, AllocError> {
+    if input.file_of(task).is_some() {
+        let document = file_document(alloc, input, task, body, room)?;
+        return document_page(alloc, input, task, document);
+    }
+    if let Some(target) = input.target_of(task) {
+        return moved_page(alloc, input, task, target);
+    }
+    alias_page(alloc, input, task)
+}
+
+/// The links of the file of a task, if it is a document.
+fn file_document(
+    alloc: Global,
+    input: SiteInput<'_>,
+    task: &Task,
+    body: Option<&[u8]>,
+    room: &mut RawLinks,
+) -> Result<Document, AllocError> {
+    match (input.document_of(task), body) {
+        (Some(file), Some(body)) if file.is_document || is_document(body) => {
+            read_document(alloc, body, &task.url, options_at(input, &task.url), room)
+        }
+        _ => Ok(Document::empty(alloc)),
+    }
+}
+
+/// What is read of the document at a URL. If a page has more bytes of links than a saved web, the saved web is too large. A page whose
+/// URL is too long is not in it, but its links can still spell others.
+fn options_at(input: SiteInput<'_>, url: &CanonUrl) -> ReadOptions {
+    ReadOptions {
+        anchors: input.rules.anchors,
+        places: input.rules.places,
+        byte_limit: if fits(LINK_FRONT, url.as_str().as_bytes()) {
+            WEB_LIMIT
+        } else {
+            usize::MAX
+        },
+    }
+}
+
+/// A page with the links of its file.
+fn document_page(
+    alloc: Global,
+    input: SiteInput<'_>,
+    task: &Task,
+    document: Document,
+) -> Result<NewPage, AllocError> {
+    let Document {
+        links,
+        counts,
+        anchors,
+        positions,
+        encoding,
+    } = document;
+    let notes = document_notes(alloc, task, counts, encoding)?;
+    let spellings = link_spellings(alloc, input, &task.url, &links)?;
+    let mut new = NewPage::new(task, Under::Links(links), notes)?;
+    new.spellings = spellings;
+    new.counts = counts;
+    new.anchors = site_anchors(input, anchors)?;
+    new.positions = positions;
+    Ok(new)
+}
+
+/// The notes about a document. `encoding` is the name of its encoding, if that is not known here.
+fn document_notes(
+    alloc: Global,
+    task: &Task,
+    counts: LinkCounts,
+    encoding: Option<String>,
+) -> Result<Vec<Note>, AllocError> {
+    let mut notes = Vec::new(alloc);
+    if let Some(name) = encoding {
+        notes.push(Note {
+            left: Left::Encoding,
+            place: format!(in alloc; "{} ({name})", task.url.as_str())?,
+        })?;
+    }
+    if counts.left_out > 0 {
+        notes.push(Note::at(alloc, Left::LongLinks, &task.url)?)?;
+    }
+    Ok(notes)
+}
+
+/// The anchors of a document, with the pages of the site to which its links to anchors lead.
+fn site_anchors(
+    input: SiteInput<'_>,
+    anchors: Option<AnchorTargets>,
+) -> Result<Option<SiteAnchors>, AllocError> {
+    let Some(AnchorTargets { anchors, urls }) = anchors else {
+        return Ok(None);
+    };
+    let targets = targets_at(input.site, urls)?;
+    Ok(Some(SiteAnchors { anchors, targets }))
+}
+
+/// The page of an alias, whose only link is the own URL of its file.
+fn alias_page(alloc: Global, input: SiteInput<'_>, task: &Task) -> Result<NewPage, AllocError> {
+    let mut links = LinkTexts::new(alloc);
+    let own = input.site.own_url(task.entry);
+    if let Some(own) = own {
+        push_own(input, own, &mut links)?;
+    }
+    let mut new = NewPage::new(task, Under::Links(links), Vec::new(alloc))?;
+    new.counts.links = 1;
+    if let Some(own) = own
+        && new.page.is_some()
+    {
+        new.own = Some(own.clone()?);
+    }
+    Ok(new)
+}
+
+/// Appends a link to a URL of the site, if it fits in a line.
+fn push_own(input: SiteInput<'_>, own: &CanonUrl, links: &mut LinkTexts) -> Result<(), AllocError> {
+    let text = without_origin(own.as_str(), input.site.origin.as_str()).as_bytes();
+    if fits(LINK_FRONT, text) {
+        links.push(text)?;
+    }
+    Ok(())
+}
+
+/// A folder without its slash, which is moved to the folder with it and with the same query.
+fn moved_page(
+    alloc: Global,
+    input: SiteInput<'_>,
+    task: &Task,
+    target: &str,
+) -> Result<NewPage, AllocError> {
+    let target = with_query(alloc, target, task.url.as_str())?;
+    let text = without_origin(target.as_str(), input.site.origin.as_str());
+    let mut new = moved_to(alloc, task, text)?;
+    if can_spell(input, text)
+        && let Some(spelling) = text_spelling(alloc, input, &task.url, text)?
+    {
+        new.spellings.push(spelling)?;
+    }
+    Ok(new)
+}
+
+/// The target with the query of a URL, if that has one.
+fn with_query(alloc: Global, target: &str, url: &str) -> Result<String, AllocError> {
+    let mut target = String::from_str(alloc, target)?;
+    if let Some((_, query)) = url.split_once('?') {
+        target.push('?')?;
+        target.push_str(query)?;
+    }
+    Ok(target)
+}
+
+/// A redirect to this text. If it does not fit in a line, the page has no target.
+fn moved_to(alloc: Global, task: &Task, text: &str) -> Result<NewPage, AllocError> {
+    let mut notes = Vec::new(alloc);
+    let under = match LineText::new(alloc, text.as_bytes())? {
+        Some(text) => Under::Moved(text),
+        None => {
+            notes.push(Note::at(alloc, Left::LongTarget, &task.url)?)?;
+            Under::Links(LinkTexts::new(alloc))
+        }
+    };
+    NewPage::new(task, under, notes)
+}
+
+/// The URL without its scheme and authority, unless two slashes come first, which would begin a host.
+fn without_origin<'a>(url: &'a str, origin: &str) -> &'a str {
+    match url.strip_prefix(origin) {
+        Some(path) if !path.starts_with("//") => path,
+        _ => url,
+    }
+}
+
+impl NewPage {
+    fn new(task: &Task, under: Under, notes: Vec<Note>) -> Result<NewPage, AllocError> {
+        let page = SitePage::new(task.url.clone()?, under);
+        let mut notes = notes;
+        let alloc = *notes.allocator();
+        if page.is_none() {
+            notes.push(Note::at(alloc, Left::LongUrl, &task.url)?)?;
+        }
+        Ok(NewPage {
+            number: 0,
+            url: task.url.clone()?,
+            byte_count: byte_count_of(&page),
+            page,
+            spellings: Vec::new(alloc),
+            counts: LinkCounts::default(),
+            own: None,
+            anchors: None,
+            positions: Vec::new(alloc),
+            notes,
+        })
+    }
+}
+
+fn byte_count_of(page: &Option<SitePage>) -> usize {
+    match page {
+        Some(page) => page.byte_count(),
+        None => 0,
+    }
+}

@@ -1,0 +1,67 @@
+//! The pages that are still to be made, and the number of bytes of the others.
+ghost use Rattle.std.specs.Prelude.{IfErr};
+ghost use Rattle.saved_site.specs.Errors.{IsOfWeb};
+
+use crate::error::SiteError;
+use crate::new_page::NewPage;
+use crate::print::WEB_LIMIT;
+use crate::site_input::{SiteInput, Task};
+use crate::tasks::{SpelledTasks, site_tasks};
+use std::alloc::{AllocError, Global};
+
+/// The pages that are still to be made.
+#[derive(Drop)]
+pub(crate) struct TaskQueue {
+    ahead: SpelledTasks,
+    /// The number of bytes that the pages so far have in the saved web.
+    pub(crate) byte_count: usize,
+}
+
+impl TaskQueue {
+    /// A queue before the first page. Seeds can spell pages, too.
+    pub(crate) fn new(
+        alloc: Global,
+        input: SiteInput<'_>,
+        seeds: &[String],
+    ) -> Result<TaskQueue, AllocError> {
+        let mut ahead = SpelledTasks::new(alloc);
+        ahead.add_seeds(input, seeds)?;
+        Ok(TaskQueue {
+            ahead,
+            byte_count: 0,
+        })
+    }
+
+    /// Counts new pages, and takes the spellings in their links.
+    ///
+    /// # Errors
+    /// `TooLarge`, `NoMemory`.
+    pub(crate) fn count(&mut self, pages: &mut [NewPage]) -> Result<(), SiteError>
+        ensures { IfErr result IsOfWeb }
+    {
+        for page in pages.iter() {
+            self.byte_count = self.byte_count.saturating_add(page.byte_count);
+        }
+        if self.byte_count > WEB_LIMIT {
+            return Err(SiteError::TooLarge);
+        }
+        Ok(self.ahead.add_spelled(pages)?)
+    }
+
+    /// The pages of the site, and those that seeds spell.
+    pub(crate) fn first_tasks(
+        &mut self,
+        alloc: Global,
+        input: SiteInput<'_>,
+    ) -> Result<Vec<Task>, AllocError> {
+        let mut tasks = site_tasks(alloc, input)?;
+        let mut more = self.next_tasks();
+        tasks.append(&mut more)?;
+        Ok(tasks)
+    }
+
+    /// Takes the pages that links of the last round spell.
+    pub(crate) fn next_tasks(&mut self) -> Vec<Task> {
+        self.ahead.take()
+    }
+}

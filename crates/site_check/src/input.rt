@@ -1,0 +1,20 @@
+//! The settings of a check.
+use saved_site::{Alias, LinkPlaces, PageAnchors};
+
+/// The settings of a check, and what is known of the site.
+#[derive(Clone, Copy)]
+pub struct CheckInput<'a> {
+    /// The prefix that is removed from URLs that begin with it.
+    pub front: &'a str,
+    /// The ignore list: each entry matches the targets that begin with it.
+    pub ignores: &'a [String],
+    /// The aliases of the site, in the order of their URLs.
+    pub aliases: &'a [Alias],
+    /// The anchors of the site's documents, in the order of their URLs. If there are none, no missing anchor is reported.
+    pub anchors: &'a [PageAnchors],
+    /// The positions of the links in the site's documents, in the order of their URLs. If there are none, links to missing pages are
+    /// reported without locations.
+    pub places: &'a [LinkPlaces],
+    /// Whether unreached files are listed.
+    pub unreached: bool,
+}
