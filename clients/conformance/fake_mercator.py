@@ -75,7 +75,7 @@ class Frontier:
             return self.stats("all", range(self.trap.workers))
         of_queue = {
             "next": self.next, "done": self.done, "later": self.later, "again": self.again,
-            "stats": lambda queue: self.stats(str(queue), (queue,)),
+            "stats": self.stats_of_queue,
         }
         if word in of_queue and re.fullmatch("[0-9]{1,20}", rest):
             queue = int(rest)
@@ -173,6 +173,9 @@ class Frontier:
             self.resumed.remove(queue)
             self.note(taken=url)
         return f"taken {url}"
+
+    def stats_of_queue(self, queue: int) -> str:
+        return self.stats(str(queue), (queue,))
 
     def stats(self, name: str, queues: Iterable[int]) -> str:
         accepted = sum(self.numbers[queue] for queue in queues)
