@@ -1,9 +1,13 @@
 #!/usr/bin/env python3
 """Measure `mercator site` and `mercator check` on documents and folders that an attacker might make to be slow.
 
-Both commands run on one processor. Times are CPU times without that for a folder with one empty file; the least of RUNS runs
-counts (environment variable, default: 3), or that of one run that takes more than 5 seconds. A run is killed after 60 seconds, and
-it may reserve MEMORY GiB (environment variable, default: 12; 0 for no limit, as a program with the address sanitizer needs it).
+Both commands run on one processor. Times are CPU times, in user and in system mode, because elapsed times also depend on what else
+the machine does. The least of RUNS runs counts (environment variable, default: 3), or that of one run that takes more than 5 seconds.
+Memory is the greatest peak of the runs, by GNU time: to the system, the peak of a program that Python starts is at least that of
+Python, so that the memory of a small input could not be seen, and the memory per byte would seem to grow. From both, those of a folder
+with one empty file are subtracted. A run is killed after 60 seconds, and it may reserve MEMORY GiB (environment variable, default: 12;
+0 for no limit, as a program with the address sanitizer needs it).
+
 The last line of a pattern is its verdict, and the exit status is 1 if one has failed.
 
 A document repeats a pattern up to a size, and is in a folder with a page that links to it. The time of the whole program is an
@@ -175,17 +179,22 @@ def limit() -> None:
 def run_once(words: list[str], is_counted: bool) -> Run:
     """Run a command, and count the bytes of its output or drop it. Exit status 4 of a check means broken links."""
     out = subprocess.PIPE if is_counted else subprocess.DEVNULL
-    process = subprocess.Popen(words, stdin=subprocess.DEVNULL, stdout=out, stderr=subprocess.DEVNULL, preexec_fn=limit)
-    size = 0
-    while process.stdout and (some := process.stdout.read(1 << 16)):
-        size += len(some)
-    if process.stdout:
-        process.stdout.close()
-    _, status, usage = os.wait4(process.pid, 0)
-    process.returncode = os.WEXITSTATUS(status) if os.WIFEXITED(status) else -os.WTERMSIG(status)
-    if process.returncode not in (0, 4) and process.returncode > 0:
+    with tempfile.NamedTemporaryFile() as told:
+        process = subprocess.Popen(
+            ["time", "-f", "%M", "-o", told.name, *words],
+            stdin=subprocess.DEVNULL, stdout=out, stderr=subprocess.DEVNULL, preexec_fn=limit,
+        )
+        size = 0
+        while process.stdout and (some := process.stdout.read(1 << 16)):
+            size += len(some)
+        if process.stdout:
+            process.stdout.close()
+        _, status, usage = os.wait4(process.pid, 0)
+        memory = int(told.read().split()[-1]) / 1024
+    process.returncode = os.WEXITSTATUS(status)
+    if process.returncode not in (0, 4):
         print(f"{' '.join(words)} ended with status {process.returncode}", file=sys.stderr)
-    return Run(usage.ru_utime + usage.ru_stime, usage.ru_maxrss / 1024, size, process.returncode not in (0, 4))
+    return Run(usage.ru_utime + usage.ru_stime, memory, size, process.returncode not in (0, 4))
 
 
 def measured(program: str, command: str, folder: str) -> Run:

@@ -14,9 +14,10 @@ from typing import Callable, Iterator, NamedTuple, Union
 
 
 class Link(NamedTuple):
-    """A symbolic link to a path."""
+    """A symbolic link to a path. If it leads to a file, which a server returns at the URL of the link too, that has `size` bytes."""
 
     path: str
+    size: int = 0
 
 
 Files = Iterator[tuple[str, Union[str, Link]]]
@@ -128,6 +129,15 @@ def links_square(count: int) -> Files:
     for number in range(count):
         yield f"a/f{number}.html", "x"
         yield f"l{number}", Link("a")
+
+
+def links_to_file(count: int) -> Files:
+    """A page with links, and as many symbolic links to it. Each is a page of its own, as if it were a copy."""
+    text = numbered("gone{}", count)
+    yield "index.html", numbered("l{}.html", count)
+    yield "page.html", text
+    for number in range(count):
+        yield f"l{number}.html", Link("page.html", len(text))
 
 
 def links_long(count: int) -> Files:
@@ -357,9 +367,9 @@ def collide(count: int) -> Files:
 PATTERNS: dict[str, Pattern] = {
     pattern.__name__: pattern
     for pattern in (
-        escapes_depth, moved_depth, index_depth, base_depth, links_depth, links_square, links_long, escapes_exp, escapes_dirs,
-        many_slashes, slashes_relative, query_selfgrow, query_pages, query_square, query_cube, queries_once, empty_link_query,
-        query_long_page, anchors_queries, moved_chain, moved_to_missing, many_moved, many_anchors, anchors_many_pages, ids_collide,
+        escapes_depth, moved_depth, index_depth, base_depth, links_depth, links_square, links_to_file, links_long, escapes_exp,
+        escapes_dirs, many_slashes, slashes_relative, query_selfgrow, query_pages, query_square, query_cube, queries_once,
+        empty_link_query, query_long_page, anchors_queries, moved_chain, moved_to_missing, many_moved, many_anchors, anchors_many_pages, ids_collide,
         same_target_many, gone_lines, gone_oneline, gone_oneline_same, same_name, same_name_one, same_name_linkers, dotdot,
         base_long, base_long_distinct, deep, external_many, unreached, collide,
     )
@@ -367,8 +377,12 @@ PATTERNS: dict[str, Pattern] = {
 
 
 def size_of(files: Files) -> int:
-    """The size of a folder: the bytes of its files and symbolic links, and of their paths."""
-    return sum(len(name.encode()) + len((text.path if isinstance(text, Link) else text).encode()) for name, text in files)
+    """The size of a folder: the bytes of its files, also through symbolic links to them, of the paths of links, and of all names."""
+    size = 0
+    for name, text in files:
+        size += len(name.encode())
+        size += len(text.path.encode()) + text.size if isinstance(text, Link) else len(text.encode())
+    return size
 
 
 def count_for(pattern: Pattern, size: int) -> int:

@@ -54,6 +54,7 @@ def arguments(settings: Settings, folder: str, scratch: str, form: str = "--json
     words += ["--exact"] if settings.exact else []
     words += ["--follow"] if settings.follow else []
     words += ["--queries"] if settings.queries else []
+    words += [f"--workers={settings.workers}"] if settings.workers > 1 else []
     if settings.ignores:
         entries = Path(scratch, "ignores")
         entries.write_text("# known\n\n" + "\n".join(settings.ignores) + "\n", "utf-8")
@@ -202,6 +203,7 @@ def random_settings(draw: Random) -> Settings:
     return Settings(
         base, ignores=ignores, anchors=draw.random() < 0.8, unreached=draw.random() < 0.5, exact=draw.random() < 0.2,
         external=draw.random() < 0.5, follow=draw.random() < 0.3, queries=draw.random() < 0.15, seeds=seeds,
+        workers=draw.choice((1, 1, 2, 4, 64)),
     )
 
 

@@ -13,6 +13,7 @@ These are the kinds of inputs:
 - key: URLs for the command `key`
 - script: valid scripts, most of them long enough for every reply
 - script pieces, changed script: like those of saved webs
+- command line: arguments in random order, of which only the form of the output is known
 
 The model reads URLs by the URL Standard, as far as this needs no tables; other texts are replaced
 by new random ones. With a COUNT of at least 10,000, each error, reply and line of a report must
@@ -51,6 +52,7 @@ SECONDS = 60  # the time limit of a run
 LINE_LIMIT = 4096
 COUNT = 10_000
 LEAST = 5
+LIST = "seeds.list"  # the file of seeds of a case
 TOLD = 20  # the number of differences that are printed
 
 
@@ -553,6 +555,9 @@ def key_of(text: str, workers: int) -> list[str]:
 # ---------------------------------------------------------------- random inputs
 
 
+ANY = -1  # the status of a case of which only the form of the output is known
+
+
 class Case(NamedTuple):
     """A command with its inputs, the expected output, and the features of its input to count."""
 
@@ -963,6 +968,64 @@ def script_pieces(draw: Random) -> list[Case]:
     return [script_case(header + body)]
 
 
+# For each command its options, and the values of each operand
+COMMANDS: dict[str, tuple[str, ...]] = {
+    "crawl": (
+        "--workers=3 --max-pending=9 --within=a.test --queues --sources --all-sources --moved "
+        f"--unreached --json --explain --progress --seeds={LIST}",
+        f"- - {LIST} none", "http://a.test/ http://b.test/ mailto:x x",
+    ),
+    "check": (
+        "--workers=2 --json --html --annotations --all-sources --unreached --external --no-anchors "
+        f"--ignore={LIST} --seed=./ --seed=.. --exact --queries --follow",
+        f". . . none {LIST}", "http://a.test/ http://b.test/x/ ftp://x",
+    ),
+    "site": ("--exact --queries --follow", ". . none", "http://a.test/ http://b.test/x x"),
+    "replay": ("", f"- - {LIST} none"),
+    "key": ("--workers=2", "http://a.test/ http://é.test x"),
+    "serve": (
+        "--workers=2 --max-pending=3 --within=a.test --log=log --log=. --sync --compact=new "
+        "--part=0/2 --part=2/2",
+    ),
+}
+ARGUMENTS = (
+    *COMMANDS, "help", "play", "-", "--", "", "=", "-x", "-h", "--help", "--version", "--workers",
+    "--workers=0", "--workers=+3", "--workers=513", "--seeds", "--json", "--within=",
+    "--max-pending=18446744073709551616", "http://c.test/", "é", "\x1b[31m", "\u202e", "%s{}",
+    "a" * 5000,
+)
+MESSAGE = re.compile(r"mercator: [^\n]+\n")
+
+
+def command_lines(draw: Random) -> list[Case]:
+    command = draw.choice([*COMMANDS])
+    options, *operands = [value.split() for value in COMMANDS[command]]
+    words = draw.sample(options, min(len(options), draw.randrange(4)))
+    words += [draw.choice(values) for values in operands]
+    draw.shuffle(words)
+    words.insert(0, command)
+    if draw.randrange(3) == 0:
+        place = draw.randrange(len(words) + 1)
+        words[place:place + draw.randrange(2)] = draw.choices(ARGUMENTS, k=draw.randrange(3))
+    data = drawn_script(draw, 8) if command == "replay" else drawn_web(draw)[0]
+    return [Case(words, data, draw.choice((b"http://a.test/\n", data)), [], ANY, [])]
+
+
+def misshapen(status: int, output: bytes, errors: bytes) -> str:
+    """Return what is wrong with the form of an output, or nothing."""
+    text = errors.decode("utf-8", "backslashreplace")
+    lines = text.splitlines(keepends=True)
+    if not 0 <= status <= 4:
+        return f"status {status}: {text}"
+    if any(not one.isprintable() for one in text.replace("\n", "")):
+        return f"a control character in {text!r}"
+    if status in (1, 2) and not (lines and MESSAGE.fullmatch(lines[-1])):
+        return f"status {status} without a message: {text!r}"
+    if status == 3 and (output or not lines or not lines[-1].endswith("\n")):
+        return f"status 3: {output!r}, {text!r}"
+    return ""
+
+
 # ---------------------------------------------------------------- the kinds of inputs
 
 
@@ -1015,12 +1078,11 @@ KINDS = {
     "script": Kind(scripts, 50, REPLIES + ALL_EVENTS),
     "script pieces": Kind(script_pieces, 120, ["sound", *ALL_EVENTS, *SCRIPT_FAULTS]),
     "changed script": Kind(changed_scripts, 110, ["sound", *ALL_EVENTS, *SCRIPT_FAULTS]),
+    "command line": Kind(command_lines, 40, []),
 }
 
 
 # ---------------------------------------------------------------- comparing
-
-LIST = "seeds.list"
 
 
 def difference(made: Case) -> str:
@@ -1035,6 +1097,8 @@ def difference(made: Case) -> str:
     except subprocess.TimeoutExpired:
         return f"it did not end within {SECONDS} s"
     output, other = done.stdout, done.stderr
+    if made.status == ANY:
+        return misshapen(done.returncode, output, other)
     if made.status:
         output, other = other, output
     wanted = "".join(f"{line}\n" for line in made.wanted)

@@ -5,8 +5,8 @@
 #
 # Each command is run again and again, with its first, second, .. allocation failing, until a run needs no more allocations. A
 # crawl of 2,000 pages is run with later allocations failing. A run must not hang or crash. It must end like a run without a
-# failure, with the same status and output; or with status 1, 2 or 3, nothing on standard output, and on standard error a line
-# that the formats or `clap` define, or nothing if there was no memory for it. A session may have answered its first lines. The
+# failure, with the same status and output; or with status 1 or 2, nothing on standard output, and on standard error a line
+# that the formats define, or nothing if there was no memory for it. A session may have answered its first lines. The
 # script prints the number of allocations of each command. Its exit status is 1 if a run ended in another way.
 #
 # With `tests`, it does the same with each test of each crate whose tests are built (by `rt test` in its folder, which leaves them

@@ -127,7 +127,9 @@ class Growths:
             return f"another result, although no allocation failed: {result}", ended.met
         # A session may have answered its first lines.
         is_begun = list(command.words[:1]) == ["serve"] and whole.out.startswith(ended.out) and ended.out.endswith(b"\n")
-        if ended.status in (1, 2, 3) and (not ended.out or is_begun) and is_message(ended.status, ended.errors):
+        # A command line is not wrong because memory ran out.
+        is_error = ended.status in (1, 2) or ended.status == whole.status == 3
+        if is_error and (not ended.out or is_begun) and is_message(ended.status, ended.errors):
             return None, ended.met
         return result, ended.met
 

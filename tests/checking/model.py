@@ -74,6 +74,7 @@ class Settings(NamedTuple):
     follow: bool = False
     queries: bool = False
     seeds: Tuple[str, ...] = ()  # links on the top at which the search starts
+    workers: int = 1  # which makes no difference
 
 
 def url_of(text: str, base: drawn.Url) -> Optional[str]:

@@ -14,7 +14,7 @@ from typing import Iterable, Iterator, List, Optional, Sequence, Tuple
 
 import drawn
 from mercator_frontier import Frontier, FrontierEnded, Refusal
-from serving.model import drawn_session
+from serving.model import drawn_requests, drawn_session, read, session_of
 from serving.sessions import PARTS, compare, random_pieces
 from serving.trial import SECONDS, Differs, Serve, Skipped, Trial, expect
 
@@ -22,6 +22,9 @@ SETTINGS: Tuple[Tuple[str, ...], ...] = (
     ("--workers", "2", "--max-pending", "9"), ("--workers", "7"),
     ("--workers", "3", "--max-pending", "60", "--within", "a.test"),
 )
+
+# A log of this number of lines is changed this number of times; this many of them at least must be refused, and torn.
+CHANGED_LINES, CHANGES, LEAST = 60, 100, 5
 
 
 def answered(log: Path) -> int:
@@ -119,6 +122,50 @@ def refused_logs(trial: Trial) -> None:
     refuses(trial, (*words[:-1], str(none)), none)
     refuses(trial, (*words[:-1], str(trial.folder)), log)
     refuses(trial, (*words[:-1], str(trial.folder / "none" / "log")), log)
+
+
+def changed_logs(trial: Trial) -> None:
+    """A session resumes from a log with one change as one that has answered its lines. It refuses a log whose first line is changed."""
+    trial.want_log()
+    refused = torn = 0
+    for number, words in enumerate(SETTINGS):
+        draw = trial.draw(f"changed log {number}")
+        data, _ = drawn_session(draw, CHANGED_LINES, words, trial.has_link)
+        log = trial.folder / f"changed-{number}.log"
+        words = (*words, "--log", str(log))
+        session = Serve(trial.program, words)
+        session.exchange(iter([data]))
+        expect(session.end() == (0, ""), "its end")
+        whole = log.read_bytes()
+        first = whole.index(b"\n") + 1
+        head, rest = whole[:first], whole[first:]
+        for _ in range(CHANGES):
+            body = draw.choice((drawn.changed(draw, head) + rest, head + drawn.changed(draw, rest), whole[:draw.randrange(len(whole))]))
+            log.write_bytes(body)
+            if body.startswith(head) or whole.startswith(body):
+                torn += resumes(trial, words, lines_of(body)[1:], draw)
+            else:
+                refuses(trial, words, log)
+                refused += 1
+    expect(refused >= LEAST and torn >= LEAST, f"{refused} refused and {torn} torn logs")
+    print(f"  {refused} refused and {torn} torn logs of {CHANGES * len(SETTINGS)}")
+
+
+def resumes(trial: Trial, words: Sequence[str], lines: Sequence[bytes], draw: Random) -> bool:
+    """Compare the answers of a session with those of one that has answered these lines. Return whether its log was torn."""
+    model = session_of(words)
+    try:
+        for line in lines:
+            model.answer(read(line))
+    except drawn.NotPlain:
+        return False
+    data, wanted = drawn_requests(draw, CHANGED_LINES, model, trial.has_link)
+    session = Serve(trial.program, words)
+    compare(data, wanted, session.exchange(iter([data])))
+    status, errors = session.end()
+    is_torn = errors.endswith(": incomplete last line removed")
+    expect(status == 0 and (is_torn or not errors), f"status {status}, {errors!r}")
+    return is_torn
 
 
 def refuses(trial: Trial, words: Sequence[str], log: Path) -> None:

@@ -156,18 +156,33 @@ def drawn_line(draw: Random, first: int, workers: int, has_link: bool, hosts: Se
     return b"next 0"
 
 
+def read(line: bytes) -> bytes:
+    """Return a line without its LF, and without one CR before that."""
+    line = line[:-1]
+    return line[:-1] if line.endswith(b"\r") else line
+
+
 def part_of(text: str) -> Tuple[int, int]:
     number, _, parts = text.partition("/")
     return int(number), int(parts)
 
 
-def drawn_session(draw: Random, count: int, words: Sequence[str], has_link: bool) -> Tuple[bytes, List[str]]:
-    """Return random request lines with their line ends, and the expected answers."""
+def session_of(words: Sequence[str]) -> Session:
+    """Return a session with these options, of which each has a value."""
     settings = dict(zip(words[::2], words[1::2]))
     workers = int(settings.get("--workers", "4"))
     part = part_of(settings["--part"]) if "--part" in settings else None
-    session = Session(workers, int(settings.get("--max-pending", "1048576")), settings.get("--within"), part)
-    first = part[0] * workers if part else 0
+    return Session(workers, int(settings.get("--max-pending", "1048576")), settings.get("--within"), part)
+
+
+def drawn_session(draw: Random, count: int, words: Sequence[str], has_link: bool) -> Tuple[bytes, List[str]]:
+    """Return random request lines with their line ends, and the expected answers."""
+    return drawn_requests(draw, count, session_of(words), has_link)
+
+
+def drawn_requests(draw: Random, count: int, session: Session, has_link: bool) -> Tuple[bytes, List[str]]:
+    """Return random request lines with their line ends, and the answers of a session."""
+    workers, first = session.workers, session.part * session.workers
     hosts = [target for _ in range(12) for target in drawn.drawn_targets(draw, 20)]
     data: List[bytes] = []
     answers: List[str] = []
@@ -175,7 +190,7 @@ def drawn_session(draw: Random, count: int, words: Sequence[str], has_link: bool
         line = drawn_line(draw, first, workers, has_link, hosts) if len(answers) != count // 2 else b"endseeds"
         end = draw.choice((b"\n", b"\n", b"\n", b"\r\n"))
         try:
-            answers.append(session.answer(line[:-1] if end == b"\n" and line.endswith(b"\r") else line))
+            answers.append(session.answer(read(line + end)))
         except drawn.NotPlain:
             continue
         data.append(line + end)

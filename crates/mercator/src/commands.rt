@@ -37,7 +37,7 @@ mod writing;
 use compacting::compact_log;
 use crawl_run::{Observe, Unobserved};
 pub use fault::Fault;
-pub use input::{InputLimits, Unread, read_input};
+pub use input::{InputLimits, Unread, input_limits, read_input};
 use log_file::{LockFile, NoLocks};
 pub use planned::Plan;
 pub use platform::Platform;

@@ -2,7 +2,7 @@
 //!
 //! - [`run_words`] runs the program on a command line. [`plan`] only parses one, and [`run_plan`] runs what was parsed.
 //! - [`report_of_saved_web`] crawls a saved web, which is a text file of pages and their links.
-//! - [`key_line`] and [`fault_line`] are parts of the commands.
+//! - [`key_line`], [`fault_line`] and [`read_input`] are parts of the commands.
 //!
 //! Crawls come from `crawl_run`, certificates from `crawl_certificate`, runs of workers from `crawl_workers`, and scripts from
 //! `crawl_replay`. This crate exports their main names.
@@ -13,14 +13,10 @@ mod key;
 /// Theorems that connect the definitions of this crate and of the crates below it.
 pub mod laws;
 
-/// Parts of the commands that only tests call.
-pub mod testing {
-    pub use crate::commands::{InputLimits, Unread, read_input};
-}
-
 pub use commands::{
-    BAD_COMMAND_LINE, Fault, Plan, PlanError, Platform, Report, fault_line, plan,
-    report_of_saved_web, run_plan, run_words, run_words_with, whole_command,
+    BAD_COMMAND_LINE, Fault, InputLimits, Plan, PlanError, Platform, Report, Unread, fault_line,
+    input_limits, plan, read_input, report_of_saved_web, run_plan, run_words, run_words_with,
+    whole_command,
 };
 pub use crawl_certificate::{CertError, CrawlResult, certify};
 pub use crawl_replay::{Script, ScriptError, read_script, replay_text};

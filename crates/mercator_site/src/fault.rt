@@ -12,7 +12,7 @@ use std::alloc::{AllocError, AllocFailed};
 pub enum SiteFault {
     /// The folder cannot be read.
     CannotReadFolder,
-    /// The file with the ignore list cannot be read.
+    /// The file with the ignore list cannot be read, or has more than 2^30 bytes.
     CannotReadKnown,
     /// BASE is not an http or https URL without a query.
     BadBase,

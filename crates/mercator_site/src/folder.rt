@@ -11,6 +11,7 @@ use crate::check::{CheckReport, CheckSettings, report_of_pages};
 use crate::fault::SiteFault;
 use crate::options::{CheckOptions, SiteOptions};
 use crate::writing::{print_note, print_notes};
+use mercator::{Unread, input_limits, read_input};
 use saved_site::{
     FolderNames, Note, OnDisk, Rules, SiteFiles, SiteNames, Web, folder_names, folder_web,
     site_pages,
@@ -18,7 +19,7 @@ use saved_site::{
 use site_check::read_ignores;
 use std::alloc::{AllocError, Global};
 use std::fs::{self, Files};
-use std::io::{Read, Write};
+use std::io::Write;
 use std::sync::Wait;
 use std::thread::Threads;
 
@@ -195,7 +196,8 @@ fn front_of(paths: bool, top: &str) -> &str
     if paths { top } else { "" }
 }
 
-/// The entries of the ignore list, or none if no list is given.
+/// The entries of the ignore list, or none if no list is given. A list beyond the limits of the program's inputs, 2^30 bytes, cannot be
+/// read.
 fn known_entries<R: Files>(
     rt: &R,
     alloc: Global,
@@ -210,9 +212,9 @@ fn known_entries<R: Files>(
     let Ok(mut opened) = fs::open(rt, file.as_str()) else {
         return Err(SiteFault::CannotReadKnown);
     };
-    let mut bytes = Vec::new(alloc);
-    if opened.read_to_end(&mut bytes).is_err() {
-        return Err(SiteFault::CannotReadKnown);
+    match read_input(alloc, &mut opened, input_limits()) {
+        Ok(bytes) => Ok(read_ignores(alloc, bytes.as_slice())?),
+        Err(Unread::NoMemory) => Err(SiteFault::NoMemory),
+        Err(_) => Err(SiteFault::CannotReadKnown),
     }
-    Ok(read_ignores(alloc, bytes.as_slice())?)
 }

@@ -8,6 +8,7 @@ use crate::fault::SiteFault;
 use crate::folder::{report_of_folder, web_of_folder};
 use crate::options::{CheckOptions, SitePlan, site_plan};
 use crate::writing::{print_fault, write_text};
+use clap::error::ErrorKind;
 use mercator::{BAD_COMMAND_LINE, whole_command};
 use shown_text::shown_lines;
 use std::alloc::{AllocError, Global};
@@ -133,8 +134,11 @@ fn request_of(alloc: Global, words: &[String], colour: bool) -> Result<Request, 
 }
 
 /// The text of a result of `clap` that is not a command: help, or a usage error. An error quotes the arguments, so their hidden
-/// characters are escaped.
+/// characters are escaped. It fails if `clap` ran out of memory.
 fn text_of(alloc: Global, error: &clap::Error) -> Result<Request, AllocError> {
+    if error.kind() == ErrorKind::OutOfMemory {
+        return Err(AllocError);
+    }
     let text = format!(in alloc; "{error}")?;
     if error.use_stderr() {
         Ok(Request::Wrong(shown_lines(alloc, text.as_str())?))
