@@ -3,7 +3,9 @@ ghost use Rattle.std.specs.Prelude.{◌≡◌, ℕ, List, Ok, Err, IfOk, IfErr, 
 ghost use Rattle.crawl_keys.specs.Outcome.{Gives};
 ghost use Rattle.std.specs.Str.Lines.{lines};
 ghost use Rattle.saved_web.specs.SavedWeb.{page_of};
-ghost use Rattle.saved_web.specs.KnownPages.{known_page, page_at};
+ghost use Rattle.saved_web.specs.KnownPages.{page_at, urls_of};
+ghost use Rattle.saved_web.specs.Reading.{AreRead};
+ghost use Rattle.saved_web.specs.WebLines.{page_urls};
 ghost use Rattle.saved_web.specs.WebFaults.{IsSound, IsWebFault, IsWebRefusal};
 
 use crate::add::{Above, check_line};
@@ -15,7 +17,7 @@ use crate::reader::pages_behind;
 use crate::threads::pages_in_threads;
 use crate::web_pages::WebPages;
 use crawl_keys::{Base, CanonUrl};
-use crawl_pages::{Fetch, FetchError, Page, SessionFetch};
+use crawl_pages::{Fetch, FetchError, NoMemory, Page, SessionFetch};
 use simdutf8::compat::from_utf8;
 use std::alloc::Global;
 use std::thread::Threads;
@@ -37,6 +39,7 @@ impl<'a> SavedWeb<'a> {
         ensures sound { IfOk result (λ web. IsSound (lines bytes.now)) }
         // At every URL it has the page that the lines say.
         ensures pages { IfOk result (λ web. (url : List ℕ) → page_at web url ≡ page_of (lines bytes.now) url) }
+        ensures urls { IfOk result (λ web. urls_of web ≡ page_urls (lines bytes.now)) }
         // An error is the fault of the first line that has one, unless a growth was refused.
         ensures fault { IfErr result (λ told. IsWebRefusal (lines bytes.now) told) }
         // The other way round: sound lines are read, and lines with a fault are refused for it.
@@ -62,6 +65,7 @@ impl<'a> SavedWeb<'a> {
         ensures sound { IfOk result (λ web. IsSound (lines bytes.now)) }
         // At every URL it has the page that the lines say.
         ensures pages { IfOk result (λ web. (url : List ℕ) → page_at web url ≡ page_of (lines bytes.now) url) }
+        ensures urls { IfOk result (λ web. urls_of web ≡ page_urls (lines bytes.now)) }
         // An error is the fault of the first line that has one, unless a growth was refused.
         ensures fault { IfErr result (λ told. IsWebRefusal (lines bytes.now) told) }
         // The other way round: sound lines are read, and lines with a fault are refused for it.
@@ -73,12 +77,22 @@ impl<'a> SavedWeb<'a> {
             None => SavedWeb::read(alloc, bytes),
         }
     }
+
+    /// Returns the URLs of its pages, in the order of their lines.
+    ///
+    /// # Errors
+    /// Only out of memory.
+    pub fn page_urls(&self, alloc: Global) -> Result<Vec<CanonUrl>, NoMemory>
+        ensures { IfOk result (λ urls. urls.items ≡ urls_of self.now) }
+    {
+        self.pages.urls(alloc)
+    }
 }
 
 /// The pages that the lines are.
 fn known_pages(alloc: Global, bytes: &[u8]) -> Result<Pages<'_>, WebError>
     ensures sound { IfOk result (λ _. IsSound (lines bytes.now)) }
-    ensures pages { IfOk result (λ pages. (url : List ℕ) → known_page pages url ≡ page_of (lines bytes.now) url) }
+    ensures read { IfOk result (λ pages. AreRead (lines bytes.now) pages) }
     ensures fault { IfErr result (λ told. IsWebRefusal (lines bytes.now) told) }
 {
     match from_utf8(bytes) {
@@ -90,7 +104,7 @@ fn known_pages(alloc: Global, bytes: &[u8]) -> Result<Pages<'_>, WebError>
 /// The pages that the lines of a text are.
 fn pages_in(alloc: Global, text: &str) -> Result<Pages<'_>, WebError>
     ensures sound { IfOk result (λ _. IsSound (lines text.now)) }
-    ensures pages { IfOk result (λ pages. (url : List ℕ) → known_page pages url ≡ page_of (lines text.now) url) }
+    ensures read { IfOk result (λ pages. AreRead (lines text.now) pages) }
     ensures fault { IfErr result (λ told. IsWebRefusal (lines text.now) told) }
 {
     if text.is_empty() {
