@@ -11,7 +11,7 @@ use crate::output::WorkerOutput;
 use crate::turn::{Step, turn};
 use crate::worker_end::WorkerEnd;
 use crawl_frontier::{Frontier, Name, Worker};
-use crawl_pages::{Fetch, SessionFetch, WithoutSession};
+use crawl_pages::SessionFetch;
 use std::alloc::Global;
 use std::mem;
 use std::sync::Wait;
@@ -146,31 +146,14 @@ fn ends_of<K: Name>(mut runners: Vec<Runner<K>>, ends: Vec<WorkerEnd<K>>) -> Vec
     ends
 }
 
-/// Runs the workers on the calling thread, where they take turns, and returns their ends in the given order.
+/// Runs the workers on the calling thread, where they take turns, and returns their ends in the given order. They share one
+/// session of the source.
 ///
 /// Pass all workers of the frontier. If one is missing, its URLs stay in its queue, and the run does not end.
 ///
 /// # Errors
 /// `NoMemory` if there is no memory for the ends, before any URL was taken. `NoThread` is never returned.
-pub fn run_turns<K: Name, F: Fetch, R: Wait>(
-    rt: &R,
-    alloc: Global,
-    frontier: &Frontier<K>,
-    workers: Vec<Worker<K>>,
-    fetcher: &F,
-) -> Result<Vec<WorkerEnd<K>>, RunError>
-    ensures { MatchResult result
-        (λ v. AllRan K.workers (allows K.filter) (F.meaning fetcher.now) workers.items v.items)
-        (λ e. e ≡ RunError.NoMemory) }
-{
-    run_turns_in(rt, alloc, frontier, workers, &WithoutSession { fetcher })
-}
-
-/// Like [`run_turns`], for a source with sessions. All workers share one session.
-///
-/// # Errors
-/// Those of [`run_turns`].
-pub fn run_turns_in<K: Name, F: SessionFetch, R: Wait>(
+pub fn run_turns<K: Name, F: SessionFetch, R: Wait>(
     rt: &R,
     alloc: Global,
     frontier: &Frontier<K>,

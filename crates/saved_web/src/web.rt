@@ -15,7 +15,7 @@ use crate::reader::pages_behind;
 use crate::threads::pages_in_threads;
 use crate::web_pages::WebPages;
 use crawl_keys::{Base, CanonUrl};
-use crawl_pages::{Fetch, FetchError, Page, SessionFetch};
+use crawl_pages::{Fetch, FetchError, Page};
 use simdutf8::compat::from_utf8;
 use std::alloc::Global;
 use std::thread::Threads;
@@ -71,6 +71,23 @@ impl<'a> SavedWeb<'a> {
         match pages_in_threads(rt, alloc, bytes) {
             Some(pages) => Ok(SavedWeb { pages }),
             None => SavedWeb::read(alloc, bytes),
+        }
+    }
+
+    /// Returns the page at the URL. Its links are looked up in the cache, and found by parsing otherwise.
+    pub(crate) fn page(
+        &self,
+        alloc: Global,
+        cache: &mut LinkCache<'a>,
+        url: &CanonUrl,
+    ) -> Result<Page, FetchError>
+        ensures meaning { IfOk result (λ page. page ≡ page_at self.now url.now) }
+        // It never fails of itself.
+        ensures refused { IfErr result (λ e. e ≡ FetchError.NoMemory) }
+    {
+        match self.pages.get(url) {
+            Some(page) => page_behind(alloc, cache, base_of(alloc, url)?, page.behind()),
+            None => Ok(Page::Missing),
         }
     }
 }
@@ -130,42 +147,7 @@ impl Fetch for SavedWeb<'_> {
         ensures refused { IfErr result (λ e. e ≡ FetchError.NoMemory) }
     {
         let mut cache = LinkCache::without_slots(alloc);
-        self.fetch_in(alloc, &mut cache, url)
-    }
-}
-
-impl<'a> SessionFetch for SavedWeb<'a> {
-    ghost use Rattle.saved_web.specs.KnownPages.{page_at};
-
-    type Session = LinkCache<'a>;
-
-    ghost meaning = { page_at };
-
-    // What a folder knows is right of links, whatever web they are of.
-    ghost is_of = { λ _ _. Unit {0} };
-
-    fn open_session(&self, alloc: Global, among: u32) -> LinkCache<'a> {
-        LinkCache::new(alloc, among)
-    }
-
-    fn expect(&self, hashes: &[u64]) -> u64 {
-        self.pages.read_ahead(hashes)
-    }
-
-    fn fetch_in(
-        &self,
-        alloc: Global,
-        session: &mut LinkCache<'a>,
-        url: &CanonUrl,
-    ) -> Result<Page, FetchError>
-        ensures meaning { IfOk result (λ page. page ≡ page_at self.now url.now) }
-        // It never fails of itself.
-        ensures refused { IfErr result (λ e. e ≡ FetchError.NoMemory) }
-    {
-        match self.pages.get(url) {
-            Some(page) => page_behind(alloc, session, base_of(alloc, url)?, page.behind()),
-            None => Ok(Page::Missing),
-        }
+        self.page(alloc, &mut cache, url)
     }
 }
 

@@ -57,7 +57,7 @@ impl<'w, 'a, R: Threads> SessionFetch for WebInThreads<'w, 'a, R> {
     }
 
     fn expect(&self, hashes: &[u64]) -> u64 {
-        self.web.expect(hashes)
+        self.web.pages.read_ahead(hashes)
     }
 
     fn fetch_in(
@@ -74,7 +74,7 @@ impl<'w, 'a, R: Threads> SessionFetch for WebInThreads<'w, 'a, R> {
             return Ok(page);
         }
         if !self.long {
-            return self.web.fetch_in(alloc, session, url);
+            return self.web.page(alloc, session, url);
         }
         match self.web.pages.get(url) {
             Some(page) => page_in_threads(self.rt, alloc, session, url, page.behind()),

@@ -6,7 +6,7 @@ use crate::tests::runs::{How, finishes, seeded};
 use crawl_frontier::{Frontier, Name, Setup};
 use crawl_keys::{CanonUrl, Filter, KeyError, canonical};
 use crawl_pages::{FetchError, Page, SessionFetch};
-use crawl_workers::{run_threads_in, run_turns_in};
+use crawl_workers::{run_threads, run_turns};
 use std::alloc::Global;
 use std::marker::Brand;
 use std::sync::Wait;
@@ -95,8 +95,8 @@ fn results_of<K: Name + Send + Sync, F: SessionFetch + Sync, R: Threads + Wait +
     let (frontier, workers, seeder) = Frontier::<K>::new(alloc, setup, filter).ok()?;
     let sender = seeded(rt, alloc, &frontier, seeder, &SEEDS);
     let ends = match how {
-        How::Turns => run_turns_in(rt, alloc, &frontier, workers, source),
-        _ => run_threads_in(rt, alloc, &frontier, workers, source),
+        How::Turns => run_turns(rt, alloc, &frontier, workers, source),
+        _ => run_threads(rt, alloc, &frontier, workers, source),
     };
     let ends = ends.unwrap_or(Vec::new(alloc));
     let mut results = 0usize;
