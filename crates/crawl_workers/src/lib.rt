@@ -17,9 +17,13 @@ mod turn;
 mod turns;
 mod worker_end;
 
+/// Parts of a worker that only tests use.
+pub mod testing {
+    pub use crate::recent::RecentUrls;
+}
+
 pub use error::RunError;
 pub use losses::Losses;
-pub use recent::RecentUrls;
 pub use run::run_worker;
 pub use threads::run_threads;
 pub use turns::run_turns;

@@ -15,7 +15,7 @@ use std::sync::{OnceLock, Wait};
 use std::thread;
 use std::thread::{Promise, Threads};
 
-// What a thread promises: the end of this worker, unless the run was given up.
+// The promise of a thread: the end of this worker, or none if the run was given up.
 #[derive(Drop)]
 struct EndOf<'a, K: Name, F: SessionFetch> {
     worker: Snapshot<Worker<K>>,
@@ -47,8 +47,8 @@ fn run_after<K: Name, F: SessionFetch, R: Wait>(
     Some(run_worker(rt, alloc, frontier, worker, fetcher))
 }
 
-// Starts a thread for the last worker, then for those before it, tells all threads whether each was started, and joins them.
-// So the ends are in the order of the workers, and each level joins the one thread that it started.
+// Starts a thread for the last worker, then for those before it. Then it signals to all threads whether all were started, and
+// joins them. So the ends are in the order of the workers, and each level joins the one thread that it started.
 fn run_all<K: Name + Send + Sync, F: SessionFetch + Sync, R: Threads + Wait + Sync>(
     rt: &R,
     frontier: &Frontier<K>,
@@ -101,7 +101,7 @@ fn run_all<K: Name + Send + Sync, F: SessionFetch + Sync, R: Threads + Wait + Sy
     )
 }
 
-// A list with room for `count` ends.
+// Returns an empty list with room for `count` ends.
 fn room_for<K: Name>(alloc: Global, count: usize) -> Result<Vec<WorkerEnd<K>>, RunError>
     ensures { MatchResult result (λ v. (v.items ≡ []) × (count ≤ vec_capacity v)) (λ e. e ≡ RunError.NoMemory) }
 {

@@ -25,7 +25,7 @@ pub(crate) enum Runner<K: Name> {
     Moved,
 }
 
-// A turn, if the worker has not ended. It returns whether the worker goes on.
+// Makes a turn of the worker, unless it has ended, and returns whether it continues.
 fn advance<K: Name, F: SessionFetch, R: Wait>(
     rt: &R,
     frontier: &Frontier<K>,
@@ -63,7 +63,7 @@ fn advance<K: Name, F: SessionFetch, R: Wait>(
     }
 }
 
-// A turn of each worker, in order. It returns whether a worker goes on.
+// Makes a turn of each worker, in order, and returns whether a worker continues.
 fn round<K: Name, F: SessionFetch, R: Wait>(
     rt: &R,
     frontier: &Frontier<K>,
@@ -86,7 +86,7 @@ fn round<K: Name, F: SessionFetch, R: Wait>(
     going
 }
 
-// Rounds until every worker has ended.
+// Makes rounds until every worker has ended.
 fn rounds<K: Name, F: SessionFetch, R: Wait>(
     rt: &R,
     frontier: &Frontier<K>,
@@ -106,7 +106,7 @@ fn rounds<K: Name, F: SessionFetch, R: Wait>(
     unreachable!()
 }
 
-// The workers, in order, each with an empty output.
+// Returns the workers, in order, each with an empty output.
 fn runners_of<K: Name>(
     alloc: Global,
     mut workers: Vec<Worker<K>>,
@@ -126,7 +126,7 @@ fn runners_of<K: Name>(
     runners
 }
 
-// Their ends, in order.
+// Returns their ends, in order.
 fn ends_of<K: Name>(mut runners: Vec<Runner<K>>, ends: Vec<WorkerEnd<K>>) -> Vec<WorkerEnd<K>>
     requires room { length runners.items ≤ vec_capacity ends }
     requires none { ends.items ≡ [] }
