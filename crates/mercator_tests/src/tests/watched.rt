@@ -1,4 +1,4 @@
-//! Crawls with an observer: what it is told, and that nothing else changes.
+//! Crawls with an observer: what is reported to it, and that nothing else changes.
 ghost use Rattle.saved_web.specs.KnownPages.{page_at};
 
 use crawl_keys::{CanonUrl, Filter, canonical};
