@@ -928,16 +928,21 @@ def unix_socket(trial: Trial) -> None:
 
 def interrupted(trial: Trial) -> None:
     """Ctrl-C ends `examples/crawl_cluster.py` immediately, however long its fetches wait."""
-    words = ["--name", "interrupted", "--log", str(trial.folder / "interrupted"), "--delay", "3600"]
+    log = trial.folder / "interrupted"
+    words = ["--name", "interrupted", "--log", str(log), "--delay", "3600"]
     with Folder(ROOT / "examples/site") as site:
         # This script may be a background job of a shell, which ignores the signal.
         process = crawler(
             trial, *words, site.url, preexec_fn=lambda: signal.signal(signal.SIGINT, signal.SIG_DFL)
         )
         try:
-            time.sleep(2)
+            end = time.monotonic() + SECONDS
+            while not log.exists() or "\nnext " not in log.read_text():
+                expect(time.monotonic() < end and process.poll() is None, "the crawl does not begin")
+                time.sleep(0.05)
+            time.sleep(1)  # it has requested robots.txt, and waits
             process.send_signal(signal.SIGINT)
-            _, errors = process.communicate(timeout=5)
+            _, errors = process.communicate(timeout=20)
             expect(process.returncode == 2 and not errors, f"status {process.returncode}: {errors}")
         finally:
             process.kill()
