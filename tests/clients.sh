@@ -1,8 +1,8 @@
 #!/bin/bash
-# Tests the clients of `mercator serve` in Python, Node and Go: the conformance suite of clients/conformance over each of them, with
-# its own test, the kill test over the program, the tests of the Node and Go clients, those of `later` in Python, and the examples in
-# the READMEs of the clients. If Node 18 or Go 1.19, or a later version, is not installed, a line says that its client is skipped. The
-# script prints a line per part, with the output of one that fails, and at last `N passed, M failed`.
+# Tests the clients of `mercator serve` in Python, Node and Go: the self-test of the suite in clients/conformance, this suite and
+# its kill test over each client, the tests of the Node and Go clients, those of `later` in Python, and the examples in the READMEs of
+# the clients. If Node 18 or Go 1.19, or a later version, is not installed, a line says that its client is skipped. The script prints
+# a line per part, with the output of one that fails, and on the last line `N passed, M failed`.
 #
 # Usage: tests/clients.sh. PROGRAM in the environment is another program than crates/mercator_cli/out/mercator_cli (which
 # `rt run` in that folder makes), and KILLS is the number of kills of each kill test; 25.
@@ -17,7 +17,7 @@ trap 'rm -rf "$scratch"' EXIT
 passed=0
 failed=0
 
-# part NAME COMMAND WORD..: the command succeeds.
+# part NAME COMMAND ARGUMENT..: the command succeeds.
 part() {
     local name=$1 start=$SECONDS
     shift
@@ -39,8 +39,8 @@ client() {
 
 # notices MISTAKE TEXT: the kill test fails with this text.
 notices() {
-    $suite/kill_test.py --kills 12 $suite/crawlers/crawl_mistakes.py "$1" | tee "$scratch/told"
-    grep -q "^FAILED: .*$2" "$scratch/told"
+    $suite/kill_test.py --kills 12 $suite/crawlers/crawl_mistakes.py "$1" | tee "$scratch/messages"
+    grep -q "^FAILED: .*$2" "$scratch/messages"
 }
 
 # code LANGUAGE FOLDER: the example in the README of a client.
@@ -48,7 +48,7 @@ code() {
     sed -n "/^\`\`\`$1\$/,/^\`\`\`\$/{//!p}" "clients/$2/README.md"
 }
 
-# prints_urls COMMAND WORD..: the example prints three URLs, and none when it runs again, since it has a log.
+# prints_urls COMMAND ARGUMENT..: the example prints three URLs, and none when it runs again, since it has a log.
 prints_urls() {
     printf '%s\n' http://a.test/ http://a.test/b http://c.test/ > "$scratch/urls"
     rm -f "$scratch/crawl.log"
@@ -64,7 +64,7 @@ node_example() {
     prints_urls node lines.mjs
 }
 
-# The tests that fail are printed at last.
+# Prints only the tests that failed.
 node_tests() {
     local status=0
     node --test clients/node/test/frontier.test.mjs clients/node/test/crawl_http.test.mjs > "$scratch/node" || status=$?
@@ -97,7 +97,7 @@ go_tests() {
 part "the conformance suite's own test" $suite/conformance.py --self-test
 part "the kill test of a crawler without mistakes" $suite/kill_test.py --kills 4 $suite/crawlers/crawl_mistakes.py none
 part "the kill test of one that finishes what was in progress" notices again_is_done "never requested"
-part "the kill test of one that does not ask what was in progress" notices no_again "refused busy"
+part "the kill test of one that does not request what was in progress" notices no_again "refused busy"
 part "the kill test of one that finishes pages that are refused" notices done_after_503 "never requested"
 client Python $suite/crawlers/crawl_python.py
 part "the Python client and its crawler put URLs back" tests/later.py

@@ -711,10 +711,10 @@ def one_host(trial: Trial) -> None:
 
 
 def many_queues(trial: Trial) -> None:
-    """512 queues in all."""
-    for parts in (2, 8):
+    """512 queues in all, and 2,048."""
+    for parts, workers in ((2, 256), (8, 64), (4, 512)):
         draw = trial.draw(f"queues {parts}")
-        trial.one(draw, drawn_web(draw, 700, 2000), parts, 512 // parts, has_threads=parts == 8)
+        trial.one(draw, drawn_web(draw, 700, 2000), parts, workers, has_threads=parts == 8)
 
 
 def refused(trial: Trial) -> None:

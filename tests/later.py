@@ -1,8 +1,8 @@
 #!/usr/bin/env python3
 """Test `later` and `stats` in the Python client, and how `examples/crawl_http.py` retries and waits.
 
-The program is the one that MERCATOR names. The pages are served on 127.0.0.1 and the following
-addresses. The last line is `N passed, M failed`; the exit status is 1 if a test failed.
+The program is the one that MERCATOR names, or else the built one. The pages are served on 127.0.0.1
+and the following addresses. The last line is `N passed, M failed`; the exit status is 1 if a test failed.
 """
 
 from __future__ import annotations
@@ -15,31 +15,17 @@ import sys
 import tempfile
 import threading
 import time
-import traceback
 from contextlib import contextmanager
 from pathlib import Path
 from typing import Callable, Dict, Iterator, List, NamedTuple, Optional, Tuple
 
-ROOT = Path(__file__).resolve().parent.parent
+from serving import ROOT
+from serving.trial import SECONDS, expect, expect_error, program_of, run_all
+
 CRAWLER = ROOT / "examples/crawl_http.py"
-sys.path[:0] = [str(ROOT / "clients/python"), str(ROOT / "examples")]
+sys.path.insert(0, str(CRAWLER.parent))
 from fetchers import OLD_HOSTS
 from mercator_frontier import Accepted, Frontier, NoSuchQueue, NothingTaken, Pending, Stats
-
-SECONDS = float(os.environ.get("SECONDS", "120"))
-
-
-def expect(is_so: bool, what: str) -> None:
-    if not is_so:
-        raise AssertionError(what)
-
-
-def expect_error(kind: type[Exception], call: Callable[[], object]) -> None:
-    try:
-        call()
-    except kind:
-        return
-    raise AssertionError(f"no {kind.__name__}")
 
 
 # ---------------------------------------------------------------- the client
@@ -326,22 +312,6 @@ TESTS: Tuple[Callable[[], None], ...] = (
 )
 
 
-def main() -> int:
-    failed = 0
-    for test in TESTS:
-        begun = time.monotonic()
-        try:
-            test()
-        except Exception as error:
-            failed += 1
-            print(f"{test.__name__}: FAILED: {error}", flush=True)
-            if not isinstance(error, AssertionError):
-                traceback.print_exc(file=sys.stdout)
-        else:
-            print(f"{test.__name__}: passed, {time.monotonic() - begun:.0f} s", flush=True)
-    print(f"{len(TESTS) - failed} passed, {failed} failed")
-    return 1 if failed else 0
-
-
 if __name__ == "__main__":
-    sys.exit(main())
+    os.environ["MERCATOR"] = program_of(None)
+    sys.exit(run_all((test.__name__, test) for test in TESTS))

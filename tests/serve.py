@@ -22,13 +22,12 @@ from __future__ import annotations
 import argparse
 import sys
 import tempfile
-import time
-import traceback
+from functools import partial
 from pathlib import Path
 from typing import Callable, Tuple
 
 from serving import clients, compactions, crawlers, crawls, logs, sessions
-from serving.trial import Differs, Skipped, Trial
+from serving.trial import Trial, run_all
 
 PARTS: Tuple[Callable[[Trial], None], ...] = (
     sessions.transcript, sessions.drawn_sessions, sessions.drawn_parts, sessions.all_at_once, sessions.byte_by_byte,
@@ -45,7 +44,7 @@ PARTS: Tuple[Callable[[Trial], None], ...] = (
 )
 
 
-def main() -> None:
+def main() -> int:
     parser = argparse.ArgumentParser(
         description=__doc__, formatter_class=argparse.RawDescriptionHelpFormatter
     )
@@ -65,29 +64,11 @@ def main() -> None:
            help="number of kills of the test killed_crawls (default: 200)")
     option("--seed", default="1", help="seed of the random inputs (default: 1)")
     words = parser.parse_args()
-    passed = failed = 0
     with tempfile.TemporaryDirectory(prefix="serve-") as folder:
         trial = Trial(words, Path(folder))
-        for part in PARTS:
-            name = part.__name__
-            if words.part and name not in words.part:
-                continue
-            begun = time.monotonic()
-            try:
-                part(trial)
-            except Skipped as why:
-                print(f"{name}: skipped: {why}", flush=True)
-            except Exception as error:
-                failed += 1
-                print(f"{name}: FAILED: {error}", flush=True)
-                if not isinstance(error, Differs):
-                    traceback.print_exc(file=sys.stdout)
-            else:
-                passed += 1
-                print(f"{name}: passed, {time.monotonic() - begun:.0f} s", flush=True)
-    print(f"{passed} passed, {failed} failed")
-    sys.exit(1 if failed or not passed else 0)
+        chosen = [part for part in PARTS if part.__name__ in (words.part or names)]
+        return run_all((part.__name__, partial(part, trial)) for part in chosen)
 
 
 if __name__ == "__main__":
-    main()
+    sys.exit(main())

@@ -17,48 +17,33 @@ import sys
 import tempfile
 import threading
 import time
-import traceback
 import urllib.error
 import urllib.request
 from collections import Counter
+from functools import partial
 from pathlib import Path
 from random import Random
 from typing import Callable, Dict, List, Optional, Set, Tuple
 
-ROOT = Path(__file__).resolve().parent.parent
-SERVICE = ROOT / "clients/python/mercator_service.py"
-sys.path.insert(0, str(SERVICE.parent))
+from serving import ROOT
+from serving.trial import SECONDS, expect, expect_error, program_of, run_all
 from mercator_frontier import Accepted, FrontierEnded, FrontierError, NoSuchQueue, NothingTaken, QueueBusy
 from mercator_service import Fetcher
 
-SECONDS = float(os.environ.get("SECONDS", "120"))
-PROGRAM = os.environ.get("MERCATOR") or str(ROOT / "crates/mercator_cli/out/mercator_cli")
-os.environ["MERCATOR"] = PROGRAM
-
-
-def expect(is_so: bool, what: str) -> None:
-    if not is_so:
-        raise AssertionError(what)
-
-
-def expect_error(kind: type[Exception], call: Callable[[], object]) -> None:
-    try:
-        call()
-    except kind:
-        return
-    raise AssertionError(f"no {kind.__name__}")
+SERVICE = ROOT / "clients/python/mercator_service.py"
+PROGRAM = os.environ["MERCATOR"] = program_of(None)
 
 
 class Service:
     """A process of the service, with a Unix socket, a TCP port and a port for metrics."""
 
-    def __init__(self, folder: Path, *words: str, workers: int = 2) -> None:
+    def __init__(self, folder: Path, *options: str, workers: int = 2) -> None:
         self.path = folder / "service.sock"
         self.unix = f"unix:{self.path}"
         self.log = folder / "crawl.log"
         self.process = subprocess.Popen(
             [sys.executable, str(SERVICE), "--listen", self.unix, "--listen", "127.0.0.1:0",
-             "--metrics", "127.0.0.1:0", "--log", str(self.log), f"--workers={workers}", *words],
+             "--metrics", "127.0.0.1:0", "--log", str(self.log), f"--workers={workers}", *options],
             stdout=subprocess.PIPE, stderr=subprocess.PIPE, text=True, start_new_session=True,
         )
         assert self.process.stdout
@@ -144,11 +129,11 @@ def until(is_so: Callable[[], bool], what: str) -> None:
 
 def same_answers(folder: Path) -> None:
     """One client gets the answers of the program, however its requests are cut into pieces."""
-    draw = Random("service")
+    random = Random("service")
     for number in range(6):
-        data = b"".join(drawn_line(draw) for _ in range(3000))
-        words = [PROGRAM, "serve", "--workers=3", "--max-pending=40"]
-        wanted = subprocess.run(words, input=data, stdout=subprocess.PIPE, check=True).stdout
+        data = b"".join(random_line(random) for _ in range(3000))
+        command = [PROGRAM, "serve", "--workers=3", "--max-pending=40"]
+        expected = subprocess.run(command, input=data, stdout=subprocess.PIPE, check=True).stdout
         place = folder / str(number)
         place.mkdir()
         with Service(place, "--max-pending=40", workers=3) as service:
@@ -158,27 +143,30 @@ def same_answers(folder: Path) -> None:
             thread.start()
             begin = 0
             while begin < len(data):
-                size = draw.choice((1, 10, 1000, 100_000))
+                size = random.choice((1, 10, 1000, 100_000))
                 wire.socket.sendall(data[begin:begin + size])
                 begin += size
-            wire.socket.sendall(b"link http://a.test/ half")  # it is no request
+            wire.socket.sendall(b"link http://a.test/ half")  # not a request
             wire.socket.shutdown(socket.SHUT_WR)
             thread.join(SECONDS)
-            expect(reader == [wanted], f"session {number}: other answers")
+            expect(reader == [expected], f"session {number}: other answers")
             wire.close()
-            expect(b"half" not in service.log.read_bytes(), "half a line is a request")
+            expect(b"half" not in service.log.read_bytes(), "a line that was cut off is a request")
 
 
-def drawn_line(draw: Random) -> bytes:
-    kind = draw.randrange(20)
+def random_line(random: Random) -> bytes:
+    kind = random.randrange(20)
     if kind < 9:
-        word = draw.choice(("next", "next", "done", "later", "again"))
-        return f"{word} {draw.choice((0, 0, 1, 1, 2, 2, 3, '00', 2**32))}{draw.choice(('', '', chr(13)))}\n".encode()
+        word = random.choice(("next", "next", "done", "later", "again", "stats"))
+        queue = random.choice((0, 0, 1, 1, 2, 2, 3, "00", 2**32))
+        return f"{word} {queue}{random.choice(('', '', chr(13)))}\n".encode()
     if kind < 18:
-        return f"link http://h{draw.randrange(9)}.test/ {draw.choice(('/', '//h1.test/', '/x'))}{draw.randrange(300)}\n".encode()
+        text = f"{random.choice(('/', '//h1.test/', '/x'))}{random.randrange(300)}"
+        return f"link http://h{random.randrange(9)}.test/ {text}\n".encode()
     if kind == 18:
-        return draw.choice((b"\n", b"next\n", b"\xff\n", b"offer " + b"x" * draw.randrange(4080, 9000) + b"\n"))
-    return b"next 0\n" if draw.randrange(300) else b"endseeds\n"
+        long = b"offer " + b"x" * random.randrange(4080, 9000) + b"\n"
+        return random.choice((b"\n", b"next\n", b"stats\n", b"\xff\n", long))
+    return b"next 0\n" if random.randrange(300) else b"endseeds\n"
 
 
 def owners(folder: Path) -> None:
@@ -298,13 +286,13 @@ def metrics(folder: Path) -> None:
             one.done(queue)
             one.take(queue)
             answers = ("filtered", "line too long", "not UTF-8", "not a URL", "not http or https", "refused full", "seen")
-            wanted = {
+            expected = {
                 "accepted_total": 4, "taken_total": 3, "done_total": 1, "put_back_total": 1, "in_progress": 1,
                 "waiting": 2, "waiting_put_back": 1, "clients": 1, "owned_queues": 1, "queues": 3, "closed": 0,
                 **{f'refused_total{{reason="{answer}"}}': 1 for answer in answers},
             }
             found = service.figures()
-            expect(found == {f"mercator_{name}": value for name, value in wanted.items()}, f"{found}")
+            expect(found == {f"mercator_{name}": value for name, value in expected.items()}, f"{found}")
         for path in ("/", "/metrics2"):
             expect_error(urllib.error.HTTPError, lambda: urllib.request.urlopen(f"http://{service.metrics}{path}"))
         for text in (b"GET\r\n\r\n", b"\r\n\r\n", b"GET /metrics", b"\xff" * 200_000):
@@ -319,7 +307,7 @@ def metrics(folder: Path) -> None:
 
 
 def ends(folder: Path) -> None:
-    """The service ends when it is told to, and when its program has ended, and says why."""
+    """The service ends on SIGTERM and SIGINT, and after its program has ended, with a message that says why."""
     for how in (signal.SIGTERM, signal.SIGINT):
         service = Service(folder)
         with Fetcher(service.tcp) as fetcher, Fetcher(service.unix) as waiting:
@@ -360,17 +348,17 @@ def bad_command_lines(folder: Path) -> None:
     """The exit status, and a message without a traceback."""
     valid = ["--listen", f"unix:{folder}/x", "--log", str(folder / "x.log")]
     failing = ["--workers=0", "--log=/no/such/log", "--program=/no/such/program", "--within=", "--listen=192.0.2.1:1"]
-    for word in failing:
-        ended = run_service(*valid, word)
-        expect(ended.returncode == 1 and "mercator_service: " in ended.stderr, f"{word}: {ended}")
-        expect("Traceback" not in ended.stderr and not Path(folder, "x").exists(), f"{word}: {ended}")
+    for option in failing:
+        ended = run_service(*valid, option)
+        expect(ended.returncode == 1 and "mercator_service: " in ended.stderr, f"{option}: {ended}")
+        expect("Traceback" not in ended.stderr and not Path(folder, "x").exists(), f"{option}: {ended}")
     wrong: List[List[str]] = [["--listen", "x"], ["--listen", "unix:"], ["--listen", "a:99999"], []]
-    for words in wrong:
-        expect(run_service(*valid[2:], *words).returncode == 2, f"{words}")
+    for arguments in wrong:
+        expect(run_service(*valid[2:], *arguments).returncode == 2, f"{arguments}")
 
 
-def run_service(*words: str) -> subprocess.CompletedProcess[str]:
-    command = [sys.executable, str(SERVICE), *words]
+def run_service(*arguments: str) -> subprocess.CompletedProcess[str]:
+    command = [sys.executable, str(SERVICE), *arguments]
     return subprocess.run(command, capture_output=True, text=True, timeout=SECONDS, check=False)
 
 
@@ -382,8 +370,9 @@ HOSTS, PAGES, WORKERS = 12, 300, 6
 def targets_of(url: str) -> List[str]:
     """The links of a page of a fixed web."""
     number = int(url.rpartition("/")[2])
-    draw = Random(number)
-    return [f"http://h{target % HOSTS}.test/{target}" for target in (draw.randrange(PAGES) for _ in range(4))]
+    random = Random(number)
+    targets = [random.randrange(PAGES) for _ in range(4)]
+    return [f"http://h{target % HOSTS}.test/{target}" for target in targets]
 
 
 def reached() -> Set[str]:
@@ -440,8 +429,7 @@ class Crawlers:
         self.killed = 0
 
     def start(self) -> subprocess.Popen[bytes]:
-        words = [sys.executable, __file__, "--crawl", self.address, str(self.events)]
-        return subprocess.Popen(words)
+        return subprocess.Popen([sys.executable, __file__, "--crawl", self.address, str(self.events)])
 
     def kill(self, index: int) -> None:
         """Kill a process and start another. It is stopped first, so that the note is in its place."""
@@ -465,7 +453,7 @@ class Crawlers:
             process.kill()
             process.wait()
 
-    def judge(self, are_alone: bool) -> str:
+    def judge(self, is_one_each: bool) -> str:
         """Check that each URL was done, and once, except for those in progress at a kill."""
         done: Counter[str] = Counter()
         at_kill: Counter[str] = Counter()
@@ -474,7 +462,7 @@ class Crawlers:
             word, pid, url = line.split(" ")
             if word == "start":
                 host = url.split("/")[2]
-                expect(not are_alone or host not in active.values(), f"two fetchers visit {host}")
+                expect(not is_one_each or host not in active.values(), f"two fetchers visit {host}")
                 active[pid, url] = host
             elif word == "kill":
                 for key in [key for key in active if key[0] == pid]:
@@ -486,27 +474,27 @@ class Crawlers:
         expect(set(done) >= reached() and not set(done) - reached(), f"{len(done)} of {len(reached())} URLs")
         twice = Counter({url: count - 1 for url, count in done.items() if count > 1})
         # A process that is killed may have noted `done` before it sent it.
-        expect(sum(twice.values()) <= WORKERS * self.killed or not are_alone, f"{sum(twice.values())} URLs again")
+        expect(sum(twice.values()) <= WORKERS * self.killed or not is_one_each, f"{sum(twice.values())} URLs again")
         return f"{self.killed} kills of crawlers, {len(done)} URLs, {sum(twice.values())} again"
 
 
 def killed_crawlers(folder: Path) -> None:
     """Crawlers are killed, and others take over. No URL is lost, and no host is visited by two."""
-    draw = Random("crawlers")
+    random = Random("crawlers")
     with Service(folder, workers=WORKERS) as service:
         with Fetcher(service.unix) as first:
             first.offer("http://h0.test/0")
         crawlers = Crawlers(folder, service.unix)
         try:
             for _ in range(8):
-                time.sleep(0.2 + draw.random() / 5)
-                crawlers.kill(draw.randrange(3))
+                time.sleep(0.2 + random.random() / 5)
+                crawlers.kill(random.randrange(3))
             with Fetcher(service.unix) as last:
                 last.end_seeds()
             crawlers.wait()
         finally:
             crawlers.end()
-        print(f"  {crawlers.judge(are_alone=True)}")
+        print(f"  {crawlers.judge(is_one_each=True)}")
         figures = service.figures()
         expect(figures["mercator_accepted_total"] == figures["mercator_done_total"] == len(reached()), f"{figures}")
         expect(figures["mercator_waiting"] == 0 and figures["mercator_closed"] == 1, f"{figures}")
@@ -514,14 +502,14 @@ def killed_crawlers(folder: Path) -> None:
 
 def killed_services(folder: Path) -> None:
     """The service and its program are killed, and start again with the log. No URL is lost."""
-    draw = Random("services")
+    random = Random("services")
     service = Service(folder, workers=WORKERS)
     with Fetcher(service.unix) as first:
         first.offer("http://h0.test/0")
     crawlers = Crawlers(folder, service.unix)
     try:
         for number in range(5):
-            time.sleep(0.3 + draw.random() / 5)
+            time.sleep(0.3 + random.random() / 5)
             if number % 2:
                 service.process.kill()  # its program ends by itself
             else:
@@ -531,7 +519,7 @@ def killed_services(folder: Path) -> None:
         with Fetcher(service.unix) as last:
             last.end_seeds()
         crawlers.wait()
-        print(f"  {crawlers.judge(are_alone=False)}, 5 kills of services")
+        print(f"  {crawlers.judge(is_one_each=False)}, 5 kills of services")
         expect(service.end() == (0, ""), "the status of the service")
     finally:
         crawlers.end()
@@ -541,6 +529,11 @@ def killed_services(folder: Path) -> None:
 TESTS: Tuple[Callable[[Path], None], ...] = (
     same_answers, owners, waits, no_lost_wakeups, slow_client, metrics, ends, killed_crawlers, killed_services,
 )
+
+
+def in_folder(test: Callable[[Path], None]) -> None:
+    with tempfile.TemporaryDirectory(prefix="service-") as folder:
+        test(Path(folder))
 
 
 def main() -> int:
@@ -553,24 +546,8 @@ def main() -> int:
     if options.crawl:
         crawl(*options.crawl)
         return 0
-    passed = failed = 0
-    for test in TESTS:
-        if options.part and test.__name__ not in options.part:
-            continue
-        begun = time.monotonic()
-        with tempfile.TemporaryDirectory(prefix="service-") as folder:
-            try:
-                test(Path(folder))
-            except Exception as error:
-                failed += 1
-                print(f"{test.__name__}: FAILED: {error}", flush=True)
-                if not isinstance(error, AssertionError):
-                    traceback.print_exc(file=sys.stdout)
-            else:
-                passed += 1
-                print(f"{test.__name__}: passed, {time.monotonic() - begun:.0f} s", flush=True)
-    print(f"{passed} passed, {failed} failed")
-    return 1 if failed else 0
+    chosen = [test for test in TESTS if test.__name__ in (options.part or names)]
+    return run_all((test.__name__, partial(in_folder, test)) for test in chosen)
 
 
 if __name__ == "__main__":

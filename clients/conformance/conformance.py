@@ -29,6 +29,7 @@ import sys
 import tempfile
 import threading
 import time
+from collections import Counter
 from contextlib import suppress
 from pathlib import Path
 from typing import Any, Dict, Iterator, List, NamedTuple, Optional, Sequence, Set, Tuple
@@ -130,6 +131,7 @@ class Trap:
         self.title = text.split("\n", 1)[0].lstrip("# ")
         self.workers, self.max_pending, self.chop, self.pipe, self.stderr = 2, 2**20, 0, 0, 0
         self.hold = self.locked = 0.0
+        self.has_stats = False
         self.limit = SECONDS
         self.expected = "closed"
         self.mistakes: List[str] = []
@@ -165,6 +167,8 @@ class Trap:
             self.events.append(Event(int(words[0]), words[1], words[2], " ".join(words[3:])))
         elif word in ("seeds", "mistakes"):
             setattr(self, word, words)
+        elif word == "stats":
+            self.has_stats = True
         elif word == "expect" and rest in ("closed", "failure"):
             self.expected = rest
         else:
@@ -316,7 +320,11 @@ class Run:
                 Path(log).write_text("".join(f"{line}\n" for line in [head, *trap.log]))
             status, stderr = self.crawl(program, log)
             facts = [json.loads(line) for line in (folder / "facts").read_text().splitlines()]
+            lines = (folder / "printed").read_text("utf-8", "replace").splitlines()
         self.judge(status, stderr, facts)
+        if trap.has_stats:
+            printed = [line for line in lines if line.startswith("stats ")]
+            self.judge_stats(printed, [str(fact["stats"]) for fact in facts if "stats" in fact])
         return self.violations
 
     def crawl(self, program: Path, log: str) -> Tuple[Optional[int], str]:
@@ -330,10 +338,11 @@ class Run:
             timer.start()
         words = [*self.command, str(self.trap.workers), log, *self.trap.seeds]
         environment = {**os.environ, "MERCATOR": str(program), "PYTHONUNBUFFERED": "1"}
-        with tempfile.TemporaryFile() as errors:
+        environment.update({"STATS": "1"} if self.trap.has_stats else {})
+        with open(program.parent / "printed", "wb") as output, tempfile.TemporaryFile() as errors:
             process = subprocess.Popen(
-                words, env=environment, stdin=subprocess.DEVNULL, stdout=subprocess.DEVNULL,
-                stderr=errors, start_new_session=True,
+                words, env=environment, stdin=subprocess.DEVNULL, stdout=output, stderr=errors,
+                start_new_session=True,
             )
             status: Optional[int] = None
             with suppress(subprocess.TimeoutExpired):
@@ -406,6 +415,17 @@ class Run:
                 is_requested = any(request.url == url for request in self.web.requests)
                 how = "was not requested again after status 503" if is_requested else "was never requested"
                 self.violations.append(f"{url} {how}")
+
+    def judge_stats(self, printed: List[str], answered: List[str]) -> None:
+        """It prints the numbers of each answer, and asks for those of each queue that it visits."""
+        for line in Counter(printed) - Counter(answered):
+            self.violations.append(f"the crawler printed `{line}`, which was not answered")
+        for line in Counter(answered) - Counter(printed):
+            self.violations.append(f"the crawler did not print `{line}`")
+        hosts = {url.split("/")[2] for url in self.trap.reached()}
+        for name in ["all", *map(str, range(min(len(hosts), self.trap.workers)))]:
+            if not any(line.startswith(f"stats {name} ") for line in answered):
+                self.violations.append(f"`stats` was never requested for {name}")
 
 
 def is_running(pid: int) -> bool:

@@ -21,7 +21,7 @@ import sys
 import time
 from collections import Counter, deque
 from pathlib import Path
-from typing import Deque, Dict, List, NoReturn, Optional, Set
+from typing import Deque, Dict, Iterable, List, NoReturn, Optional, Set
 
 from conformance import POLLS, NotUrl, Trap, canonical, read_trap
 
@@ -35,6 +35,7 @@ class Frontier:
     def __init__(self, trap: Trap, facts: Path) -> None:
         self.trap, self.facts = trap, facts
         self.waiting: List[Deque[str]] = [deque() for _ in range(trap.workers)]
+        self.put_back: List[Set[str]] = [set() for _ in range(trap.workers)]
         self.numbers = [0] * trap.workers
         self.in_progress: Dict[int, str] = {}
         self.seen: Set[str] = set()
@@ -70,7 +71,12 @@ class Frontier:
             return self.offer(rest, base)
         if text == "endseeds":
             return self.end_seeds()
-        of_queue = {"next": self.next, "done": self.done, "later": self.later, "again": self.again}
+        if text == "stats":
+            return self.stats("all", range(self.trap.workers))
+        of_queue = {
+            "next": self.next, "done": self.done, "later": self.later, "again": self.again,
+            "stats": self.stats_of_queue,
+        }
         if word in of_queue and re.fullmatch("[0-9]{1,20}", rest):
             queue = int(rest)
             if queue < self.trap.workers:
@@ -120,6 +126,7 @@ class Frontier:
             return "refused busy"
         if self.waiting[queue]:
             url = self.in_progress[queue] = self.waiting[queue].popleft()
+            self.put_back[queue].discard(url)
             if not self.is_replaying:
                 self.note(taken=url)
             self.polls[queue] = 0
@@ -153,6 +160,7 @@ class Frontier:
         url = self.in_progress.pop(queue)
         self.resumed.discard(queue)
         self.waiting[queue].append(url)
+        self.put_back[queue].add(url)
         if not self.is_replaying:
             self.note(put_back=url)
         return f"count {self.count}"
@@ -165,6 +173,20 @@ class Frontier:
             self.resumed.remove(queue)
             self.note(taken=url)
         return f"taken {url}"
+
+    def stats_of_queue(self, queue: int) -> str:
+        return self.stats(str(queue), (queue,))
+
+    def stats(self, name: str, queues: Iterable[int]) -> str:
+        accepted = sum(self.numbers[queue] for queue in queues)
+        busy = sum(queue in self.in_progress for queue in queues)
+        waiting = sum(len(self.waiting[queue]) for queue in queues)
+        put_back = sum(len(self.put_back[queue]) for queue in queues)
+        done = accepted - busy - waiting
+        if not self.is_replaying:
+            self.note(stats=f"stats {name} {accepted} {done} {busy} {waiting} {put_back}")
+        return (f"stats accepted {accepted} done {done} in-progress {busy} waiting {waiting}"
+                f" put-back {put_back}")
 
     def replay(self, lines: List[bytes]) -> None:
         self.is_replaying = True

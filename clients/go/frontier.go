@@ -1,12 +1,6 @@
-// Package frontier is a client of mercator serve, the URL frontier for crawlers.
-//
-// A crawler fetches pages, and asks the frontier what to fetch next. The frontier runs as a process
-// of its own, with one queue per worker, numbered from 0. All URLs of a host are in one queue. Each
-// URL is given out once, however spelled, and again after Later. When all are done, the crawl ends.
-//
-// With Options.Log, a crawl that was killed resumes: run it again with the same options. URLs that
-// are refused because too many are unfinished are kept in memory, and are offered again when there
-// is room. A kill loses them. README.md has more, and docs/SESSION.md describes the protocol.
+// Package frontier is a client of mercator serve, the URL frontier for crawlers. README.md shows how
+// to use it, and docs/SESSION.md describes the protocol. URLs that are refused because too many are
+// unfinished are kept in memory, and are offered again when there is room. A kill loses them.
 package frontier
 
 import (
@@ -17,7 +11,6 @@ import (
 	"io"
 	"os"
 	"os/exec"
-	"strconv"
 	"strings"
 	"sync"
 	"syscall"
@@ -34,9 +27,11 @@ var (
 	ErrQueueBusy     = errors.New("frontier: the last URL of the queue is in progress")
 	ErrUnknownAnswer = errors.New("frontier: unknown answer")
 	ErrLater         = errors.New("frontier: put the URL back") // a visit returns this
+	errPending       = errors.New("frontier: the queue is empty")
 )
 
-var refusals = map[string]error{
+var refusals = map[string]error{ // by answer, without its number
+	"pending":         errPending,
 	"refused busy":    ErrQueueBusy,
 	"refused nosuch":  ErrNoSuchQueue,
 	"refused nothing": ErrNothingTaken,
@@ -68,6 +63,12 @@ const (
 	Full     Status = "refused full"   // too many URLs are unfinished; it will be offered again
 )
 
+// Stats are numbers of URLs. Each accepted URL is done, in progress or waiting. PutBack is how many
+// of the waiting ones were put back.
+type Stats struct {
+	Accepted, Done, InProgress, Waiting, PutBack int
+}
+
 // A Frontier is a URL frontier that runs as a process of its own. Several goroutines may use it at
 // the same time. Use Open to start one.
 type Frontier struct {
@@ -90,22 +91,13 @@ type Frontier struct {
 func Open(ctx context.Context, options Options) (*Frontier, error) {
 	for wait, begun := 50*time.Millisecond, time.Now(); ; wait = wait * 3 / 2 {
 		f, err := start(ctx, options)
-		if err != nil {
-			return nil, fmt.Errorf("frontier: cannot start the program: %w", err)
+		if err == nil || !strings.Contains(err.Error(), ": in use") {
+			return f, err
 		}
-		_, err = f.exchange([]string{"again 0"})
-		switch {
-		case err == nil:
-			return f, nil
-		case !strings.Contains(err.Error(), ": in use"):
-			return nil, err
-		case time.Since(begun)+wait > 10*time.Second:
+		if time.Since(begun)+wait > 10*time.Second {
 			return nil, fmt.Errorf("%w: %v", ErrLogInUse, err)
 		}
-		select {
-		case <-time.After(wait):
-		case <-ctx.Done(): // so the next start fails
-		}
+		time.Sleep(wait) // if ctx is done then, the next start fails
 	}
 }
 
@@ -113,11 +105,10 @@ func start(ctx context.Context, options Options) (*Frontier, error) {
 	if options.Workers == 0 {
 		options.Workers = 4
 	}
-	if options.Program == "" {
-		options.Program = os.Getenv("MERCATOR")
-	}
-	if options.Program == "" {
-		options.Program = "mercator"
+	for _, program := range []string{os.Getenv("MERCATOR"), "mercator"} {
+		if options.Program == "" {
+			options.Program = program
+		}
 	}
 	args := []string{"serve", fmt.Sprint("--workers=", options.Workers)}
 	add := func(isGiven bool, words ...any) {
@@ -145,6 +136,10 @@ func start(ctx context.Context, options Options) (*Frontier, error) {
 	if f.stdin, err = f.cmd.StdinPipe(); err == nil {
 		err = f.cmd.Start()
 	}
+	if err != nil {
+		return nil, fmt.Errorf("frontier: cannot start the program: %w", err)
+	}
+	_, err = f.exchange([]string{"again 0"})
 	return f, err
 }
 
@@ -154,8 +149,7 @@ func (f *Frontier) Offer(urls ...string) ([]Status, error) {
 }
 
 // Links offers the links of a page in their order. Call it before the page is done. The base is the
-// URL of the page, or that of its <base>, and the texts are the links as they appear on it. The
-// target of a redirect is a link, too.
+// URL of the page, or that of its <base>, and the texts are the links as they appear on it.
 func (f *Frontier) Links(base string, texts ...string) ([]Status, error) {
 	// In a request the base ends at its first space. The rest is what the URL Standard strips.
 	base = strings.TrimFunc(base, func(r rune) bool { return r <= ' ' })
@@ -186,18 +180,17 @@ func (f *Frontier) EndSeeds() error {
 // Take takes the URL that has waited longest in a queue. If there is none, it waits until there is
 // one, until the crawl is over, or until ctx is done. If the crawl is over, the error is io.EOF. In
 // a crawl that resumes, the first URL of a queue is the one that was in progress.
-func (f *Frontier) Take(ctx context.Context, queue int) (string, error) {
+func (f *Frontier) Take(ctx context.Context, queue int) (url string, err error) {
 	f.mu.Lock()
 	defer f.mu.Unlock()
 	if !f.begun[queue] {
 		f.begun[queue] = true
-		if _, url, err := f.ask(fmt.Sprint("again ", uint32(queue)), "taken"); err != ErrNothingTaken {
+		if err = f.ask(fmt.Sprint("again ", uint32(queue)), "taken %s", &url); err != ErrNothingTaken {
 			return url, err
 		}
 	}
 	for ctx.Err() == nil {
-		word, url, err := f.ask(fmt.Sprint("next ", uint32(queue)), "taken", "pending")
-		if word != "pending" {
+		if err = f.ask(fmt.Sprint("next ", uint32(queue)), "taken %s", &url); err != errPending {
 			return url, err
 		}
 		// No request was sent after the one that is pending, so no wake-up is lost.
@@ -222,10 +215,30 @@ func (f *Frontier) Later(queue int) (int, error) {
 	return f.lower(fmt.Sprint("later ", uint32(queue)))
 }
 
+// Arrival returns a channel that is closed when a URL is accepted into a queue, or all are done.
+func (f *Frontier) Arrival(queue int) <-chan struct{} {
+	f.mu.Lock()
+	defer f.mu.Unlock()
+	return f.wakes[queue]
+}
+
+// Stats returns the numbers of URLs in a queue, or in all queues if it is negative.
+func (f *Frontier) Stats(queue int) (s Stats, err error) {
+	request := "stats"
+	if queue >= 0 {
+		request = fmt.Sprint("stats ", uint32(queue))
+	}
+	f.mu.Lock()
+	defer f.mu.Unlock()
+	const form = "stats accepted %d done %d in-progress %d waiting %d put-back %d"
+	err = f.ask(request, form, &s.Accepted, &s.Done, &s.InProgress, &s.Waiting, &s.PutBack)
+	return s, err
+}
+
 // Run calls visit for each URL until the crawl is over, for one URL at a time of each queue, and so
 // of each host. If visit returns nil, the URL is done; if ErrLater, it is put back. If visit fails,
 // or ctx is done, Run cancels the context of the visits, waits for them, and returns the first
-// error. A URL whose visit failed stays in progress: with a log, the next crawl begins with it.
+// error. A URL whose visit failed stays in progress.
 func (f *Frontier) Run(
 	ctx context.Context, visit func(ctx context.Context, queue int, url string) error,
 ) error {
@@ -277,17 +290,13 @@ func (f *Frontier) Close() error {
 
 // lower sends a request that may finish something, and then offers what was kept. No other request
 // is sent meanwhile, so the crawl cannot end without the URLs that were kept.
-func (f *Frontier) lower(request string) (int, error) {
+func (f *Frontier) lower(request string) (unfinished int, err error) {
 	f.mu.Lock()
 	defer f.mu.Unlock()
-	_, count, err := f.ask(request, "count")
-	if err != nil {
-		return 0, err
-	}
-	for queue := 0; count == "0" && queue < len(f.wakes); queue++ {
+	err = f.ask(request, "count %d", &unfinished)
+	for queue := 0; err == nil && unfinished == 0 && queue < len(f.wakes); queue++ {
 		f.wake(queue)
 	}
-	unfinished, err := strconv.Atoi(count)
 	// The loop ends when an offer is refused again, and so kept. After Later, that is the first.
 	for left := len(f.kept); err == nil && left > 0 && left == len(f.kept); left-- {
 		offer := f.kept[:1]
@@ -326,45 +335,38 @@ func (f *Frontier) wake(queue int) {
 	f.wakes[queue] = make(chan struct{})
 }
 
-// ask sends a request, and returns the first word of its answer, which must be known, and the rest.
-func (f *Frontier) ask(request string, known ...string) (word, rest string, err error) {
+// ask sends a request, and reads values from its answer, which must have this form.
+func (f *Frontier) ask(request, form string, values ...any) error {
 	answers, err := f.exchange([]string{request})
+	if err == nil {
+		err = refusals[strings.TrimRight(answers[0], " 0123456789")]
+	}
 	if err != nil {
-		return "", "", err
+		return err
 	}
-	word, rest, _ = strings.Cut(answers[0], " ")
-	for _, one := range known {
-		if word == one {
-			return word, rest, nil
-		}
+	if _, err := fmt.Sscanf(answers[0], form, values...); err != nil {
+		return f.unknown(answers[0])
 	}
-	if err = refusals[answers[0]]; err == nil {
-		err = f.unknown(answers[0])
-	}
-	return "", "", err
+	return nil
 }
 
-// exchange sends requests, and returns their answers. It writes whole requests in pieces of at most
-// PIPE_BUF bytes, so that none is cut off if the crawler is killed. It reads the answers to a piece
-// before it writes the next one, so that neither side waits for the other to read.
+// exchange sends requests, each by a write of its own, which a kill does not cut off. Meanwhile it
+// reads the answers, so that neither side waits for the other to read.
 func (f *Frontier) exchange(requests []string) (answers []string, err error) {
 	if f.end != nil {
 		return nil, f.end
 	}
-	var piece []byte
-	for i, request := range requests {
-		piece = append(append(piece, request...), '\n')
-		if i+1 < len(requests) && len(piece)+len(requests[i+1]) < 4096 {
-			continue
+	go func() {
+		for _, request := range requests {
+			io.WriteString(f.stdin, request+"\n") // if this fails, so does a read
 		}
-		f.stdin.Write(piece) // if this fails, so does a read
-		for piece = nil; len(answers) <= i; {
-			answer, err := f.stdout.ReadString('\n')
-			if err != nil { // a last line without a line feed is not an answer
-				return nil, f.ended()
-			}
-			answers = append(answers, answer[:len(answer)-1])
+	}()
+	for range requests {
+		answer, err := f.stdout.ReadString('\n')
+		if err != nil { // a last line without a line feed is not an answer
+			return nil, f.ended()
 		}
+		answers = append(answers, answer[:len(answer)-1])
 	}
 	if f.stdout.Buffered() > 0 {
 		return nil, f.unknown("more than one per request")
@@ -375,9 +377,11 @@ func (f *Frontier) exchange(requests []string) (answers []string, err error) {
 // ended waits until the program has exited, ends all waits, and returns how it exited.
 func (f *Frontier) ended() error {
 	err := f.cmd.Wait()
+	for queue := range f.wakes {
+		f.wake(queue)
+	}
 	switch {
 	case f.end != nil:
-		return f.end
 	case f.ctx.Err() != nil:
 		f.end = f.ctx.Err()
 	case err != nil:
@@ -385,16 +389,12 @@ func (f *Frontier) ended() error {
 	default:
 		f.end = ErrClosed
 	}
-	for queue := range f.wakes {
-		f.wake(queue)
-	}
 	return f.end
 }
 
 // unknown ends the program, since nobody knows what it means by this answer.
 func (f *Frontier) unknown(answer string) error {
-	f.cmd.Process.Kill()
-	f.ended()
 	f.end = fmt.Errorf("%w: %s", ErrUnknownAnswer, answer)
-	return f.end
+	f.cmd.Process.Kill()
+	return f.ended()
 }

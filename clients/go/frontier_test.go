@@ -179,6 +179,59 @@ func TestLater(t *testing.T) {
 	checkError(t, "later after the end", err, ErrNothingTaken)
 }
 
+func TestStats(t *testing.T) {
+	f := open(t, Options{Workers: 2})
+	offer(t, f, "http://a.test/1", "http://a.test/2", "http://a.test/3", "http://a.test/3#x", "http://b.test/")
+	byQueue := map[string]int{}
+	for queue := 0; queue < 2; queue++ {
+		byQueue[take(t, f, queue)] = queue
+	}
+	queue, other := byQueue["http://a.test/1"], byQueue["http://b.test/"]
+	if queue == other {
+		t.Fatal("the hosts are in one queue")
+	}
+	_, err := f.Later(queue)
+	checkError(t, "later", err, nil)
+	take(t, f, queue)
+	done(t, f, queue)
+	for queue, wanted := range map[int]Stats{
+		queue: {Accepted: 3, Done: 1, Waiting: 2, PutBack: 1},
+		other: {Accepted: 1, InProgress: 1},
+		-1:    {Accepted: 4, Done: 1, InProgress: 1, Waiting: 2, PutBack: 1},
+	} {
+		stats, err := f.Stats(queue)
+		checkError(t, "stats", err, nil)
+		check(t, fmt.Sprint("stats of ", queue), stats, wanted)
+	}
+	_, err = f.Stats(2)
+	checkError(t, "stats of no queue", err, ErrNoSuchQueue)
+	text := "read -r line; echo refused nothing; read -r line; echo stats accepted 1 done 2"
+	g := open(t, Options{Workers: 1, Program: script(t, text)})
+	_, err = g.Stats(-1)
+	checkError(t, "stats that are cut off", err, ErrUnknownAnswer)
+}
+
+func TestArrival(t *testing.T) {
+	f := open(t, Options{Workers: 2})
+	isOver := func(arrival <-chan struct{}) bool {
+		select {
+		case <-arrival:
+			return true
+		default:
+			return false
+		}
+	}
+	arrivals := []<-chan struct{}{f.Arrival(0), f.Arrival(1)}
+	offer(t, f, "http://a.test/", "http://a.test/#", "mailto:x")
+	check(t, "one arrival", isOver(arrivals[0]) != isOver(arrivals[1]), true)
+	for queue := range arrivals {
+		arrivals[queue] = f.Arrival(queue)
+		check(t, "a second arrival", isOver(arrivals[queue]), false)
+	}
+	checkError(t, "close", f.Close(), nil)
+	check(t, "the end", isOver(arrivals[0]) && isOver(arrivals[1]), true)
+}
+
 // Each of two goroutines takes what the other one offers, so that each wait is soon over.
 func TestNoWakeUpIsLost(t *testing.T) {
 	f := open(t, Options{Workers: 2})

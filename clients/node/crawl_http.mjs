@@ -378,6 +378,26 @@ class Search {
   get end() { return Math.min(...this.#hosts.values()); }
 }
 
+/** Whether a URL was accepted into a queue since its worker last waited for that. */
+export class Arrival {
+  #has = false;
+  #end = () => {};
+
+  happen() {
+    this.#has = true;
+    this.#end();
+  }
+
+  /** Waits until it happens, or until a time like Date.now(). @param {number} end */
+  async wait(end) {
+    await new Promise((resolve) => {
+      const timer = setTimeout(resolve, this.#has ? 0 : end - Date.now());
+      this.#end = () => resolve(clearTimeout(timer));
+    });
+    this.#has = false;
+  }
+}
+
 /** @param {string[]} words */
 function settingsOf(words) {
   const text = /** @type {const} */ ({ type: 'string' });
@@ -418,28 +438,23 @@ async function crawl(settings) {
   const frontier = await Frontier.open(settings.frontier);
   let left = settings.pages || Infinity;
   let isStopped = false;
-  /** What ends the wait of each worker. @type {Map<number, () => void>} */
-  const waits = new Map();
-  /** Waits until a time, or until a URL is accepted into the queue. @param {number} queue */
-  const wait = (queue, /** @type {number} */ end) => new Promise((resolve) => {
-    const timer = setTimeout(resolve, end - Date.now());
-    waits.set(queue, () => resolve(clearTimeout(timer)));
-  });
+  const arrivals = Array.from({ length: frontier.workers }, () => new Arrival());
   const stop = async () => {
     isStopped = true;
-    for (const end of waits.values()) end();
+    for (const arrival of arrivals) arrival.happen();
     await frontier.close();
   };
   process.once('SIGINT', stop);
   const work = async (/** @type {number} */ queue) => {
     const hosts = new Hosts(settings);
+    const arrival = arrivals[queue];
     let search = new Search();
     /** @param {string} url */
     const hasToWait = async (url) => await hosts.readyAt(url) > Date.now() + 1;
     for await (const url of frontier.queue(queue)) {
       if (search.isOver(url) && await hasToWait(url)) {
         search.add(url, await hosts.readyAt(url));
-        await wait(queue, search.end);
+        await arrival.wait(search.end);
         search = new Search();
       }
       if (isStopped) return;
@@ -452,7 +467,7 @@ async function crawl(settings) {
       const { status, target, text } = await hosts.visit(url);
       const { base, texts } = linksOf(url, text);
       const offers = await frontier.links(base, target === undefined ? texts : [target]);
-      for (const offer of offers) if (offer.accepted) waits.get(offer.queue)?.();
+      for (const offer of offers) if (offer.accepted) arrivals[offer.queue].happen();
       console.log(`${status} ${offers.filter(({ accepted }) => accepted).length} ${url}`);
       left -= 1;
       if (left === 0) {

@@ -21,6 +21,9 @@ import { setTimeout as sleep } from 'node:timers/promises';
  *   | {accepted: false, reason: Refusal}} Offer
  * @typedef {(typeof REFUSALS)[number]} Refusal
  *
+ * Numbers of URLs. Each accepted one is done, in progress or waiting; some of these were put back.
+ * @typedef {Record<'accepted' | 'done' | 'inProgress' | 'waiting' | 'putBack', number>} Stats
+ *
  * @typedef {object} Options
  * @property {number} [workers] Number of workers and queues, 1 to 512; 4 by default.
  * @property {number} [maxPending] Most URLs waiting or in progress at a time.
@@ -30,10 +33,10 @@ import { setTimeout as sleep } from 'node:timers/promises';
  * @property {string} [program] The program; by default $MERCATOR, or `mercator` on the PATH.
  */
 
-const PIECE = 32_768; // a piece of requests ends here, and is sent after the last one's answers
+const PIECE = 1_000; // this many requests are sent before their answers are awaited
 const LONGEST = 5_000; // longer texts are cut: above 4,096 bytes, all are answered `line too long`
-const KEPT = 64; // at most this many of the URLs that are kept are offered at a time
 const EXIT_MS = 10_000; // how long the program may take to exit
+const STATS = /^accepted (\d+) done (\d+) in-progress (\d+) waiting (\d+) put-back (\d+)$/;
 const REFUSALS = /** @type {const} */ (['seen', 'filtered', 'not a URL', 'not http or https',
   'line too long', 'not UTF-8', 'refused closed', 'refused full']);
 
@@ -149,8 +152,8 @@ export class Frontier {
   #channel;
   /** @type {{ask: () => void, fail: (error: Error) => void}[][]} who waits in each queue */
   #waiting;
-  /** @type {Map<number, string | null>} what was in progress when the log ended */
-  #resumed = new Map();
+  /** @type {(string | null)[]} by queue, what was in progress when the log ended */
+  #resumed = [];
   #putBack = new Set(); // the queues whose last URL was put back
   /** @type {string[]} requests that were refused for lack of room */
   #kept = [];
@@ -180,8 +183,8 @@ export class Frontier {
     for (let wait = 50, end = Date.now() + 10_000; ; wait *= 1.5) {
       const frontier = new Frontier(options);
       try {
-        const urls = await Promise.all(frontier.#waiting.map((_, queue) => frontier.again(queue)));
-        urls.forEach((url, queue) => frontier.#resumed.set(queue, url));
+        const inProgress = frontier.#waiting.map((_, queue) => frontier.again(queue));
+        frontier.#resumed = await Promise.all(inProgress);
         return frontier;
       } catch (error) {
         await frontier.close();
@@ -243,9 +246,9 @@ export class Frontier {
           this.#waiting[queue].push({ ask, fail: reject });
         }, reject);
       });
-      const url = this.#resumed.get(queue) ?? null;
-      this.#resumed.delete(queue);
-      if (url === null) ask(); else resolve(url);
+      const url = this.#resumed[queue];
+      this.#resumed[queue] = null;
+      if (url) resolve(url); else ask();
     });
   }
 
@@ -262,6 +265,16 @@ export class Frontier {
   async again(/** @type {number} */ queue) {
     this.#check(queue);
     return this.#askFor('taken', `again ${queue}`);
+  }
+
+  /** The numbers of URLs in a queue, or all. @param {number} [queue] @returns {Promise<Stats>} */
+  async stats(queue) {
+    if (queue !== undefined) this.#check(queue);
+    const text = await this.#askFor('stats', queue === undefined ? 'stats' : `stats ${queue}`);
+    const match = STATS.exec(text ?? '');
+    if (!match) throw this.#errorOf(`stats ${text}`);
+    const [accepted, done, inProgress, waiting, putBack] = match.slice(1).map(Number);
+    return { accepted, done, inProgress, waiting, putBack };
   }
 
   /**
@@ -299,7 +312,7 @@ export class Frontier {
 
   async #release(/** @type {'done' | 'later'} */ word, /** @type {number} */ queue) {
     this.#check(queue);
-    this.#resumed.delete(queue);
+    this.#resumed[queue] = null;
     const asked = this.#askFor('count', `${word} ${queue}`);
     if (word === 'done') this.#offerKept(); else this.#putBack.add(queue);
     const count = await asked;
@@ -308,10 +321,13 @@ export class Frontier {
   }
 
   async #offerEach(/** @type {string} */ word, /** @type {Iterable<string>} */ texts) {
+    // A request is one line. The URL Standard removes each LF.
+    const lines = Array.from(texts, (text) => word + text.replace(/\n/g, '').slice(0, LONGEST));
     const offers = /** @type {Offer[]} */ ([]);
-    for (const lines of piecesOf(word, texts)) {
-      const answers = await this.#ask(lines);
-      this.#kept.push(...lines.filter((_, i) => answers[i] === 'refused full'));
+    while (offers.length < lines.length) {
+      const piece = lines.slice(offers.length, offers.length + PIECE);
+      const answers = await this.#ask(piece);
+      this.#kept.push(...piece.filter((_, i) => answers[i] === 'refused full'));
       for (const answer of answers) offers.push(this.#offerOf(answer));
     }
     return offers;
@@ -325,13 +341,11 @@ export class Frontier {
     this.#mayHaveRoom = true;
     if (this.#offering || !this.#kept.length) return;
     const offerAll = async () => {
-      for (let some = 1; this.#mayHaveRoom && this.#kept.length; some = Math.min(2 * some, KEPT)) {
+      while (this.#mayHaveRoom && this.#kept.length) {
         this.#mayHaveRoom = false;
-        const lines = this.#kept.splice(0, some);
-        const answers = await this.#ask(lines);
-        const refused = lines.filter((_, i) => answers[i] === 'refused full');
-        this.#kept.unshift(...refused);
-        this.#mayHaveRoom ||= !refused.length;
+        const offer = this.#kept.splice(0, 1);
+        const [answer] = await this.#ask(offer);
+        if (answer === 'refused full') this.#kept.unshift(...offer); else this.#mayHaveRoom = true;
       }
     };
     // If the program has ended, the calls that follow say so.
@@ -381,19 +395,4 @@ export class Frontier {
     this.#channel.kill(error); // nobody knows what the program means
     return error;
   }
-}
-
-/** The requests for these texts, in pieces. */
-function* piecesOf(/** @type {string} */ word, /** @type {Iterable<string>} */ texts) {
-  let [lines, size] = [/** @type {string[]} */ ([]), 0];
-  for (const text of texts) {
-    // A request is one line. The URL Standard removes each LF.
-    const line = word + text.replace(/\n/g, '').slice(0, LONGEST);
-    lines.push(line);
-    size += line.length;
-    if (size < PIECE) continue;
-    yield lines;
-    [lines, size] = [[], 0];
-  }
-  if (lines.length) yield lines;
 }

@@ -165,7 +165,7 @@ class Crawl(NamedTuple):
     """The settings that all parts of a crawl have in common."""
 
     parts: int  # K, the number of frontiers that share the crawl
-    workers: int = 16  # N, the number of queues of each part; all parts together have at most 512
+    workers: int = 16  # N, the number of queues of each part, at most 512; all parts together have at most 2^20
     within: Optional[str] = None  # accept only hosts equal to this suffix or subdomains of it
     name: str = "crawl"  # the prefix of the keys of this crawl in Redis
     redis: str = "redis://127.0.0.1:6379/0"  # URL of Redis: redis://, rediss:// or unix://

@@ -497,6 +497,12 @@ def failing_hosts(trial: Trial) -> None:
     expect(found == wanted and done.returncode == 0, f"{found}, status {done.returncode}: {done.stderr.decode()}")
     attempts = [FailingHost.asked.count(path) for path in ("1/robots.txt", "2/robots.txt", "2/")]
     expect(attempts == [3, 3, 0], f"attempts: {attempts}")
+    sys.path.insert(0, str(CRAWLER.parent))
+    crawl_http = importlib.import_module(CRAWLER.stem)
+    unknown = socket.gaierror(socket.EAI_NONAME, "Name or service not known")
+    with mock.patch.object(socket, "getaddrinfo", side_effect=unknown):
+        reply = crawl_http.fetch("http://nowhere.test/", "bell", 1000)
+    expect(reply.status == "failed", f"a name that is unknown: {reply}")
 
 
 def dribbling_hosts(trial: Trial) -> None:

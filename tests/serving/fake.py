@@ -278,8 +278,10 @@ def main() -> None:
     options = parser.parse_args()
     found = re.fullmatch("([0-9]+)/([0-9]+)", "0/1" if options.part is None else options.part)
     part, parts = map(int, found.groups()) if found else (0, 0)
-    if not (1 <= options.workers and 0 <= part < parts and options.workers * parts <= 512):
-        wrong = f"--workers {options.workers} --part {options.part}"
+    if options.within == "" or not (
+        1 <= options.workers <= 512 and 0 <= part < parts and options.workers * parts <= 2**20
+    ):
+        wrong = f"--workers {options.workers} --part {options.part} --within {options.within}"
         print(f"mercator: bad number: {wrong}", file=sys.stderr)
         sys.exit(3)
     settings = Settings(options.workers, options.max_pending, options.within, part, parts)

@@ -25,7 +25,7 @@ SETTINGS: Tuple[Tuple[str, ...], ...] = (
 PARTS: Tuple[Tuple[str, ...], ...] = (
     ("--part", "0/2", "--workers", "2", "--max-pending", "9"), ("--part", "1/2", "--workers", "2"),
     ("--part", "2/3", "--workers", "1", "--within", "a.test"), ("--part", "0/1", "--workers", "3"),
-    ("--part", "1/8", "--workers", "64", "--within", "test"),
+    ("--part", "1/8", "--workers", "64", "--within", "test"), ("--part", "3/20", "--workers", "512"),
 )
 ANSWERS = {
     "accepted", "seen", "filtered", "not a URL", "not http or https", "taken", "pending", "closed", "count", "refused busy",

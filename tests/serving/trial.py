@@ -11,14 +11,15 @@ import subprocess
 import sys
 import threading
 import time
+import traceback
 from pathlib import Path
 from random import Random
-from typing import Callable, Iterator, List, Optional, Sequence, Tuple
+from typing import Callable, Iterable, Iterator, List, Optional, Sequence, Tuple, Type, TypeVar
 
-from mercator_frontier import FrontierError
 from serving import ROOT
 
 SECONDS = float(os.environ.get("SECONDS", "120"))  # the time limit of each wait
+Raised = TypeVar("Raised", bound=Exception)
 
 
 class Differs(Exception):
@@ -34,14 +35,36 @@ def expect(is_so: bool, text: str) -> None:
         raise Differs(text)
 
 
-def expect_error(kind: type, call: Callable[[], object]) -> FrontierError:
+def expect_error(kind: Type[Raised], call: Callable[[], object]) -> Raised:
     """Call a function that has to raise an exception of this class, and return the exception."""
     try:
         answer = call()
-    except FrontierError as error:
-        expect(type(error) is kind, f"{kind.__name__} expected: {error!r}")
+    except Exception as error:
+        if type(error) is not kind:
+            raise Differs(f"{kind.__name__} expected: {error!r}") from error
         return error
     raise Differs(f"{kind.__name__} expected: {answer!r}")
+
+
+def run_all(tests: Iterable[Tuple[str, Callable[[], None]]]) -> int:
+    """Run tests by name, print a line for each and a last one, and return the exit status."""
+    passed = failed = 0
+    for name, test in tests:
+        begun = time.monotonic()
+        try:
+            test()
+        except Skipped as why:
+            print(f"{name}: skipped: {why}", flush=True)
+        except Exception as error:
+            failed += 1
+            print(f"{name}: FAILED: {error}", flush=True)
+            if not isinstance(error, Differs):
+                traceback.print_exc(file=sys.stdout)
+        else:
+            passed += 1
+            print(f"{name}: passed, {time.monotonic() - begun:.0f} s", flush=True)
+    print(f"{passed} passed, {failed} failed")
+    return 1 if failed or not passed else 0
 
 
 class Serve:
@@ -170,5 +193,5 @@ def program_of(given: Optional[str]) -> str:
     path = given or os.environ.get("MERCATOR") or str(ROOT / "crates/mercator_cli/out/mercator_cli")
     found = shutil.which(path)
     if found is None:
-        sys.exit(f"serve.py: {path} is not a program: build it, or give --program or MERCATOR")
+        sys.exit(f"{Path(sys.argv[0]).name}: {path} is not a program: build it, or set MERCATOR")
     return str(Path(found).resolve())

@@ -67,6 +67,11 @@ func crawl(workers int, log string, seeds []string) error {
 		return err
 	}
 	return f.Run(ctx, func(ctx context.Context, queue int, url string) error {
+		if os.Getenv("STATS") != "" {
+			if err := printStats(f, queue); err != nil {
+				return err
+			}
+		}
 		base := url
 		lines, err := get(ctx, url)
 		if err != nil {
@@ -83,6 +88,17 @@ func crawl(workers int, log string, seeds []string) error {
 		_, err = f.Links(base, texts...)
 		return err
 	})
+}
+
+func printStats(f *frontier.Frontier, queue int) error {
+	for name, queue := range map[string]int{fmt.Sprint(queue): queue, "all": -1} {
+		s, err := f.Stats(queue)
+		if err != nil {
+			return err
+		}
+		fmt.Println("stats", name, s.Accepted, s.Done, s.InProgress, s.Waiting, s.PutBack)
+	}
+	return nil
 }
 
 func main() {

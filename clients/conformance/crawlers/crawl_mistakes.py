@@ -113,6 +113,11 @@ class Client:
         if count == "count 1" and not self.kept and not any(map(accepted, offers)):
             await self.ask("endseeds")
 
+    async def print_stats(self, queue: int) -> None:
+        for name, of_queue in ((str(queue), f" {queue}"), ("all", "")):
+            answer = await self.ask(f"stats{'' if MISTAKE == 'stats_of_all' else of_queue}")
+            numbers = answer.split(" ")[2::2]
+            print("stats", name, *sorted(numbers) if MISTAKE == "wrong_stats" else numbers)
 
     async def later(self, queue: int) -> None:
         await self.ask(f"later {queue}")
@@ -160,6 +165,8 @@ async def visit(client: Client, queue: int, url: str) -> None:
     if MISTAKE == "skip_known" and url in client.known:
         return await client.done(queue)
     client.known.add(url)
+    if "STATS" in os.environ and MISTAKE != "no_stats":
+        await client.print_stats(queue)
     status, lines = await asyncio.to_thread(fetch, url)
     while status == 503 and MISTAKE == "retry_after_503":
         status, lines = await asyncio.to_thread(fetch, url)

@@ -23,7 +23,15 @@ function get(url) {
   });
 }
 
+function print(name, { accepted, done, inProgress, waiting, putBack }) {
+  console.log('stats', name, accepted, done, inProgress, waiting, putBack);
+}
+
 async function visit(frontier, url, queue) {
+  if (process.env.STATS) {
+    print(queue, await frontier.stats(queue));
+    print('all', await frontier.stats());
+  }
   const { status, target, lines } = await get(url);
   if (status === 503) return frontier.later(queue);
   let base = url;

@@ -8,6 +8,7 @@ URLs whose pages are refused.
 from __future__ import annotations
 
 import http.client
+import os
 import sys
 from pathlib import Path
 from typing import List, Optional, Tuple
@@ -36,7 +37,13 @@ def get(url: str) -> Tuple[int, Optional[str], List[str]]:
         connection.close()
 
 
-def fetch(queue: int, url: str) -> Visit:
+def print_stats(frontier: Frontier, queue: int) -> None:
+    for name, numbers in ((queue, frontier.stats(queue)), ("all", frontier.stats())):
+        # One call per line, since other threads print too.
+        sys.stdout.write(f"stats {name} {' '.join(map(str, numbers))}\n")
+
+
+def fetch(url: str) -> Visit:
     status, target, lines = get(url)
     base, texts = url, [] if target is None else [target]
     for line in lines:
@@ -51,7 +58,12 @@ def main() -> int:
     workers, log, seeds = int(sys.argv[1]), sys.argv[2], sys.argv[3:]
     try:
         with Frontier(workers, log=None if log == "-" else log) as frontier:
-            crawl = Crawl(frontier, fetch, retries=10, pause=0.01)
+            def visit(queue: int, url: str) -> Visit:
+                if "STATS" in os.environ:
+                    print_stats(frontier, queue)
+                return fetch(url)
+
+            crawl = Crawl(frontier, visit, retries=10, pause=0.01)
             crawl.run(seeds)
             if crawl.failed:
                 raise crawl.failed

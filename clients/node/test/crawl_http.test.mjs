@@ -13,7 +13,8 @@ import test from 'node:test';
 import { setTimeout as sleep } from 'node:timers/promises';
 import { fileURLToPath } from 'node:url';
 
-import { Robots, linksOf } from '../crawl_http.mjs';
+import { Arrival, Robots, linksOf } from '../crawl_http.mjs';
+import { Frontier } from '../mercator_frontier.mjs';
 
 const CRAWLER = fileURLToPath(new URL('../crawl_http.mjs', import.meta.url));
 const KILLS = Number(process.env.KILLS ?? 25);
@@ -196,6 +197,41 @@ test('one worker, many hosts, and the delay of each', options, async () => {
   const all = [...asked.values()].flat();
   // Host by host they would take 10 seconds.
   assert.ok(Math.max(...all) - Math.min(...all) < 6000);
+});
+
+test('hosts that are found while all of a queue have to wait', options, async () => {
+  const hosts = 8;
+  let slow; // the host that waits for an hour
+  const { port, close } = await serve(hosts, async (request, response, host) => {
+    const isSlow = `http://127.0.0.${host}:${port}/` === slow;
+    if (request.url === '/robots.txt') return response.end(isSlow ? 'User-agent: *\nCrawl-delay: 3600' : '');
+    response.setHeader('content-type', 'text/html');
+    if (request.url !== '/links') return response.end();
+    await sleep(1000);
+    const links = Array.from({ length: hosts }, (_, i) => `<a href=http://127.0.0.${i + 1}:${port}/new>`);
+    return response.end(links.join(''));
+  });
+  const frontier = await Frontier.open({ workers: 2 });
+  await frontier.offerAll(Array.from({ length: hosts }, (_, i) => `http://127.0.0.${i + 1}:${port}/`));
+  slow = await frontier.take(0);
+  const other = await frontier.take(1);
+  await frontier.close();
+  // All but the second and third URL of the slow host.
+  const pages = 1 + 1 + hosts - 1;
+  const begun = Date.now();
+  const { status, errors, rows } = await crawl(['--workers', 2, '--delay', 0, '--pages', pages, slow, `${slow}2`, `${other}links`]);
+  close();
+  assert.deepEqual([status, errors, rows.length], [2, '', pages]);
+  assert.ok(Date.now() - begun < 60_000);
+});
+
+test('an arrival before the wait for it', { timeout: 10_000 }, async () => {
+  const arrival = new Arrival();
+  arrival.happen();
+  await arrival.wait(Date.now() + 3_600_000);
+  const begun = Date.now();
+  await arrival.wait(begun + 100);
+  assert.ok(Date.now() - begun >= 95);
 });
 
 test('a robots.txt that fails, a host that is down, --pages', options, async () => {

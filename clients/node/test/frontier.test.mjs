@@ -129,6 +129,25 @@ withFrontier('a URL that is put back, and the only one', { workers: 1 }, async (
   await assert.rejects(frontier.done(0), NothingTaken);
 });
 
+withFrontier('the numbers of URLs', { workers: 2 }, async (frontier) => {
+  const none = { accepted: 0, done: 0, inProgress: 0, waiting: 0, putBack: 0 };
+  assert.deepEqual(await frontier.stats(), none);
+  const urls = ['http://a.test/1', 'http://a.test/2', 'http://a.test/3', 'http://b.test/'];
+  const offers = await frontier.offerAll([...urls, ...urls, 'mailto:x']);
+  const [queue, other] = [offers[0].queue, offers[3].queue];
+  assert.notEqual(queue, other);
+  await frontier.take(queue);
+  await frontier.later(queue);
+  await frontier.take(queue);
+  await frontier.done(queue);
+  await frontier.take(other);
+  const numbers = { accepted: 3, done: 1, inProgress: 0, waiting: 2, putBack: 1 };
+  assert.deepEqual(await frontier.stats(queue), numbers);
+  assert.deepEqual(await frontier.stats(other), { ...none, accepted: 1, inProgress: 1 });
+  assert.deepEqual(await frontier.stats(), { ...numbers, accepted: 4, inProgress: 1 });
+  for (const wrong of [-1, 2, 0.5, null]) await assert.rejects(frontier.stats(wrong), NoSuchQueue);
+});
+
 withFrontier('no wake-up is lost', { workers: 2 }, async (frontier) => {
   // All requests are in the pipe before the first answer is read.
   const taken = [frontier.take(0), frontier.take(1)];
@@ -192,6 +211,10 @@ inFolder('programs that answer wrongly', async (folder) => {
       await frontier.close();
     }
   }
+  const text = 'read -r line; echo refused nothing; read -r line; echo stats accepted 1 done 2';
+  const frontier = await Frontier.open({ workers: 1, program: script(folder, text) });
+  await assert.rejects(frontier.stats(), UnknownAnswer);
+  await frontier.close();
 });
 
 inFolder('EPIPE: a program that closes its input before it exits', async (folder) => {

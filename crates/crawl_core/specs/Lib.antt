@@ -7,6 +7,7 @@ pub mod Handing
 pub mod History
 pub mod Invariants
 pub mod Kept
+pub mod Limits
 pub mod Messages
 pub mod Moves
 pub mod Run

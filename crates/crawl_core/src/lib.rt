@@ -16,7 +16,7 @@ mod word;
 pub use crawl_limits::{PENDING_LIMIT, WORKER_LIMIT};
 pub use error::{CoreError, NoMemory};
 pub use event::Event;
-pub use machine::{Core, Progress};
+pub use machine::{Core, Progress, QUEUE_LIMIT};
 pub use reply::{Refusal, Reply};
 pub use runs::run;
 pub use text::Text;

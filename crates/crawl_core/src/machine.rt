@@ -2,6 +2,7 @@
 ghost use Rattle.std.specs.Prelude.{◌≡◌, ◌<◌, ◌≤◌, ◌⊎◌, ◌↔◌, false, Err, IfOk, OnOk, OnErr};
 ghost use Rattle.std.specs.Result.{IsOk};
 ghost use Rattle.crawl_core.specs.Growth.{needs_memory};
+ghost use Rattle.crawl_core.specs.Limits.{queue_limit};
 ghost use Rattle.crawl_limits.specs.Limits.{AreLimits, worker_limit, pending_limit};
 ghost use Rattle.crawl_core.specs.State.{start};
 ghost use Rattle.crawl_core.specs.Shows.{Shows, Makes};
@@ -22,6 +23,9 @@ mod handing;
 mod queues;
 
 pub use handing::Progress;
+
+/// The most subqueues of a machine, 2^20. So the parts of one crawl can have many more together than one frontier has.
+pub const QUEUE_LIMIT: u32 = 1 << 20;
 
 /// A frontier as a pure machine: one subqueue for each worker, and the gate's word.
 #[derive(Drop)]
@@ -53,21 +57,37 @@ impl Core {
     /// A frontier with that many subqueues and that maximum of units: the opening unit is out, nothing else is held.
     ///
     /// # Errors
-    /// `BadWorkers`, then `BadMax`, for a number beyond its limits; `NoMemory` where a growth was refused.
+    /// `BadWorkers`, then `BadMax`, for a number outside its limits; `NoMemory` if memory was refused.
     pub fn new(alloc: Global, workers: u32, max: u64) -> Result<Core, CoreError>
         ensures start { IfOk result (λ core. Shows core (start workers max)) }
         ensures limits { OnOk result (AreLimits workers max) }
         ensures bad_workers { (result ≡ Err CoreError.BadWorkers) ↔ ((workers < 1) ⊎ (worker_limit < workers)) }
         ensures bad_max { (result ≡ Err CoreError.BadMax) ↔ ((1 ≤ workers) × (workers ≤ worker_limit) × ((max < 1) ⊎ (pending_limit < max))) }
     {
-        if workers < 1 || workers > WORKER_LIMIT {
+        if workers > WORKER_LIMIT {
+            return Err(CoreError::BadWorkers);
+        }
+        Core::with_queues(alloc, workers, max)
+    }
+
+    /// A frontier as that of [`Core::new`], with up to [`QUEUE_LIMIT`] subqueues: those of all parts of a crawl.
+    ///
+    /// # Errors
+    /// `BadWorkers`, then `BadMax`, for a number outside its limits; `NoMemory` if memory was refused.
+    pub fn with_queues(alloc: Global, queues: u32, max: u64) -> Result<Core, CoreError>
+        ensures start { IfOk result (λ core. Shows core (start queues max)) }
+        ensures limits { OnOk result ((1 ≤ queues) × (queues ≤ queue_limit) × (1 ≤ max) × (max ≤ pending_limit)) }
+        ensures bad_queues { (result ≡ Err CoreError.BadWorkers) ↔ ((queues < 1) ⊎ (queue_limit < queues)) }
+        ensures bad_max { (result ≡ Err CoreError.BadMax) ↔ ((1 ≤ queues) × (queues ≤ queue_limit) × ((max < 1) ⊎ (pending_limit < max))) }
+    {
+        if queues < 1 || queues > QUEUE_LIMIT {
             return Err(CoreError::BadWorkers);
         }
         if max < 1 || max > PENDING_LIMIT {
             return Err(CoreError::BadMax);
         }
         Ok(Core {
-            queues: UrlQueues::new(alloc, workers)?,
+            queues: UrlQueues::new(alloc, queues)?,
             holders: BTreeSet::new(alloc),
             remembered: BTreeMap::new(alloc),
             opening: true,

@@ -5,10 +5,10 @@ use crate::page::Page;
 use crawl_keys::CanonUrl;
 use std::alloc::{AllocError, AllocFailed, Global};
 
-/// Why a fetch gave no page.
+/// Why a fetch returned no page.
 #[derive(Clone, Copy, Debug, PartialEq, Eq)]
 pub enum FetchError {
-    /// A growth was refused.
+    /// Out of memory.
     NoMemory,
     /// The fetch itself failed.
     Failed,
@@ -34,7 +34,7 @@ impl<T: Drop> From<AllocFailed<T>> for FetchError {
     }
 }
 
-/// A source of pages. It has one fixed meaning, a page for every URL, and may fail, but never answers another page.
+/// A source of pages. Its meaning is fixed: one page for every URL. A fetch may fail, but it never returns another page.
 pub trait Fetch {
     ghost use Rattle.std.specs.Prelude.{ℕ, List};
     ghost use Rattle.crawl_pages.specs.declared.page.Page.{Page};
@@ -42,10 +42,10 @@ pub trait Fetch {
     /// The page of each canonical text.
     ghost meaning: { Self → List ℕ → Page };
 
-    /// The page at the URL.
+    /// Returns the page at the URL.
     ///
     /// # Errors
-    /// `NoMemory` where a growth was refused, `Failed` where the source gave no answer.
+    /// `NoMemory` if memory ran out, `Failed` if the source gave no answer.
     fn fetch(&self, alloc: Global, url: &CanonUrl) -> Result<Page, FetchError>
         ensures meaning { IfOk result (λ page. page ≡ meaning self.now url.now) };
 }

@@ -9,4 +9,4 @@ mod session;
 
 pub use fetch::{Fetch, FetchError};
 pub use page::{Links, NoMemory, Page, PageResult, links_of};
-pub use session::{SessionFetch, WithoutSession};
+pub use session::SessionFetch;

@@ -4,7 +4,7 @@ ghost use Rattle.std.specs.Str.{bytes_eq};
 ghost use Rattle.std.specs.Cmp.{partial_equiv_from_equiv};
 ghost use Rattle.std.specs.Cmp.Lexicographic.{pointwise, lists_per, lists_equiv, nat_list_eq_equiv};
 ghost use Rattle.crawl_keys.specs.Outcome.{Gives};
-ghost use Rattle.crawl_pages.specs.Pages.{links_of};
+ghost use Rattle.crawl_pages.specs.Pages.{links_of, is_found, is_missing, is_moved};
 
 use crawl_keys::{CanonUrl, KeyError};
 use std::alloc::AllocError;
@@ -118,6 +118,27 @@ pub fn links_of(page: &Page) -> &[CanonUrl]
 }
 
 impl Page {
+    /// Whether a page was found.
+    pub fn is_found(&self) -> bool
+        ensures { result ≡ is_found self.now }
+    {
+        matches!(self, Page::Found { .. })
+    }
+
+    /// Whether there is no page at the URL.
+    pub fn is_missing(&self) -> bool
+        ensures { result ≡ is_missing self.now }
+    {
+        matches!(self, Page::Missing)
+    }
+
+    /// Whether the page has moved.
+    pub fn is_moved(&self) -> bool
+        ensures { result ≡ is_moved self.now }
+    {
+        matches!(self, Page::Moved { .. })
+    }
+
     fn copy(&self) -> Result<Page, KeyError>
         ensures { Gives KeyError.NoMemory (λ copy. copy) result (Ok self.now) }
     {

@@ -1,4 +1,4 @@
-//! Sources of pages that remember what saves work, each worker for itself.
+//! Sources of pages that keep state between fetches.
 ghost use Rattle.std.specs.Prelude.{◌≡◌, IfOk};
 
 use crate::fetch::{Fetch, FetchError};
@@ -6,35 +6,38 @@ use crate::page::Page;
 use crawl_keys::CanonUrl;
 use std::alloc::Global;
 
-/// A source of pages whose fetches remember in a session what saves work. Whoever fetches owns the session, so it has no lock.
-/// A page is the one that the URL means, whatever is remembered.
+/// A source of pages whose fetches save work by what they keep in a session. Each worker owns its session, so the session needs
+/// no lock. A fetch returns the page that the URL means, whatever the session contains.
+///
+/// Every [`Fetch`] is a `SessionFetch` whose session is empty.
 pub trait SessionFetch {
     ghost use Rattle.std.specs.Prelude.{ℕ, List};
     ghost use Rattle.crawl_pages.specs.declared.page.Page.{Page};
 
-    /// What is remembered.
+    /// What is kept between fetches.
     type Session: Drop + Send;
 
     /// The page of each canonical text.
     ghost meaning: { Self → List ℕ → Page };
 
-    /// What the session remembers is right of this source.
+    /// Whether what the session contains is right for this source.
     ghost is_of: { Self → Self.Session → Type 0 };
 
-    /// A session that remembers nothing, one of so many: the more there are, the less each should remember.
+    /// Returns an empty session, which is one of `among` sessions: the more there are, the less each should keep.
     fn open_session(&self, alloc: Global, among: u32) -> Self::Session
         ensures { is_of self.now result };
 
-    /// The URLs with these hashes are likely to be fetched next: what their fetches will read may be read now, so that all of it
-    /// waits for memory at the same time. The answer is some sum of what was read, so that no read is left out; it says nothing.
+    /// Prepares for fetches of the URLs with these hashes, which are likely to come next. The source may read now what the fetches
+    /// will read, so that all of it waits for memory at the same time. The result is some sum of what was read, so that the
+    /// compiler keeps every read. It means nothing.
     fn expect(&self, _hashes: &[u64]) -> u64 {
         0
     }
 
-    /// The page at the URL.
+    /// Returns the page at the URL.
     ///
     /// # Errors
-    /// `NoMemory` where a growth was refused, `Failed` where the source gave no answer. The session stays right.
+    /// `NoMemory` if memory ran out, `Failed` if the source gave no answer. The session stays right for the source.
     fn fetch_in(
         &self,
         alloc: Global,
@@ -46,17 +49,10 @@ pub trait SessionFetch {
         ensures right { is_of self.now session.new };
 }
 
-/// A source whose fetches remember nothing.
-#[derive(Clone, Copy)]
-pub struct WithoutSession<'f, F: Fetch> {
-    /// Where its pages come from.
-    pub fetcher: &'f F,
-}
-
-impl<'f, F: Fetch> SessionFetch for WithoutSession<'f, F> {
+impl<F: Fetch> SessionFetch for F {
     type Session = ();
 
-    ghost meaning = { λ source. F.meaning source.fetcher.now };
+    ghost meaning = { λ source. F.Fetch.meaning source };
 
     ghost is_of = { λ _ _. Unit {0} };
 
@@ -68,6 +64,6 @@ impl<'f, F: Fetch> SessionFetch for WithoutSession<'f, F> {
         _session: &mut (),
         url: &CanonUrl,
     ) -> Result<Page, FetchError> {
-        self.fetcher.fetch(alloc, url)
+        self.fetch(alloc, url)
     }
 }

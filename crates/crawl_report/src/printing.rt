@@ -129,37 +129,19 @@ pub(crate) fn total_of(pages: &[PageResult]) -> Row<'static>
 fn count_found(pages: &[PageResult]) -> usize
     ensures { result ≡ count_by (λ r. is_found r.page) pages.now }
 {
-    pages.iter().filter(|one| is_found(&one.page)).count()
+    pages.iter().filter(|one| one.page.is_found()).count()
 }
 
 fn count_missing(pages: &[PageResult]) -> usize
     ensures { result ≡ count_by (λ r. is_missing r.page) pages.now }
 {
-    pages.iter().filter(|one| is_missing(&one.page)).count()
+    pages.iter().filter(|one| one.page.is_missing()).count()
 }
 
 fn count_moved(pages: &[PageResult]) -> usize
     ensures { result ≡ count_by (λ r. is_moved r.page) pages.now }
 {
-    pages.iter().filter(|one| is_moved(&one.page)).count()
-}
-
-fn is_found(page: &Page) -> bool
-    ensures { result ≡ is_found page.now }
-{
-    matches!(page, Page::Found { .. })
-}
-
-fn is_missing(page: &Page) -> bool
-    ensures { result ≡ is_missing page.now }
-{
-    matches!(page, Page::Missing)
-}
-
-fn is_moved(page: &Page) -> bool
-    ensures { result ≡ is_moved page.now }
-{
-    matches!(page, Page::Moved { .. })
+    pages.iter().filter(|one| one.page.is_moved()).count()
 }
 
 pub(crate) fn with_queues(mut out: Out, counts: &[u64]) -> Result<Out, NoMemory>

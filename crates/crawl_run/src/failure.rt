@@ -53,10 +53,6 @@ impl From<AllocError> for CrawlFailure {
     ghost from_gives = { λ _ failure. failure ≡ without_url wrong.NoMemory };
 
     fn from(_refused: AllocError) -> CrawlFailure {
-        CrawlFailure {
-            error: CrawlError::NoMemory,
-            culprit: None,
-            losses: Losses::none(),
-        }
+        CrawlFailure::from(CrawlError::NoMemory)
     }
 }

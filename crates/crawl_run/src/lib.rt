@@ -1,7 +1,7 @@
 //! A whole crawl of any source of pages: workers fetch every page that can be reached from the seeds, and what they leave is
 //! certified.
 //!
-//! - [`crawl`] crawls a `Fetch` of `crawl_pages`, and [`crawl_with`] a `SessionFetch`, whose fetches remember something.
+//! - [`crawl`] and [`crawl_with`] crawl a source of pages: a `Fetch` of `crawl_pages`, or a `SessionFetch`.
 //! - [`Watched`] is a source that reports to an observer how many pages were fetched.
 #![tactic(auto)]
 

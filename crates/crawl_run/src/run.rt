@@ -22,7 +22,7 @@ use crate::whole_crawl::Crawled;
 use crawl_frontier::{Frontier, Name, Seeder, Setup, Worker};
 use crawl_keys::CanonUrl;
 use crawl_pages::SessionFetch;
-use crawl_workers::{Losses, RunError, WorkerEnd, run_threads_in, run_turns_in};
+use crawl_workers::{Losses, RunError, WorkerEnd, run_threads, run_turns};
 use std::alloc::Global;
 use std::sync::Wait;
 use std::thread::Threads;
@@ -133,9 +133,7 @@ fn run<K: Name + Send + Sync, F: SessionFetch + Sync, R: Threads + Wait + Sync>(
     ensures alone { vec_len workers ≤ 1 → IfErr result (λ error. error ≡ unrun.NoMemory) }
 {
     match mode {
-        Mode::Threads if workers.len() > 1 => {
-            run_threads_in(rt, alloc, frontier, workers, fetcher)
-        }
-        _ => run_turns_in(rt, alloc, frontier, workers, fetcher),
+        Mode::Threads if workers.len() > 1 => run_threads(rt, alloc, frontier, workers, fetcher),
+        _ => run_turns(rt, alloc, frontier, workers, fetcher),
     }
 }

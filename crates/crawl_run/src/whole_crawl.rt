@@ -15,7 +15,7 @@ use crate::settings::{CrawlSettings, Mode};
 use crawl_certificate::CrawlResult;
 use crawl_frontier::{Account, Setup};
 use crawl_keys::{CanonUrl, Filter};
-use crawl_pages::{Fetch, SessionFetch, WithoutSession};
+use crawl_pages::SessionFetch;
 use std::alloc::Global;
 use std::marker::Brand;
 use std::sync::Wait;
@@ -61,7 +61,7 @@ pub struct Crawled {
 ///     Some(found.result.pages().len())
 /// }
 /// ```
-pub fn crawl<F: Fetch + Sync, R: Threads + Wait + Sync>(
+pub fn crawl<F: SessionFetch + Sync, R: Threads + Wait + Sync>(
     rt: &R,
     alloc: Global,
     fetcher: &F,
@@ -82,21 +82,20 @@ pub fn crawl<F: Fetch + Sync, R: Threads + Wait + Sync>(
     // An error of the certificate is the first one of some entries and of results that have the fetcher's pages.
     ensures judged { IfErr result (IsJudged (F.meaning fetcher.now) (allows filter.now) seeds.now) }
 {
-    let source = WithoutSession { fetcher };
     let settings = CrawlSettings {
         workers,
         max_pending,
         mode,
         filter,
     };
-    match crawl_with(rt, alloc, &source, &settings, seeds) {
+    match crawl_with(rt, alloc, fetcher, &settings, seeds) {
         Ok(crawled) => Ok(crawled),
         Err(failure) => Err(failure.error),
     }
 }
 
-/// Like [`crawl`], for a source of pages that keeps a session for each worker. If the certificate fails, the error also has the
-/// first URL in byte order at which it fails, and what was lost.
+/// Like [`crawl`], with its settings in one value. If the certificate fails, the error also has the first URL in byte order at
+/// which it fails, and what was lost.
 ///
 /// # Errors
 /// Those of [`crawl`].

@@ -1,6 +1,6 @@
 -- What a session is made with, and what it keeps.
 use Rattle.std.specs.Prelude.{ℕ, ◌≤◌, List, Option, None, IfSome}
-use Rattle.crawl_limits.specs.Limits.{worker_limit}
+use Rattle.crawl_core.specs.Limits.{queue_limit}
 use Rattle.crawl_session.specs.declared.part.Part.{Part}
 use Rattle.crawl_session.specs.Frontiers.{KeptFrontier}
 
@@ -22,5 +22,5 @@ pub record SessionView : Type 0 where
 -- URLs can be assigned to its subqueues, and these to parts
 pub record IsSession (settings : Settings) : Type 0 where
   pub some_worker : 1 ≤ settings.workers
-  pub few_workers : settings.workers ≤ worker_limit
+  pub few_workers : settings.workers ≤ queue_limit
   pub some_queue : IfSome settings.part (λ part. 1 ≤ part.queues)

@@ -1,6 +1,5 @@
 //! The request of a line.
 ghost use Rattle.std.specs.Prelude.{◌≡◌, ◌≤◌};
-ghost use Rattle.crawl_limits.specs.Limits.{worker_limit};
 ghost use Rattle.crawl_keys.specs.CanonicalText.{resolve};
 ghost use Rattle.crawl_keys.specs.Outcome.{Gives};
 ghost use Rattle.crawl_session.specs.Requests as spec;
@@ -8,7 +7,7 @@ ghost use Rattle.text_lines.specs.Fields.{at_space};
 ghost use Rattle.crawl_session.specs.declared.request.RequestError.TheVariants as wrong;
 
 use crawl_core::Text;
-use crawl_keys::{Base, CanonUrl, Filter, KeyError, canonical};
+use crawl_keys::{Base, CanonUrl, Filter, KeyError, canonical, hash};
 use crawl_replay::number32;
 use std::alloc::{AllocError, Global};
 use text_lines::{LineError, split_space, text_of};
@@ -89,7 +88,6 @@ pub fn request_of(
     line: &[u8],
 ) -> Result<Request, RequestError>
     requires some_worker { 1 ≤ workers }
-    requires few_workers { workers ≤ worker_limit }
     ensures { Gives RequestError.NoMemory (λ request. request) result (spec.request_of workers filter.now line.now) }
 {
     let text = text_of(1, line)?;
@@ -103,7 +101,6 @@ fn request_from(
     text: &str,
 ) -> Result<Request, RequestError>
     requires some_worker { 1 ≤ workers }
-    requires few_workers { workers ≤ worker_limit }
     ensures { Gives RequestError.NoMemory (λ request. request) result (spec.request_from workers filter.now text.now (at_space text.now)) }
 {
     let request = match split_space(text) {
@@ -159,7 +156,6 @@ fn offer_of(
     text: &str,
 ) -> Result<Request, RequestError>
     requires some_worker { 1 ≤ workers }
-    requires few_workers { workers ≤ worker_limit }
     ensures { Gives RequestError.NoMemory (λ request. request) result (spec.offer_of workers filter.now text.now) }
 {
     match canonical(alloc, text) {
@@ -176,7 +172,6 @@ fn link_of(
     rest: &str,
 ) -> Result<Request, RequestError>
     requires some_worker { 1 ≤ workers }
-    requires few_workers { workers ≤ worker_limit }
     ensures { Gives RequestError.NoMemory (λ request. request) result (spec.link_of workers filter.now (at_space rest.now)) }
 {
     let Some((base, text)) = split_space(rest) else {
@@ -196,7 +191,6 @@ fn linked(
     text: &str,
 ) -> Result<Request, RequestError>
     requires some_worker { 1 ≤ workers }
-    requires few_workers { workers ≤ worker_limit }
     ensures { Gives RequestError.NoMemory (λ request. request) result (spec.offered workers filter.now (resolve base.now text.now)) }
 {
     match base.resolve(alloc, text) {
@@ -224,13 +218,12 @@ fn offered(
     url: &CanonUrl,
 ) -> Result<Request, RequestError>
     requires some_worker { 1 ≤ workers }
-    requires few_workers { workers ≤ worker_limit }
     ensures { Gives RequestError.NoMemory (λ request. request) result (spec.allowed workers filter.now url.now) }
 {
     if !filter.allows(url) {
         return Err(RequestError::Filtered);
     }
-    let queue = url.subqueue(workers);
+    let queue = hash(url.host_key()) % workers;
     let url = Text::from_str(alloc, url.as_str())?;
     Ok(Request::Offer { url, queue })
 }

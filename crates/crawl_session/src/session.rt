@@ -2,6 +2,7 @@
 ghost use Rattle.std.specs.Prelude.{◌≡◌, ◌*◌, ◌<◌, ◌≤◌, ◌⊎◌, ◌↔◌, None, Some, Err, IfOk, OnOk, OnErr};
 ghost use Rattle.std.specs.Str.{bytes_eq};
 ghost use Rattle.crawl_limits.specs.Limits.{AreLimits, worker_limit, pending_limit};
+ghost use Rattle.crawl_core.specs.Limits.{queue_limit};
 ghost use Rattle.crawl_core.specs.declared.error.CoreError.{CoreError};
 ghost use Rattle.crawl_keys.specs.Outcome.{Gives};
 ghost use Rattle.crawl_session.specs.Exchanges as spec;
@@ -15,7 +16,7 @@ use crate::answer::Answer;
 use crate::frontier::Frontier;
 use crate::part::{Part, placed};
 use crate::request::{Request, RequestError, request_of};
-use crawl_core::{Core, CoreError, NoMemory};
+use crawl_core::{Core, CoreError, NoMemory, WORKER_LIMIT};
 use crawl_keys::Filter;
 use std::alloc::{AllocError, Global};
 use std::marker::Model;
@@ -61,6 +62,9 @@ impl Session {
         ensures bad_workers { (result ≡ Err CoreError.BadWorkers) ↔ ((workers < 1) ⊎ (worker_limit < workers)) }
         ensures bad_max { (result ≡ Err CoreError.BadMax) ↔ ((1 ≤ workers) × (workers ≤ worker_limit) × ((max_pending < 1) ⊎ (pending_limit < max_pending))) }
     {
+        if workers > WORKER_LIMIT {
+            return Err(CoreError::BadWorkers);
+        }
         match new_frontier(alloc, workers, max_pending) {
             Ok(frontier) => Ok(Session {
                 alloc,
@@ -76,7 +80,8 @@ impl Session {
     /// Creates the session of one part of a crawl with that number of parts. The queues of all parts are numbered together.
     ///
     /// # Errors
-    /// `BadWorkers` if there is no such part, or the parts have no queues, or together more than the limit; those of `new`.
+    /// `BadWorkers` if there is no such part, the part has no queues or more than [`WORKER_LIMIT`], or all parts together have more
+    /// than [`QUEUE_LIMIT`](crawl_core::QUEUE_LIMIT); then those of `new`.
     pub fn of_part(
         alloc: Global,
         part: Part,
@@ -88,11 +93,11 @@ impl Session {
         ensures workers { IfOk result (λ session. session.settings.workers ≡ part.queues * parts) }
         ensures suffixes { IfOk result (λ session. session.settings.suffixes ≡ filter) }
         ensures part { IfOk result (λ session. session.settings.part ≡ Some part) }
-        ensures limits { OnOk result ((part.number < parts) × AreLimits (part.queues * parts) max_pending) }
-        ensures bad_workers { (result ≡ Err CoreError.BadWorkers) ↔ ((part.queues < 1) ⊎ ((parts ≤ part.number) ⊎ (worker_limit < part.queues * parts))) }
-        ensures bad_max { (result ≡ Err CoreError.BadMax) ↔ ((1 ≤ part.queues) × (part.number < parts) × (part.queues * parts ≤ worker_limit) × ((max_pending < 1) ⊎ (pending_limit < max_pending))) }
+        ensures limits { OnOk result ((part.number < parts) × (part.queues * parts ≤ queue_limit) × AreLimits part.queues max_pending) }
+        ensures bad_workers { (result ≡ Err CoreError.BadWorkers) ↔ ((part.queues < 1) ⊎ ((worker_limit < part.queues) ⊎ ((parts ≤ part.number) ⊎ (queue_limit < part.queues * parts)))) }
+        ensures bad_max { (result ≡ Err CoreError.BadMax) ↔ ((1 ≤ part.queues) × (part.queues ≤ worker_limit) × (part.number < parts) × (part.queues * parts ≤ queue_limit) × ((max_pending < 1) ⊎ (pending_limit < max_pending))) }
     {
-        if part.queues < 1 || parts <= part.number {
+        if part.queues < 1 || part.queues > WORKER_LIMIT || parts <= part.number {
             return Err(CoreError::BadWorkers);
         }
         let Some(workers) = part.queues.checked_mul(parts) else {
@@ -174,14 +179,14 @@ impl Session {
 }
 
 /// Creates a frontier with that number of queues.
-fn new_frontier(alloc: Global, workers: u32, max_pending: u64) -> Result<Frontier, CoreError>
-    ensures start { IfOk result (λ frontier. Shows frontier (start workers max_pending)) }
-    ensures limits { OnOk result (AreLimits workers max_pending) }
-    ensures bad_workers { (result ≡ Err CoreError.BadWorkers) ↔ ((workers < 1) ⊎ (worker_limit < workers)) }
-    ensures bad_max { (result ≡ Err CoreError.BadMax) ↔ ((1 ≤ workers) × (workers ≤ worker_limit) × ((max_pending < 1) ⊎ (pending_limit < max_pending))) }
+fn new_frontier(alloc: Global, queues: u32, max_pending: u64) -> Result<Frontier, CoreError>
+    ensures start { IfOk result (λ frontier. Shows frontier (start queues max_pending)) }
+    ensures limits { OnOk result ((1 ≤ queues) × (queues ≤ queue_limit) × (1 ≤ max_pending) × (max_pending ≤ pending_limit)) }
+    ensures bad_queues { (result ≡ Err CoreError.BadWorkers) ↔ ((queues < 1) ⊎ (queue_limit < queues)) }
+    ensures bad_max { (result ≡ Err CoreError.BadMax) ↔ ((1 ≤ queues) × (queues ≤ queue_limit) × ((max_pending < 1) ⊎ (pending_limit < max_pending))) }
 {
-    let core = Core::new(alloc, workers, max_pending)?;
-    match Frontier::new(alloc, core, workers) {
+    let core = Core::with_queues(alloc, queues, max_pending)?;
+    match Frontier::new(alloc, core, queues) {
         Ok(frontier) => Ok(frontier),
         Err(_) => Err(CoreError::NoMemory),
     }

@@ -2,8 +2,7 @@
 //! URL is done.
 //!
 //! [`run_worker`] runs one worker on the calling thread, [`run_turns`] runs all of them there in turn, and [`run_threads`] runs
-//! each in its own thread. The contracts of all three promise the same of a worker's [`WorkerEnd`]. Each has a second form, such
-//! as [`run_worker_in`], for sources that remember something between two fetches in a session.
+//! each in its own thread. The contracts of all three promise the same of a worker's [`WorkerEnd`].
 #![tactic(auto)]
 
 mod ahead;
@@ -18,10 +17,14 @@ mod turn;
 mod turns;
 mod worker_end;
 
+/// Parts of a worker that only tests use.
+pub mod testing {
+    pub use crate::recent::RecentUrls;
+}
+
 pub use error::RunError;
 pub use losses::Losses;
-pub use recent::RecentUrls;
-pub use run::{run_worker, run_worker_in};
-pub use threads::{run_threads, run_threads_in};
-pub use turns::{run_turns, run_turns_in};
+pub use run::run_worker;
+pub use threads::run_threads;
+pub use turns::run_turns;
 pub use worker_end::WorkerEnd;

@@ -5,24 +5,24 @@ ghost use Rattle.crawl_workers.specs.Losses.{all_losses, both_losses, loss_of, n
 
 use crawl_frontier::OfferError;
 
-/// How much a worker lost, by why. Each count stays at the greatest u64 once there.
+/// How much a worker lost, by cause. Each count stops at the greatest u64.
 #[derive(Clone, Copy, Debug, PartialEq, Eq)]
 pub struct Losses {
     /// URLs whose fetch failed.
     pub failed: u64,
-    /// URLs that were fetched, and for whose result there was no room.
+    /// URLs that were fetched, but whose result found no memory.
     pub unkept: u64,
-    /// Links that met as many pending URLs as the frontier allows.
+    /// Links that were refused because as many URLs were pending as the frontier allows.
     pub full: u64,
     /// Links that are more hops away than an entry holds.
     pub too_far: u64,
-    /// Links whose offer met another sender with this worker's id.
+    /// Links whose offer found another sender with this worker's id.
     pub crossed: u64,
-    /// Links for which there was not memory enough.
+    /// Links for which memory ran out.
     pub no_memory: u64,
 }
 
-/// Why a URL or a link is lost.
+/// A cause of a loss.
 #[derive(Clone, Copy)]
 pub(crate) enum Loss {
     Failed,
@@ -34,7 +34,7 @@ pub(crate) enum Loss {
 }
 
 impl Losses {
-    /// Nothing was lost.
+    /// Returns no losses.
     pub fn none() -> Losses
         ensures { result ≡ no_losses }
     {
@@ -48,7 +48,7 @@ impl Losses {
         }
     }
 
-    /// Whether nothing was lost.
+    /// Returns whether nothing was lost.
     pub fn is_none(&self) -> bool
         ensures none { result ≡ true → all_losses self.now ≡ 0 }
         ensures some { all_losses self.now ≡ 0 → result ≡ true }
@@ -61,7 +61,7 @@ impl Losses {
             && self.no_memory == 0
     }
 
-    /// Adds up the losses of both. Each count stays at the greatest u64 once there.
+    /// Returns the sums of both. Each count stops at the greatest u64.
     pub fn plus(self, other: Losses) -> Losses
         ensures { result ≡ both_losses self other }
     {
@@ -105,8 +105,8 @@ impl Losses {
     }
 }
 
-/// Why a link is lost whose offer by a worker was refused for this reason. One that the filter does not allow is not lost, and
-/// no worker with a URL meets the gate closed.
+/// Returns the cause of the loss of a link whose offer by a worker was refused for this reason. A link that the filter does not
+/// allow is not lost, and no worker with a URL finds the gate closed.
 pub(crate) fn loss_of(refused: OfferError) -> Loss
     requires filter { refused ≢ error.Filtered }
     requires gate { refused ≢ error.Closed }

@@ -7,7 +7,7 @@ use crate::output::WorkerOutput;
 use crate::turn::{Step, turn};
 use crate::worker_end::WorkerEnd;
 use crawl_frontier::{Frontier, Name, Worker};
-use crawl_pages::{Fetch, SessionFetch, WithoutSession};
+use crawl_pages::SessionFetch;
 use crossbeam_utils::Backoff;
 use std::alloc::Global;
 use std::sync::Wait;
@@ -23,20 +23,9 @@ const SPINS: u32 = 7;
 /// done with the URL. After a turn that finds no URL it pauses, each time longer, and after seven such turns in a row it sleeps
 /// until there may be something to do ([`Worker::rest`]). It does not end while another worker is busy, or before the seeder
 /// has ended. So run the frontier's other workers on other threads.
-pub fn run_worker<K: Name, F: Fetch, R: Wait>(
-    rt: &R,
-    alloc: Global,
-    frontier: &Frontier<K>,
-    worker: Worker<K>,
-    fetcher: &F,
-) -> WorkerEnd<K>
-    ensures { RanTo K.workers (allows K.filter) (F.meaning fetcher.now) worker result }
-{
-    run_worker_in(rt, alloc, frontier, worker, &WithoutSession { fetcher })
-}
-
-/// Like [`run_worker`], for a source with sessions. The worker owns its session.
-pub fn run_worker_in<K: Name, F: SessionFetch, R: Wait>(
+///
+/// The worker owns its session of the source.
+pub fn run_worker<K: Name, F: SessionFetch, R: Wait>(
     rt: &R,
     alloc: Global,
     frontier: &Frontier<K>,

@@ -5,17 +5,17 @@ ghost use Rattle.crawl_keys.specs.HostFilter.{allows};
 ghost use Rattle.crawl_workers.specs.Runs.{RanTo, AllRan};
 
 use crate::error::RunError;
-use crate::run::run_worker_in;
+use crate::run::run_worker;
 use crate::worker_end::WorkerEnd;
 use crawl_frontier::{Frontier, Name, Worker};
-use crawl_pages::{Fetch, SessionFetch, WithoutSession};
+use crawl_pages::SessionFetch;
 use std::alloc::Global;
 use std::snapshot::Snapshot;
 use std::sync::{OnceLock, Wait};
 use std::thread;
 use std::thread::{Promise, Threads};
 
-// What a thread promises: the end of this worker, unless the run was given up.
+// The promise of a thread: the end of this worker, or none if the run was given up.
 #[derive(Drop)]
 struct EndOf<'a, K: Name, F: SessionFetch> {
     worker: Snapshot<Worker<K>>,
@@ -44,11 +44,11 @@ fn run_after<K: Name, F: SessionFetch, R: Wait>(
     if !*started.wait(rt) {
         return None;
     }
-    Some(run_worker_in(rt, alloc, frontier, worker, fetcher))
+    Some(run_worker(rt, alloc, frontier, worker, fetcher))
 }
 
-// Starts a thread for the last worker, then for those before it, tells all threads whether each was started, and joins them.
-// So the ends are in the order of the workers, and each level joins the one thread that it started.
+// Starts a thread for the last worker, then for those before it. Then it signals to all threads whether all were started, and
+// joins them. So the ends are in the order of the workers, and each level joins the one thread that it started.
 fn run_all<K: Name + Send + Sync, F: SessionFetch + Sync, R: Threads + Wait + Sync>(
     rt: &R,
     frontier: &Frontier<K>,
@@ -101,7 +101,7 @@ fn run_all<K: Name + Send + Sync, F: SessionFetch + Sync, R: Threads + Wait + Sy
     )
 }
 
-// A list with room for `count` ends.
+// Returns an empty list with room for `count` ends.
 fn room_for<K: Name>(alloc: Global, count: usize) -> Result<Vec<WorkerEnd<K>>, RunError>
     ensures { MatchResult result (λ v. (v.items ≡ []) × (count ≤ vec_capacity v)) (λ e. e ≡ RunError.NoMemory) }
 {
@@ -112,30 +112,14 @@ fn room_for<K: Name>(alloc: Global, count: usize) -> Result<Vec<WorkerEnd<K>>, R
 }
 
 /// Runs each worker in its own thread, and returns their ends in the given order. No worker takes a URL before all threads are
-/// started.
+/// started. Each worker owns its session of the source.
 ///
 /// Pass all workers of the frontier. If one is missing, its URLs stay in its queue, and the run does not end.
 ///
 /// # Errors
 /// `NoMemory` if there is no memory for the ends, and `NoThread` if a thread could not be started. The threads that were
 /// started then end.
-pub fn run_threads<K: Name + Send + Sync, F: Fetch + Sync, R: Threads + Wait + Sync>(
-    rt: &R,
-    alloc: Global,
-    frontier: &Frontier<K>,
-    workers: Vec<Worker<K>>,
-    fetcher: &F,
-) -> Result<Vec<WorkerEnd<K>>, RunError>
-    ensures { IfOk result (λ v. AllRan K.workers (allows K.filter) (F.meaning fetcher.now) workers.items v.items) }
-{
-    run_threads_in(rt, alloc, frontier, workers, &WithoutSession { fetcher })
-}
-
-/// Like [`run_threads`], for a source with sessions. Each worker owns its session.
-///
-/// # Errors
-/// Those of [`run_threads`].
-pub fn run_threads_in<K: Name + Send + Sync, F: SessionFetch + Sync, R: Threads + Wait + Sync>(
+pub fn run_threads<K: Name + Send + Sync, F: SessionFetch + Sync, R: Threads + Wait + Sync>(
     rt: &R,
     alloc: Global,
     frontier: &Frontier<K>,

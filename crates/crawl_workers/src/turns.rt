@@ -11,7 +11,7 @@ use crate::output::WorkerOutput;
 use crate::turn::{Step, turn};
 use crate::worker_end::WorkerEnd;
 use crawl_frontier::{Frontier, Name, Worker};
-use crawl_pages::{Fetch, SessionFetch, WithoutSession};
+use crawl_pages::SessionFetch;
 use std::alloc::Global;
 use std::mem;
 use std::sync::Wait;
@@ -25,7 +25,7 @@ pub(crate) enum Runner<K: Name> {
     Moved,
 }
 
-// A turn, if the worker has not ended. It returns whether the worker goes on.
+// Makes a turn of the worker, unless it has ended, and returns whether it continues.
 fn advance<K: Name, F: SessionFetch, R: Wait>(
     rt: &R,
     frontier: &Frontier<K>,
@@ -63,7 +63,7 @@ fn advance<K: Name, F: SessionFetch, R: Wait>(
     }
 }
 
-// A turn of each worker, in order. It returns whether a worker goes on.
+// Makes a turn of each worker, in order, and returns whether a worker continues.
 fn round<K: Name, F: SessionFetch, R: Wait>(
     rt: &R,
     frontier: &Frontier<K>,
@@ -86,7 +86,7 @@ fn round<K: Name, F: SessionFetch, R: Wait>(
     going
 }
 
-// Rounds until every worker has ended.
+// Makes rounds until every worker has ended.
 fn rounds<K: Name, F: SessionFetch, R: Wait>(
     rt: &R,
     frontier: &Frontier<K>,
@@ -106,7 +106,7 @@ fn rounds<K: Name, F: SessionFetch, R: Wait>(
     unreachable!()
 }
 
-// The workers, in order, each with an empty output.
+// Returns the workers, in order, each with an empty output.
 fn runners_of<K: Name>(
     alloc: Global,
     mut workers: Vec<Worker<K>>,
@@ -126,7 +126,7 @@ fn runners_of<K: Name>(
     runners
 }
 
-// Their ends, in order.
+// Returns their ends, in order.
 fn ends_of<K: Name>(mut runners: Vec<Runner<K>>, ends: Vec<WorkerEnd<K>>) -> Vec<WorkerEnd<K>>
     requires room { length runners.items ≤ vec_capacity ends }
     requires none { ends.items ≡ [] }
@@ -146,31 +146,14 @@ fn ends_of<K: Name>(mut runners: Vec<Runner<K>>, ends: Vec<WorkerEnd<K>>) -> Vec
     ends
 }
 
-/// Runs the workers on the calling thread, where they take turns, and returns their ends in the given order.
+/// Runs the workers on the calling thread, where they take turns, and returns their ends in the given order. They share one
+/// session of the source.
 ///
 /// Pass all workers of the frontier. If one is missing, its URLs stay in its queue, and the run does not end.
 ///
 /// # Errors
 /// `NoMemory` if there is no memory for the ends, before any URL was taken. `NoThread` is never returned.
-pub fn run_turns<K: Name, F: Fetch, R: Wait>(
-    rt: &R,
-    alloc: Global,
-    frontier: &Frontier<K>,
-    workers: Vec<Worker<K>>,
-    fetcher: &F,
-) -> Result<Vec<WorkerEnd<K>>, RunError>
-    ensures { MatchResult result
-        (λ v. AllRan K.workers (allows K.filter) (F.meaning fetcher.now) workers.items v.items)
-        (λ e. e ≡ RunError.NoMemory) }
-{
-    run_turns_in(rt, alloc, frontier, workers, &WithoutSession { fetcher })
-}
-
-/// Like [`run_turns`], for a source with sessions. All workers share one session.
-///
-/// # Errors
-/// Those of [`run_turns`].
-pub fn run_turns_in<K: Name, F: SessionFetch, R: Wait>(
+pub fn run_turns<K: Name, F: SessionFetch, R: Wait>(
     rt: &R,
     alloc: Global,
     frontier: &Frontier<K>,

@@ -3,6 +3,7 @@ use Rattle.std.specs.Prelude.{ℕ, ◌<◌, ◌≤◌, ◌*◌, ◌≡◌, ◌�
 use Rattle.std.specs.declared.alloc.Global.{Global}
 use Rattle.std.specs.List.{list_all}
 use Rattle.std.specs.Str.{bytes_eq, chars}
+use Rattle.crawl_core.specs.Limits.{queue_limit}
 use Rattle.crawl_limits.specs.Limits.{worker_limit, AreLimits}
 use Rattle.crawl_keys.specs.HostFilter.{is_good}
 use Rattle.shown_text.specs.Shown.{is_visible_or_lf}
@@ -36,9 +37,9 @@ abbrev pub IsPartOf : Option (ℕ × ℕ) → Type 0
 IsPartOf None = Unit {0}
 IsPartOf (Some p) = p.0 < p.1
 
--- the numbers of a session are within the limits of a frontier
+-- the numbers of a session are within the limits of a frontier, and the number of all queues within that of its parts together
 abbrev pub IsSessionPlan : SessionPlan → Type 0
-IsSessionPlan asked = (1 ≤ asked.workers) × (AreLimits (queues_of asked) asked.max × IsPartOf asked.part)
+IsSessionPlan asked = AreLimits asked.workers asked.max × ((queues_of asked ≤ queue_limit) × IsPartOf asked.part)
 
 -- its numbers are within the limits of a frontier; a crawl has a seed or a file of seeds, and not both of its files are the
 -- standard input

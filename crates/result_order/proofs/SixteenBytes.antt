@@ -1,13 +1,12 @@
 -- Sixteen bytes as a number: the numbers of two texts that begin alike are ordered as the texts are.
-use Rattle.std.proofs.Common.{◌≡◌, ℕ, zero, suc, ◌+◌, ◌-◌, ◌*◌, ◌<◌, ◌≤◌, false, List, [], ◌∷◌, slice_index, slice_range, drop, length, get_or, refl, sym, ap, subst, ◌∙◌, arith, inl, inr}
+use Rattle.std.proofs.Common.{◌≡◌, ℕ, zero, suc, ◌+◌, ◌-◌, ◌*◌, ◌<◌, ◌≤◌, false, List, [], ◌∷◌, slice_index, refl, sym, ap, subst, ◌∙◌, arith, inl, inr}
 use Rattle.std.specs.Int.Digits.{number_from_digits_after, AllBelowBase}
 use Rattle.std.specs.Cmp.Lexicographic.{slice_cmp, nat_list_cmp_total}
 use Rattle.std.specs.Ordering.{nat_cmp, ordering_then, ordering_reverse, is_lt}
 use Rattle.std.specs.declared.cmp.Ordering.TheVariants.{Less, Equal}
 use Rattle.std.proofs.lemmas.Bool.{cases_order, cases_eq, cases_lt}
 use Rattle.std.proofs.lemmas.Bool.Decides.{nat_tests}
-use Rattle.std.proofs.lemmas.List.{get_or-take, get_or-drop}
-use Rattle.result_order.specs.Sixteens.{AreAlikeWithin, BeginAlike, bytes_from, IsSixteen}
+use Rattle.result_order.specs.Sixteens.{BeginAlike, bytes_from, IsSixteen}
 
 abbrev after : ℕ → List ℕ → ℕ
 after n bytes = number_from_digits_after 256 n bytes
@@ -84,11 +83,3 @@ less_number a b from m n alike one other less =
 
 pub equal_number : (a b : List ℕ) (from m n : ℕ) → BeginAlike from a b → IsSixteen a from m → IsSixteen b from n → m ≡ n → BeginAlike (from + 16) a b
 equal_number a b from m n alike one other same = grind arith
-
--- a text has the bytes of another one from an index on
-pub alike_part : (from : ℕ) (text url part : List ℕ) → part ≡ slice_range url from (length text) → part ≡ drop from text → AreAlikeWithin from (length text) text url
-alike_part from text url part of_url of_text k least below =
-    let i : ℕ = k - from in
-    let there : k ≡ from + i = omega arith in
-    ap (slice_index text) there ∙ sym (get_or-drop from text i 0) ∙ ap (λ l. get_or l i 0) (sym of_text ∙ of_url) ∙ get_or-take (length text - from) (drop from url) i 0 (omega arith)
-    ∙ get_or-drop from url i 0 ∙ ap (slice_index url) (sym there)

@@ -1,5 +1,5 @@
 -- Results with their numbers: what begins alike, and what is sorted in two parts.
-use Rattle.std.proofs.Common.{◌≡◌, ℕ, zero, suc, ◌+◌, ◌-◌, ◌*◌, ◌<◌, ◌≤◌, Bool, true, false, List, [], ◌∷◌, ◌++◌, length, take, drop, get_or, slice_index, refl, sym, ap, subst, ◌∙◌, arith, inl, inr}
+use Rattle.std.proofs.Common.{◌≡◌, ℕ, zero, suc, ◌+◌, ◌-◌, ◌*◌, ◌<◌, ◌≤◌, Bool, false, List, [], ◌∷◌, ◌++◌, length, take, drop, get_or, slice_index, refl, sym, ap, subst, ◌∙◌, arith, inl, inr}
 use Rattle.std.specs.List.{All, Contains}
 use Rattle.std.specs.List.Sorted.{IsPermutation, IsNonDecreasingBy, IsSortedBy, IsSortedByKey}
 use Rattle.std.specs.Cmp.Lexicographic.{slice_cmp}
@@ -7,12 +7,12 @@ use Rattle.std.specs.Ordering.{nat_cmp, is_lt}
 use Rattle.std.proofs.lemmas.Bool.{cases_lt, cases_order}
 use Rattle.std.proofs.lemmas.List.{map-append, length-append, length-map, take-append-drop, get_or_append_left, get_or-append_right, get_or-map}
 use Rattle.std.proofs.Math.Seq.{take-append_seam}
-use Rattle.std.proofs.lemmas.List.Elements.{All-append, All-contains, All-take, All-drop, Contains-get_or, Contains-append_left, Contains-append_right}
+use Rattle.std.proofs.lemmas.List.Elements.{All-contains, All-take, All-drop, Contains-get_or, Contains-append_left, Contains-append_right}
 use Rattle.std.proofs.lemmas.List.Sorted.{All-permutation, IsPermutation-append, IsPermutation-map, IsPermutation-sym, IsNonDecreasingBy-take, IsNonDecreasingBy-drop, Contains-permutation}
 use Rattle.crawl_pages.specs.declared.page.PageResult.{PageResult}
 use Rattle.result_order.specs.declared.numbered.Numbered.{Numbered}
 use Rattle.result_order.specs.Sixteens.{AreAlikeWithin, BeginAlike}
-use Rattle.result_order.specs.Sorting.{AllBeginAlike, AreGuessed, AreInOrder, AreNumbered, ArePrepared, AllEqual, ArePartedAt, IsAlikeUntil, IsNumbered, pages_of}
+use Rattle.result_order.specs.Sorting.{AllBeginAlike, AreInOrder, ArePrepared, AllEqual, ArePartedAt, IsNumbered, pages_of}
 use Rattle.result_order.proofs.SixteenBytes.{less_number, equal_number}
 
 -- ---- pages and the numbers beside them
@@ -91,41 +91,6 @@ alike_up_to from end text pages alike all = λ a b in_a in_b k below. elim (case
     same a in_a k late below =
         let one = has_page pages a in_a in
         subst (λ (p : PageResult). slice_index text k ≡ slice_index p.url k) one.is (All-contains (λ (p : Numbered). AreAlikeWithin from end text p.page.url) pages one.numbered all one.among k late below)
-
--- what holds up to an index holds up to one before it
-pub alike_before : (from end less : ℕ) (text : List ℕ) (pages : List Numbered) → less ≤ end → All (λ (p : Numbered). AreAlikeWithin from end text p.page.url) pages → All (λ (p : Numbered). AreAlikeWithin from less text p.page.url) pages
-alike_before from end less text pages le all = grind arith
-
-pub alike_in_both : (from most : ℕ) (text : List ℕ) (front back pages : List Numbered) (first second end : ℕ) → front ++ back ≡ pages
-    → IsAlikeUntil from most text front first → IsAlikeUntil from most text back second → from ≤ end → end ≤ first → end ≤ second → IsAlikeUntil from most text pages end
-alike_in_both from most text front back pages first second end parts of_front of_back least le_first le_second = record {
-  least = least;
-  within = omega (arith, le_first, of_front.within);
-  alike =
-      subst (All (λ (p : Numbered). AreAlikeWithin from end text p.page.url)) parts
-      (All-append (λ (p : Numbered). AreAlikeWithin from end text p.page.url) front back (alike_before from first end text front le_first of_front.alike) (alike_before from second end text back le_second of_back.alike));
-}
-
--- ---- numbers that are set where a guess holds
-
-pub guessed_both : (from index : ℕ) (text : List ℕ) (pages low high : List Numbered) (one other both : Bool) → (both ≡ true → (one ≡ true) × (other ≡ true))
-    → AreGuessed from text (take index pages) low one → AreGuessed from text (drop index pages) high other → AreGuessed from text pages (low ++ high) both
-guessed_both from index text pages low high one other both told front back = record {
-  same = map-append (λ (c : Numbered). c.page) low high ∙ (λ i. front.same i ++ back.same i) ∙ sym (parts index pages);
-  alike = λ yes.
-      subst (All (λ (p : Numbered). AreAlikeWithin from (length text) text p.page.url)) (take-append-drop index pages)
-      (All-append (λ (p : Numbered). AreAlikeWithin from (length text) text p.page.url) (take index pages) (drop index pages) (front.alike (told yes).0) (back.alike (told yes).1));
-  numbered = λ yes. All-append (IsNumbered (length text)) low high (front.numbered (told yes).0) (back.numbered (told yes).1);
-}
-
--- a guess that holds of all
-pub numbered_so : (levels from begin : ℕ) (text : List ℕ) (old new : List Numbered) → AllBeginAlike from (pages_of old) → begin + 16 * levels ≤ 4096 → length text ≡ begin → AreGuessed from text old new true → AreNumbered levels begin old new
-numbered_so levels from begin text old new alike room long guessed = record {
-  same = guessed.same;
-  alike = alike_up_to from begin text old alike (subst (λ n. All (λ (p : Numbered). AreAlikeWithin from n text p.page.url) old) long (guessed.alike refl));
-  room = room;
-  numbered = subst (λ n. All (IsNumbered n) new) long (guessed.numbered refl);
-}
 
 -- ---- two sorted lists, one behind the other
 

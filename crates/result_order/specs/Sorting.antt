@@ -1,5 +1,5 @@
 -- Results in the order of their URLs, and the numbers that they are sorted by.
-use Rattle.std.specs.Prelude.{◌≡◌, ℕ, ◌+◌, ◌*◌, ◌<◌, ◌≤◌, Bool, true, List, map, length, take, drop}
+use Rattle.std.specs.Prelude.{◌≡◌, ℕ, ◌+◌, ◌*◌, ◌<◌, ◌≤◌, List, map, length, take, drop}
 use Rattle.std.specs.List.{All, Contains}
 use Rattle.std.specs.List.Sorted.{IsNonDecreasingBy, IsSortedByKey}
 use Rattle.std.specs.Cmp.Lexicographic.{slice_cmp}
@@ -37,12 +37,6 @@ pub record AreNumbered (levels from : ℕ) (old new : List Numbered) : Type 0 wh
   pub alike : AllBeginAlike from (pages_of old)
   pub room : from + 16 * levels ≤ 4096
   pub numbered : All (IsNumbered from) new
-
--- where it is told so, all URLs have the bytes of a text from an index on, and each number is set to the sixteen behind
-pub record AreGuessed (from : ℕ) (text : List ℕ) (old new : List Numbered) (told : Bool) : Type 0 where
-  pub same : pages_of new ≡ pages_of old
-  pub alike : told ≡ true → All (λ p. AreAlikeWithin from (length text) text p.page.url) old
-  pub numbered : told ≡ true → All (IsNumbered (length text)) new
 
 -- no URL is above the next one, byte by byte
 abbrev pub AreInOrder : List Numbered → Type 0

@@ -85,11 +85,6 @@ more_ahead web pages longer page urls is are own k other at =
       | inr last ↦ subst (λ (one : PageAhead). IsAhead (shown_page (slice_get web one.index)) urls one.links) last.1 own
     ]
 
--- the page that was found by its index
-pub ahead_at : (web : List PageRead) (pages : List PageAhead) (urls : List (List ℕ)) (k index : ℕ) (page : PageAhead) → AreAhead web pages urls → slice_get pages k ≡ Some page → page.index ≡ index → IsAhead (shown_page (slice_get web index)) urls page.links
-ahead_at web pages urls k index page are at is =
-    subst (λ n. IsAhead (shown_page (slice_get web n)) urls page.links) is (are k page at)
-
 -- ---- the page at a URL
 
 shown_with : (pages : List PageRead) (url : List ℕ) (o : Option PageRead) → page_with pages url ≡ o → shown_page o ≡ known_page pages url

@@ -1,26 +1,29 @@
 -- Two parts of a saved web, each read behind the header, put together.
 use Rattle.std.proofs.Common.{◌≡◌, ℕ, ◌+◌, ◌<◌, ◌==◌, Bool, true, false, ◌||◌, List, [], ◌∷◌, ◌++◌, length, nat_lt, Option, Some, None, IfSome, is_some, Result, Ok, Err, refl, sym, ap, subst, ◌∙◌, arith, append_assoc, append-nil, length-append, ne_eqb}
 use Rattle.std.specs.Bool.{if◌then◌else◌}
-use Rattle.std.specs.List.{list_any}
+use Rattle.std.specs.List.{list_any, cons_option}
 use Rattle.std.specs.Option.{option_map, option_or, option_map_or}
 use Rattle.std.specs.Result.{result_ok}
 use Rattle.std.specs.Str.{bytes_eq, is_utf8}
 use Rattle.std.specs.Str.Lines.{lines}
 use Rattle.std.proofs.lemmas.Bool.{cond-true, cond-false, or_parts}
+use Rattle.std.proofs.lemmas.List.{map-append}
+use Rattle.std.proofs.lemmas.List.Elements.{filter_map-append}
 use Rattle.std.proofs.lemmas.List.Folds.{list_any-append}
 use Rattle.std.proofs.lemmas.Slice.Eq.{bytes_eq-Decides}
 use Rattle.crawl_keys.specs.CanonicalText.{canonical}
 use Rattle.crawl_keys.specs.declared.error.KeyError.{KeyError}
 use Rattle.saved_web.proofs.PassedLines.{said_passes}
+use Rattle.saved_web.proofs.ReadWeb.{known_urls}
 use Rattle.saved_web.specs.KnownPages.{KnownPages, known_page}
 use Rattle.text_lines.specs.LeastFault.{SoundAfter}
 use Rattle.crawl_limits.specs.Limits.{line_limit}
-use Rattle.saved_web.specs.PageLists.{PageRead, has}
+use Rattle.saved_web.specs.PageLists.{PageRead, urls, has}
 use Rattle.saved_web.specs.PageLists as list
 use Rattle.saved_web.specs.Reading.{AreRead, AreReadBehind, IsHeader}
 use Rattle.saved_web.specs.SavedWeb.{lines_behind, put_link, link_texts, put_moved, moved_text, page_with, page_behind, page_of}
 use Rattle.saved_web.specs.WebChecks.{Before, under_last_page, before, page_fault, under_fault, said_fault, text_fault, line_fault, fault_after}
-use Rattle.saved_web.specs.WebLines.{line_of_text, line_of, says_page, url_said, is_page, is_page_at, page_url, is_link, is_moved_line}
+use Rattle.saved_web.specs.WebLines.{line_of_text, line_of, says_page, url_said, is_page, is_page_at, page_url, page_urls, is_link, is_moved_line}
 use Rattle.text_lines.specs.declared.lines.LineError.TheVariants.{TooLong, NotText}
 use Rattle.saved_web.specs.declared.error.WebError.TheVariants as wrong
 use Rattle.saved_web.specs.declared.line.Line.{Line}
@@ -229,12 +232,12 @@ behind_later url (x ∷ xs) ys is = by_first (is_page_at url x) is (behind_later
 
 found_in_both : (header : List ℕ) (front back : List (List ℕ)) (ps qs : KnownPages) (url : List ℕ) → line_of header ≡ says.Other → AreRead (header ∷ front) ps → AreRead (header ∷ back) qs → Begins back → (first : Option (List (List ℕ))) → lines_behind (header ∷ front) url ≡ first → known_page (ps ++ qs) url ≡ page_of (header ∷ front ++ back) url
 found_in_both header front back ps qs url other p q begins (Some behind) is =
-    let some : has ps url ≡ true = p.known url ∙ sym (behind_some url (header ∷ front)) ∙ ap is_some is in
+    let some : has ps url ≡ true = known_urls ps (header ∷ front) url p.urls ∙ sym (behind_some url (header ∷ front)) ∙ ap is_some is in
     let both : page_of (header ∷ front ++ back) url ≡ page_behind url (Some (behind ++ back)) = ap (page_behind url) (behind_first url (header ∷ front) back behind is) in
     let ends : page_behind url (Some (behind ++ back)) ≡ page_behind url (Some behind) = λ i. page_with url (moved_ends behind back begins.1 i) (links_end behind back begins.0 i) in
     known_first ps qs url some ∙ p.found url ∙ ap (page_behind url) is ∙ sym (both ∙ ends)
 found_in_both header front back ps qs url other p q begins None is =
-    let none : has ps url ≡ false = p.known url ∙ sym (behind_some url (header ∷ front)) ∙ ap is_some is in
+    let none : has ps url ≡ false = known_urls ps (header ∷ front) url p.urls ∙ sym (behind_some url (header ∷ front)) ∙ ap is_some is in
     let both : page_of (header ∷ front ++ back) url ≡ page_of back url = ap (page_behind url) (behind_later url (header ∷ front) back is) in
     let alone : page_of (header ∷ back) url ≡ page_of back url = ap (page_behind url) (cond-false _ _ _ (no_page_at header url other)) in
     known_later ps qs url none ∙ q.found url ∙ alone ∙ sym both
@@ -244,15 +247,14 @@ found_in_both header front back ps qs url other p q begins None is =
 pub joined : (second : Bool) (header : List ℕ) (front back : List (List ℕ)) (ps qs : KnownPages) → IsHeader second header → AreRead (header ∷ front) ps → AreRead (header ∷ back) qs → ((url : List ℕ) → has qs url ≡ true → has ps url ≡ false) → AreRead (header ∷ front ++ back) (ps ++ qs)
 joined second header front back ps qs h p q apart =
     let other = h.other in
-    let known_back : (url : List ℕ) → has qs url ≡ list_any (is_page_at url) back =
-    λ url. q.known url ∙ ap (λ b. b || list_any (is_page_at url) back) (no_page_at header url other) in
+    let back_urls : urls qs ≡ page_urls back = q.urls ∙ ap (λ said. cons_option (url_said said) (page_urls back)) other in
     let apart_lines : (url : List ℕ) → list_any (is_page_at url) back ≡ true → list_any (is_page_at url) front ≡ false =
-    λ url there. (or_parts (is_page_at url header) (list_any (is_page_at url) front) (sym (p.known url) ∙ apart url (known_back url ∙ there))).1 in
+    λ url there. (or_parts (is_page_at url header) (list_any (is_page_at url) front) (sym (known_urls ps (header ∷ front) url p.urls) ∙ apart url (known_urls qs back url back_urls ∙ there))).1 in
     let none : list_any is_page (header ∷ []) ≡ false = ap (λ said. says_page said || false) other in
     let behind : SoundAfter fault_after (header ∷ front ++ []) back = sound_behind header front [] back other apart_lines q.sound.1 in
     record {
       sound = (h.sound, sound_append (header ∷ []) front back p.sound.1 (subst (λ ls. SoundAfter fault_after (header ∷ ls) back) (append-nil front) behind));
-      known = λ url. has-append ps qs url ∙ (λ i. p.known url i || known_back url i) ∙ sym (list_any-append (is_page_at url) (header ∷ front) back);
+      urls = map-append (λ (page : PageRead). page.url) ps qs ∙ (λ i. p.urls i ++ back_urls i) ∙ sym (filter_map-append page_url (header ∷ front) back);
       found = λ url. found_in_both header front back ps qs url other p q (unlinked (header ∷ []) back (omega arith) none q.sound.1) (lines_behind (header ∷ front) url) refl;
     }
 

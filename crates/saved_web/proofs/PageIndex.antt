@@ -1,5 +1,5 @@
 -- Pages by the index of their URLs.
-use Rattle.std.proofs.Common.{◌≡◌, ℕ, suc, Bool, true, false, List, [], ◌∷◌, length, map, slice_get, Option, Some, None, IfSome, is_some, refl, sym, ap, subst, ◌∙◌}
+use Rattle.std.proofs.Common.{◌≡◌, ℕ, suc, Bool, true, false, List, [], ◌∷◌, length, slice_get, Option, Some, None, IfSome, is_some, refl, sym, ap, subst, ◌∙◌}
 use Rattle.std.specs.Bool.{if◌then◌else◌}
 use Rattle.std.specs.Borrow.{Bor}
 use Rattle.std.specs.Option.{option_map, option_and_then}
@@ -8,10 +8,7 @@ use Rattle.std.specs.Str.{bytes_eq}
 use Rattle.std.proofs.lemmas.Option.{slice_get_past, slice_get_read}
 use Rattle.hash_index.specs.Lists.{index_of}
 use Rattle.hash_index.proofs.Listed.{same_text}
-use Rattle.saved_web.specs.PageLists.{PageRead, page_with, has}
-
-abbrev pub urls : List PageRead → List (List ℕ)
-urls pages = map (λ page. page.url) pages
+use Rattle.saved_web.specs.PageLists.{PageRead, urls, page_with, has}
 
 -- the page with the URL is the one at the URL's index
 pub page_at_index : (pages : List PageRead) (url : List ℕ) → page_with pages url ≡ option_and_then (λ k. slice_get pages k) (index_of (urls pages) url)

@@ -5,11 +5,11 @@ use Rattle.std.specs.List.{flat_map}
 use Rattle.std.specs.Option.{option_or}
 use Rattle.std.specs.Str.{bytes_eq}
 use Rattle.std.proofs.lemmas.Bool.{or_parts}
-use Rattle.std.proofs.lemmas.List.{drop_more, take_more}
+use Rattle.std.proofs.lemmas.List.{drop_more, map-append, take_more}
 use Rattle.std.proofs.lemmas.List.Concat.{flat_map-append}
 use Rattle.std.proofs.lemmas.Slice.Eq.{bytes_eq-Decides}
 use Rattle.saved_web.proofs.JoinedParts.{with_url-append, has-append}
-use Rattle.saved_web.specs.PageLists.{PageRead, page_with, has}
+use Rattle.saved_web.specs.PageLists.{PageRead, urls, page_with, has}
 
 or_none : (o : Option PageRead) → o ≡ None → (later : Option PageRead) → option_or o later ≡ later
 or_none (Some x) is later = absurd (cc)
@@ -35,12 +35,18 @@ found_part parts i part url x below is some =
     at_part parts i part url below is ∙ or_some (page_with part url) x some (page_with (flat_map (λ p. p) (drop (i + 1) parts)) url)
 
 -- one part more
+pages_more : (parts : List (List PageRead)) (i : ℕ) (part : List PageRead) → i < length parts → part ≡ get_or parts i part → flat_map (λ p. p) (take (i + 1) parts) ≡ flat_map (λ p. p) (take i parts) ++ part
+pages_more parts i part below is =
+    let cut : take (i + 1) parts ≡ take i parts ++ part ∷ [] = take_more parts i part below ∙ ap (λ p. take i parts ++ p ∷ []) (sym is) in
+    ap (flat_map (λ p. p)) cut ∙ flat_map-append (λ p. p) (take i parts) (part ∷ []) ∙ ap (λ ps. flat_map (λ p. p) (take i parts) ++ ps) (append-nil part)
+
+pub urls_more : (parts : List (List PageRead)) (i : ℕ) (part : List PageRead) → i < length parts → part ≡ get_or parts i part → urls (flat_map (λ p. p) (take (i + 1) parts)) ≡ urls (flat_map (λ p. p) (take i parts)) ++ urls part
+urls_more parts i part below is =
+    ap urls (pages_more parts i part below is) ∙ map-append (λ (page : PageRead). page.url) (flat_map (λ p. p) (take i parts)) part
+
 part_more : (parts : List (List PageRead)) (i : ℕ) (part : List PageRead) (url : List ℕ) → i < length parts → part ≡ get_or parts i part → has (flat_map (λ p. p) (take (i + 1) parts)) url ≡ (has (flat_map (λ p. p) (take i parts)) url || has part url)
 part_more parts i part url below is =
-    let cut : take (i + 1) parts ≡ take i parts ++ part ∷ [] = take_more parts i part below ∙ ap (λ p. take i parts ++ p ∷ []) (sym is) in
-    let pages : flat_map (λ p. p) (take (i + 1) parts) ≡ flat_map (λ p. p) (take i parts) ++ part =
-    ap (flat_map (λ p. p)) cut ∙ flat_map-append (λ p. p) (take i parts) (part ∷ []) ∙ ap (λ ps. flat_map (λ p. p) (take i parts) ++ ps) (append-nil part) in
-    ap (λ ps. has ps url) pages ∙ has-append (flat_map (λ p. p) (take i parts)) part url
+    ap (λ ps. has ps url) (pages_more parts i part below is) ∙ has-append (flat_map (λ p. p) (take i parts)) part url
 
 -- pages none of which has the URL, and one part more
 pub none_in_more : (parts : List (List PageRead)) (i : ℕ) (part other : List PageRead) → i < length parts → part ≡ get_or parts i part → ((url : List ℕ) → has other url ≡ true → has (flat_map (λ p. p) (take i parts)) url ≡ false) → ((url : List ℕ) → has other url ≡ true → has part url ≡ false) → (url : List ℕ) → has other url ≡ true → has (flat_map (λ p. p) (take (i + 1) parts)) url ≡ false

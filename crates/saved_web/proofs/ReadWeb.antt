@@ -1,22 +1,24 @@
 -- What is known of a saved web while its lines are read one by one.
 use Rattle.std.proofs.Common.{◌≡◌, inl, inr, ℕ, ◌+◌, ◌<◌, ◌==◌, Bool, true, false, ◌||◌, not, List, [], ◌∷◌, ◌++◌, length, Option, Some, None, Result, Ok, Err, IfOk, IfErr, codes, is_some, refl, sym, ap, subst, ◌∙◌, arith, append_assoc, append-nil, length-append, ne_eqb}
 use Rattle.std.specs.Bool.{if◌then◌else◌}
-use Rattle.std.specs.List.{list_any, position}
+use Rattle.std.specs.List.{list_any, position, cons_option}
 use Rattle.std.specs.Option.{option_map, option_or, option_map_or}
 use Rattle.std.specs.Str.{bytes_eq}
 use Rattle.std.specs.Str.Lines.{lines}
 use Rattle.std.proofs.lemmas.Bool.{cond-false}
+use Rattle.std.proofs.lemmas.List.{map-append}
+use Rattle.std.proofs.lemmas.List.Elements.{filter_map-append}
 use Rattle.std.proofs.lemmas.List.Folds.{list_any-append}
 use Rattle.crawl_keys.specs.Outcome.{IsRefusal}
 use Rattle.text_lines.proofs.CutLines.{is_lf, lines_at, lines_only}
 use Rattle.text_lines.specs.LeastFault.{SoundAfter, IsLeastFault}
 use Rattle.saved_web.specs.Reading.{ReadTo, AllFound, FoundTo, AreRead, IsHeader}
 use Rattle.saved_web.specs.SavedWeb.{lines_behind, page_behind, page_of}
-use Rattle.saved_web.specs.WebLines.{says_page, says_link, says_moved, url_said, is_page, is_link, is_moved_line, is_page_at, page_url}
+use Rattle.saved_web.specs.WebLines.{says_page, says_link, says_moved, url_said, is_page, is_link, is_moved_line, is_page_at, page_url, page_urls}
 use Rattle.saved_web.specs.WebChecks.{is_second, under_last_page, line_fault, fault_after}
 use Rattle.text_lines.specs.FirstLine.{behind_line}
 use Rattle.saved_web.specs.KnownPages.{KnownPages, has_some, known_behind, known_page, kept_before, Adds, Follows}
-use Rattle.saved_web.specs.PageLists.{PageRead, page_with, has}
+use Rattle.saved_web.specs.PageLists.{PageRead, urls, page_with, has}
 use Rattle.saved_web.specs.WebFaults.{IsSound, IsWebFault, IsWebRefusal, checked}
 use Rattle.saved_web.specs.declared.add.Above.{Above}
 use Rattle.saved_web.specs.declared.error.WebError.{WebError}
@@ -56,16 +58,9 @@ adds_some old new (Some url) bytes adds =
     ∙ ap (λ n. not (n == 0)) (length-append old (record { url = url; behind = bytes } ∷ []))
     ∙ ap not (ne_eqb (length old + 1) 0 (λ none. omega arith)) ∙ or_true (has_some old)
 
-has_put : (b : Bool) (o : Option PageRead) (page : PageRead) → is_some (option_or o (if b then Some page else None)) ≡ (is_some o || b)
-has_put b (Some old) page = refl
-has_put true None page = refl
-has_put false None page = refl
-
-adds_has : (old new : KnownPages) (own : Option (List ℕ)) (bytes : List ℕ) → Adds old new own bytes → (q : List ℕ) → has new q ≡ (has old q || at own q)
-adds_has old new None bytes same q = ap (λ ps. has ps q) same ∙ or_false (has old q)
-adds_has old new (Some url) bytes adds q =
-    let page : PageRead = record { url = url; behind = bytes } in
-    ap (λ ps. has ps q) adds.1 ∙ ap is_some (page_with-push old page q) ∙ has_put (bytes_eq url q) (page_with old q) page
+adds_urls : (old new : KnownPages) (own : Option (List ℕ)) (bytes : List ℕ) → Adds old new own bytes → urls new ≡ urls old ++ cons_option own []
+adds_urls old new None bytes same = ap urls same ∙ sym (append-nil (urls old))
+adds_urls old new (Some url) bytes adds = ap urls adds.1 ∙ map-append (λ (p : PageRead). p.url) old (record { url = url; behind = bytes } ∷ [])
 
 behind_put : (b : Bool) (o : Option PageRead) (page : PageRead) (more : Option (List (List ℕ))) → option_or (told o) (if b then Some (lines page.behind) else more) ≡ option_or (told (option_or o (if b then Some page else None))) more
 behind_put b (Some old) page more = refl
@@ -79,6 +74,29 @@ adds_behind old new (Some url) bytes more adds q =
     behind_put (bytes_eq url q) (page_with old q) page more
     ∙ ap (λ o. option_or (told o) more) (sym (ap (λ ps. page_with ps q) adds.1 ∙ page_with-push old page q))
 
+-- ---- the URLs of pages
+
+-- a page has the URL if it is one of theirs
+pub has_urls : (pages : KnownPages) (url : List ℕ) → has pages url ≡ list_any (λ own. bytes_eq own url) (urls pages)
+has_urls [] url = refl
+has_urls (page ∷ more) url = by_first (bytes_eq page.url url) _ (has_urls more url)
+  where
+    by_first : (b any : Bool) → has more url ≡ any → is_some (if b then Some page else page_with more url) ≡ (b || any)
+    by_first true any e = refl
+    by_first false any e = e
+
+any_urls : (lines : List (List ℕ)) (url : List ℕ) → list_any (is_page_at url) lines ≡ list_any (λ own. bytes_eq own url) (page_urls lines)
+any_urls [] url = refl
+any_urls (line ∷ more) url = by_own (page_url line) (any_urls more url)
+  where
+    by_own : (own : Option (List ℕ)) → list_any (is_page_at url) more ≡ list_any (λ own. bytes_eq own url) (page_urls more) → (at own url || list_any (is_page_at url) more) ≡ list_any (λ own. bytes_eq own url) (cons_option own (page_urls more))
+    by_own None e = e
+    by_own (Some u) e = ap (λ b. bytes_eq u url || b) e
+
+-- pages that have the URLs of lines have the URL of one of these
+pub known_urls : (pages : KnownPages) (lines : List (List ℕ)) (url : List ℕ) → urls pages ≡ page_urls lines → has pages url ≡ list_any (is_page_at url) lines
+known_urls pages lines url same = has_urls pages url ∙ ap (list_any (λ own. bytes_eq own url)) same ∙ sym (any_urls lines url)
+
 -- ---- one more line
 
 -- what is known of the pages says which check a line fails
@@ -90,7 +108,7 @@ fault_known all rest number above pages line k =
       some_page = k.some_page i;
       link = k.link i;
       moved = k.moved i;
-      known = λ url. k.known url i;
+      known = λ url. known_urls pages k.earlier url k.urls i;
     }) line
 
 sound_more : (front earlier : List (List ℕ)) (line : List ℕ) → SoundAfter fault_after front earlier → fault_after (front ++ earlier) line ≡ None → SoundAfter fault_after front (earlier ++ line ∷ [])
@@ -155,9 +173,9 @@ read_more all rest number above pages line more behind after new first passes ad
   some_page =
       adds_some pages new (page_url line) behind adds ∙ ap (λ b. b || is_some (page_url line)) k.some_page
       ∙ any_more is_page (is_some (page_url line)) k.earlier line page;
-  known = λ url.
-      adds_has pages new (page_url line) behind adds url ∙ ap (λ b. b || is_page_at url line) (k.known url)
-      ∙ any_more (is_page_at url) (is_page_at url line) k.earlier line refl;
+  urls =
+      adds_urls pages new (page_url line) behind adds ∙ ap (λ us. us ++ page_urls (line ∷ [])) k.urls
+      ∙ sym (filter_map-append page_url k.earlier (line ∷ []));
 }
 
 -- each page is known, or stands among the lines that are left
@@ -189,7 +207,7 @@ all_read all rest number above pages none k =
     let same : k.read.earlier ≡ all = sym (append-nil k.read.earlier) ∙ ap (λ ls. k.read.earlier ++ ls) (sym none) ∙ sym k.read.cut in
     record {
       sound = subst (SoundAfter fault_after []) same k.read.sound;
-      known = λ url. k.read.known url ∙ ap (list_any (is_page_at url)) same;
+      urls = k.read.urls ∙ ap page_urls same;
       found = found_all all rest pages none k.found;
     }
 
@@ -224,7 +242,7 @@ some_lines bytes some = by_first (position is_lf bytes) refl
 -- before the first line
 pub nothing_read : (all : List (List ℕ)) → FoundTo all all 0 (record { second = false; link = false; moved = false }) []
 nothing_read all = record {
-  read = record { earlier = []; cut = refl; numbered = refl; sound = tt; second = refl; link = refl; moved = refl; some_page = refl; known = λ url. refl };
+  read = record { earlier = []; cut = refl; numbered = refl; sound = tt; second = refl; link = refl; moved = refl; some_page = refl; urls = refl };
   found = λ url. refl;
 }
 
@@ -244,7 +262,7 @@ header_read second header behind h =
         link = sym (ap (list_any is_link) under ∙ ap (λ said. says_link said || false) h.other);
         moved = sym (ap (list_any is_moved_line) under ∙ ap (λ said. says_moved said || false) h.other);
         some_page = sym no_page;
-        known = λ url. sym (ap (λ b. b || false) (no_page_at url));
+        urls = sym (ap (λ said. cons_option (url_said said) []) h.other);
       };
       found = λ url. cond-false _ _ _ (no_page_at url);
     }
@@ -255,9 +273,9 @@ pub read_sound : (all : List (List ℕ)) (read : Result KnownPages WebError) →
 read_sound all (Err e) some read = tt
 read_sound all (Ok pages) some read = record { some = some; sound = (read all (nothing_read all)).sound }
 
-pub read_found : (all : List (List ℕ)) (read : Result KnownPages WebError) → IfOk read (λ pages. (ls : List (List ℕ)) → FoundTo ls all 0 (record { second = false; link = false; moved = false }) [] → AreRead ls pages) → IfOk read (λ pages. (url : List ℕ) → known_page pages url ≡ page_of all url)
-read_found all (Err e) read = tt
-read_found all (Ok pages) read = (read all (nothing_read all)).found
+pub read_whole : (all : List (List ℕ)) (read : Result KnownPages WebError) → IfOk read (λ pages. (ls : List (List ℕ)) → FoundTo ls all 0 (record { second = false; link = false; moved = false }) [] → AreRead ls pages) → IfOk read (AreRead all)
+read_whole all (Err e) read = tt
+read_whole all (Ok pages) read = read all (nothing_read all)
 
 pub read_refused : (all : List (List ℕ)) (read : Result KnownPages WebError) → IfErr read (λ told. (ls : List (List ℕ)) → FoundTo ls all 0 (record { second = false; link = false; moved = false }) [] → IsWebRefusal ls told) → IfErr read (λ told. IsWebRefusal all told)
 read_refused all (Err e) read = read all (nothing_read all)

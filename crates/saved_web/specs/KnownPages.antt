@@ -4,7 +4,7 @@ use Rattle.std.specs.Prelude.{◌≡◌, ℕ, ◌==◌, Bool, false, ◌||◌, n
 use Rattle.std.specs.Option.{option_map}
 use Rattle.std.specs.Str.{bytes_eq}
 use Rattle.std.specs.Str.Lines.{lines}
-use Rattle.saved_web.specs.PageLists.{PageRead, page_with, has}
+use Rattle.saved_web.specs.PageLists.{PageRead, urls, page_with, has}
 use Rattle.saved_web.specs.SavedWeb.{page_behind}
 use Rattle.saved_web.specs.WebChecks.{Before}
 use Rattle.saved_web.specs.WebLines.{is_page, is_link, is_moved_line}
@@ -53,3 +53,7 @@ known_page pages url = page_behind url (known_behind pages url)
 -- the page that a web has at a URL
 abbrev pub page_at : SavedWeb → List ℕ → Page
 page_at web url = known_page web.pages url
+
+-- the URLs of the pages that a web has
+abbrev pub urls_of : SavedWeb → List (List ℕ)
+urls_of web = urls web.pages

@@ -1,5 +1,5 @@
 -- The pages of a saved web as a list, in the order in which they were read.
-use Rattle.std.specs.Prelude.{ℕ, Bool, List, [], ◌∷◌, if◌then◌else◌, Option, Some, None, is_some, refl}
+use Rattle.std.specs.Prelude.{ℕ, Bool, List, [], ◌∷◌, map, if◌then◌else◌, Option, Some, None, is_some, refl}
 use Rattle.std.specs.Coded.{Coded, code_by, coded×, coded_list, coded_ℕ}
 use Rattle.std.specs.Str.{bytes_eq}
 
@@ -11,6 +11,10 @@ pub record PageRead : Type 0 where
 abbrev pub page_read_code : Coded PageRead
 page_read_code =
     code_by (List ℕ × List ℕ) (coded× (coded_list coded_ℕ) (coded_list coded_ℕ)) (λ p. (p.url, p.behind)) (λ p. record { url = p.0; behind = p.1 }) (λ _. refl)
+
+-- the URLs of the pages
+abbrev pub urls : List PageRead → List (List ℕ)
+urls pages = map (λ page. page.url) pages
 
 -- the first page with this URL
 abbrev pub page_with : List PageRead → List ℕ → Option PageRead

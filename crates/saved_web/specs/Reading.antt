@@ -5,10 +5,10 @@ use Rattle.std.specs.Option.{option_or}
 use Rattle.std.specs.Str.{bytes_eq}
 use Rattle.saved_web.specs.KnownPages.{KnownPages, has_some, known_behind, known_page}
 use Rattle.text_lines.specs.LeastFault.{SoundAfter}
-use Rattle.saved_web.specs.PageLists.{has}
+use Rattle.saved_web.specs.PageLists.{urls}
 use Rattle.saved_web.specs.SavedWeb.{lines_behind, page_of}
 use Rattle.saved_web.specs.WebChecks.{is_second, under_last_page, fault_after}
-use Rattle.saved_web.specs.WebLines.{line_of, is_page, is_link, is_moved_line, is_page_at}
+use Rattle.saved_web.specs.WebLines.{line_of, is_page, is_link, is_moved_line, page_urls}
 use Rattle.saved_web.specs.declared.add.Above.{Above}
 use Rattle.saved_web.specs.declared.line.Line.TheVariants as says
 
@@ -22,7 +22,7 @@ pub record ReadTo (all rest : List (List ℕ)) (number : ℕ) (above : Above) (p
   pub link : above.link ≡ list_any is_link (under_last_page earlier)
   pub moved : above.moved ≡ list_any is_moved_line (under_last_page earlier)
   pub some_page : has_some pages ≡ list_any is_page earlier
-  pub known : (url : List ℕ) → has pages url ≡ list_any (is_page_at url) earlier
+  pub urls : urls pages ≡ page_urls earlier
 
 -- each page of all these lines is known with the lines behind it, or stands among the rest
 abbrev pub AllFound : List (List ℕ) → List (List ℕ) → KnownPages → Type 0
@@ -37,7 +37,7 @@ pub record FoundTo (all rest : List (List ℕ)) (number : ℕ) (above : Above) (
 -- all these lines are sound, and these are their pages
 pub record AreRead (all : List (List ℕ)) (pages : KnownPages) : Type 0 where
   pub sound : SoundAfter fault_after [] all
-  pub known : (url : List ℕ) → has pages url ≡ list_any (is_page_at url) all
+  pub urls : urls pages ≡ page_urls all
   pub found : (url : List ℕ) → known_page pages url ≡ page_of all url
 
 -- the line is a header, of version 2 or else of version 1

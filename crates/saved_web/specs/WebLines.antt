@@ -1,6 +1,7 @@
 -- What a line of a saved web says, whichever version the web has.
 use Rattle.std.specs.Prelude.{ℕ, ◌==◌, Bool, true, false, List, length, codes, if◌then◌else◌, Option, Some, None}
 use Rattle.std.specs.Borrow.{Bor}
+use Rattle.std.specs.List.{filter_map}
 use Rattle.std.specs.Option.{option_map_or}
 use Rattle.std.specs.Result.{result_ok}
 use Rattle.std.specs.Str.{bytes_eq, is_utf8}
@@ -62,6 +63,10 @@ url_said _ = None
 -- the canonical URL of the page that a line is
 abbrev pub page_url : List ℕ → Option (List ℕ)
 page_url line = url_said (line_of line)
+
+-- the canonical URLs of the pages of a web with these lines
+abbrev pub page_urls : List (List ℕ) → List (List ℕ)
+page_urls lines = filter_map page_url lines
 
 -- the line is the page with this URL
 abbrev pub is_page_at : List ℕ → List ℕ → Bool

@@ -1,8 +1,10 @@
 //! A page of a saved web, as it is kept.
-ghost use Rattle.std.specs.Prelude.{◌≡◌, IfOk};
+ghost use Rattle.std.specs.Prelude.{◌≡◌, IfOk, Ok};
+ghost use Rattle.crawl_keys.specs.CanonicalText.{canonical};
 ghost use Rattle.text_lines.specs.FirstLine.{behind_line, line_in};
 
-use crawl_keys::CanonUrl;
+use crawl_keys::{CanonUrl, canonical};
+use crawl_pages::NoMemory;
 use hash_index::Keyed;
 use hash_order::hash_of;
 use std::alloc::{AllocError, Global};
@@ -16,33 +18,35 @@ const LINE: usize = 64;
 /// So many of these lines are read ahead of a page.
 const LINES_AHEAD: usize = 5;
 
-/// A page of a saved web: its URL, and all that is behind its line.
+/// A page of a saved web: its URL, and all that follows its line.
 #[derive(Drop)]
 pub struct KnownPage<'a> {
     text: PageText<'a>,
 }
 
-// What a page takes beside the input, but for its place in the index.
+// The size of a page in memory, without the input and its slot in the index.
 const _: () = prove!(size_of::<KnownPage<'static>>() == 24);
 
-/// Where a page stands.
+/// The text of a page.
 #[derive(Drop)]
 enum PageText<'a> {
     /// In the input, from its URL on: most are written as they are.
     Written(&'a str),
-    /// Its line spells its URL otherwise.
+    /// Its line spells its URL in another way.
     Made(Box<MadePage<'a>>),
 }
 
-/// A page whose line spells its URL otherwise.
+/// A page whose line spells its URL in another way.
 #[derive(Drop)]
 struct MadePage<'a> {
     url: CanonUrl,
     behind: &'a str,
 }
 
-// Contracts see the text of the URL and what is behind the line.
+// Contracts see the text of the URL, which is canonical, and what follows the line.
 impl<'a> Model for KnownPage<'a> {
+    ghost use Rattle.std.specs.Prelude.{◌≡◌, Ok};
+    ghost use Rattle.crawl_keys.specs.CanonicalText.{canonical};
     ghost use Rattle.saved_web.specs.PageLists.{PageRead, page_read_code};
 
     ghost Value = { PageRead };
@@ -52,10 +56,12 @@ impl<'a> Model for KnownPage<'a> {
     ghost use Rattle.saved_web.specs.PageTexts.{page_in};
 
     ghost view = { λ page. page_in page.text };
+
+    ghost invariant = { λ page. canonical (page_in page.text).url ≡ Ok (page_in page.text).url };
 }
 
 impl<'a> KnownPage<'a> {
-    /// The page with this URL, which is spelled in the first line of this text.
+    /// Returns the page with this URL, which the first line of this text spells.
     pub fn new(alloc: Global, url: CanonUrl, text: &'a str) -> Result<KnownPage<'a>, AllocError>
         ensures { IfOk result (λ page. page ≡ record { url = url; behind = behind_line text.now }) }
     {
@@ -73,8 +79,9 @@ impl<'a> KnownPage<'a> {
         }
     }
 
-    /// The page whose URL is the first line of this text.
+    /// Returns the page whose URL is the first line of this text.
     pub fn written(text: &'a str) -> KnownPage<'a>
+        requires { canonical (line_in text.now) ≡ Ok (line_in text.now) }
         ensures { result ≡ record { url = line_in text.now; behind = behind_line text.now } }
     {
         KnownPage {
@@ -82,9 +89,10 @@ impl<'a> KnownPage<'a> {
         }
     }
 
-    /// The text of its URL.
+    /// Returns the text of its URL.
     pub fn url(&self) -> &str
-        ensures { result.now ≡ self.now.url }
+        ensures text { result.now ≡ self.now.url }
+        ensures canonical { canonical self.now.url ≡ Ok self.now.url }
     {
         match &self.text {
             PageText::Written(text) => split_line(*text).0,
@@ -92,7 +100,17 @@ impl<'a> KnownPage<'a> {
         }
     }
 
-    /// The lines behind its own, to the end.
+    /// Returns its URL.
+    pub fn to_url(&self, alloc: Global) -> Result<CanonUrl, NoMemory>
+        ensures { IfOk result (λ url. url ≡ self.now.url) }
+    {
+        match canonical(alloc, self.url()) {
+            Ok(url) => Ok(url),
+            Err(_) => Err(AllocError),
+        }
+    }
+
+    /// Returns the lines after its own, to the end.
     pub fn behind(&self) -> &'a str
         ensures { result.now ≡ self.now.behind }
     {

@@ -1,13 +1,15 @@
 //! The pages of a saved web, found by their URLs.
-ghost use Rattle.std.specs.Prelude.{◌≡◌, ◌==◌, ◌++◌, ◌∷◌, [], ℕ, List, true, false, not, length, map, slice_get, IfOk, IfSome, if◌then◌else◌};
+ghost use Rattle.std.specs.Prelude.{◌≡◌, ◌==◌, ◌++◌, ◌∷◌, [], ℕ, List, true, false, not, length, map, slice_get, Ok, IfOk, OnOk, IfSome, if◌then◌else◌};
+ghost use Rattle.crawl_keys.specs.CanonicalText.{canonical};
 ghost use Rattle.hash_index.specs.Lists.{index_of};
 ghost use Rattle.std.specs.Option.{option_map};
 ghost use Rattle.text_lines.specs.FirstLine.{behind_line, line_in};
-ghost use Rattle.saved_web.specs.PageLists.{page_with, has};
+ghost use Rattle.saved_web.specs.PageLists.{page_with, has, urls};
 
 use crate::known_page::KnownPage;
 use crate::link_text::LinkText;
 use crawl_keys::CanonUrl;
+use crawl_pages::NoMemory;
 use hash_index::HashIndex;
 use std::alloc::{AllocError, Global};
 use std::marker::Model;
@@ -44,7 +46,7 @@ impl<'a> Model for Pages<'a> {
 }
 
 impl<'a> Pages<'a> {
-    /// No pages, and an index that does not grow before there are so many; where there is no room for it, one that grows.
+    /// Returns no pages, with an index for `count` pages. If there is no memory for that, the index grows with the pages.
     pub fn new(alloc: Global, count: usize) -> Pages<'a>
         ensures { result ≡ [] }
     {
@@ -72,8 +74,8 @@ impl<'a> Pages<'a> {
         self.list.len()
     }
 
-    /// Adds the page with this URL, which is spelled in the first line of this text, unless there is one with the URL. Tells
-    /// whether it did.
+    /// Adds the page with this URL, which the first line of this text spells, unless there is a page with the URL. Returns whether
+    /// it was added.
     #[tactic(auto, using(crate::proofs::PageIndex::has_index_there))]
     pub fn add(&mut self, alloc: Global, url: CanonUrl, text: &'a str) -> Result<bool, AllocError>
         ensures added { IfOk result (λ added. added ≡ not (has self.old url)) }
@@ -88,10 +90,11 @@ impl<'a> Pages<'a> {
         Ok(true)
     }
 
-    /// The same of a page whose URL is that first line as it is, so that it need not be made.
+    /// Adds the page whose URL is the first line of this text, unless there is a page with the URL. Returns whether it was added.
     #[tactic(auto, using(crate::proofs::PageIndex::has_index_there))]
     pub fn add_written(&mut self, url: &LinkText<'_>, text: &'a str) -> Result<bool, AllocError>
-        requires { line_in text.now ≡ url.now }
+        requires line { line_in text.now ≡ url.now }
+        requires canonical { canonical url.now ≡ Ok url.now }
         ensures added { IfOk result (λ added. added ≡ not (has self.old url.now)) }
         ensures pages { IfOk result (λ added. self.new ≡ (if added then self.old ++ record { url = url.now; behind = behind_line text.now } ∷ [] else self.old)) }
     {
@@ -103,7 +106,7 @@ impl<'a> Pages<'a> {
         Ok(true)
     }
 
-    /// The page with the URL.
+    /// Returns the page with the URL.
     pub fn get(&self, url: &CanonUrl) -> Option<&KnownPage<'a>>
         ensures page { option_map (λ page. page.now) result ≡ page_with self.now url.now }
         ensures same { IfSome result (λ page. page.now.url ≡ url.now) }
@@ -118,7 +121,7 @@ impl<'a> Pages<'a> {
         }
     }
 
-    /// The index of the page with the URL.
+    /// Returns the index of the page with the URL.
     pub fn find(&self, url: &CanonUrl) -> Option<usize>
         ensures { result ≡ index_of (map (λ page. page.url) self.now) url.now }
     {
@@ -159,11 +162,21 @@ impl<'a> Pages<'a> {
         sum
     }
 
-    /// The page at the index.
+    /// Returns the page at the index.
     pub fn at(&self, index: usize) -> Option<&KnownPage<'a>>
         ensures { option_map (λ page. page.now) result ≡ slice_get self.now index }
     {
         self.list.get(index)
+    }
+
+    /// Appends the URLs of the pages.
+    pub fn push_urls(&self, alloc: Global, all: &mut Vec<CanonUrl>) -> Result<(), NoMemory>
+        ensures { OnOk result (all.new.items ≡ all.old.items ++ urls self.now) }
+    {
+        for page in &self.list {
+            all.push(page.to_url(alloc)?)?;
+        }
+        Ok(())
     }
 
     /// How many bytes of the input are theirs, about.

@@ -3,7 +3,9 @@ ghost use Rattle.std.specs.Prelude.{◌≡◌, ℕ, List, Ok, Err, IfOk, IfErr, 
 ghost use Rattle.crawl_keys.specs.Outcome.{Gives};
 ghost use Rattle.std.specs.Str.Lines.{lines};
 ghost use Rattle.saved_web.specs.SavedWeb.{page_of};
-ghost use Rattle.saved_web.specs.KnownPages.{known_page, page_at};
+ghost use Rattle.saved_web.specs.KnownPages.{page_at, urls_of};
+ghost use Rattle.saved_web.specs.Reading.{AreRead};
+ghost use Rattle.saved_web.specs.WebLines.{page_urls};
 ghost use Rattle.saved_web.specs.WebFaults.{IsSound, IsWebFault, IsWebRefusal};
 
 use crate::add::{Above, check_line};
@@ -15,7 +17,7 @@ use crate::reader::pages_behind;
 use crate::threads::pages_in_threads;
 use crate::web_pages::WebPages;
 use crawl_keys::{Base, CanonUrl};
-use crawl_pages::{Fetch, FetchError, Page, SessionFetch};
+use crawl_pages::{Fetch, FetchError, NoMemory, Page};
 use simdutf8::compat::from_utf8;
 use std::alloc::Global;
 use std::thread::Threads;
@@ -28,18 +30,19 @@ pub struct SavedWeb<'a> {
 }
 
 impl<'a> SavedWeb<'a> {
-    /// The saved web that the bytes are.
+    /// Reads a saved web from its bytes.
     ///
     /// # Errors
-    /// That of the first line that fails a check, and there the first of the checks, in the order of [`WebError`];
-    /// `NoMemory` where a growth was refused.
+    /// The error of the first line that fails a check: the first in the order of [`WebError`] that this line has. `NoMemory` if
+    /// memory ran out.
     pub fn read(alloc: Global, bytes: &'a [u8]) -> Result<SavedWeb<'a>, WebError>
         ensures sound { IfOk result (λ web. IsSound (lines bytes.now)) }
-        // At every URL it has the page that the lines say.
+        // At every URL it has the page that the lines define.
         ensures pages { IfOk result (λ web. (url : List ℕ) → page_at web url ≡ page_of (lines bytes.now) url) }
-        // An error is the fault of the first line that has one, unless a growth was refused.
+        ensures urls { IfOk result (λ web. urls_of web ≡ page_urls (lines bytes.now)) }
+        // An error is the fault of the first line that has one, unless memory ran out.
         ensures fault { IfErr result (λ told. IsWebRefusal (lines bytes.now) told) }
-        // The other way round: sound lines are read, and lines with a fault are refused for it.
+        // Conversely, sound lines are read, and lines with a fault are refused because of it.
         ensures reads { IsSound (lines bytes.now) → Gives WebError.NoMemory page_at result (Ok (page_of (lines bytes.now))) }
         ensures tells { (fault : WebError) → IsWebFault (lines bytes.now) fault → Gives WebError.NoMemory page_at result (Err fault) }
     {
@@ -49,22 +52,23 @@ impl<'a> SavedWeb<'a> {
         })
     }
 
-    /// As [`SavedWeb::read`], by four threads where there is enough to read. Bytes with a fault are then read once more by one
-    /// thread, which tells it.
+    /// Like [`SavedWeb::read`], with four threads if there is enough to read. Bytes with a fault are then read again by one thread,
+    /// which finds the fault.
     ///
     /// # Errors
-    /// Those of [`SavedWeb::read`]. A thread that cannot be started is none: its part is read by the thread that wanted it.
+    /// Those of [`SavedWeb::read`]. It is no error if a thread cannot be started: the thread that needs it reads its part.
     pub fn read_in_threads<R: Threads + Sync>(
         rt: &R,
         alloc: Global,
         bytes: &'a [u8],
     ) -> Result<SavedWeb<'a>, WebError>
         ensures sound { IfOk result (λ web. IsSound (lines bytes.now)) }
-        // At every URL it has the page that the lines say.
+        // At every URL it has the page that the lines define.
         ensures pages { IfOk result (λ web. (url : List ℕ) → page_at web url ≡ page_of (lines bytes.now) url) }
-        // An error is the fault of the first line that has one, unless a growth was refused.
+        ensures urls { IfOk result (λ web. urls_of web ≡ page_urls (lines bytes.now)) }
+        // An error is the fault of the first line that has one, unless memory ran out.
         ensures fault { IfErr result (λ told. IsWebRefusal (lines bytes.now) told) }
-        // The other way round: sound lines are read, and lines with a fault are refused for it.
+        // Conversely, sound lines are read, and lines with a fault are refused because of it.
         ensures reads { IsSound (lines bytes.now) → Gives WebError.NoMemory page_at result (Ok (page_of (lines bytes.now))) }
         ensures tells { (fault : WebError) → IsWebFault (lines bytes.now) fault → Gives WebError.NoMemory page_at result (Err fault) }
     {
@@ -73,12 +77,39 @@ impl<'a> SavedWeb<'a> {
             None => SavedWeb::read(alloc, bytes),
         }
     }
+
+    /// Returns the URLs of its pages, in the order of their lines.
+    ///
+    /// # Errors
+    /// Only out of memory.
+    pub fn page_urls(&self, alloc: Global) -> Result<Vec<CanonUrl>, NoMemory>
+        ensures { IfOk result (λ urls. urls.items ≡ urls_of self.now) }
+    {
+        self.pages.urls(alloc)
+    }
+
+    /// Returns the page at the URL. Its links are looked up in the cache, and found by parsing otherwise.
+    pub(crate) fn page(
+        &self,
+        alloc: Global,
+        cache: &mut LinkCache<'a>,
+        url: &CanonUrl,
+    ) -> Result<Page, FetchError>
+        ensures meaning { IfOk result (λ page. page ≡ page_at self.now url.now) }
+        // Its only error is `NoMemory`.
+        ensures refused { IfErr result (λ e. e ≡ FetchError.NoMemory) }
+    {
+        match self.pages.get(url) {
+            Some(page) => page_behind(alloc, cache, base_of(alloc, url)?, page.behind()),
+            None => Ok(Page::Missing),
+        }
+    }
 }
 
-/// The pages that the lines are.
+/// Reads the pages from the lines.
 fn known_pages(alloc: Global, bytes: &[u8]) -> Result<Pages<'_>, WebError>
     ensures sound { IfOk result (λ _. IsSound (lines bytes.now)) }
-    ensures pages { IfOk result (λ pages. (url : List ℕ) → known_page pages url ≡ page_of (lines bytes.now) url) }
+    ensures read { IfOk result (λ pages. AreRead (lines bytes.now) pages) }
     ensures fault { IfErr result (λ told. IsWebRefusal (lines bytes.now) told) }
 {
     match from_utf8(bytes) {
@@ -87,10 +118,10 @@ fn known_pages(alloc: Global, bytes: &[u8]) -> Result<Pages<'_>, WebError>
     }
 }
 
-/// The pages that the lines of a text are.
+/// Reads the pages from the lines of a text.
 fn pages_in(alloc: Global, text: &str) -> Result<Pages<'_>, WebError>
     ensures sound { IfOk result (λ _. IsSound (lines text.now)) }
-    ensures pages { IfOk result (λ pages. (url : List ℕ) → known_page pages url ≡ page_of (lines text.now) url) }
+    ensures read { IfOk result (λ pages. AreRead (lines text.now) pages) }
     ensures fault { IfErr result (λ told. IsWebRefusal (lines text.now) told) }
 {
     if text.is_empty() {
@@ -99,7 +130,7 @@ fn pages_in(alloc: Global, text: &str) -> Result<Pages<'_>, WebError>
     pages_behind(alloc, text, 0, Above::nothing())
 }
 
-/// The fault of bytes that are not UTF-8.
+/// Returns the fault of bytes that are not UTF-8.
 fn fault_in(alloc: Global, bytes: &[u8]) -> WebError
     requires { ¬ (IsUtf8 bytes.now) }
     ensures { IsWebRefusal (lines bytes.now) result }
@@ -126,50 +157,15 @@ impl Fetch for SavedWeb<'_> {
 
     fn fetch(&self, alloc: Global, url: &CanonUrl) -> Result<Page, FetchError>
         ensures meaning { IfOk result (λ page. page ≡ page_at self.now url.now) }
-        // It never fails of itself.
+        // Its only error is `NoMemory`.
         ensures refused { IfErr result (λ e. e ≡ FetchError.NoMemory) }
     {
         let mut cache = LinkCache::without_slots(alloc);
-        self.fetch_in(alloc, &mut cache, url)
+        self.page(alloc, &mut cache, url)
     }
 }
 
-impl<'a> SessionFetch for SavedWeb<'a> {
-    ghost use Rattle.saved_web.specs.KnownPages.{page_at};
-
-    type Session = LinkCache<'a>;
-
-    ghost meaning = { page_at };
-
-    // What a folder knows is right of links, whatever web they are of.
-    ghost is_of = { λ _ _. Unit {0} };
-
-    fn open_session(&self, alloc: Global, among: u32) -> LinkCache<'a> {
-        LinkCache::new(alloc, among)
-    }
-
-    fn expect(&self, hashes: &[u64]) -> u64 {
-        self.pages.read_ahead(hashes)
-    }
-
-    fn fetch_in(
-        &self,
-        alloc: Global,
-        session: &mut LinkCache<'a>,
-        url: &CanonUrl,
-    ) -> Result<Page, FetchError>
-        ensures meaning { IfOk result (λ page. page ≡ page_at self.now url.now) }
-        // It never fails of itself.
-        ensures refused { IfErr result (λ e. e ≡ FetchError.NoMemory) }
-    {
-        match self.pages.get(url) {
-            Some(page) => page_behind(alloc, session, base_of(alloc, url)?, page.behind()),
-            None => Ok(Page::Missing),
-        }
-    }
-}
-
-/// The base for the links of the page at this URL.
+/// Returns the base for the links of the page at this URL.
 pub(crate) fn base_of(alloc: Global, url: &CanonUrl) -> Result<Base, FetchError>
     ensures base { IfOk result (λ base. base ≡ url.now) }
     ensures refused { IfErr result (λ e. e ≡ FetchError.NoMemory) }

@@ -1,4 +1,4 @@
-//! A saved web whose pages are looked at by threads.
+//! A saved web as a source of a crawl.
 ghost use Rattle.std.specs.Prelude.{◌≡◌, IfOk, IfErr};
 ghost use Rattle.saved_web.specs.KnownPages.{page_at};
 
@@ -11,20 +11,20 @@ use crawl_pages::{FetchError, Page, SessionFetch};
 use std::alloc::Global;
 use std::thread::Threads;
 
-/// A saved web as a source of the same pages. Threads find the links of all pages ahead where these have one host, and else those
-/// of a page that is long.
+/// A saved web as a source of the same pages, with a session that caches the URLs of links. If all pages have one host, threads
+/// resolve their links ahead. Otherwise threads resolve the links of a long page when it is fetched.
 #[derive(Drop)]
 pub struct WebInThreads<'w, 'a, R: Threads> {
     web: &'w SavedWeb<'a>,
     rt: &'w R,
-    /// Some page is long, and may be looked at by threads.
+    /// Whether some page is long, and threads may resolve its links.
     long: bool,
     ahead: Ahead<'w, 'a>,
     ghost own: { ahead ≡ web.now.pages },
 }
 
 impl<'w, 'a, R: Threads + Sync> WebInThreads<'w, 'a, R> {
-    /// The web, and whether threads may look at its pages.
+    /// Returns a source of the pages of this web. Threads resolve links only if `in_threads`.
     pub fn new(
         rt: &'w R,
         alloc: Global,
@@ -57,7 +57,7 @@ impl<'w, 'a, R: Threads> SessionFetch for WebInThreads<'w, 'a, R> {
     }
 
     fn expect(&self, hashes: &[u64]) -> u64 {
-        self.web.expect(hashes)
+        self.web.pages.read_ahead(hashes)
     }
 
     fn fetch_in(
@@ -67,14 +67,14 @@ impl<'w, 'a, R: Threads> SessionFetch for WebInThreads<'w, 'a, R> {
         url: &CanonUrl,
     ) -> Result<Page, FetchError>
         ensures meaning { IfOk result (λ page. page ≡ page_at self.now.web.now url.now) }
-        // It never fails of itself.
+        // Its only error is `NoMemory`.
         ensures refused { IfErr result (λ e. e ≡ FetchError.NoMemory) }
     {
         if let Some(page) = self.ahead.page(alloc, url) {
             return Ok(page);
         }
         if !self.long {
-            return self.web.fetch_in(alloc, session, url);
+            return self.web.page(alloc, session, url);
         }
         match self.web.pages.get(url) {
             Some(page) => page_in_threads(self.rt, alloc, session, url, page.behind()),

@@ -2,11 +2,12 @@
 ghost use Rattle.std.specs.Prelude.{◌≡◌, ◌++◌, ℕ, List, Some, true, false, slice_get, IfOk, IfSome};
 ghost use Rattle.std.specs.List.{flat_map};
 ghost use Rattle.std.specs.Option.{option_map};
-ghost use Rattle.saved_web.specs.PageLists.{page_with, has};
+ghost use Rattle.saved_web.specs.PageLists.{page_with, has, urls};
 
 use crate::known_page::KnownPage;
 use crate::pages::Pages;
 use crawl_keys::CanonUrl;
+use crawl_pages::NoMemory;
 use std::alloc::{AllocError, Global};
 use std::marker::Model;
 use std::thread::Threads;
@@ -44,7 +45,7 @@ impl<'a> WebPages<'a> {
         Ok(WebPages { parts })
     }
 
-    /// The page with the URL.
+    /// Returns the page with the URL.
     pub fn get(&self, url: &CanonUrl) -> Option<&KnownPage<'a>>
         ensures page { option_map (λ page. page.now) result ≡ page_with self.now url.now }
         ensures same { IfSome result (λ page. page.now.url ≡ url.now) }
@@ -52,18 +53,25 @@ impl<'a> WebPages<'a> {
         first_with(&self.parts, url)
     }
 
-    /// The index of the page with the URL.
+    /// Returns the index of the page with the URL.
     pub fn find(&self, url: &CanonUrl) -> Option<usize>
         ensures { IfSome result (λ index. slice_get self.now index ≡ page_with self.now url.now) }
     {
         index_with(&self.parts, url)
     }
 
-    /// The page at the index.
+    /// Returns the page at the index.
     pub fn page(&self, index: usize) -> Option<&KnownPage<'a>>
         ensures { IfSome result (λ page. slice_get self.now index ≡ Some page.now) }
     {
         page_at(&self.parts, index)
+    }
+
+    /// Returns the URLs of the pages.
+    pub fn urls(&self, alloc: Global) -> Result<Vec<CanonUrl>, NoMemory>
+        ensures { IfOk result (λ all. all.items ≡ urls self.now) }
+    {
+        urls_in(alloc, &self.parts)
     }
 
     /// Reads what look-ups of URLs with these hashes read, and what stands first on their pages: the slots of all, then what these
@@ -189,6 +197,17 @@ fn page_at<'p, 'a>(parts: &'p [Pages<'a>], index: usize) -> Option<&'p KnownPage
         index -= part.len();
     }
     None
+}
+
+/// Returns the URLs of the pages of the parts.
+fn urls_in(alloc: Global, parts: &[Pages<'_>]) -> Result<Vec<CanonUrl>, NoMemory>
+    ensures { IfOk result (λ all. all.items ≡ urls (flat_map (λ part. part) parts.now)) }
+{
+    let mut all = Vec::new(alloc);
+    for part in parts {
+        part.push_urls(alloc, &mut all)?;
+    }
+    Ok(all)
 }
 
 /// Whether a page of each has one URL.

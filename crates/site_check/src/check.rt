@@ -16,7 +16,7 @@ use crate::anchors::{MissingAnchor, part_rows, told_parts};
 use crate::ignored::unused;
 use crate::input::CheckInput;
 use crate::leads::{Lead, Maps, link_indices, targets};
-use crate::linked::{Linked, is_missing, linked_results};
+use crate::linked::{Linked, linked_results};
 use crate::located::{TargetPlace, by_number};
 use crate::missing_anchors::{AnchorCounts, lacking, sort_by_anchor};
 use crate::names::{Named, names_of};
@@ -301,7 +301,7 @@ fn missing_texts<'a>(
 {
     let mut texts = Vec::new(alloc);
     for one in linked {
-        if is_missing(one.result) {
+        if one.result.page.is_missing() {
             texts.push(shown(front, one.result.url.as_str()))?;
         }
     }

@@ -6,7 +6,7 @@ ghost use Rattle.site_check.specs.Broken.{result_at};
 ghost use Rattle.site_check.specs.Leads.{HasNoLink, indices_at, indices_in, lead_to, leads_at, leads_from, leads_of, is_told, missing_from, moved_number, moved_target, number_at, number_in, number_with, own_number, target_at, targets_of, to_number};
 
 use crate::ignored::is_ignored;
-use crate::linked::{Linked, is_missing};
+use crate::linked::Linked;
 use crate::shown::shown;
 use crawl_keys::CanonUrl;
 use crawl_pages::{NoMemory, Page, PageResult};
@@ -84,7 +84,7 @@ fn own_number(front: &str, ignores: &[String], number: usize, one: &PageResult) 
 fn is_told(front: &str, ignores: &[String], one: &PageResult) -> bool
     ensures { result ≡ is_told front.now (map string_bytes ignores.now) one.now }
 {
-    is_missing(one) && !is_ignored(ignores, shown(front, one.url.as_str()))
+    one.page.is_missing() && !is_ignored(ignores, shown(front, one.url.as_str()))
 }
 
 fn push_target<'a>(

@@ -2,13 +2,12 @@
 ghost use Rattle.std.specs.Prelude.{◌≡◌, ◌++◌, ◌+◌, ◌<◌, ◌^◌, ℕ, List, IfOk, IsSome, Some, map, filter, length, slice_get, false, true};
 ghost use Rattle.std.specs.List.{list_any};
 ghost use Rattle.std.specs.Str.{bytes_eq};
-ghost use Rattle.crawl_pages.specs.Pages.{is_missing};
 ghost use Rattle.crawl_pages.specs.declared.page.PageResult.{PageResult};
 ghost use Rattle.crawl_sources.specs.Sources.{sources_of};
 ghost use Rattle.crawl_sources.specs.Tallies.{pointed, count_of, IsTally};
 ghost use Rattle.site_check.specs.Broken.{is_unfound, linked, linked_at};
 
-use crawl_pages::{NoMemory, Page, PageResult};
+use crawl_pages::{NoMemory, PageResult};
 use crawl_sources::{Tallies, tally_links, tally_of};
 use std::alloc::Global;
 use std::thread::{Threads, join};
@@ -131,22 +130,7 @@ fn unfound(alloc: Global, results: &[PageResult]) -> Result<Vec<&PageResult>, No
 fn is_unfound(one: &PageResult) -> bool
     ensures { result ≡ is_unfound one.now }
 {
-    match one.page {
-        Page::Found { .. } => false,
-        Page::Moved { .. } => true,
-        Page::Missing => true,
-    }
-}
-
-/// Whether there is no page at the result's URL.
-pub(crate) fn is_missing(one: &PageResult) -> bool
-    ensures { result ≡ is_missing one.now.page }
-{
-    match one.page {
-        Page::Found { .. } => false,
-        Page::Moved { .. } => false,
-        Page::Missing => true,
-    }
+    !one.page.is_found()
 }
 
 /// Each of these results with the count that is kept for its URL.

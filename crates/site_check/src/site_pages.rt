@@ -135,7 +135,7 @@ impl<'a> Pages<'a> {
     /// The anchors of a result's page, if it was found and is a document.
     pub(crate) fn anchors_of(&self, one: &PageResult) -> Option<&'a PageAnchors> {
         let anchors = self.anchors;
-        if !is_found(&one.page) {
+        if !one.page.is_found() {
             return None;
         }
         anchors.get(self.find_own(one.url.as_str())?)
@@ -153,8 +153,4 @@ impl<'a> Pages<'a> {
             None => Ok(true),
         }
     }
-}
-
-fn is_found(page: &Page) -> bool {
-    matches!(page, Page::Found { .. })
 }

@@ -1,6 +1,5 @@
 //! The totals of a check.
 ghost use Rattle.std.specs.Prelude.{◌≡◌, IfOk, count_by};
-ghost use Rattle.crawl_pages.specs.Pages.{is_found};
 ghost use Rattle.site_check.specs.Aliases.{is_alias_page, is_in, is_own_page};
 ghost use Rattle.site_check.specs.Totals.{capped, is_part, link_count, links_in, own_links, part_count, place_count, totals_by, totals_of, url_count};
 
@@ -73,23 +72,13 @@ fn alias_count<'a>(urls: &AliasUrls<'a>, results: &'a [PageResult]) -> u64
 fn is_own_page<'a>(urls: &AliasUrls<'a>, one: &'a PageResult) -> bool
     ensures { result ≡ is_own_page (is_in urls.now) one.now }
 {
-    is_found(&one.page) && !urls.contains(&one.url.hashed())
+    one.page.is_found() && !urls.contains(&one.url.hashed())
 }
 
 fn is_alias_page<'a>(urls: &AliasUrls<'a>, one: &'a PageResult) -> bool
     ensures { result ≡ is_alias_page (is_in urls.now) one.now }
 {
-    is_found(&one.page) && urls.contains(&one.url.hashed())
-}
-
-fn is_found(page: &Page) -> bool
-    ensures { result ≡ is_found page.now }
-{
-    match page {
-        Page::Found { .. } => true,
-        Page::Moved { .. } => false,
-        Page::Missing => false,
-    }
+    one.page.is_found() && urls.contains(&one.url.hashed())
 }
 
 /// The number of links in the pages that were found at the own URLs of files.

@@ -1,6 +1,6 @@
 //! Files that no link leads to.
 use crate::shown::shown;
-use crawl_pages::{NoMemory, Page, PageResult};
+use crawl_pages::{NoMemory, PageResult};
 use saved_site::SiteFiles;
 use std::alloc::Global;
 
@@ -33,7 +33,7 @@ fn reached_files(
 ) -> Result<Vec<bool>, NoMemory> {
     let mut reached = vec![in alloc; false; files.name_count()]?;
     for result in results {
-        if result.page != Page::Missing
+        if !result.page.is_missing()
             && let Some(index) = files.file_of(result.url.as_str())
             && let Some(is_reached) = reached.get_mut(index)
         {

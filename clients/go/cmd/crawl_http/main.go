@@ -11,8 +11,10 @@
 // "failed" if the host does not respond.
 //
 //   - It respects robots.txt, and waits between two requests to a host: --delay seconds, or the
-//     Crawl-delay of robots.txt if that is longer. It skips a host if its robots.txt asks for more
-//     than a day, or if three requests for it fail: there is no response, or its status is 5xx.
+//     Crawl-delay of robots.txt if that is longer. Meanwhile the worker visits its other hosts, so
+//     the URLs of a host are not always fetched in the order in which they were found. It skips a
+//     host if its robots.txt asks for more than a day, or if three requests for it fail: there is
+//     no response, or its status is 5xx.
 //   - It reads at most --largest bytes of a page, in at most 30 seconds.
 //   - It offers the target of a redirect, and does not follow it.
 //   - With --log, it resumes after Ctrl-C, kill -9 or a crash: run the same command again.
@@ -125,11 +127,15 @@ func crawl(ctx context.Context, s *settings) error {
 	defer cancel()
 	visitors := make([]*visitor, s.frontier.Workers)
 	for queue := range visitors {
-		visitors[queue] = newVisitor(s)
+		visitors[queue] = newVisitor(s, f, queue)
 	}
 	var count atomic.Int64
 	return f.Run(ctx, func(ctx context.Context, queue int, url string) error {
-		r := visitors[queue].visit(ctx, url)
+		v := visitors[queue]
+		if !v.isReady(ctx, url) {
+			return frontier.ErrLater
+		}
+		r := v.visit(ctx, url)
 		if err := ctx.Err(); err != nil {
 			return err // the URL stays in progress
 		}

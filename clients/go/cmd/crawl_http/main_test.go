@@ -2,6 +2,7 @@ package main
 
 import (
 	"bytes"
+	"context"
 	"fmt"
 	"math/rand"
 	"net"
@@ -17,6 +18,8 @@ import (
 	"syscall"
 	"testing"
 	"time"
+
+	"mercator.example/frontier"
 )
 
 // These tests run the crawler over HTTP on 127.0.0.0/8, and the program that MERCATOR names.
@@ -343,6 +346,99 @@ func TestPoliteCrawl(t *testing.T) {
 	}
 	sort.Strings(requested)
 	check(t, "requests", requested, paths)
+}
+
+// One worker visits ten hosts in about the time that one host takes, and each with its delay.
+func TestManyHosts(t *testing.T) {
+	needProgram(t)
+	const hosts, pages = 10, 5
+	const delay = 300 * time.Millisecond
+	var mutex sync.Mutex
+	times := map[int][]time.Time{}
+	port := serve(t, hosts, func(w http.ResponseWriter, r *http.Request, host int) {
+		mutex.Lock()
+		times[host] = append(times[host], time.Now())
+		mutex.Unlock()
+		if r.URL.Path == "/robots.txt" {
+			http.NotFound(w, r)
+			return
+		}
+		w.Header().Set("Content-Type", "text/html")
+		_, port, _ := net.SplitHostPort(r.Host)
+		for host := 1; r.URL.Path == "/" && host <= hosts; host++ {
+			for page := 0; page < pages; page++ {
+				fmt.Fprintf(w, "<a href=http://127.0.0.%d:%s/%d>", host, port, page)
+			}
+		}
+	})
+	log := filepath.Join(t.TempDir(), "log")
+	begun := time.Now()
+	status, statuses, stderr := crawlAll(t, "--workers", "1", "--delay", fmt.Sprint(delay.Seconds()), "--log", log,
+		fmt.Sprintf("http://127.0.0.1:%d/", port))
+	check(t, "the status", status, 0)
+	check(t, "messages", stderr, "")
+	check(t, "the number of URLs", len(statuses), 1+hosts*pages)
+	// Host by host they would take 17 seconds.
+	if took := time.Since(begun); took > 8*time.Second {
+		t.Errorf("the crawl took %v", took)
+	}
+	for host, all := range times {
+		for i := 1; i < len(all); i++ {
+			if pause := all[i].Sub(all[i-1]); pause < delay-10*time.Millisecond {
+				t.Errorf("host %d was not given its delay: %v", host, pause)
+			}
+		}
+	}
+	text, err := os.ReadFile(log)
+	check(t, "the log", err, nil)
+	if count := strings.Count(string(text), "\nlater "); count == 0 || count > (1+hosts*pages)*hosts*(oldHosts+1) {
+		t.Errorf("%d URLs were put back", count)
+	}
+}
+
+// While all hosts of a queue have to wait, hosts that are found elsewhere are visited.
+func TestHostsThatAreFoundDuringAWait(t *testing.T) {
+	needProgram(t)
+	const hosts = 8
+	var slow string // the host that waits for an hour
+	port := serve(t, hosts, func(w http.ResponseWriter, r *http.Request, _ int) {
+		switch {
+		case r.URL.Path != "/robots.txt":
+			w.Header().Set("Content-Type", "text/html")
+		case strings.HasPrefix(r.Host, slow+":"):
+			fmt.Fprint(w, "User-agent: *\nCrawl-delay: 3600")
+		}
+		if r.URL.Path == "/links" {
+			time.Sleep(time.Second)
+			_, port, _ := net.SplitHostPort(r.Host)
+			for host := 1; host <= hosts; host++ {
+				fmt.Fprintf(w, "<a href=http://127.0.0.%d:%s/new>", host, port)
+			}
+		}
+	})
+	f, err := frontier.Open(context.Background(), frontier.Options{Workers: 2})
+	check(t, "open", err, nil)
+	defer f.Close()
+	for host := 1; host <= hosts; host++ {
+		f.Offer(fmt.Sprintf("http://127.0.0.%d:%d/", host, port))
+	}
+	var seeds [2]string // a host of each queue
+	for queue := range seeds {
+		seeds[queue], err = f.Take(context.Background(), queue)
+		check(t, "a host of the queue", err, nil)
+	}
+	slow = hostOf(seeds[0])
+	// All but the second and third URL of the slow host.
+	pages := 1 + 1 + hosts - 1
+	begun := time.Now()
+	status, statuses, stderr := crawlAll(t, "--workers", "2", "--delay", "0", "--pages", fmt.Sprint(pages),
+		seeds[0], seeds[0]+"2", seeds[1]+"links")
+	check(t, "the status", status, 2)
+	check(t, "messages", stderr, "")
+	check(t, "the number of URLs", len(statuses), pages)
+	if took := time.Since(begun); took > time.Minute {
+		t.Errorf("the crawl took %v", took)
+	}
 }
 
 func TestHostsThatFail(t *testing.T) {

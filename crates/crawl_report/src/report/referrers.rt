@@ -12,7 +12,7 @@ ghost use Rattle.crawl_sources.specs.Tallies.{count_of, pointed, IsTally};
 use crate::out::Out;
 use crate::report::Sources;
 use crate::row::Row;
-use crawl_pages::{NoMemory, Page, PageResult};
+use crawl_pages::{NoMemory, PageResult};
 use crawl_sources::{Tallies, Tally, tally_links, tally_of};
 use std::alloc::Global;
 
@@ -60,11 +60,7 @@ fn told(alloc: Global, pages: &[PageResult], moved: bool) -> Result<Vec<&PageRes
 fn is_told(one: &PageResult, moved: bool) -> bool
     ensures { result ≡ is_told moved one.now }
 {
-    match one.page {
-        Page::Missing => true,
-        Page::Moved { .. } => moved,
-        Page::Found { .. } => false,
-    }
+    one.page.is_missing() || moved && one.page.is_moved()
 }
 
 /// Prints the sources of each of these, by the counts that are kept for their URLs.

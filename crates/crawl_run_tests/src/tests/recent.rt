@@ -1,6 +1,6 @@
-//! That a worker remembers what it offered.
+//! A worker remembers the URLs that it offered.
 use crawl_keys::{CanonUrl, canonical};
-use crawl_workers::RecentUrls;
+use crawl_workers::testing::RecentUrls;
 use std::alloc::Global;
 
 const URLS: u32 = 5_000;
@@ -11,7 +11,7 @@ fn numbered(alloc: Global, number: u32) -> Option<CanonUrl> {
     canonical(alloc, text.as_str()).ok()
 }
 
-// Remembers the URL if it is not known, and answers whether it was not. In later rounds it comes again.
+// Remembers the URL if it is not known, and returns whether it was not. In later rounds it comes again.
 fn remember(alloc: Global, recent: &mut RecentUrls, number: u32, again: bool) -> Option<bool> {
     let mut url = numbered(alloc, number)?;
     if recent.has(&mut url) {
@@ -21,7 +21,7 @@ fn remember(alloc: Global, recent: &mut RecentUrls, number: u32, again: bool) ->
     Some(true)
 }
 
-// Remembers each of the URLs that is not known, and answers how many those were.
+// Remembers each of the URLs that is not known, and returns their number.
 fn remember_unknown(alloc: Global, recent: &mut RecentUrls, again: bool) -> Option<u32> {
     let mut unknown = 0u32;
     for number in 0..URLS {
@@ -32,9 +32,9 @@ fn remember_unknown(alloc: Global, recent: &mut RecentUrls, again: bool) -> Opti
     Some(unknown)
 }
 
-// None is known before it was remembered. Of the first round, in which none comes again, fewer than half are: the table is small.
-// After two rounds at most a quarter has to be told again, and then a sixth: it grows until few come into the slots of others.
-// A body of `remember` that forgets everything meets its clause too.
+// No URL is known before it was remembered. After the first round, in which no URL comes again, fewer than half are known: the
+// table is small. After the second round at most a quarter is unknown, and then a sixth: the table grows until few URLs share a
+// slot. A body of `remember` that forgets everything also meets its clause.
 fn remembers(alloc: Global) -> Option<bool> {
     let mut recent = RecentUrls::new(alloc);
     let first = remember_unknown(alloc, &mut recent, false)?;

@@ -1,4 +1,4 @@
-//! A source whose session remembers a page, and a run of it in threads.
+//! A source whose session keeps a URL, and runs of it.
 ghost use Rattle.std.specs.Prelude.{◌≡◌, Some, IfSome, IfOk};
 ghost use Rattle.crawl_pages.specs.declared.page.Page.TheVariants.{Moved};
 
@@ -6,14 +6,14 @@ use crate::tests::runs::{How, finishes, seeded};
 use crawl_frontier::{Frontier, Name, Setup};
 use crawl_keys::{CanonUrl, Filter, KeyError, canonical};
 use crawl_pages::{FetchError, Page, SessionFetch};
-use crawl_workers::{run_threads_in, run_turns_in};
+use crawl_workers::{run_threads, run_turns};
 use std::alloc::Global;
 use std::marker::Brand;
 use std::sync::Wait;
 use std::sync::atomic::{AtomicU64, Ordering};
 use std::thread::Threads;
 
-// Every page has moved to one URL. It keeps the sum of the hashes that it was told to expect.
+// A source whose pages have all moved to one URL. It adds up the hashes that it is to expect.
 #[derive(Drop)]
 pub struct AllMoved {
     pub to: CanonUrl,
@@ -21,7 +21,7 @@ pub struct AllMoved {
 }
 
 impl SessionFetch for AllMoved {
-    // Where pages have moved to, once it was looked up.
+    // The URL that pages have moved to, after the first fetch.
     type Session = Option<CanonUrl>;
 
     ghost meaning = { λ source _. Moved (Some source.to) };
@@ -67,7 +67,7 @@ fn moved_to(url: &CanonUrl) -> Result<Page, FetchError>
 
 const SEEDS: [&str; 3] = ["http://a.test/", "http://b.test/", "http://a.test/x"];
 
-// The sum of the seeds' hashes.
+// Returns the sum of the seeds' hashes.
 fn hashes_of_seeds(alloc: Global) -> u64 {
     let mut sum: u64 = 0;
     for text in SEEDS {
@@ -78,7 +78,7 @@ fn hashes_of_seeds(alloc: Global) -> u64 {
     sum
 }
 
-// How many results the workers have, where they have an account.
+// Returns the number of the workers' results, if they have an account.
 fn results_of<K: Name + Send + Sync, F: SessionFetch + Sync, R: Threads + Wait + Sync>(
     rt: &R,
     alloc: Global,
@@ -95,8 +95,8 @@ fn results_of<K: Name + Send + Sync, F: SessionFetch + Sync, R: Threads + Wait +
     let (frontier, workers, seeder) = Frontier::<K>::new(alloc, setup, filter).ok()?;
     let sender = seeded(rt, alloc, &frontier, seeder, &SEEDS);
     let ends = match how {
-        How::Turns => run_turns_in(rt, alloc, &frontier, workers, source),
-        _ => run_threads_in(rt, alloc, &frontier, workers, source),
+        How::Turns => run_turns(rt, alloc, &frontier, workers, source),
+        _ => run_threads(rt, alloc, &frontier, workers, source),
     };
     let ends = ends.unwrap_or(Vec::new(alloc));
     let mut results = 0usize;
@@ -110,7 +110,7 @@ fn results_of<K: Name + Send + Sync, F: SessionFetch + Sync, R: Threads + Wait +
     }
 }
 
-// How many results there are, and the sum of the hashes that the source was told to expect.
+// Returns the number of results, and the sum of the hashes that the source was to expect.
 fn found_by<R: Threads + Wait + Sync>(
     rt: &R,
     alloc: Global,
@@ -126,7 +126,7 @@ fn found_by<R: Threads + Wait + Sync>(
     Some((results, source.expected.load(Ordering::SeqCst)))
 }
 
-// Three seeds, and the URL that all pages moved to.
+// The results are those of three seeds and of the URL that all pages moved to.
 #[test]
 fn sessions_serve_each_worker(rt: HostRuntime) {
     for workers in [1, 3] {
@@ -137,7 +137,7 @@ fn sessions_serve_each_worker(rt: HostRuntime) {
     }
 }
 
-// A worker that begins tells its source of all that waits for it.
+// A worker announces to its source all URLs that wait when it begins.
 #[test]
 fn sources_expect_the_seeds(rt: HostRuntime) {
     let sum = hashes_of_seeds(rt.alloc());

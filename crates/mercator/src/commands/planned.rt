@@ -84,7 +84,7 @@ pub struct CrawlOptions {
 /// The options of a session.
 #[derive(Drop)]
 pub struct SessionPlan {
-    /// The number of workers, each with its own queue; all parts together have 1 to 512.
+    /// The number of workers, each with its own queue: 1 to 512. All parts together have at most 2^20.
     pub workers: u32,
     /// The most URLs that are waiting or in progress at a time: 1 to 2^40.
     pub max: u64,

@@ -1,5 +1,6 @@
 //! The frontier as a co-process.
 ghost use Rattle.std.specs.Prelude.{◌≡◌, ◌*◌, ◌<◌, ◌≤◌, None, Some, IfOk, IfErr, IsErr, true};
+ghost use Rattle.crawl_core.specs.Limits.{queue_limit};
 ghost use Rattle.crawl_limits.specs.Limits.{AreLimits};
 ghost use Rattle.crawl_session.specs.Frontiers.{Shows, start};
 ghost use Rattle.mercator.specs.Faults.{of_session, status_of_fault};
@@ -106,9 +107,9 @@ fn part_session(
     max: u64,
     filter: Filter,
 ) -> Result<Session, Fault>
-    requires some_queue { 1 ≤ part.queues }
+    requires limits { AreLimits part.queues max }
     requires there { part.number < parts }
-    requires limits { AreLimits (part.queues * parts) max }
+    requires few { part.queues * parts ≤ queue_limit }
     ensures start { IfOk result (λ session. Shows session.core (start (part.queues * parts) max)) }
     ensures workers { IfOk result (λ session. session.settings.workers ≡ part.queues * parts) }
     ensures suffixes { IfOk result (λ session. session.settings.suffixes ≡ filter) }

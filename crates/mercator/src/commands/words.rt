@@ -1,5 +1,6 @@
 //! Parses the arguments of a command line with `clap`.
 ghost use Rattle.std.specs.Prelude.{◌≡◌, ◌*◌, ◌<◌, ◌≤◌, IfOk, IfErr, IfSome, string_bytes};
+ghost use Rattle.crawl_core.specs.Limits.{queue_limit};
 ghost use Rattle.crawl_limits.specs.Limits.{worker_limit, pending_limit};
 ghost use Rattle.mercator.specs.Plans.{IsPartOf, IsSessionPlan, IsShown, IsVisible, IsWithinLimits, all_queues, lists_input};
 ghost use Rattle.mercator.specs.declared.commands.words.PlanError.TheVariants as wrong;
@@ -9,6 +10,7 @@ use crate::commands::planned::{CrawlOptions, LogPlan, Plan, SessionPlan};
 use crate::commands::report_words::parts_of;
 use clap::error::ErrorKind;
 use clap::{ArgMatches, Command};
+use crawl_core::QUEUE_LIMIT;
 use crawl_limits::{PENDING_LIMIT, WORKER_LIMIT};
 use crawl_replay::number32;
 use shown_text::laws::shown_text_has_no_hidden_character;
@@ -135,7 +137,7 @@ For more information, try '--help'.
 ";
 
 const BAD_PART: &str = "\
-error: '--part <I/K>' requires that I is less than K, and at most 512 workers in all parts together
+error: '--part <I/K>' requires that I is less than K, and at most 1048576 workers in all parts together
 
 For more information, try '--help'.
 ";
@@ -272,11 +274,9 @@ fn part_of(
     found: &ArgMatches<'_>,
     workers: u32,
 ) -> Result<Option<(u32, u32)>, PlanError>
-    requires some { 1 ≤ workers }
     requires few { workers ≤ worker_limit }
     ensures there { IfOk result IsPartOf }
-    ensures some_queue { IfOk result (λ part. 1 ≤ all_queues workers part) }
-    ensures few_queues { IfOk result (λ part. all_queues workers part ≤ worker_limit) }
+    ensures few_queues { IfOk result (λ part. all_queues workers part ≤ queue_limit) }
     ensures shown { IfErr result IsShown }
 {
     let Some(text) = found.get_str("part") else {
@@ -291,14 +291,13 @@ fn part_of(
 /// Parses `I/K`.
 fn part_in(text: &str, workers: u32) -> Option<(u32, u32)>
     ensures there { IfSome result (λ part. part.0 < part.1) }
-    ensures some_queue { IfSome result (λ part. 1 ≤ workers * part.1) }
-    ensures few_queues { IfSome result (λ part. workers * part.1 ≤ worker_limit) }
+    ensures few_queues { IfSome result (λ part. workers * part.1 ≤ queue_limit) }
 {
     let (number, parts) = text.split_once('/')?;
     let number = number32(number)?;
     let parts = number32(parts)?;
     let queues = workers.checked_mul(parts)?;
-    if number < parts && 1 <= queues && queues <= WORKER_LIMIT {
+    if number < parts && queues <= QUEUE_LIMIT {
         Some((number, parts))
     } else {
         None

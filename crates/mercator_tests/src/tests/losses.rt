@@ -2,7 +2,6 @@
 use crate::tests::sources::WithoutHost;
 use crate::tests::webs::RING;
 use crawl_keys::{CanonUrl, Filter, canonical};
-use crawl_pages::WithoutSession;
 use crawl_run::{CrawlSettings, Mode, crawl_with};
 use crawl_workers::Losses;
 use saved_web::SavedWeb;
@@ -37,8 +36,7 @@ fn lost_from<R: Threads + Wait + Sync>(
         mode,
         filter: &every,
     };
-    let source = WithoutSession { fetcher: source };
-    match crawl_with(rt, alloc, &source, &settings, &[seed]) {
+    match crawl_with(rt, alloc, source, &settings, &[seed]) {
         Ok(_) => None,
         Err(failure) => Some(failure.losses),
     }

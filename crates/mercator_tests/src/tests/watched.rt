@@ -1,8 +1,8 @@
-//! Crawls with an observer: what it is told, and that nothing else changes.
+//! Crawls with an observer: what is reported to it, and that nothing else changes.
 ghost use Rattle.saved_web.specs.KnownPages.{page_at};
 
 use crawl_keys::{CanonUrl, Filter, canonical};
-use crawl_pages::{Fetch, FetchError, Page, WithoutSession};
+use crawl_pages::{Fetch, FetchError, Page};
 use crawl_report::report_text;
 use crawl_run::{CrawlSettings, Mode, Observe, Watched, crawl_with};
 use saved_web::SavedWeb;
@@ -71,10 +71,9 @@ fn report_from<R: Threads + Wait + Sync>(
     settings: &CrawlSettings<'_>,
     seeds: &[CanonUrl],
 ) -> Option<Vec<u8>> {
-    let source = WithoutSession { fetcher: source };
     let found = match heard {
-        Some(heard) => crawl_with(rt, alloc, &Watched::new(&source, heard), settings, seeds),
-        None => crawl_with(rt, alloc, &source, settings, seeds),
+        Some(heard) => crawl_with(rt, alloc, &Watched::new(source, heard), settings, seeds),
+        None => crawl_with(rt, alloc, source, settings, seeds),
     };
     report_text(alloc, found.ok()?.result.pages()).ok()
 }

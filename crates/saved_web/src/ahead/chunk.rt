@@ -174,9 +174,6 @@ fn links_of<'a>(
     let Ok(base) = Base::canonical(alloc, page.url()) else {
         return Ok(None);
     };
-    if base.as_str() != page.url() {
-        return Ok(None);
-    }
     match page_behind(alloc, cache, base, page.behind())? {
         Page::Found { links, skipped } => Ok(Some(LinksAhead {
             indices: indices_of(alloc, urls, links.as_slice())?,

@@ -10,7 +10,7 @@ pub invariant_of-self-2 : goal.invariant_of-self-2
 invariant_of-self-2 c =
     let pages = c.self.inside.list.items in
     let page : PageRead = record { url = c.args.url.now; behind = behind_line c.args.text.now } in
-    let same : c.written.result ≡ page = c.written.ensures ∙ (λ i. record { url = c.requires i; behind = behind_line c.args.text.now }) in
+    let same : c.written.result ≡ page = c.written.ensures ∙ (λ i. record { url = c.requires.line i; behind = behind_line c.args.text.now }) in
     let pushed : c.push.new.self.items ≡ pages ++ c.written.result ∷ [] = search rules in
     let absent : is_some c.in_ok-found.found ≡ false = search rules in
     pushed_item (λ (one : PageRead). one.url) hash_of c.find_or_insert.new.self pages c.push.new.self.items page (pushed ∙ ap (λ p. pages ++ p ∷ []) same) (c.in_ok-found.ensures.pushed (none_there c.in_ok-found.found absent))
@@ -22,7 +22,7 @@ pub returns-clause-pages : goal.returns-clause-pages
 returns-clause-pages c =
     let pages = c.self.inside.list.items in
     let page : PageRead = record { url = c.args.url.now; behind = behind_line c.args.text.now } in
-    let same : c.written.result ≡ page = c.written.ensures ∙ (λ i. record { url = c.requires i; behind = behind_line c.args.text.now }) in
+    let same : c.written.result ≡ page = c.written.ensures ∙ (λ i. record { url = c.requires.line i; behind = behind_line c.args.text.now }) in
     let pushed : c.push.new.self.items ≡ pages ++ c.written.result ∷ [] = search rules in
     let own : pages ≡ c.args.self.now = search rules in
     pushed ∙ (λ i. own i ++ same i ∷ [])

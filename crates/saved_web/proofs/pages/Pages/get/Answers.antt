@@ -1,6 +1,7 @@
 use Rattle.std.proofs.Common.{rules, ◌≡◌, Some, None, sym, ◌∙◌}
 use Rattle.hash_index.specs.Lists.{index_of}
-use Rattle.saved_web.proofs.PageIndex.{urls, page_there, no_page, item_at, has_url}
+use Rattle.saved_web.proofs.PageIndex.{page_there, no_page, item_at, has_url}
+use Rattle.saved_web.specs.PageLists.{urls}
 use Rattle.saved_web.proofs.pages.Pages.get.Goals as goal
 
 pub returns-in-Some-clause-page : goal.returns-in-Some-clause-page

@@ -2,7 +2,7 @@ use Rattle.crawl_keys.specs.HostFilter.{allows}
 use Rattle.crawl_workers.proofs.Outcomes.{told_nothing}
 use Rattle.crawl_workers.proofs.Running.{ran_nothing}
 use Rattle.crawl_workers.proofs.Tallies.{tally_none}
-use Rattle.crawl_workers.proofs.run.run_worker_in.Goals as goal
+use Rattle.crawl_workers.proofs.run.run_worker.Goals as goal
 
 pub loop-init : goal.loop-init
 loop-init g c =

@@ -1,6 +1,6 @@
 use Rattle.crawl_keys.specs.HostFilter.{allows}
 use Rattle.crawl_workers.specs.Turn.{Goes}
-use Rattle.crawl_workers.proofs.run.run_worker_in.Given as goal
+use Rattle.crawl_workers.proofs.run.run_worker.Given as goal
 
 abbrev pub invariant-loop : goal.invariant-loop
 invariant-loop g l = g.F.SessionFetch.is_of l.fetcher l.session

@@ -1,7 +1,7 @@
 use Rattle.std.proofs.Common.{arith}
 use Rattle.crawl_keys.specs.HostFilter.{allows}
 use Rattle.crawl_workers.proofs.Turning.{take_front}
-use Rattle.crawl_workers.proofs.turns.run_turns_in.Goals as goal
+use Rattle.crawl_workers.proofs.turns.run_turns.Goals as goal
 
 pub ends_of-requires-clause-ended : goal.ends_of-requires-clause-ended
 ends_of-requires-clause-ended g c =
