@@ -3,10 +3,10 @@
 
 Both commands run on one processor. Times are CPU times, in user and in system mode, because elapsed times also depend on what else
 the machine does. The least of RUNS runs counts (environment variable, default: 3), or that of one run that takes more than 5 seconds.
-Memory is the greatest peak of the runs, by GNU time: to the system, the peak of a program that Python starts is at least that of
-Python, so that the memory of a small input could not be seen, and the memory per byte would seem to grow. From both, those of a folder
-with one empty file are subtracted. A run is killed after 60 seconds, and it may reserve MEMORY GiB (environment variable, default: 12;
-0 for no limit, as a program with the address sanitizer needs it).
+Memory is the greatest peak of the runs, measured by GNU time. If this process measured it, it would be at least the memory of Python,
+which Linux counts as the program's until the program has started: the memory of a small input could not be seen, and the memory per
+byte would seem to grow. The time and the memory for a folder with one empty file are subtracted. A run is killed after 60 seconds, and
+it may reserve MEMORY GiB (environment variable, default: 12; 0 for no limit, as a program with the address sanitizer needs it).
 
 The last line of a pattern is its verdict, and the exit status is 1 if one has failed.
 
@@ -14,9 +14,9 @@ A document repeats a pattern up to a size, and is in a folder with a page that l
 upper bound of the time of the tokenizer. A pattern fails if `site` takes more than 0.06 microseconds per byte, or if the time
 per byte of either command is more than twice as long at the largest size as at the smallest one.
 
-A folder has many files, links or spellings of one kind (hostile_folders.py). Its size is that of its files and of their paths. It is
-compared with an ordinary folder of the same size, which has pages with links to the next page and to missing ones. A pattern fails if
-at any size
+A folder has many files, links or spellings of one kind (hostile_folders.py). Its size is that of its files, also through
+symbolic links to them, and of all paths. It is compared with an ordinary folder of the same size, which has pages with links to the
+next page and to missing ones. A pattern fails if at any size
 
 - `site` takes more than 3 times as long as on an ordinary folder of the same size whose saved web is as large. Both sizes count,
   because a link needs fewer bytes than its page in the saved web: if 100 KB of links with different queries make 270 KB of pages,
@@ -179,9 +179,9 @@ def limit() -> None:
 def run_once(words: list[str], is_counted: bool) -> Run:
     """Run a command, and count the bytes of its output or drop it. Exit status 4 of a check means broken links."""
     out = subprocess.PIPE if is_counted else subprocess.DEVNULL
-    with tempfile.NamedTemporaryFile() as told:
+    with tempfile.NamedTemporaryFile() as report:
         process = subprocess.Popen(
-            ["time", "-f", "%M", "-o", told.name, *words],
+            ["time", "-f", "%M", "-o", report.name, *words],
             stdin=subprocess.DEVNULL, stdout=out, stderr=subprocess.DEVNULL, preexec_fn=limit,
         )
         size = 0
@@ -190,7 +190,7 @@ def run_once(words: list[str], is_counted: bool) -> Run:
         if process.stdout:
             process.stdout.close()
         _, status, usage = os.wait4(process.pid, 0)
-        memory = int(told.read().split()[-1]) / 1024
+        memory = int(report.read().split()[-1]) / 1024
     process.returncode = os.WEXITSTATUS(status)
     if process.returncode not in (0, 4):
         print(f"{' '.join(words)} ended with status {process.returncode}", file=sys.stderr)
