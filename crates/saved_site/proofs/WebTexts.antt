@@ -50,18 +50,18 @@ texts_push top last [] text all is next = (is, (next, tt))
 texts_push top last (first ∷ more) text all is next = (all.0, (all.1.0, texts_push top first.0 more text all.1.1 is next))
 
 -- the pages whose texts they are
-record Printed (top last : List ℕ) (texts : List TextAt) : Type 0 where
+record TextPages (top last : List ℕ) (texts : List TextAt) : Type 0 where
   pages : List SitePage
   text : flat_map (λ (t : TextAt). t.1) texts ≡ flat_map page_text pages
   all : AllPages pages
   up : AscendsBehind last pages
   below : AreBelow top pages
 
-printed : (top last : List ℕ) (texts : List TextAt) → AreInOrder top last texts → Printed top last texts
-printed top last [] all = record { pages = []; text = refl; all = tt; up = tt; below = tt }
-printed top last (first ∷ more) all =
+text_pages : (top last : List ℕ) (texts : List TextAt) → AreInOrder top last texts → TextPages top last texts
+text_pages top last [] all = record { pages = []; text = refl; all = tt; up = tt; below = tt }
+text_pages top last (first ∷ more) all =
     let is = all.0 in
-    let rest = printed top first.0 more all.1.1 in
+    let rest = text_pages top first.0 more all.1.1 in
     let next = and_parts (is_behind last first.0) (is_below top first.0) all.1.0 in
     record {
       pages = is.page ∷ rest.pages;
@@ -73,16 +73,16 @@ printed top last (first ∷ more) all =
       below = (subst (λ (u : List ℕ). is_below top u ≡ true) (sym is.there) next.1, rest.below);
     }
 
-bytes_of : (top : List ℕ) (texts : List TextAt) (all : AreInOrder top [] texts) → web_text (printed top [] texts all).pages ≡ web_bytes texts
-bytes_of top texts all = ap (λ (b : List ℕ). codes "savedweb 2" ++ 10 ∷ b) (sym (printed top [] texts all).text)
+bytes_of : (top : List ℕ) (texts : List TextAt) (all : AreInOrder top [] texts) → web_text (text_pages top [] texts all).pages ≡ web_bytes texts
+bytes_of top texts all = ap (λ (b : List ℕ). codes "savedweb 2" ++ 10 ∷ b) (sym (text_pages top [] texts all).text)
 
 pub text_web : (top : List ℕ) (texts : List TextAt) → AreInOrder top [] texts → IsSiteWeb (web_bytes texts)
 text_web top texts all =
-    let p = printed top [] texts all in subst IsSiteWeb (bytes_of top texts all) (site_web p.pages p.all p.up)
+    let p = text_pages top [] texts all in subst IsSiteWeb (bytes_of top texts all) (site_web p.pages p.all p.up)
 
 pub text_below : (top : List ℕ) (texts : List TextAt) → AreInOrder top [] texts → IsWebBelow top (web_bytes texts)
 text_below top texts all =
-    let p = printed top [] texts all in subst (IsWebBelow top) (bytes_of top texts all) (site_below top p.pages p.all p.below)
+    let p = text_pages top [] texts all in subst (IsWebBelow top) (bytes_of top texts all) (site_below top p.pages p.all p.below)
 
 -- ---- they are written
 
