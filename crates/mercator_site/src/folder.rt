@@ -13,7 +13,7 @@ use crate::options::{CheckOptions, SiteOptions};
 use crate::writing::{print_note, print_notes};
 use mercator::{Unread, input_limits, read_input};
 use saved_site::{
-    FolderNames, Note, OnDisk, Rules, SiteFiles, SiteNames, Web, folder_names, folder_web,
+    FolderNames, Note, OnDisk, Rules, SiteFiles, SiteNames, Web, WebText, folder_names, folder_web,
     site_pages,
 };
 use site_check::read_ignores;
@@ -54,9 +54,9 @@ pub fn web_of_folder<R: Files<File: Send, Dir: Send> + Threads + Sync, E: Write>
     alloc: Global,
     options: &SiteOptions,
     err: &mut E,
-) -> Result<Vec<u8>, SiteFault>
-    ensures web { IfOk result (λ text. IsSiteWeb text.items) }
-    ensures below { IfOk result (λ text. IsWebAt (string_bytes options.now.base) text.items) }
+) -> Result<WebText, SiteFault>
+    ensures web { IfOk result IsSiteWeb }
+    ensures below { IfOk result (IsWebAt (string_bytes options.now.base)) }
     ensures plain { IfErr result (λ fault. status_of fault ≡ 1) }
 {
     let rules = rules_of(alloc, options)?;
@@ -68,8 +68,8 @@ pub fn web_of_folder<R: Files<File: Send, Dir: Send> + Threads + Sync, E: Write>
         &rules,
     )?;
     print_notes(alloc, err, "", web.notes.as_slice())?;
-    let Web { bytes, .. } = web;
-    Ok(bytes)
+    let Web { text, .. } = web;
+    Ok(text)
 }
 
 /// Checks a folder. Notes about everything that is skipped or changed go to `err`.

@@ -7,7 +7,7 @@ ghost use Rattle.mercator_site.specs.Faults.{IsSiteIncomplete, status_of};
 use crate::fault::SiteFault;
 use crate::folder::{report_of_folder, web_of_folder};
 use crate::options::{CheckOptions, SitePlan, site_plan};
-use crate::writing::{print_fault, write_text};
+use crate::writing::{print_fault, write_text, write_web};
 use clap::error::ErrorKind;
 use mercator::{BAD_COMMAND_LINE, whole_command};
 use shown_text::shown_lines;
@@ -189,8 +189,8 @@ fn run<R: Files<File: Send, Dir: Send> + Threads + Wait + Sync, O: Write, E: Wri
 {
     match plan {
         SitePlan::Site(options) => {
-            let text = web_of_folder(rt, alloc, options, err)?;
-            write_text(out, text.as_slice())?;
+            let web = web_of_folder(rt, alloc, options, err)?;
+            write_web(out, &web)?;
             Ok(false)
         }
         SitePlan::Check(options) => run_check(rt, alloc, options, out, err),

@@ -5,10 +5,11 @@ ghost use Rattle.mercator_site.specs.Faults.{note_line, site_line, status_of};
 
 use crate::fault::SiteFault;
 use mercator::{Fault, fault_line};
-use saved_site::Note;
+use saved_site::{Note, WebText};
 use shown_text::shown;
 use std::alloc::{AllocError, Global};
-use std::io::Write;
+use std::io;
+use std::io::{ErrorKind, Write};
 
 /// Writes all of the text and flushes it.
 ///
@@ -22,6 +23,32 @@ pub(crate) fn write_text<O: Write>(out: &mut O, text: &[u8]) -> Result<(), SiteF
         return Err(SiteFault::CannotWrite);
     }
     Ok(())
+}
+
+/// Writes all of the saved web and flushes it.
+///
+/// # Errors
+/// `CannotWrite`, `NoMemory`.
+pub(crate) fn write_web<O: Write>(out: &mut O, web: &WebText) -> Result<(), SiteFault>
+    ensures gained { OnOk result (Appends (O.contents out.old) (O.contents out.new) web.now) }
+    ensures plain { IfErr result (λ fault. status_of fault ≡ 1) }
+{
+    if let Err(error) = web.write(out) {
+        return Err(write_fault(&error));
+    }
+    if out.flush().is_err() {
+        return Err(SiteFault::CannotWrite);
+    }
+    Ok(())
+}
+
+fn write_fault(error: &io::Error) -> SiteFault
+    ensures { status_of result ≡ 1 }
+{
+    match error.kind() {
+        ErrorKind::OutOfMemory => SiteFault::NoMemory,
+        _ => SiteFault::CannotWrite,
+    }
 }
 
 /// Prints one line for each note. If the place of a note begins with `front`, that is removed. A line that cannot be written is

@@ -1,15 +1,14 @@
 pub mod BelowTop
 pub mod Found
-pub mod Gaps
 pub mod KnownTexts
 pub mod LedPages
 pub mod Lines
 pub mod LinkIndices
 pub mod Linkers
-pub mod PageByPage
 pub mod PageLengths
 pub mod Parts
 pub mod Says
 pub mod SiteSource
 pub mod Slashes
 pub mod Sound
+pub mod WebTexts

@@ -8,7 +8,8 @@ use Rattle.saved_web.specs.Ahead.{KeepIndices}
 use Rattle.crawl_pages.specs.declared.page.Page.{Page}
 use Rattle.hash_index.specs.Lists.{index_of}
 use Rattle.saved_site.proofs.LedPages.{all_led_still, has_found, same_found}
-use Rattle.saved_site.specs.Linked.{PageFound, page_with, found_of, is_kept, IsKept, AreKept, with_found}
+use Rattle.saved_site.specs.Below.{is_next}
+use Rattle.saved_site.specs.Linked.{PageFound, page_with, found_of, IsKept, AreKept, with_found}
 use Rattle.saved_site.specs.LinkedPages.{page_led, found_in, found_all, IsLed, AreLed, urls_of}
 use Rattle.saved_site.specs.Meaning.{under_page}
 use Rattle.saved_site.specs.Pages.{IsPage}
@@ -31,7 +32,7 @@ found_one urls list one true = refl
 found_one urls list one false = map_push (found_in urls) list one
 
 -- what is found of them with one more
-pub found_with : (top : List ℕ) (old new : List (List ℕ)) (list longer : List LinkedPage) (one : LinkedPage) (page : SitePage) → longer ≡ with_one list one → KeepIndices old new → AreLed old list → found_in new one ≡ found_of page → is_kept top page.url ≡ true → found_all new longer ≡ with_found top (found_all old list) (found_of page)
+pub found_with : (top : List ℕ) (old new : List (List ℕ)) (list longer : List LinkedPage) (one : LinkedPage) (page : SitePage) → longer ≡ with_one list one → KeepIndices old new → AreLed old list → found_in new one ≡ found_of page → is_next top [] page.url ≡ true → found_all new longer ≡ with_found top (found_all old list) (found_of page)
 found_with top old new list longer one page is keep led own kept =
     let pages : List PageFound = found_all old list in
     let url : one.url ≡ page.url = ap (λ (f : PageFound). f.0) own in
@@ -42,12 +43,12 @@ found_with top old new list longer one page is keep led own kept =
     ∙ ap (λ (b : Bool). if b then found_all new list else found_all new list ++ found_in new one ∷ []) has
     ∙ ap (λ (fs : List PageFound). if is_some (page_with pages page.url) then fs else fs ++ found_in new one ∷ []) (same_found old new list keep led)
     ∙ ap (λ (f : PageFound). if is_some (page_with pages page.url) then pages else pages ++ f ∷ []) own
-    ∙ sym (cond-true (is_kept top page.url) _ _ kept)
+    ∙ sym (cond-true (is_next top [] page.url) _ _ kept)
 
-pub kept_with : (top : List ℕ) (pages longer : List PageFound) (page : SitePage) → longer ≡ with_found top pages (found_of page) → AreKept top pages → IsPage page → is_kept top page.url ≡ true → AreKept top longer
+pub kept_with : (top : List ℕ) (pages longer : List PageFound) (page : SitePage) → longer ≡ with_found top pages (found_of page) → AreKept top pages → IsPage page → is_next top [] page.url ≡ true → AreKept top longer
 kept_with top pages longer page is all owes kept =
     let own : IsKept top (found_of page) = record { page = page; is = refl; owes = owes; kept = kept } in
-    subst (AreKept top) (sym (is ∙ cond-true (is_kept top page.url) _ _ kept)) (by_has (is_some (page_with pages page.url)) own)
+    subst (AreKept top) (sym (is ∙ cond-true (is_next top [] page.url) _ _ kept)) (by_has (is_some (page_with pages page.url)) own)
   where
     by_has : (b : Bool) → IsKept top (found_of page) → AreKept top (if b then pages else pages ++ found_of page ∷ [])
     by_has true own = all
@@ -60,7 +61,7 @@ pub record LinkedOne (top : List ℕ) (old new : List (List ℕ)) (list longer :
   pub view : found_all new longer ≡ with_found top (found_all old list) (found_of page)
 
 pub linked_one : (top : List ℕ) (old turned new : List (List ℕ)) (list longer : List LinkedPage) (one : LinkedPage) (page : SitePage) (base : List ℕ) → longer ≡ with_one list one → turned ≡ old → KeepIndices turned new → AreLed old list → AreKept top (found_all old list)
-    → one.url ≡ page.url → base ≡ page.url → page_led new one.leads ≡ under_page base page.under → IsLed new one.leads → IsPage page → is_kept top page.url ≡ true → LinkedOne top old new list longer page
+    → one.url ≡ page.url → base ≡ page.url → page_led new one.leads ≡ under_page base page.under → IsLed new one.leads → IsPage page → is_next top [] page.url ≡ true → LinkedOne top old new list longer page
 linked_one top old turned new list longer one page base is same keep_turned led all url base_is page_is own owes kept =
     let keep : KeepIndices old new = subst (λ (u : List (List ℕ)). KeepIndices u new) same keep_turned in
     let found : found_in new one ≡ found_of page =

@@ -1,33 +1,28 @@
 -- The pages of a site are those of its saved web, whatever order they come in.
-use Rattle.std.proofs.Common.{◌≡◌, ℕ, Bool, true, false, List, [], ◌∷◌, map, refl, sym, ap, subst, ◌∙◌}
+use Rattle.std.proofs.Common.{◌≡◌, ℕ, Bool, true, false, List, [], ◌∷◌, refl, sym, ap, subst, ◌∙◌}
 use Rattle.std.specs.Bool.{if◌then◌else◌}
 use Rattle.std.specs.Cmp.Lexicographic.{slice_cmp}
-use Rattle.std.specs.List.{list_all}
 use Rattle.std.specs.Ordering.{is_lt, is_eq, nat_cmp, ordering_reverse}
 use Rattle.std.specs.declared.cmp.Ordering.{Ordering}
 use Rattle.std.specs.declared.cmp.Ordering.TheVariants.{Less, Equal, Greater}
 use Rattle.std.specs.Str.{bytes_eq}
-use Rattle.std.proofs.lemmas.Bool.{and_parts, and_from}
+use Rattle.std.proofs.lemmas.Bool.{and_parts}
 use Rattle.std.proofs.lemmas.Cmp.{nat_list_cmp_total, tied_itself}
 use Rattle.std.proofs.lemmas.List.Elements.{All-head, All-tail}
 use Rattle.std.proofs.lemmas.Map.Text.{is_eq-slice_cmp}
 use Rattle.std.proofs.lemmas.Slice.Eq.{bytes_eq-Decides}
 use Rattle.crawl_pages.specs.declared.page.Page.{Page}
-use Rattle.saved_site.proofs.BelowTop.{none_outside}
+use Rattle.saved_site.proofs.BelowTop.{AreBelow}
 use Rattle.saved_site.proofs.Found.{web_at}
-use Rattle.saved_site.proofs.PageByPage.{all_taken}
-use Rattle.saved_site.proofs.Sound.{AllPages, web_sound}
+use Rattle.saved_site.proofs.Sound.{AllPages}
+use Rattle.saved_site.proofs.WebTexts.{site_below, site_web}
 use Rattle.saved_site.specs.Below.{is_below}
 use Rattle.saved_site.specs.Linked.{PageFound, page_at, IsKept, AreKept, IsSiteSource}
 use Rattle.saved_site.specs.Meaning.{page_in, under_page}
 use Rattle.saved_site.specs.Pages.{web_text, is_behind, AscendsBehind, IsPage}
-use Rattle.saved_site.specs.Printed.{AreBelow}
 use Rattle.saved_site.specs.declared.page.SitePage.{SitePage}
 
 -- ---- a page among those that ascend
-
-abbrev urls_in : List SitePage → List (List ℕ)
-urls_in pages = map (λ (p : SitePage). p.url) pages
 
 abbrev put_by : Ordering → SitePage → SitePage → List SitePage → List SitePage → List SitePage
 put_by Less page first more later = page ∷ first ∷ more
@@ -66,20 +61,15 @@ all_put page [] is all = (is, tt)
 all_put page (first ∷ more) is all =
     all_by (slice_cmp nat_cmp page.url first.url) page first more (put page more) is all (all_put page more is all.1)
 
-below_by : (top : List ℕ) (o : Ordering) (page first : SitePage) (more later : List SitePage) → is_below top page.url ≡ true → AreBelow top (urls_in (first ∷ more)) → AreBelow top (urls_in later) → AreBelow top (urls_in (put_by o page first more later))
-below_by top Less page first more later is all rest = and_from (is_below top page.url) (list_all (is_below top) (urls_in (first ∷ more))) is all
-below_by top Equal page first more later is all rest =
-    let both = and_parts (is_below top first.url) (list_all (is_below top) (urls_in more)) all in
-    and_from (is_below top page.url) (list_all (is_below top) (urls_in more)) is both.1
-below_by top Greater page first more later is all rest =
-    let both = and_parts (is_below top first.url) (list_all (is_below top) (urls_in more)) all in
-    and_from (is_below top first.url) (list_all (is_below top) (urls_in later)) both.0 rest
+below_by : (top : List ℕ) (o : Ordering) (page first : SitePage) (more later : List SitePage) → is_below top page.url ≡ true → AreBelow top (first ∷ more) → AreBelow top later → AreBelow top (put_by o page first more later)
+below_by top Less page first more later is all rest = (is, all)
+below_by top Equal page first more later is all rest = (is, all.1)
+below_by top Greater page first more later is all rest = (all.0, rest)
 
-below_put : (top : List ℕ) (page : SitePage) (pages : List SitePage) → is_below top page.url ≡ true → AreBelow top (urls_in pages) → AreBelow top (urls_in (put page pages))
-below_put top page [] is all = and_from (is_below top page.url) true is refl
+below_put : (top : List ℕ) (page : SitePage) (pages : List SitePage) → is_below top page.url ≡ true → AreBelow top pages → AreBelow top (put page pages)
+below_put top page [] is all = (is, tt)
 below_put top page (first ∷ more) is all =
-    let both = and_parts (is_below top first.url) (list_all (is_below top) (urls_in more)) all in
-    below_by top (slice_cmp nat_cmp page.url first.url) page first more (put page more) is all (below_put top page more is both.1)
+    below_by top (slice_cmp nat_cmp page.url first.url) page first more (put page more) is all (below_put top page more is all.1)
 
 -- ---- they ascend
 
@@ -126,7 +116,7 @@ record Ordered (top : List ℕ) (pages : List PageFound) : Type 0 where
   list : List SitePage
   all : AllPages list
   up : AscendsBehind [] list
-  below : AreBelow top (urls_in list)
+  below : AreBelow top list
   same : (url : List ℕ) → page_in list url ≡ page_at pages url
 
 same_under : (page : SitePage) (url : List ℕ) (b : Bool) (rest : Page) → bytes_eq page.url url ≡ b → (if b then under_page url page.under else rest) ≡ (if b then under_page page.url page.under else rest)
@@ -134,7 +124,7 @@ same_under page url true rest is = ap (λ (u : List ℕ). under_page u page.unde
 same_under page url false rest is = refl
 
 ordered : (top : List ℕ) (pages : List PageFound) → AreKept top pages → Ordered top pages
-ordered top [] kept = record { list = []; all = tt; up = tt; below = refl; same = λ url. refl }
+ordered top [] kept = record { list = []; all = tt; up = tt; below = tt; same = λ url. refl }
 ordered top (found ∷ more) kept =
     let own : IsKept top found = All-head (IsKept top) found more kept in
     let rest : Ordered top more = ordered top more (All-tail (IsKept top) found more kept) in
@@ -155,15 +145,9 @@ ordered top (found ∷ more) kept =
 pub site_source : (top : List ℕ) (pages : List PageFound) → AreKept top pages → IsSiteSource top pages
 site_source top pages kept =
     let o = ordered top pages kept in
-    let taken = all_taken [] o.list o.up in
     record {
       bytes = web_text o.list;
-      web = record {
-        pages = o.list;
-        written = ap web_text (sym taken);
-        sound = web_sound o.list o.all o.up;
-        read = λ url. web_at o.list url o.all ∙ ap (λ (ps : List SitePage). page_in ps url) (sym taken);
-      };
-      below = record { none = λ url out. web_at o.list url o.all ∙ none_outside top o.list url o.below out };
+      web = site_web o.list o.all o.up;
+      below = site_below top o.list o.all o.below;
       same = λ url. sym (o.same url) ∙ sym (web_at o.list url o.all);
     }

@@ -1,5 +1,5 @@
 -- Where the URLs of a site lie: below its top, which is that of BASE.
-use Rattle.std.specs.Prelude.{◌≡◌, ℕ, ◌==◌, Bool, false, ◌||◌, List, [], ◌∷◌, ◌++◌, Ok, if◌then◌else◌, length, take}
+use Rattle.std.specs.Prelude.{◌≡◌, ℕ, ◌==◌, Bool, false, ◌&&◌, ◌||◌, List, [], ◌∷◌, ◌++◌, Ok, if◌then◌else◌, length, take}
 use Rattle.std.specs.List.{list_all, list_any}
 use Rattle.std.specs.Str.Lines.{lines}
 use Rattle.std.specs.Str.{bytes_eq}
@@ -7,6 +7,7 @@ use Rattle.crawl_keys.specs.CanonicalText.{canonical}
 use Rattle.saved_web.specs.SavedWeb.{page_of}
 use Rattle.crawl_pages.specs.declared.page.Page.TheVariants as page
 use Rattle.percent_encoding.specs.Percent.{percent_decode}
+use Rattle.saved_site.specs.Pages.{is_behind}
 
 abbrev pub is_slash : ℕ → Bool
 is_slash b = b == 47
@@ -34,6 +35,10 @@ begins front text = bytes_eq (take (length front) text) front
 -- the URL begins with the top, or does once the escapes of both are read
 abbrev pub is_below : List ℕ → List ℕ → Bool
 is_below top url = begins top url || begins (percent_decode top) (percent_decode url)
+
+-- the URL is below the top, and after the last one
+abbrev pub is_next : List ℕ → List ℕ → List ℕ → Bool
+is_next top last url = is_behind last url && is_below top url
 
 -- a saved web has no page but below the top
 pub record IsWebBelow (top bytes : List ℕ) : Type 0 where

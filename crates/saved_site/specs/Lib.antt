@@ -9,4 +9,4 @@ pub mod Linked
 pub mod LinkedPages
 pub mod Meaning
 pub mod Pages
-pub mod Printed
+pub mod WebTexts

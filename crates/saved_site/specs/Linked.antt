@@ -1,14 +1,14 @@
 -- The pages of a site as a source: what a crawl finds at each URL.
-use Rattle.std.specs.Prelude.{◌≡◌, ℕ, true, Bool, ◌&&◌, List, [], ◌∷◌, ◌++◌, All, if◌then◌else◌, Option, Some, None}
+use Rattle.std.specs.Prelude.{◌≡◌, ℕ, true, List, [], ◌∷◌, ◌++◌, All, if◌then◌else◌, Option, Some, None}
 use Rattle.std.specs.Option.{is_some}
 use Rattle.std.specs.Str.Lines.{lines}
 use Rattle.std.specs.Str.{bytes_eq}
 use Rattle.saved_web.specs.SavedWeb.{page_of}
 use Rattle.crawl_pages.specs.declared.page.Page.{Page}
 use Rattle.crawl_pages.specs.declared.page.Page.TheVariants as page
-use Rattle.saved_site.specs.Below.{IsWebBelow, is_below}
+use Rattle.saved_site.specs.Below.{IsWebBelow, is_next}
 use Rattle.saved_site.specs.Meaning.{IsSiteWeb, under_page}
-use Rattle.saved_site.specs.Pages.{is_behind, IsPage}
+use Rattle.saved_site.specs.Pages.{IsPage}
 use Rattle.saved_site.specs.declared.page.SitePage.{SitePage}
 
 -- a URL, and the page that is found there
@@ -38,16 +38,12 @@ page_with (first ∷ more) url = if bytes_eq first.0 url then Some first.1 else 
 abbrev pub found_of : SitePage → PageFound
 found_of page = (page.url, under_page page.url page.under)
 
--- the URL is that of a page of the site's web
-abbrev pub is_kept : List ℕ → List ℕ → Bool
-is_kept top url = is_behind [] url && is_below top url
-
 -- what is found is a page of the site's web
 pub record IsKept (top : List ℕ) (found : PageFound) : Type 0 where
   pub page : SitePage
   pub is : found ≡ found_of page
   pub owes : IsPage page
-  pub kept : is_kept top page.url ≡ true
+  pub kept : is_next top [] page.url ≡ true
 
 abbrev pub AreKept : List ℕ → List PageFound → Type 0
 AreKept top pages = All (IsKept top) pages
@@ -55,4 +51,4 @@ AreKept top pages = All (IsKept top) pages
 -- with a page more, unless its URL has one or is not kept
 abbrev pub with_found : List ℕ → List PageFound → PageFound → List PageFound
 with_found top pages found =
-    if is_kept top found.0 then (if is_some (page_with pages found.0) then pages else pages ++ found ∷ []) else pages
+    if is_next top [] found.0 then (if is_some (page_with pages found.0) then pages else pages ++ found ∷ []) else pages

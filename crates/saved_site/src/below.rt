@@ -1,14 +1,37 @@
-//! Which URLs lie below the top of a site.
+//! Which URLs are below the top of a site, and in order.
 ghost use Rattle.std.specs.Prelude.{◌≡◌, ◌++◌, ◌∷◌, [], true, IfOk, string_bytes};
 ghost use Rattle.percent_encoding.specs.Percent.{percent_decode};
-ghost use Rattle.saved_site.specs.Below.{begins, is_below, is_slash, without_slashes};
+ghost use Rattle.saved_site.specs.Below.{begins, is_below, is_next, is_slash, without_slashes};
+ghost use Rattle.saved_site.specs.Pages.{is_behind};
 
 use crawl_keys::CanonUrl;
 use percent_encoding::percent_decode;
 use std::alloc::{AllocError, Global};
 
+/// Whether a URL is below the top, and after the last one.
+pub(crate) fn is_next(
+    alloc: Global,
+    top: &str,
+    last: &[u8],
+    url: &CanonUrl,
+) -> Result<bool, AllocError>
+    ensures { IfOk result (λ is. is ≡ is_next top.now last.now url.now) }
+{
+    if !is_behind(last, url.as_str().as_bytes()) {
+        return Ok(false);
+    }
+    is_below(alloc, top, url)
+}
+
+/// Whether a URL is after the last one, byte by byte.
+fn is_behind(last: &[u8], url: &[u8]) -> bool
+    ensures { result ≡ is_behind last.now url.now }
+{
+    last.cmp(url).is_lt()
+}
+
 /// Whether a URL begins with the top, or does once the escapes of both are read.
-pub(crate) fn is_below(alloc: Global, top: &str, url: &CanonUrl) -> Result<bool, AllocError>
+fn is_below(alloc: Global, top: &str, url: &CanonUrl) -> Result<bool, AllocError>
     ensures { IfOk result (λ is. is ≡ is_below top.now url.now) }
 {
     let is_below = is_text_below(alloc, top, url.as_str())?;

@@ -48,16 +48,13 @@ impl<'a> SiteFiles<'a> {
         })
     }
 
-    /// The inputs for making the pages; `is_linked` says whether their links are looked up.
-    pub(crate) fn input(&self, is_linked: bool) -> SiteInput<'_>
-        ensures { result.top.now ≡ string_bytes self.now.site.top }
-    {
+    /// The inputs for making the pages.
+    pub(crate) fn input(&self) -> SiteInput<'_> {
         SiteInput {
             site: &self.site,
             top: self.site.top(),
             names: self.names,
             rules: self.rules,
-            is_linked,
         }
     }
 

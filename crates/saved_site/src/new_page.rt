@@ -2,10 +2,10 @@
 use crate::line_text::LineText;
 use crate::notes::{Left, Note};
 use crate::page::{SitePage, Under};
-use crate::print::WEB_LIMIT;
 use crate::site_input::{SiteInput, Task};
 use crate::spellings::{Spelling, can_spell, link_spellings, text_spelling};
 use crate::targets::{Target, targets_at};
+use crate::web_text::WEB_LIMIT;
 use crawl_keys::CanonUrl;
 use document_links::{
     AnchorTargets, Anchors, Document, LINK_FRONT, LinkCounts, LinkTexts, RawLinks, ReadOptions,
@@ -19,7 +19,7 @@ pub(crate) struct NewPage {
     /// The number of its task.
     pub(crate) number: usize,
     pub(crate) url: CanonUrl,
-    /// The page, unless its URL is too long or its links were looked up.
+    /// The page, unless its URL is too long or the page is in a sink.
     pub(crate) page: Option<SitePage>,
     /// The number of bytes of the page in a saved web, at least.
     pub(crate) byte_count: usize,

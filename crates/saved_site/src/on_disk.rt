@@ -32,8 +32,8 @@ pub fn folder_web<R: Files<File: Send, Dir: Send> + Threads + Sync>(
     base: &str,
     rules: &Rules,
 ) -> Result<Web, SiteError>
-    ensures web { IfOk result (λ web. IsSiteWeb web.bytes.items) }
-    ensures below { IfOk result (λ web. IsWebAt base.now web.bytes.items) }
+    ensures web { IfOk result (λ web. IsSiteWeb web.text) }
+    ensures below { IfOk result (λ web. IsWebAt base.now web.text) }
 {
     let FolderNames {
         names,

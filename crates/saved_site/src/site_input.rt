@@ -19,8 +19,6 @@ pub(crate) struct SiteInput<'a> {
     pub(crate) top: &'a str,
     pub(crate) names: &'a [String],
     pub(crate) rules: &'a Rules,
-    /// Whether the links of its pages are looked up, and no saved web is printed of them.
-    pub(crate) is_linked: bool,
 }
 
 impl SiteInput<'_> {

@@ -1,20 +1,20 @@
-//! The pages that are still to be made, and the number of bytes of the others.
+//! The pages that are still to be made, and the number of bytes of the saved web.
 ghost use Rattle.std.specs.Prelude.{IfErr};
 ghost use Rattle.saved_site.specs.Errors.{IsOfWeb};
 
 use crate::error::SiteError;
 use crate::new_page::NewPage;
-use crate::print::WEB_LIMIT;
 use crate::site_input::{SiteInput, Task};
 use crate::tasks::{SpelledTasks, site_tasks};
+use crate::web_text::{HEADER_LENGTH, WEB_LIMIT};
 use std::alloc::{AllocError, Global};
 
 /// The pages that are still to be made.
 #[derive(Drop)]
 pub(crate) struct TaskQueue {
     ahead: SpelledTasks,
-    /// The number of bytes that the pages so far have in the saved web.
-    pub(crate) byte_count: usize,
+    /// The number of bytes of the saved web with the pages so far.
+    byte_count: usize,
 }
 
 impl TaskQueue {
@@ -28,7 +28,7 @@ impl TaskQueue {
         ahead.add_seeds(input, seeds)?;
         Ok(TaskQueue {
             ahead,
-            byte_count: 0,
+            byte_count: HEADER_LENGTH,
         })
     }
 

@@ -5,14 +5,15 @@ use crate::notes::Note;
 use crate::page::SitePage;
 use crate::site::Rules;
 use crate::targets::Target;
+use crate::web_text::WebText;
 use crawl_keys::CanonUrl;
 use document_links::{Anchors, LinkCounts};
 
 /// A saved web and what is known of its pages.
 #[derive(Drop)]
 pub struct Web {
-    /// The bytes of the saved web.
-    pub bytes: Vec<u8>,
+    /// The saved web.
+    pub text: WebText,
     /// The counts of its pages and links.
     pub summary: Summary,
     /// Notes about what was skipped or changed, in the order of names and then of URLs.

@@ -79,7 +79,9 @@ fn has_web<R: Threads + Sync>(
 ) -> Option<bool> {
     let files = SiteFiles::new(alloc, site.input()).ok()?;
     let web = site_web(rt, &files, &[], Vec::new(alloc), &site.bytes()).ok()?;
-    let pages = SavedWeb::read(alloc, web.bytes.as_slice()).ok()?;
+    let mut text = Vec::new(alloc);
+    web.text.write(&mut text).ok()?;
+    let pages = SavedWeb::read(alloc, text.as_slice()).ok()?;
     let page = pages.fetch(alloc, top).ok()?;
     Some(is_its_page(&page))
 }

@@ -1,19 +1,20 @@
 //! The pages that one thread makes, with the indices of their links' URLs.
 ghost use Rattle.std.specs.Prelude.{◌≡◌, [], true, IfOk, OnOk};
 ghost use Rattle.saved_web.specs.Ahead.{KeepIndices};
-ghost use Rattle.saved_site.specs.Linked.{AreKept, found_of, is_kept, with_found};
+ghost use Rattle.saved_site.specs.Below.{is_next};
+ghost use Rattle.saved_site.specs.Linked.{AreKept, found_of, with_found};
 ghost use Rattle.saved_site.specs.LinkedPages.{IsLed, IsLonger, IsPageList, page_led};
 ghost use Rattle.saved_site.specs.LinkTables.{IsTableOf};
 ghost use Rattle.saved_site.specs.Meaning.{under_page};
 
-use crate::below::is_below;
+use crate::below::is_next;
 use crate::linked::link_table::LinkTable;
 use crate::linked::linked_page::LinkedPage;
 use crate::linked::page_list::PageList;
 use crate::linked::part::Part;
 use crate::page::SitePage;
-use crate::print::is_behind;
-use crawl_keys::{Base, CanonUrl};
+use crate::page_sink::PageSink;
+use crawl_keys::Base;
 use document_links::base_of;
 use std::alloc::{AllocError, Global};
 use std::marker::Model;
@@ -45,9 +46,8 @@ impl Model for Linker {
     ghost invariant = { λ linker. IsTable linker.last linker.table × (IsPageList linker.pages × (AreLed linker.table.urls linker.pages.list.items × AreKept (string_bytes linker.top) (found_all linker.table.urls linker.pages.list.items))) };
 }
 
-impl Linker {
-    /// No page.
-    pub(crate) fn new(alloc: Global, top: &str) -> Result<Linker, AllocError>
+impl PageSink for Linker {
+    fn empty(alloc: Global, top: &str) -> Result<Linker, AllocError>
         ensures { IfOk result (λ linker. linker ≡ (top.now, [])) }
     {
         let top = String::from_str(alloc, top)?;
@@ -60,20 +60,22 @@ impl Linker {
         })
     }
 
-    /// The same with a page more. One that is not below the top is left out.
-    pub(crate) fn with_page(self, page: &SitePage) -> Result<Linker, AllocError>
-        ensures { IfOk result (λ linker. linker ≡ (self.0, with_found self.0 self.1 (found_of page.now))) }
+    /// A page that is not below the top is left out.
+    fn with_page(self, page: SitePage) -> Result<Linker, AllocError>
+        ensures { IfOk result (λ linker. linker ≡ (self.0, with_found self.0 self.1 (found_of page))) }
     {
-        let keeps = is_kept(self.alloc, self.top.as_str(), page.url())?;
-        if !keeps {
+        let is_next = is_next(self.alloc, self.top.as_str(), &[], page.url())?;
+        if !is_next {
             return Ok(self);
         }
-        self.with_kept(page)
+        self.with_kept(&page)
     }
+}
 
-    /// The same of a page below the top.
+impl Linker {
+    /// The same with a page below the top.
     fn with_kept(self, page: &SitePage) -> Result<Linker, AllocError>
-        requires { is_kept self.0 page.now.url ≡ true }
+        requires { is_next self.0 [] page.now.url ≡ true }
         ensures { IfOk result (λ linker. linker ≡ (self.0, with_found self.0 self.1 (found_of page.now))) }
     {
         // For the proof: the page fits in lines.
@@ -151,14 +153,4 @@ fn led(
     let leads = table.leads(alloc, base, page.under())?;
     let url = page.url().clone()?;
     Ok(LinkedPage { url, leads })
-}
-
-/// Whether a URL is that of a page of the site's web.
-fn is_kept(alloc: Global, top: &str, url: &CanonUrl) -> Result<bool, AllocError>
-    ensures { IfOk result (λ is. is ≡ is_kept top.now url.now) }
-{
-    if !is_behind(&[], url.as_str().as_bytes()) {
-        return Ok(false);
-    }
-    is_below(alloc, top, url)
 }

@@ -1,6 +1,7 @@
-use Rattle.std.proofs.Common.{rules, ◌≡◌, ℕ, List, true, string_bytes, ap, ◌∙◌}
+use Rattle.std.proofs.Common.{rules, ◌≡◌, ℕ, List, [], true, string_bytes, ap, ◌∙◌}
 use Rattle.saved_site.proofs.Linkers.{linked_one}
-use Rattle.saved_site.specs.Linked.{PageFound, found_of, is_kept, with_found}
+use Rattle.saved_site.specs.Below.{is_next}
+use Rattle.saved_site.specs.Linked.{PageFound, found_of, with_found}
 use Rattle.saved_site.proofs.linked.linker.Linker.with_kept.Goals as goal
 
 pub invariant_of-result : goal.invariant_of-result
@@ -9,7 +10,7 @@ invariant_of-result c =
     let inside = c.self.inside in
     let top : string_bytes inside.top ≡ c.args.self.0 = ap (λ (v : List ℕ × List PageFound). v.0) c.self.view_is in
     let base : c.in_ok-base.base ≡ page.url = search rules in
-    let kept : is_kept (string_bytes inside.top) page.url ≡ true = ap (λ (t : List ℕ). is_kept t page.url) top ∙ c.requires in
+    let kept : is_next (string_bytes inside.top) [] page.url ≡ true = ap (λ (t : List ℕ). is_next t [] page.url) top ∙ c.requires in
     let both = c.in_ok-both.ensures in
     let l = linked_one (string_bytes inside.top) inside.table.urls c.turned-table.result.urls c.in_ok-both.both.0.urls inside.pages.list.items c.in_ok-both.both.1.list.items both.one page c.in_ok-base.base
     both.longer c.turned-table.ensures.urls both.keep c.self.invariant.1.1.0 c.self.invariant.1.1.1 both.url base both.is both.led c.stands.ensures kept in
@@ -21,7 +22,7 @@ returns c =
     let inside = c.self.inside in
     let top : string_bytes inside.top ≡ c.args.self.0 = ap (λ (v : List ℕ × List PageFound). v.0) c.self.view_is in
     let base : c.in_ok-base.base ≡ page.url = search rules in
-    let kept : is_kept (string_bytes inside.top) page.url ≡ true = ap (λ (t : List ℕ). is_kept t page.url) top ∙ c.requires in
+    let kept : is_next (string_bytes inside.top) [] page.url ≡ true = ap (λ (t : List ℕ). is_next t [] page.url) top ∙ c.requires in
     let both = c.in_ok-both.ensures in
     let l = linked_one (string_bytes inside.top) inside.table.urls c.turned-table.result.urls c.in_ok-both.both.0.urls inside.pages.list.items c.in_ok-both.both.1.list.items both.one page c.in_ok-base.base
     both.longer c.turned-table.ensures.urls both.keep c.self.invariant.1.1.0 c.self.invariant.1.1.1 both.url base both.is both.led c.stands.ensures kept in

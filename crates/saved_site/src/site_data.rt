@@ -1,13 +1,8 @@
-//! The output of making a site's pages: the saved web that is printed of them, and what is known of the pages.
-ghost use Rattle.std.specs.Prelude.{IfOk};
-ghost use Rattle.saved_site.specs.Printed.{HasPrinted};
-
-use crate::linked::Linker;
+//! The pages of a site, and what is known of them.
 use crate::new_page::{NewPage, SiteAnchors};
 use crate::notes::Note;
-use crate::page::SitePage;
 use crate::page_maker::PageMaker;
-use crate::printer::Printer;
+use crate::page_sink::PageSink;
 use crate::web::{Alias, LinkPlaces, PageAnchors, Summary};
 use crawl_keys::CanonUrl;
 use std::alloc::{AllocError, Global};
@@ -20,59 +15,52 @@ struct PageNotes {
     notes: Vec<Note>,
 }
 
-/// What is known of the pages.
+/// The pages, and what is known of them.
 #[derive(Drop)]
-pub(crate) struct SiteData {
-    /// The pages that did not come in the order of their URLs.
-    pub(crate) late: Vec<SitePage>,
+pub(crate) struct SiteData<S> {
+    /// The pages that each thread has made.
+    pub(crate) parts: Vec<S>,
     pub(crate) summary: Summary,
     pub(crate) notes: Vec<Note>,
     pub(crate) aliases: Vec<Alias>,
     pub(crate) anchors: Vec<PageAnchors>,
     pub(crate) places: Vec<LinkPlaces>,
-    /// The pages whose links are looked up.
-    pub(crate) linkers: Vec<Linker>,
-    /// The number of bytes of all pages in the saved web.
-    pub(crate) byte_count: usize,
     /// The notes about the pages of a round that has not ended.
     page_notes: Vec<PageNotes>,
-    /// Room for the lines of a page.
-    room: Vec<u8>,
 }
 
-impl SiteData {
+impl<S: PageSink> SiteData<S> {
     /// No pages, and these notes.
-    pub(crate) fn new(alloc: Global, notes: Vec<Note>) -> SiteData {
+    pub(crate) fn new(alloc: Global, notes: Vec<Note>) -> SiteData<S> {
         SiteData {
-            late: Vec::new(alloc),
+            parts: Vec::new(alloc),
             summary: Summary::default(),
             notes,
             aliases: Vec::new(alloc),
             anchors: Vec::new(alloc),
             places: Vec::new(alloc),
-            linkers: Vec::new(alloc),
-            byte_count: 0,
             page_notes: Vec::new(alloc),
-            room: Vec::new(alloc),
         }
     }
 
-    /// Adds what is known of a page, and the page itself if it is not printed yet.
+    /// The same with what is known of these pages.
+    pub(crate) fn with_all(self, pages: Vec<NewPage>) -> Result<SiteData<S>, AllocError> {
+        let mut data = self;
+        for page in pages {
+            data.push(page)?;
+        }
+        Ok(data)
+    }
+
     fn push(&mut self, page: NewPage) -> Result<(), AllocError> {
         let NewPage {
             url,
-            page,
-            counts,
             own,
             anchors,
             positions,
             notes,
             ..
         } = page;
-        if let Some(page) = page {
-            self.summary.add(&page, counts);
-            self.late.push(page)?;
-        }
         self.push_alias(&url, own)?;
         self.push_places(&url, positions)?;
         self.push_notes(&url, notes)?;
@@ -110,14 +98,12 @@ impl SiteData {
         Ok(())
     }
 
-    /// Adds the pages that the makers of a round have looked up.
-    pub(crate) fn add_makers(&mut self, makers: Vec<PageMaker>) -> Result<(), AllocError> {
+    /// Adds the pages of the makers of a round.
+    pub(crate) fn add_makers(&mut self, makers: Vec<PageMaker<S>>) -> Result<(), AllocError> {
         for maker in makers {
-            let (linker, summary) = maker.into_linked();
+            let (part, summary) = maker.into_part();
             self.summary.join(summary);
-            if let Some(linker) = linker {
-                self.linkers.push(linker)?;
-            }
+            self.parts.push(part)?;
         }
         Ok(())
     }
@@ -129,9 +115,7 @@ impl SiteData {
         let places = &mut self.places;
         places.sort_by(|a: &LinkPlaces, b: &LinkPlaces| a.url.as_str().cmp(b.url.as_str()))?;
         let anchors = &mut self.anchors;
-        anchors.sort_by(|a: &PageAnchors, b: &PageAnchors| a.url.as_str().cmp(b.url.as_str()))?;
-        let late = &mut self.late;
-        late.sort_by(|a: &SitePage, b: &SitePage| a.url().as_str().cmp(b.url().as_str()))
+        anchors.sort_by(|a: &PageAnchors, b: &PageAnchors| a.url.as_str().cmp(b.url.as_str()))
     }
 
     /// Moves the notes about the pages of a round to the others, in the order of the pages' URLs.
@@ -144,50 +128,5 @@ impl SiteData {
             self.notes.append(&mut notes)?;
         }
         Ok(())
-    }
-}
-
-/// The saved web of the pages that came in the order of their URLs, and what is known of all pages.
-#[derive(Drop)]
-pub(crate) struct SiteOutput {
-    pub(crate) web: Printer,
-    pub(crate) data: SiteData,
-}
-
-impl SiteOutput {
-    /// The output with these pages. Pages whose URLs come after all before are printed.
-    pub(crate) fn push_all(self, top: &str, pages: Vec<NewPage>) -> Result<SiteOutput, AllocError>
-        requires { HasPrinted top.now self.web }
-        ensures { IfOk result (λ output. HasPrinted top.now output.web) }
-    {
-        let SiteOutput { mut web, mut data } = self;
-        'pages: for page in pages {
-            let mut page = page;
-            web = print_next(web, top, &mut page, &mut data)?;
-            data.push(page)?;
-        }
-        Ok(SiteOutput { web, data })
-    }
-}
-
-/// The saved web with a page, if its URL comes after all before. The page is then taken and counted.
-fn print_next(
-    web: Printer,
-    top: &str,
-    page: &mut NewPage,
-    data: &mut SiteData,
-) -> Result<Printer, AllocError>
-    requires { HasPrinted top.now web }
-    ensures { IfOk result (HasPrinted top.now) }
-{
-    if !web.takes(&page.url) {
-        return Ok(web);
-    }
-    match page.page.take() {
-        Some(own) => {
-            data.summary.add(&own, page.counts);
-            web.push(top, &own, &mut data.room)
-        }
-        None => Ok(web),
     }
 }

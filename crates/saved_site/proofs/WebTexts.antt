@@ -1,0 +1,101 @@
+-- The text of a saved web, page by page.
+use Rattle.std.proofs.Common.{◌≡◌, ℕ, ◌+◌, ◌<◌, true, List, [], ◌∷◌, ◌++◌, Option, None, Some, codes, get_or, length, take, refl, sym, ap, subst, ◌∙◌, append_assoc}
+use Rattle.std.specs.Io.KnownBytes.{Appends, append_known}
+use Rattle.std.specs.List.{flat_map}
+use Rattle.std.proofs.lemmas.Bool.{and_parts, cond-true}
+use Rattle.std.proofs.lemmas.List.{flat_map_more, take_more}
+use Rattle.saved_site.proofs.BelowTop.{AreBelow, none_outside}
+use Rattle.saved_site.proofs.Found.{web_at}
+use Rattle.saved_site.proofs.Sound.{AllPages, web_sound}
+use Rattle.saved_site.specs.Below.{IsWebBelow, is_below, is_next}
+use Rattle.saved_site.specs.Meaning.{IsSiteWeb, page_in}
+use Rattle.saved_site.specs.Pages.{page_text, web_text, is_behind, ascending_behind, AscendsBehind, IsPage}
+use Rattle.saved_site.specs.WebTexts.{AreInOrder, IsPageText, TextAt, last_url, web_bytes}
+use Rattle.saved_site.specs.declared.page.SitePage.{SitePage}
+
+-- ---- pages that ascend
+
+all_taken : (last : List ℕ) (pages : List SitePage) → AscendsBehind last pages → ascending_behind last pages ≡ pages
+all_taken last [] up = refl
+all_taken last (page ∷ pages) up =
+    cond-true (is_behind last page.url) (page ∷ ascending_behind page.url pages) (ascending_behind last pages) up.0
+    ∙ ap (λ (ps : List SitePage). page ∷ ps) (all_taken page.url pages up.1)
+
+-- they are read as a saved web
+pub site_web : (pages : List SitePage) → AllPages pages → AscendsBehind [] pages → IsSiteWeb (web_text pages)
+site_web pages all up =
+    let taken = all_taken [] pages up in
+    record {
+      pages = pages;
+      written = ap web_text (sym taken);
+      sound = web_sound pages all up;
+      read = λ url. web_at pages url all ∙ ap (λ (ps : List SitePage). page_in ps url) (sym taken);
+    }
+
+pub site_below : (top : List ℕ) (pages : List SitePage) → AllPages pages → AreBelow top pages → IsWebBelow top (web_text pages)
+site_below top pages all below = record { none = λ url out. web_at pages url all ∙ none_outside top pages url below out }
+
+-- ---- their texts
+
+pub text_of : (page : SitePage) (url text : List ℕ) → url ≡ page.url → text ≡ page_text page → IsPage page → IsPageText url text
+text_of page url text there is owes = record { page = page; there = sym there; told = sym is; owes = owes }
+
+pub last_is : (last : List ℕ) (texts : List TextAt) (text : TextAt) → last_url last (texts ++ text ∷ []) ≡ text.0
+last_is last [] text = refl
+last_is last (first ∷ more) text = last_is first.0 more text
+
+-- one text more
+pub texts_push : (top last : List ℕ) (texts : List TextAt) (text : TextAt) → AreInOrder top last texts → IsPageText text.0 text.1 → is_next top (last_url last texts) text.0 ≡ true → AreInOrder top last (texts ++ text ∷ [])
+texts_push top last [] text all is next = (is, (next, tt))
+texts_push top last (first ∷ more) text all is next = (all.0, (all.1.0, texts_push top first.0 more text all.1.1 is next))
+
+-- the pages whose texts they are
+record TextPages (top last : List ℕ) (texts : List TextAt) : Type 0 where
+  pages : List SitePage
+  text : flat_map (λ (t : TextAt). t.1) texts ≡ flat_map page_text pages
+  all : AllPages pages
+  up : AscendsBehind last pages
+  below : AreBelow top pages
+
+text_pages : (top last : List ℕ) (texts : List TextAt) → AreInOrder top last texts → TextPages top last texts
+text_pages top last [] all = record { pages = []; text = refl; all = tt; up = tt; below = tt }
+text_pages top last (first ∷ more) all =
+    let is = all.0 in
+    let rest = text_pages top first.0 more all.1.1 in
+    let next = and_parts (is_behind last first.0) (is_below top first.0) all.1.0 in
+    record {
+      pages = is.page ∷ rest.pages;
+      text =
+          ap (λ (b : List ℕ). b ++ flat_map (λ (t : TextAt). t.1) more) (sym is.told)
+          ∙ ap (λ (b : List ℕ). page_text is.page ++ b) rest.text;
+      all = (is.owes, rest.all);
+      up = subst (λ (u : List ℕ). (is_behind last u ≡ true) × AscendsBehind u rest.pages) (sym is.there) (next.0, rest.up);
+      below = (subst (λ (u : List ℕ). is_below top u ≡ true) (sym is.there) next.1, rest.below);
+    }
+
+bytes_of : (top : List ℕ) (texts : List TextAt) (all : AreInOrder top [] texts) → web_text (text_pages top [] texts all).pages ≡ web_bytes texts
+bytes_of top texts all = ap (λ (b : List ℕ). codes "savedweb 2" ++ 10 ∷ b) (sym (text_pages top [] texts all).text)
+
+pub text_web : (top : List ℕ) (texts : List TextAt) → AreInOrder top [] texts → IsSiteWeb (web_bytes texts)
+text_web top texts all =
+    let p = text_pages top [] texts all in subst IsSiteWeb (bytes_of top texts all) (site_web p.pages p.all p.up)
+
+pub text_below : (top : List ℕ) (texts : List TextAt) → AreInOrder top [] texts → IsWebBelow top (web_bytes texts)
+text_below top texts all =
+    let p = text_pages top [] texts all in subst (IsWebBelow top) (bytes_of top texts all) (site_below top p.pages p.all p.below)
+
+-- ---- they are written
+
+-- one text more
+pub bytes_more : (texts : List TextAt) (i : ℕ) (text : TextAt) → i < length texts → text ≡ get_or texts i text → web_bytes (take i texts) ++ text.1 ≡ web_bytes (take (i + 1) texts)
+bytes_more texts i text below is =
+    append_assoc (codes "savedweb 2") (10 ∷ flat_map (λ (t : TextAt). t.1) (take i texts)) text.1
+    ∙ ap (λ (b : List ℕ). codes "savedweb 2" ++ b) (flat_map_more (λ (t : TextAt). t.1) (10 ∷ []) (take i texts) text)
+    ∙ ap web_bytes (sym (take_more texts i text below ∙ ap (λ (t : TextAt). take i texts ++ t ∷ []) (sym is)))
+
+-- the last room is written
+pub room_ended : (a b c : Option (List ℕ)) (room text : List ℕ) → Appends a (append_known b room) text → Appends b c room → Appends a c text
+room_ended None b c room text p q = tt
+room_ended (Some x) None c room text p q = absurd p
+room_ended (Some x) (Some y) None room text p q = absurd q
+room_ended (Some x) (Some y) (Some z) room text p q = q ∙ p
