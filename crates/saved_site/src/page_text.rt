@@ -30,7 +30,6 @@ impl Model for PageText {
 
 impl PageText {
     /// The lines of the page.
-    #[tactic(auto, using(crate::proofs::WebTexts::text_of))]
     fn new(alloc: Global, page: &SitePage) -> Result<PageText, AllocError>
         ensures { IfOk result (λ own. own ≡ (page.now.url, page_text page.now)) }
     {
