@@ -64,7 +64,7 @@ def drawn_parts(trial: Trial) -> None:
         compare(data, wanted, session.exchange(random_pieces(draw, data)))
         expect(session.end() == (0, ""), "it did not end like at the end of its input")
     one_owner(trial, parts=3)
-    for text in ("2/2", "0/0", "1", "1/", "/2", "a/2", "-1/2", "0/257", "0/4294967297", "1/2/3", ""):
+    for text in ("2/2", "0/0", "1", "1/", "/2", "a/2", "-1/2", "0/524289", "0/4294967297", "1/2/3", ""):
         done = subprocess.run(
             [trial.program, "serve", "--workers", "2", "--part", text], stdin=subprocess.DEVNULL,
             capture_output=True, timeout=SECONDS, check=False,
