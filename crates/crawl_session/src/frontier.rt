@@ -71,7 +71,7 @@ impl Frontier {
         Ok(Answer::Told(reply))
     }
 
-    // `offer`, `end_seeds`, `take` and `finish` only call `exchange.rt`. They are functions for the prover alone: each states for the
+    // `offer`, `end_seeds`, `take` and `finish` only call `exchange.rt`. They are functions only for the prover: each states for the
     // frontier what its call does to the machine.
 
     fn offer(&mut self, url: Text, queue: u32) -> Result<Reply, NoMemory>

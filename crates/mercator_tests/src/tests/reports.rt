@@ -1,4 +1,4 @@
-//! A report that threads may print, and the text of the queues, which no command prints alone.
+//! A report that threads may print, and the text of the queues, which no command prints by itself.
 use crawl_keys::canonical;
 use crawl_pages::{Page, PageResult};
 use crawl_report::{Parts, Report, print_in_parts};
