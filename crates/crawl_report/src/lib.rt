@@ -16,7 +16,7 @@ mod web_urls;
 
 pub use crawl_pages::NoMemory;
 pub use plain_text::report_text;
-pub use printing::{print, print_in_parts};
+pub use printing::print_in_parts;
 pub use queues::queue_text;
 pub use report::{Parts, Report, Sources};
 pub use row::Row;

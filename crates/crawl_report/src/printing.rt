@@ -1,17 +1,17 @@
 //! A report as bytes.
-ghost use Rattle.std.specs.Prelude.{◌≡◌, ◌<◌, ◌++◌, [], length, IfOk, count_by};
+ghost use Rattle.std.specs.Prelude.{◌≡◌, ◌<◌, [], length, IfOk, count_by};
 ghost use Rattle.std.specs.List.{flat_map};
 ghost use Rattle.crawl_pages.specs.Pages.{is_found, is_missing, is_moved};
 ghost use Rattle.crawl_report.specs.Json.{printed_line};
 ghost use Rattle.crawl_report.specs.Lines as line;
 ghost use Rattle.crawl_report.specs.Lines.{line_of};
-ghost use Rattle.crawl_report.specs.Printing.{Adds, bytes_of, is_json, joined};
+ghost use Rattle.crawl_report.specs.Printing.{Adds, joined};
 ghost use Rattle.crawl_report.specs.Rows.{printed, rows_behind, page_line, result_lines, total_of, queue_lines};
 
 use crate::out::Out;
 use crate::report::{Report, with_parts};
 use crate::row::Row;
-use crate::threads::results_in_threads;
+use crate::threads::results_in_parts;
 use crawl_pages::{NoMemory, Page, PageResult};
 use std::alloc::Global;
 use std::thread::Threads;
@@ -22,21 +22,10 @@ const AT_ONCE: usize = 32;
 /// About how many bytes a result's line has in addition to its URL.
 const BESIDE: usize = 16;
 
-/// Returns the report: a line for each row, as text or as a JSON object, each ended by LF.
+/// Returns the report as consecutive chunks of bytes: a line for each row, as text or as a JSON object, each ended by LF.
 ///
-/// The rows come in this order: the results, their total, the queues, the parts in the order of `Parts`.
-///
-/// # Errors
-/// Only out of memory.
-pub fn print(alloc: Global, report: &Report<'_>, json: bool) -> Result<Vec<u8>, NoMemory>
-    ensures { IfOk result (λ text. text.items ≡ printed json report.now) }
-{
-    let empty = Out::new(alloc, json);
-    let results = with_results(empty, report.pages)?;
-    with_rest(alloc, results, report)
-}
-
-/// Returns the same bytes as [`print`], in consecutive chunks. Four threads print the lines of the results if there are many.
+/// The rows come in this order: the results, their total, the queues, the parts in the order of `Parts`. With `in_threads`,
+/// four threads print the lines of the results if there are many.
 ///
 /// # Errors
 /// Only out of memory. If a thread cannot be started, the thread that asked for it prints its chunk.
@@ -45,21 +34,22 @@ pub fn print_in_parts<R: Threads + Sync>(
     alloc: Global,
     report: &Report<'_>,
     json: bool,
+    in_threads: bool,
 ) -> Result<Vec<Vec<u8>>, NoMemory>
     ensures { IfOk result (λ parts. joined parts.items ≡ printed json report.now) }
 {
-    let mut parts = results_in_threads(rt, alloc, json, report.pages)?;
-    let empty = Out::new(alloc, json);
-    let rest = with_rest(alloc, empty, report)?;
+    let mut parts = results_in_parts(rt, alloc, json, in_threads, report.pages)?;
+    let rest = rest_of(alloc, report, json)?;
     parts.push(rest)?;
     Ok(parts)
 }
 
-/// Returns what is printed, followed by all lines except those of the results.
-fn with_rest(alloc: Global, results: Out, report: &Report<'_>) -> Result<Vec<u8>, NoMemory>
-    ensures { IfOk result (λ text. text.items ≡ bytes_of results ++ flat_map (printed_line (is_json results)) (rows_behind report.now)) }
+/// Returns all lines except those of the results.
+fn rest_of(alloc: Global, report: &Report<'_>, json: bool) -> Result<Vec<u8>, NoMemory>
+    ensures { IfOk result (λ text. text.items ≡ flat_map (printed_line json) (rows_behind report.now)) }
 {
-    let total = results.with(total_of(report.pages))?;
+    let empty = Out::new(alloc, json);
+    let total = empty.with(total_of(report.pages))?;
     let queues = with_queues(total, report.queues)?;
     let all = with_parts(alloc, queues, report)?;
     Ok(all.into_bytes())

@@ -1,4 +1,4 @@
-//! The lines of the results by threads: each prints a part, and the parts stand one behind the other in their order.
+//! The lines of the results, in consecutive chunks that threads print.
 ghost use Rattle.std.specs.Prelude.{◌≡◌, IfOk};
 ghost use Rattle.std.specs.List.{flat_map};
 ghost use Rattle.crawl_report.specs.Json.{printed_line};
@@ -11,27 +11,31 @@ use crawl_pages::{NoMemory, PageResult};
 use std::alloc::Global;
 use std::thread::{Threads, join};
 
-/// Fewer results than this are not worth a thread.
+/// With fewer results, threads are not worth their cost.
 const LEAST: usize = 4096;
 
-/// How often results are halved, so that as many threads print a part as two to this power.
+/// How often the results are halved: 2 to this power threads print a chunk each.
 const HALVINGS: u32 = 2;
 
-/// A line for each result, in parts: by four threads where there are many.
-pub fn results_in_threads<R: Threads + Sync>(
+/// Returns a line for each result, in chunks. With `in_threads`, four threads print them if there are many.
+pub fn results_in_parts<R: Threads + Sync>(
     rt: &R,
     alloc: Global,
     json: bool,
+    in_threads: bool,
     pages: &[PageResult],
 ) -> Result<Vec<Vec<u8>>, NoMemory>
     ensures { IfOk result (λ parts. joined parts.items ≡ flat_map (printed_line json) (result_lines pages.now)) }
 {
-    let halvings = if pages.len() < LEAST { 0 } else { HALVINGS };
+    let halvings = if in_threads && pages.len() >= LEAST {
+        HALVINGS
+    } else {
+        0
+    };
     lines_of_part(rt, alloc, json, halvings, pages)
 }
 
-/// A line for each result, by a thread for each half of them, as often as they are halved. Where none can be started this
-/// one prints both.
+/// Returns a line for each result. A thread prints each half, unless none can be started, and halves it again.
 fn lines_of_part<R: Threads + Sync>(
     rt: &R,
     alloc: Global,
@@ -59,7 +63,7 @@ fn lines_of_part<R: Threads + Sync>(
     Ok(parts)
 }
 
-/// A line for each result, in one part.
+/// Returns a line for each result, in one chunk.
 fn lines_alone(alloc: Global, json: bool, pages: &[PageResult]) -> Result<Vec<Vec<u8>>, NoMemory>
     ensures { IfOk result (λ parts. joined parts.items ≡ flat_map (printed_line json) (result_lines pages.now)) }
 {

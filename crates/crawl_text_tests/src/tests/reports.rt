@@ -1,8 +1,9 @@
 //! Reports and their sources, of results in any order, with duplicates, or that no crawl has.
 use crate::tests::results::{Asked, result_at};
 use crawl_pages::{Page, PageResult};
-use crawl_report::{Parts, Report, Sources, print, report_text};
+use crawl_report::{Parts, Report, Sources, print_in_parts, report_text};
 use std::alloc::Global;
+use std::thread::Threads;
 
 /// Results in their order of arrival, their report, and where its missing URLs are linked from.
 struct Row {
@@ -152,7 +153,7 @@ const ROWS: &[Row] = &[
 fn reports_and_sources(rt: HostRuntime) {
     for row in ROWS {
         assert!(rt; is_told(rt.alloc(), row), "{}", row.report);
-        assert!(rt; is_printed(rt.alloc(), row), "{}", row.sources);
+        assert!(rt; is_printed(&rt, rt.alloc(), row), "{}", row.sources);
     }
 }
 
@@ -187,17 +188,17 @@ fn is_report(alloc: Global, results: &[PageResult], expected: &str) -> bool {
 }
 
 // Whether the results, in the order of their URLs, are printed as their report and then its sources.
-fn is_printed(alloc: Global, row: &Row) -> bool {
+fn is_printed<R: Threads + Sync>(rt: &R, alloc: Global, row: &Row) -> bool {
     let Ok(mut asked) = Vec::from_slice(alloc, row.results) else {
         return false;
     };
     let mut results = Vec::new(alloc);
     asked.sort_by(|a, b| a.1.cmp(b.1)).is_ok()
         && push_results(alloc, &mut results, &asked)
-        && is_text(alloc, &results, row)
+        && is_text(rt, alloc, &results, row)
 }
 
-fn is_text(alloc: Global, results: &[PageResult], row: &Row) -> bool {
+fn is_text<R: Threads + Sync>(rt: &R, alloc: Global, results: &[PageResult], row: &Row) -> bool {
     let report = Report {
         pages: results,
         queues: &[],
@@ -207,9 +208,19 @@ fn is_text(alloc: Global, results: &[PageResult], row: &Row) -> bool {
             ..Parts::none()
         },
     };
-    let Ok(text) = print(alloc, &report, false) else {
-        return false;
-    };
+    match print_in_parts(rt, alloc, &report, false, false) {
+        Ok(chunks) => are_chunks(alloc, &chunks, row),
+        Err(_) => false,
+    }
+}
+
+fn are_chunks(alloc: Global, chunks: &[Vec<u8>], row: &Row) -> bool {
+    let mut text = Vec::new(alloc);
+    for chunk in chunks {
+        if text.extend_from_slice(chunk).is_err() {
+            return false;
+        }
+    }
     match text.as_slice().strip_prefix(row.report.as_bytes()) {
         Some(rest) => rest == row.sources.as_bytes(),
         None => false,

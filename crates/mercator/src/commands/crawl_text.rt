@@ -1,12 +1,11 @@
 //! The report of a crawl as text, in consecutive chunks.
 ghost use Rattle.std.specs.Prelude.{◌≡◌, [], IfOk, if◌then◌else◌};
 ghost use Rattle.crawl_report.specs.Printing.{joined};
-ghost use Rattle.crawl_report.specs.Rows.{printed};
 ghost use Rattle.mercator.specs.WebCrawl.{IsTextOf};
 
 use crate::commands::planned::CrawlOptions;
 use crate::commands::tell::WebFound;
-use crawl_report::{NoMemory, Report, asked_pages, print, print_in_parts, unreached};
+use crawl_report::{NoMemory, Report, asked_pages, print_in_parts, unreached};
 use std::alloc::{AllocError, Global};
 use std::thread::Threads;
 
@@ -34,24 +33,8 @@ pub fn crawl_text<R: Threads + Sync>(
         unreached: &unseen,
         parts: options.parts,
     };
-    printed(rt, alloc, &report, options.json, crawled.counts.len())
-}
-
-/// Prints the report. Threads do it if the crawl had more than one worker.
-fn printed<R: Threads + Sync>(
-    rt: &R,
-    alloc: Global,
-    report: &Report<'_>,
-    json: bool,
-    workers: usize,
-) -> Result<Vec<Vec<u8>>, NoMemory>
-    ensures { IfOk result (λ parts. joined parts.items ≡ printed json report.now) }
-{
-    if workers > 1 {
-        print_in_parts(rt, alloc, report, json)
-    } else {
-        alone(alloc, print(alloc, report, json)?)
-    }
+    let has_threads = crawled.counts.len() > 1;
+    print_in_parts(rt, alloc, &report, options.json, has_threads)
 }
 
 /// Returns the text as its only chunk.

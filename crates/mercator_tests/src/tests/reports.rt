@@ -28,7 +28,7 @@ fn printed<R: Threads + Sync>(rt: &R, alloc: Global) -> Option<Vec<u8>> {
         unreached: &[],
         parts: Parts::none(),
     };
-    let chunks = print_in_parts(rt, alloc, &report, false).ok()?;
+    let chunks = print_in_parts(rt, alloc, &report, false, true).ok()?;
     let mut text = Vec::new(alloc);
     for chunk in &chunks {
         text.extend_from_slice(chunk).ok()?;
