@@ -5,5 +5,4 @@ pub mod Adding
 pub mod Printed
 pub mod Sets
 pub mod OneOrder
-pub mod PageLines
 pub mod ReportLaws

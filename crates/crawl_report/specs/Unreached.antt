@@ -1,20 +1,10 @@
 -- Which pages of a web no result has.
-use Rattle.std.specs.Prelude.{ℕ, Bool, ◌&&◌, not, if◌then◌else◌, List, [], filter}
-use Rattle.std.specs.List.{list_any, filter_map}
+use Rattle.std.specs.Prelude.{ℕ, Bool, ◌&&◌, not, List, filter}
+use Rattle.std.specs.List.{list_any}
 use Rattle.std.specs.Str.{bytes_eq}
 use Rattle.std.specs.BTreeSet.{BTreeSet, contains}
 use Rattle.hash_order.specs.HashOrder.{by_hash}
-use Rattle.saved_web.specs.WebLines.{page_url}
 use Rattle.crawl_pages.specs.declared.page.PageResult.{PageResult}
-use Rattle.crawl_report.specs.declared.report.Parts.{Parts}
-
--- the canonical URLs of the pages that a web with these lines has
-abbrev pub page_urls : List (List ℕ) → List (List ℕ)
-page_urls lines = filter_map page_url lines
-
--- those that a report with these parts asks for
-abbrev pub asked_pages : Parts → List (List ℕ) → List (List ℕ)
-asked_pages parts lines = if parts.unreached then page_urls lines else []
 
 -- some result has the URL
 abbrev pub has_result : List PageResult → List ℕ → Bool

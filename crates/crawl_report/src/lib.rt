@@ -12,7 +12,6 @@ mod report;
 mod row;
 mod threads;
 mod unseen;
-mod web_urls;
 
 pub use crawl_pages::NoMemory;
 pub use plain_text::report_text;
@@ -21,4 +20,3 @@ pub use queues::queue_text;
 pub use report::{Parts, Report, Sources};
 pub use row::Row;
 pub use unseen::unreached;
-pub use web_urls::{asked_pages, page_urls};

@@ -4,22 +4,20 @@ use Rattle.std.specs.Cmp.Lexicographic.{slice_cmp}
 use Rattle.std.specs.List.{flat_map}
 use Rattle.std.specs.List.Sorted.{IsPermutation, IsSortedByKey}
 use Rattle.std.specs.Ordering.{nat_cmp}
-use Rattle.std.specs.Str.Lines.{lines}
 use Rattle.crawl_keys.specs.HostFilter.{allows}
 use Rattle.crawl_report.specs.Json.{printed_line}
 use Rattle.crawl_report.specs.Printing.{joined}
 use Rattle.crawl_report.specs.Rows.{rows_with}
 use Rattle.crawl_report.specs.Tallies.{pointed}
-use Rattle.crawl_report.specs.Unreached.{asked_pages, unreached_of}
-use Rattle.crawl_report.specs.declared.report.Parts.{Parts}
+use Rattle.crawl_report.specs.Unreached.{unreached_of}
 use Rattle.crawl_pages.specs.declared.page.PageResult.{PageResult}
 use Rattle.mercator.specs.WebCrawl.{AreUnreached, IsTextOf}
 use Rattle.mercator.specs.declared.commands.planned.CrawlOptions.{CrawlOptions}
 
-pub unreached_told : (parts : Parts) (web : List ℕ) (suffixes : List (List ℕ)) (pages given : List PageResult) (urls : List (List ℕ)) (found shown : List (Bor (List ℕ))) → given ≡ pages → urls ≡ asked_pages parts (lines web) → shown ≡ found
-    → IsPermutation (unreached_of (allows suffixes) given urls) (pointed found) → IsSortedByKey (λ url. url) (slice_cmp nat_cmp) (pointed found) → AreUnreached parts web suffixes pages (pointed shown)
-unreached_told parts web suffixes pages given urls found shown same_pages same_urls same_shown moved ascends =
-    let both : unreached_of (allows suffixes) given urls ≡ unreached_of (allows suffixes) pages (asked_pages parts (lines web)) = λ i. unreached_of (allows suffixes) (same_pages i) (same_urls i) in
+pub unreached_told : (asked suffixes : List (List ℕ)) (pages given : List PageResult) (urls : List (List ℕ)) (found shown : List (Bor (List ℕ))) → given ≡ pages → urls ≡ asked → shown ≡ found
+    → IsPermutation (unreached_of (allows suffixes) given urls) (pointed found) → IsSortedByKey (λ url. url) (slice_cmp nat_cmp) (pointed found) → AreUnreached asked suffixes pages (pointed shown)
+unreached_told asked suffixes pages given urls found shown same_pages same_urls same_shown moved ascends =
+    let both : unreached_of (allows suffixes) given urls ≡ unreached_of (allows suffixes) pages asked = λ i. unreached_of (allows suffixes) (same_pages i) (same_urls i) in
     record {
       same =
           subst (λ us. IsPermutation us (pointed shown)) both
@@ -27,11 +25,11 @@ unreached_told parts web suffixes pages given urls found shown same_pages same_u
       ascends = subst (λ xs. IsSortedByKey (λ url. url) (slice_cmp nat_cmp) (pointed xs)) (sym same_shown) ascends;
     }
 
-pub text_told : {E : Type 0} (result : Result (Vec (Vec ℕ Global) Global) E) (queues : Bool) (options : CrawlOptions) (web : List ℕ) (suffixes : List (List ℕ)) (pages given : List PageResult) (counts shown : List ℕ) (urls : List (List ℕ)) → given ≡ pages → shown ≡ (if queues then counts else [])
-    → AreUnreached options.parts web suffixes pages urls → IfOk result (λ parts. joined parts.items ≡ flat_map (printed_line options.json) (rows_with options.parts given shown urls)) → IfOk result (λ parts. IsTextOf queues options web suffixes pages counts (joined parts.items))
-text_told (Ok parts) queues options web suffixes pages given counts shown urls same_pages same_counts unseen printed = record {
+pub text_told : {E : Type 0} (result : Result (Vec (Vec ℕ Global) Global) E) (queues : Bool) (options : CrawlOptions) (asked suffixes : List (List ℕ)) (pages given : List PageResult) (counts shown : List ℕ) (urls : List (List ℕ)) → given ≡ pages → shown ≡ (if queues then counts else [])
+    → AreUnreached asked suffixes pages urls → IfOk result (λ parts. joined parts.items ≡ flat_map (printed_line options.json) (rows_with options.parts given shown urls)) → IfOk result (λ parts. IsTextOf queues options asked suffixes pages counts (joined parts.items))
+text_told (Ok parts) queues options asked suffixes pages given counts shown urls same_pages same_counts unseen printed = record {
   unreached = urls;
   unseen = unseen;
   written = printed ∙ (λ i. flat_map (printed_line options.json) (rows_with options.parts (same_pages i) (same_counts i) urls));
 }
-text_told (Err e) queues options web suffixes pages given counts shown urls same_pages same_counts unseen printed = tt
+text_told (Err e) queues options asked suffixes pages given counts shown urls same_pages same_counts unseen printed = tt

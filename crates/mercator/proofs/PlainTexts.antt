@@ -14,10 +14,11 @@ use Rattle.crawl_report.proofs.Format.{text_same}
 use Rattle.crawl_report.specs.Json.{printed_line}
 use Rattle.crawl_report.specs.Rows.{rows_with}
 use Rattle.crawl_report.specs.Today.{text_with}
-use Rattle.crawl_report.specs.Unreached.{page_urls, unreached_of}
+use Rattle.crawl_report.specs.Unreached.{unreached_of}
+use Rattle.saved_web.specs.WebLines.{page_urls}
 use Rattle.crawl_report.specs.declared.report.Parts.{Parts}
 use Rattle.crawl_pages.specs.declared.page.PageResult.{PageResult}
-use Rattle.mercator.specs.WebCrawl.{AreUnreached, IsCrawlText, IsPlain, IsPlainText, printed_with}
+use Rattle.mercator.specs.WebCrawl.{AreUnreached, asked_pages, IsCrawlText, IsPlain, IsPlainText, printed_with}
 use Rattle.mercator.specs.declared.commands.planned.CrawlOptions.{CrawlOptions}
 
 -- results that ascend are in order
@@ -36,7 +37,7 @@ none_left [] none = refl
 none_left (url ∷ urls) none = absurd (omega (arith, none))
 
 -- no unreached pages where none are asked for
-none_asked : (parts : Parts) (bytes : List ℕ) (suffixes : List (List ℕ)) (pages : List PageResult) (urls : List (List ℕ)) → parts.unreached ≡ false → AreUnreached parts bytes suffixes pages urls → urls ≡ []
+none_asked : (parts : Parts) (bytes : List ℕ) (suffixes : List (List ℕ)) (pages : List PageResult) (urls : List (List ℕ)) → parts.unreached ≡ false → AreUnreached (asked_pages parts (lines bytes)) suffixes pages urls → urls ≡ []
 none_asked parts bytes suffixes pages urls none unseen =
     none_left urls (length_permutation [] urls (subst (λ a. IsPermutation (unreached_of (allows suffixes) pages (if a then page_urls (lines bytes) else [])) urls) none unseen.same))
 

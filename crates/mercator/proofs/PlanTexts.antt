@@ -7,7 +7,7 @@ use Rattle.std.specs.Str.Lines.{lines}
 use Rattle.crawl_certificate.specs.Certificate.{result_urls}
 use Rattle.crawl_report.specs.Json.{printed_line}
 use Rattle.crawl_report.specs.Rows.{rows_with}
-use Rattle.crawl_report.specs.Unreached.{asked_pages, unreached_of}
+use Rattle.crawl_report.specs.Unreached.{unreached_of}
 use Rattle.crawl_report.specs.declared.report.Parts.{Parts}
 use Rattle.crawl_report.proofs.OneOrder.{one_order}
 use Rattle.crawl_pages.specs.declared.page.PageResult.{PageResult}
@@ -16,7 +16,7 @@ use Rattle.crawl_keys.specs.HostFilter.{allows, filter_of, is_good}
 use Rattle.mercator.specs.Plans.{is_bad_suffix, is_input, known_bytes, known_seeds, lists_input, suffixes_of}
 use Rattle.mercator.specs.Limits.{most_input_bytes}
 use Rattle.mercator.specs.Told.{AreFiles, AskForOneReport, AskForOneText, FailsCrawl, Gains, IsTold, OfFile, OfFiles}
-use Rattle.mercator.specs.WebCrawl.{AreUnreached, IsBegun, IsCrawlText, IsFound, IsTextOf, IsUnbegun, printed_with}
+use Rattle.mercator.specs.WebCrawl.{AreUnreached, asked_pages, IsBegun, IsCrawlText, IsFound, IsTextOf, IsUnbegun, printed_with}
 use Rattle.mercator.specs.declared.commands.planned.CrawlOptions.{CrawlOptions}
 use Rattle.mercator.specs.declared.commands.tell.Inputs.{Inputs}
 use Rattle.mercator.specs.declared.commands.tell.WebFound.{WebFound}
@@ -44,11 +44,10 @@ of_web P file listed bytes is none of =
     (of_input (λ b. OfFile (known_seeds listed (Some bytes)) (P b)) file bytes is of)
 
 -- of two crawls that find the same pages, and ask for unreached ones or not, these are one list
-one_unreached : (parts its : Parts) (bytes : List ℕ) (suffixes : List (List ℕ)) (pages others : List PageResult) (urls other : List (List ℕ)) → parts ≡ its → pages ≡ others → AreUnreached parts bytes suffixes pages urls → AreUnreached its bytes suffixes others other → urls ≡ other
-one_unreached parts its bytes suffixes pages others urls other same_parts same_pages own their =
-    let both : unreached_of (allows suffixes) pages (asked_pages parts (lines bytes)) ≡ unreached_of (allows suffixes) others (asked_pages its (lines bytes)) =
-    λ i. unreached_of (allows suffixes) (same_pages i) (asked_pages (same_parts i) (lines bytes)) in
-    one_order (unreached_of (allows suffixes) others (asked_pages its (lines bytes))) urls other (subst (λ us. IsPermutation us urls) both own.same) their.same own.ascends their.ascends
+one_unreached : (asked others suffixes : List (List ℕ)) (pages those : List PageResult) (urls other : List (List ℕ)) → asked ≡ others → pages ≡ those → AreUnreached asked suffixes pages urls → AreUnreached others suffixes those other → urls ≡ other
+one_unreached asked others suffixes pages those urls other same_asked same_pages own their =
+    let both : unreached_of (allows suffixes) pages asked ≡ unreached_of (allows suffixes) those others = λ i. unreached_of (allows suffixes) (same_pages i) (same_asked i) in
+    one_order (unreached_of (allows suffixes) those others) urls other (subst (λ us. IsPermutation us urls) both own.same) their.same own.ascends their.ascends
 
 -- URLs have one list of counts
 one_count : (workers : ℕ) (urls : List (List ℕ)) (counts others : List ℕ) → AreCounts workers urls counts → AreCounts workers urls others → counts ≡ others
@@ -67,7 +66,7 @@ one_text : (workers others : ℕ) (queues : Bool) (options its : CrawlOptions) (
     → IsCrawlText workers queues options bytes listed texts suffixes text → IsCrawlText others queues its bytes listed texts suffixes other → text ≡ other
 one_text workers others queues options its bytes listed texts suffixes text other many ask own their =
     let pages : own.pages ≡ their.pages = one_site_crawl bytes listed texts suffixes own.pages their.pages own.crawl their.crawl in
-    let urls : own.told.unreached ≡ their.told.unreached = one_unreached options.parts its.parts bytes suffixes own.pages their.pages own.told.unreached their.told.unreached ask.parts pages own.told.unseen their.told.unseen in
+    let urls : own.told.unreached ≡ their.told.unreached = one_unreached (asked_pages options.parts (lines bytes)) (asked_pages its.parts (lines bytes)) suffixes own.pages their.pages own.told.unreached their.told.unreached (ap (λ parts. asked_pages parts (lines bytes)) ask.parts) pages own.told.unseen their.told.unseen in
     own.told.written
     ∙ one_print queues options its own.pages their.pages own.counts their.counts own.told.unreached their.told.unreached ask pages (one_counts queues workers others own.pages their.pages own.counts their.counts many pages own.counted their.counted) urls
     ∙ sym their.told.written
@@ -105,10 +104,10 @@ pub found_within : (workers : ℕ) (bytes listed : List ℕ) (texts filter suffi
 found_within workers bytes listed texts filter suffixes found is own = subst (λ s. IsFound workers bytes listed texts s found) is own
 
 -- what is written of what was found in these bytes, by this filter, is the text of that crawl
-crawl_text : (workers : ℕ) (queues : Bool) (options : CrawlOptions) (file : List ℕ) (listed : Option (String Global)) (texts filter suffixes : List (List ℕ)) (input : Option (List ℕ)) (web : List ℕ) (found : Crawled) (text : List ℕ) → filter ≡ suffixes → IsTextOf queues options web filter found.result found.counts.items text
-    → OfFiles file listed input (λ bytes list. (bytes ≡ web) × IsBegun bytes list texts × IsFound workers bytes list texts suffixes found)
+crawl_text : (workers : ℕ) (queues : Bool) (options : CrawlOptions) (file : List ℕ) (listed : Option (String Global)) (texts filter suffixes : List (List ℕ)) (input : Option (List ℕ)) (asked : List (List ℕ)) (found : Crawled) (text : List ℕ) → filter ≡ suffixes → IsTextOf queues options asked filter found.result found.counts.items text
+    → OfFiles file listed input (λ bytes list. (asked ≡ asked_pages options.parts (lines bytes)) × IsBegun bytes list texts × IsFound workers bytes list texts suffixes found)
     → OfFiles file listed input (λ bytes list. IsBegun bytes list texts × IsCrawlText workers queues options bytes list texts suffixes text)
-crawl_text workers queues options file listed texts filter suffixes input web found text same told of = record {
+crawl_text workers queues options file listed texts filter suffixes input asked found text same told of = record {
   bytes = of.bytes;
   read = of.read;
   few = of.few;
@@ -124,8 +123,8 @@ crawl_text workers queues options file listed texts filter suffixes input web fo
         counts = found.counts.items;
         counted = of.holds.holds.2.counted;
         told =
-            subst (λ b. IsTextOf queues options b suffixes found.result found.counts.items text) (sym of.holds.holds.0)
-            (subst (λ s. IsTextOf queues options web s found.result found.counts.items text) same told);
+            subst (λ us. IsTextOf queues options us suffixes found.result found.counts.items text) of.holds.holds.0
+            (subst (λ s. IsTextOf queues options asked s found.result found.counts.items text) same told);
       },
     );
   };
@@ -135,11 +134,11 @@ crawl_text workers queues options file listed texts filter suffixes input web fo
 pub told_of : (workers max : ℕ) (queues : Bool) (file : String Global) (seeds : Vec (String Global) Global) (within : Option (String Global)) (options : CrawlOptions) (input : Option (List ℕ)) (plan : Plan) (name : List ℕ) (given : List (String Global)) (found : WebFound) (text : List ℕ)
     → plan ≡ asks.Crawl workers max queues file seeds within options → name ≡ string_bytes file → given ≡ seeds.items
     → (is_bad_suffix within ≡ false) × (found.filter ≡ suffixes_of within)
-    × OfFiles name options.listed input (λ bytes list. (bytes ≡ found.bytes.items) × IsBegun bytes list (map string_bytes given) × IsFound workers bytes list (map string_bytes given) (suffixes_of within) found.crawled)
-    → IsTextOf queues options found.bytes.items found.filter found.crawled.result found.crawled.counts.items text → IsTold plan input text
+    × OfFiles name options.listed input (λ bytes list. (found.urls.items ≡ asked_pages options.parts (lines bytes)) × IsBegun bytes list (map string_bytes given) × IsFound workers bytes list (map string_bytes given) (suffixes_of within) found.crawled)
+    → IsTextOf queues options found.urls.items found.filter found.crawled.result found.crawled.counts.items text → IsTold plan input text
 told_of workers max queues file seeds within options input plan name given found text is named same crawl written =
     let suffixes = suffixes_of within in
-    let of = crawl_text workers queues options name options.listed (map string_bytes given) found.filter suffixes input found.bytes.items found.crawled text crawl.1 written crawl.2 in
+    let of = crawl_text workers queues options name options.listed (map string_bytes given) found.filter suffixes input found.urls.items found.crawled text crawl.1 written crawl.2 in
     let seeded = subst (λ ts. OfFiles name options.listed input (λ bytes list. IsBegun bytes list (map string_bytes ts) × IsCrawlText workers queues options bytes list (map string_bytes ts) suffixes text)) same of in
     let filed = subst (λ f. OfFiles f options.listed input (λ bytes list. IsBegun bytes list (map string_bytes seeds.items) × IsCrawlText workers queues options bytes list (map string_bytes seeds.items) suffixes text)) named seeded in
     subst (λ p. IsTold p input text) (sym is) (crawl.0, filed)
@@ -192,18 +191,18 @@ fails workers max within file listed seeds input wrong.NoMemory good of = tt
 fails workers max within file listed seeds input fault good of = (good, of)
 
 -- what a crawl of inputs finds is found in the files that they were read from
-pub found_in_files : (workers : ℕ) (within : Option (String Global)) (file : List ℕ) (listed : Option (String Global)) (texts : List (List ℕ)) (input : Option (List ℕ)) (inputs : Inputs) (result : Result WebFound Fault)
+pub found_in_files : (workers : ℕ) (parts : Parts) (within : Option (String Global)) (file : List ℕ) (listed : Option (String Global)) (texts : List (List ℕ)) (input : Option (List ℕ)) (inputs : Inputs) (result : Result WebFound Fault)
     → (is_bad_suffix within ≡ false) × (inputs.filter ≡ suffixes_of within) → AreFiles file listed input inputs.bytes.items inputs.list.items
-    → IfOk result (λ found. (found.filter ≡ inputs.filter) × (found.bytes.items ≡ inputs.bytes.items)) → IfOk result (λ _. IsBegun inputs.bytes.items inputs.list.items texts)
+    → IfOk result (λ found. (found.filter ≡ inputs.filter) × (found.urls.items ≡ asked_pages parts (lines inputs.bytes.items))) → IfOk result (λ _. IsBegun inputs.bytes.items inputs.list.items texts)
     → IfOk result (λ found. IsFound workers inputs.bytes.items inputs.list.items texts inputs.filter found.crawled)
     → IfOk result (λ found. (is_bad_suffix within ≡ false) × (found.filter ≡ suffixes_of within)
-    × OfFiles file listed input (λ bytes list. (bytes ≡ found.bytes.items) × IsBegun bytes list texts × IsFound workers bytes list texts (suffixes_of within) found.crawled))
-found_in_files workers within file listed texts input inputs (Err failure) suffix are same begun found = tt
-found_in_files workers within file listed texts input inputs (Ok found) suffix are same begun own = (
+    × OfFiles file listed input (λ bytes list. (found.urls.items ≡ asked_pages parts (lines bytes)) × IsBegun bytes list texts × IsFound workers bytes list texts (suffixes_of within) found.crawled))
+found_in_files workers parts within file listed texts input inputs (Err failure) suffix are same begun found = tt
+found_in_files workers parts within file listed texts input inputs (Ok found) suffix are same begun own = (
   suffix.0,
   same.0 ∙ suffix.1,
-  of_files file listed input inputs.bytes.items inputs.list.items (λ bytes list. (bytes ≡ found.bytes.items) × IsBegun bytes list texts × IsFound workers bytes list texts (suffixes_of within) found.crawled) are
-      (sym same.1, begun, found_within workers inputs.bytes.items inputs.list.items texts inputs.filter (suffixes_of within) found.crawled suffix.1 own),
+  of_files file listed input inputs.bytes.items inputs.list.items (λ bytes list. (found.urls.items ≡ asked_pages parts (lines bytes)) × IsBegun bytes list texts × IsFound workers bytes list texts (suffixes_of within) found.crawled) are
+      (same.1, begun, found_within workers inputs.bytes.items inputs.list.items texts inputs.filter (suffixes_of within) found.crawled suffix.1 own),
 )
 
 -- and a crawl of inputs fails as one of these files

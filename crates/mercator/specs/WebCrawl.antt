@@ -10,12 +10,13 @@ use Rattle.crawl_report.specs.Json.{printed_line}
 use Rattle.crawl_report.specs.ReportText.{report}
 use Rattle.crawl_report.specs.Rows.{plain_parts, rows_with}
 use Rattle.crawl_report.specs.Today.{told_text}
-use Rattle.crawl_report.specs.Unreached.{asked_pages, unreached_of}
+use Rattle.crawl_report.specs.Unreached.{unreached_of}
 use Rattle.crawl_report.specs.declared.report.Parts.{Parts}
 use Rattle.crawl_sources.specs.Seeds.{seeds_in}
 use Rattle.saved_web.specs.SavedWeb.{page_of}
 use Rattle.crawl_keys.specs.declared.error.KeyError.{KeyError}
 use Rattle.saved_web.specs.WebFaults.{IsSound, IsWebFault}
+use Rattle.saved_web.specs.WebLines.{page_urls}
 use Rattle.mercator.specs.declared.commands.fault.Fault.{Fault}
 use Rattle.mercator.specs.declared.commands.fault.Fault.TheVariants as wrong
 use Rattle.mercator.specs.declared.commands.planned.CrawlOptions.{CrawlOptions}
@@ -122,10 +123,13 @@ pub record IsCrawlReport (bytes : List ℕ) (texts suffixes : List (List ℕ)) (
 
 -- ---- what is told of a crawl
 
--- these are the pages of the web that no result has, of hosts that the filter with these suffixes allows, in ascending order; none
--- where they are not asked for
-pub record AreUnreached (parts : Parts) (bytes : List ℕ) (suffixes : List (List ℕ)) (pages : List PageResult) (urls : List (List ℕ)) : Type 0 where
-  pub same : IsPermutation (unreached_of (allows suffixes) pages (asked_pages parts (lines bytes))) urls
+-- the URLs of the pages of a saved web with these lines, if the report lists those that no result has
+abbrev pub asked_pages : Parts → List (List ℕ) → List (List ℕ)
+asked_pages parts lines = if parts.unreached then page_urls lines else []
+
+-- these are the asked pages that no result has, of hosts that the filter with these suffixes allows, in ascending order
+pub record AreUnreached (asked suffixes : List (List ℕ)) (pages : List PageResult) (urls : List (List ℕ)) : Type 0 where
+  pub same : IsPermutation (unreached_of (allows suffixes) pages asked) urls
   pub ascends : IsSortedByKey (λ url. url) (slice_cmp nat_cmp) urls
 
 -- the text that is told of pages, counts and unreached pages, with the parts that are asked for
@@ -133,10 +137,10 @@ abbrev pub printed_with : Bool → CrawlOptions → List PageResult → List ℕ
 printed_with with_queues options pages counts unreached =
     flat_map (printed_line options.json) (rows_with options.parts pages (if with_queues then counts else []) unreached)
 
--- the text is told of pages and counts of a crawl of these bytes
-pub record IsTextOf (with_queues : Bool) (options : CrawlOptions) (bytes : List ℕ) (suffixes : List (List ℕ)) (pages : List PageResult) (counts text : List ℕ) : Type 0 where
+-- the text is told of pages and counts of a crawl; among these URLs are the pages that no result has
+pub record IsTextOf (with_queues : Bool) (options : CrawlOptions) (asked suffixes : List (List ℕ)) (pages : List PageResult) (counts text : List ℕ) : Type 0 where
   pub unreached : List (List ℕ)
-  pub unseen : AreUnreached options.parts bytes suffixes pages unreached
+  pub unseen : AreUnreached asked suffixes pages unreached
   pub written : text ≡ printed_with with_queues options pages counts unreached
 
 -- the text is that of such a crawl
@@ -145,7 +149,7 @@ pub record IsCrawlText (workers : ℕ) (with_queues : Bool) (options : CrawlOpti
   pub crawl : IsSiteCrawl bytes listed texts suffixes pages
   pub counts : List ℕ
   pub counted : AreCounts workers (result_urls pages) counts
-  pub told : IsTextOf with_queues options bytes suffixes pages counts text
+  pub told : IsTextOf with_queues options (asked_pages options.parts (lines bytes)) suffixes pages counts text
 
 -- ---- the text of a crawl that asks for no more than subqueues and sources
 

@@ -5,7 +5,7 @@ ghost use Rattle.mercator.specs.WebCrawl.{IsTextOf};
 
 use crate::commands::planned::CrawlOptions;
 use crate::commands::tell::WebFound;
-use crawl_report::{NoMemory, Report, asked_pages, print_in_parts, unreached};
+use crawl_report::{NoMemory, Report, print_in_parts, unreached};
 use std::alloc::{AllocError, Global};
 use std::thread::Threads;
 
@@ -21,12 +21,11 @@ pub fn crawl_text<R: Threads + Sync>(
     queues: bool,
     options: &CrawlOptions,
 ) -> Result<Vec<Vec<u8>>, NoMemory>
-    ensures { IfOk result (λ parts. IsTextOf queues options.now found.now.bytes.items found.now.filter found.now.crawled.result found.now.crawled.counts.items (joined parts.items)) }
+    ensures { IfOk result (λ parts. IsTextOf queues options.now found.now.urls.items found.now.filter found.now.crawled.result found.now.crawled.counts.items (joined parts.items)) }
 {
     let crawled = &found.crawled;
     let pages = crawled.result.pages();
-    let urls = asked_pages(alloc, options.parts, found.bytes.as_slice())?;
-    let unseen = unreached(alloc, &found.filter, pages, &urls)?;
+    let unseen = unreached(alloc, &found.filter, pages, &found.urls)?;
     let report = Report {
         pages,
         queues: asked_counts(queues, &crawled.counts),

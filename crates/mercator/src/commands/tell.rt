@@ -1,5 +1,6 @@
 //! The output of each command.
-ghost use Rattle.std.specs.Prelude.{◌≡◌, ◌≤◌, ◌⊎◌, ◌&&◌, ◌||◌, map, string_bytes, vec_len, true, false, IfOk, IfErr, IfSome, IsSome};
+ghost use Rattle.std.specs.Prelude.{◌≡◌, ◌≤◌, ◌⊎◌, ◌&&◌, ◌||◌, [], if◌then◌else◌, map, string_bytes, vec_len, true, false, IfOk, IfErr, IfSome, IsSome};
+ghost use Rattle.std.specs.Str.Lines.{lines};
 ghost use Rattle.crawl_limits.specs.Limits.{worker_limit};
 ghost use Rattle.crawl_keys.specs.HostFilter.{filter_of};
 ghost use Rattle.crawl_keys.specs.Outcome.{Gives};
@@ -9,7 +10,8 @@ ghost use Rattle.mercator.specs.Plans.{IsTelling, IsWithinLimits, is_input, is_b
 ghost use Rattle.crawl_replay.specs.Replay.{IsReplay};
 ghost use Rattle.crawl_report.specs.Printing.{joined};
 ghost use Rattle.mercator.specs.Told.{AreFiles, IsTold, Fails, FailsReplay, FailsCrawl, FailsKey, OfFile, OfFiles};
-ghost use Rattle.mercator.specs.WebCrawl.{IsBegun, IsFound, IsTextOf, IsUnbegun};
+ghost use Rattle.saved_web.specs.KnownPages.{urls_of};
+ghost use Rattle.mercator.specs.WebCrawl.{IsBegun, IsFound, IsTextOf, IsUnbegun, asked_pages};
 ghost use Rattle.mercator.specs.declared.commands.fault.Fault.TheVariants as wrong;
 
 use crate::commands::crawl_text::{alone, crawl_text};
@@ -19,9 +21,11 @@ use crate::commands::platform::Platform;
 use crate::commands::source::read_file;
 use crate::commands::web_crawl::crawl_saved_web;
 use crate::key::key_line;
-use crawl_keys::{Filter, FilterError};
+use crawl_keys::{CanonUrl, Filter, FilterError};
 use crawl_replay::replay_text;
+use crawl_report::{NoMemory, Parts};
 use crawl_run::{CrawlSettings, Crawled, Mode, Observe};
+use saved_web::SavedWeb;
 use std::alloc::Global;
 use std::fs::Files;
 use std::io::Read;
@@ -65,6 +69,7 @@ pub fn tell<R: Files + Threads + Wait + Sync, L, V: Observe + Sync, I: Read>(
                 listed: &options.listed,
                 seeds,
                 within,
+                parts: options.parts,
             };
             let watching = platform.watching(options.progress);
             let found = crawl_files(&watching, alloc, &asked, input)?;
@@ -95,7 +100,7 @@ fn tell_replay<R: Files, I: Read>(
     Ok(alone(alloc, text)?)
 }
 
-/// A crawl that a plan asks for, without the options of its report.
+/// A crawl that a plan asks for, and the sections of its report.
 #[derive(Clone, Copy)]
 struct AskedCrawl<'p> {
     workers: u32,
@@ -104,6 +109,7 @@ struct AskedCrawl<'p> {
     listed: &'p Option<String>,
     seeds: &'p [String],
     within: &'p Option<String>,
+    parts: Parts,
 }
 
 /// What a crawl reads before it starts.
@@ -114,11 +120,12 @@ struct Inputs {
     list: Vec<u8>,
 }
 
-/// What a crawl of its files found, with the bytes of the saved web and the filter.
+/// What a crawl of its files found, with the filter.
 #[derive(Drop)]
 pub struct WebFound {
     pub filter: Filter,
-    pub bytes: Vec<u8>,
+    /// The URLs of the pages of the saved web, if the report lists those that no result has.
+    pub urls: Vec<CanonUrl>,
     pub crawled: Crawled,
 }
 
@@ -131,7 +138,7 @@ fn crawl_files<R: Files + Threads + Wait + Sync, L, V: Observe + Sync, I: Read>(
 ) -> Result<WebFound, Fault>
     requires one_input { (is_input asked.now.file.now && lists_input asked.now.listed.now) ≡ false }
     ensures found { IfOk result (λ found. (is_bad_suffix asked.now.within.now ≡ false) × (found.filter ≡ suffixes_of asked.now.within.now)
-        × OfFiles asked.now.file.now asked.now.listed.now (I.remaining input.old) (λ bytes list. (bytes ≡ found.bytes.items) × IsBegun bytes list (map string_bytes asked.now.seeds.now) × IsFound asked.now.workers bytes list (map string_bytes asked.now.seeds.now) (suffixes_of asked.now.within.now) found.crawled)) }
+        × OfFiles asked.now.file.now asked.now.listed.now (I.remaining input.old) (λ bytes list. (found.urls.items ≡ asked_pages asked.now.parts (lines bytes)) × IsBegun bytes list (map string_bytes asked.now.seeds.now) × IsFound asked.now.workers bytes list (map string_bytes asked.now.seeds.now) (suffixes_of asked.now.within.now) found.crawled)) }
     ensures fault { IfErr result (FailsCrawl asked.now.workers asked.now.max asked.now.within.now asked.now.file.now asked.now.listed.now (map string_bytes asked.now.seeds.now) (I.remaining input.old)) }
     ensures unfiltered { is_bad_suffix asked.now.within.now ≡ true → input.new ≡ input.old }
     ensures unread { (is_input asked.now.file.now || lists_input asked.now.listed.now) ≡ false → input.new ≡ input.old }
@@ -171,7 +178,7 @@ fn crawl_inputs<R: Threads + Wait + Sync, L, V: Observe + Sync>(
     asked: &AskedCrawl<'_>,
     inputs: Inputs,
 ) -> Result<WebFound, Fault>
-    ensures same { IfOk result (λ found. (found.filter ≡ inputs.filter) × (found.bytes.items ≡ inputs.bytes.items)) }
+    ensures same { IfOk result (λ found. (found.filter ≡ inputs.filter) × (found.urls.items ≡ asked_pages asked.now.parts (lines inputs.bytes.items))) }
     ensures begun { IfOk result (λ _. IsBegun inputs.bytes.items inputs.list.items (map string_bytes asked.now.seeds.now)) }
     ensures found { IfOk result (λ found. IsFound asked.now.workers inputs.bytes.items inputs.list.items (map string_bytes asked.now.seeds.now) inputs.filter found.crawled) }
     ensures fault { IfErr result (IsUnbegun asked.now.workers asked.now.max inputs.bytes.items inputs.list.items (map string_bytes asked.now.seeds.now) inputs.filter) }
@@ -188,13 +195,23 @@ fn crawl_inputs<R: Threads + Wait + Sync, L, V: Observe + Sync>(
         filter: &filter,
     };
     let (web, crawled) = crawl_saved_web(platform, alloc, &bytes, &list, asked.seeds, &settings)?;
-    // Its list and its index are two blocks, whose memory the report can use.
-    drop(web);
+    let urls = asked_pages(alloc, asked.parts, &web)?;
     Ok(WebFound {
         filter,
-        bytes,
+        urls,
         crawled,
     })
+}
+
+/// Returns the URLs of the pages of the saved web if the report lists those that no result has.
+fn asked_pages(alloc: Global, parts: Parts, web: &SavedWeb<'_>) -> Result<Vec<CanonUrl>, NoMemory>
+    ensures { IfOk result (λ urls. urls.items ≡ (if parts.unreached then urls_of web.now else [])) }
+{
+    if parts.unreached {
+        web.page_urls(alloc)
+    } else {
+        Ok(Vec::new(alloc))
+    }
 }
 
 /// Reads the file of seeds. Without one, returns no bytes.
@@ -236,7 +253,7 @@ fn text_of<R: Threads + Sync>(
     queues: bool,
     options: &CrawlOptions,
 ) -> Result<Vec<Vec<u8>>, Fault>
-    ensures text { IfOk result (λ parts. IsTextOf queues options.now found.now.bytes.items found.now.filter found.now.crawled.result found.now.crawled.counts.items (joined parts.items)) }
+    ensures text { IfOk result (λ parts. IsTextOf queues options.now found.now.urls.items found.now.filter found.now.crawled.result found.now.crawled.counts.items (joined parts.items)) }
     ensures fault { IfErr result (λ fault. fault ≡ wrong.NoMemory) }
 {
     let parts = crawl_text(rt, alloc, found, queues, options)?;

@@ -6,9 +6,10 @@ ghost use Rattle.crawl_keys.specs.HostFilter.{allows};
 ghost use Rattle.crawl_run.specs.Crawls.{AreCounts, CrawlFails, IsJudgedAt};
 ghost use Rattle.crawl_run.specs.JudgedRuns.{CountsLosses};
 ghost use Rattle.crawl_run.specs.Losses.{IsLost};
-ghost use Rattle.saved_web.specs.KnownPages.{page_at};
+ghost use Rattle.saved_web.specs.KnownPages.{page_at, urls_of};
 ghost use Rattle.saved_web.specs.SavedWeb.{page_of};
 ghost use Rattle.saved_web.specs.WebFaults.{IsSound, IsWebRefusal};
+ghost use Rattle.saved_web.specs.WebLines.{page_urls};
 ghost use Rattle.mercator.specs.WebCrawl.{AreAllSeeds, AreSeeds, IsBegun, IsFound, IsSeedFault, IsUnbegun, IsUnread};
 
 use crate::commands::fault::Fault;
@@ -38,6 +39,7 @@ pub(in crate::commands) fn crawl_saved_web<'a, R: Threads + Wait + Sync, L, V: O
 ) -> Result<(SavedWeb<'a>, Crawled), Fault>
     ensures found { IfOk result (λ r. IsFound settings.now.workers bytes.now listed.now (map string_bytes seeds.now) settings.now.filter.now r.1) }
     ensures begun { IfOk result (λ _. IsBegun bytes.now listed.now (map string_bytes seeds.now)) }
+    ensures urls { IfOk result (λ r. urls_of r.0 ≡ page_urls (lines bytes.now)) }
     ensures refused { IfErr result (IsUnbegun settings.now.workers settings.now.max_pending bytes.now listed.now (map string_bytes seeds.now) settings.now.filter.now) }
 {
     let rt = platform.rt;
@@ -88,6 +90,7 @@ pub(in crate::commands) fn read_site<'a, R: Threads + Sync>(
 ) -> Result<(SavedWeb<'a>, Vec<CanonUrl>), Fault>
     ensures sound { IfOk result (λ _. IsSound (lines bytes.now)) }
     ensures pages { IfOk result (λ r. (url : List ℕ) → page_at r.0 url ≡ page_of (lines bytes.now) url) }
+    ensures urls { IfOk result (λ r. urls_of r.0 ≡ page_urls (lines bytes.now)) }
     ensures named { IfOk result (λ r. AreAllSeeds listed.now (map string_bytes seeds.now) r.1.items) }
     ensures unread { IfErr result (λ fault. IsUnread bytes.now listed.now (map string_bytes seeds.now) fault) }
 {
@@ -107,6 +110,7 @@ fn web_of<'a, R: Threads + Sync>(
 ) -> Result<SavedWeb<'a>, WebError>
     ensures sound { IfOk result (λ _. IsSound (lines bytes.now)) }
     ensures pages { IfOk result (λ web. (url : List ℕ) → page_at web url ≡ page_of (lines bytes.now) url) }
+    ensures urls { IfOk result (λ web. urls_of web ≡ page_urls (lines bytes.now)) }
     ensures fault { IfErr result (λ told. IsWebRefusal (lines bytes.now) told) }
 {
     if in_threads {
