@@ -9,7 +9,7 @@ use Rattle.crawl_report.specs.Json.{printed_line}
 use Rattle.crawl_report.specs.Lines as line
 use Rattle.crawl_report.specs.Lines.{Line}
 use Rattle.crawl_report.specs.Printing.{Adds, bytes_of, is_json}
-use Rattle.crawl_report.specs.Tallies.{pointed}
+use Rattle.crawl_sources.specs.Tallies.{pointed}
 use Rattle.crawl_report.specs.declared.out.Out.{Out}
 use Rattle.crawl_sources.proofs.Counts.{pointed_more}
 

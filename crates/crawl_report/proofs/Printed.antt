@@ -8,7 +8,7 @@ use Rattle.crawl_report.specs.Json.{printed_line}
 use Rattle.crawl_report.specs.Lines.{Line}
 use Rattle.crawl_report.specs.Printing.{Adds, bytes_of, is_json, joined}
 use Rattle.crawl_report.specs.Rows.{page_line, part_lines, result_lines, rows_behind, printed, total_of, queue_lines}
-use Rattle.crawl_report.specs.Tallies.{pointed}
+use Rattle.crawl_sources.specs.Tallies.{pointed}
 use Rattle.crawl_report.specs.declared.out.Out.{Out}
 use Rattle.crawl_report.specs.declared.report.Report.{Report}
 

@@ -1,27 +1,14 @@
 -- Sets of URLs.
-use Rattle.std.proofs.Common.{◌≡◌, ℕ, zero, suc, ◌+◌, ◌<◌, Bool, true, false, ◌||◌, ◌&&◌, not, cond, List, [], ◌∷◌, length, filter, get_or, refl, sym, ap, subst, ◌∙◌, arith}
+use Rattle.std.proofs.Common.{◌≡◌, ℕ, zero, suc, ◌+◌, ◌<◌, Bool, ◌&&◌, not, List, [], ◌∷◌, length, filter, get_or, refl, sym, subst, ◌∙◌, arith}
 use Rattle.std.specs.Borrow.{Bor}
 use Rattle.std.specs.BTreeSet as sorted
 use Rattle.std.specs.Cmp.Lexicographic.{slice_cmp}
 use Rattle.std.specs.List.Sorted.{IsSortedBy, IsSortedByKey}
 use Rattle.std.specs.Ordering.{nat_cmp, is_lt}
-use Rattle.std.specs.Str.{bytes_eq}
-use Rattle.hash_order.specs.HashOrder.{by_hash, by_hash_ties}
 use Rattle.crawl_pages.specs.declared.page.PageResult.{PageResult}
-use Rattle.crawl_report.specs.Tallies.{pointed}
+use Rattle.crawl_sources.specs.Tallies.{pointed}
 use Rattle.crawl_report.specs.Unreached.{has_result, is_in, is_unreached}
 use Rattle.crawl_sources.proofs.Counts.{length_pointed}
-
--- a set of URLs after one was put in
-pub set_put : (old new : sorted.BTreeSet (List ℕ)) (key : List ℕ) → sorted.Updates by_hash old new key true → (url : List ℕ) → is_in new url ≡ (is_in old url || bytes_eq key url)
-set_put old new key updates url =
-    updates.0 url ∙ ap (λ b. cond b true (is_in old url)) (sym (by_hash_ties key url)) ∙ or_by_cond (bytes_eq key url) (is_in old url)
-  where
-    or_by_cond : (b o : Bool) → cond b true o ≡ (o || b)
-    or_by_cond true true = refl
-    or_by_cond true false = refl
-    or_by_cond false true = refl
-    or_by_cond false false = refl
 
 -- what is not in the set of the results' URLs
 pub unseen_unreached : (allowed : List ℕ → Bool) (results : List PageResult) (seen : sorted.BTreeSet (List ℕ)) → ((url : List ℕ) → is_in seen url ≡ has_result results url) → (urls : List (List ℕ)) → filter (λ url. allowed url && not (is_in seen url)) urls ≡ filter (is_unreached allowed results) urls

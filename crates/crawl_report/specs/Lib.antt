@@ -4,6 +4,5 @@ pub mod Members
 pub mod Printing
 pub mod ReportText
 pub mod Rows
-pub mod Tallies
 pub mod Today
 pub mod Unreached

@@ -9,7 +9,7 @@ use Rattle.crawl_sources.specs.Sources.{sources_of, least}
 use Rattle.crawl_report.specs.Json.{printed_line}
 use Rattle.crawl_report.specs.Lines as line
 use Rattle.crawl_report.specs.Lines.{Line}
-use Rattle.crawl_report.specs.Tallies.{pointed}
+use Rattle.crawl_sources.specs.Tallies.{pointed}
 use Rattle.crawl_report.specs.declared.report.Parts.{Parts}
 use Rattle.crawl_report.specs.declared.report.Report.{Report}
 use Rattle.crawl_report.specs.declared.report.Sources.{Sources}

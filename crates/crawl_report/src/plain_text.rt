@@ -4,7 +4,7 @@ ghost use Rattle.crawl_pages.specs.ResultOrder.{results_by_url};
 ghost use Rattle.crawl_report.specs.Printing.{Adds};
 ghost use Rattle.crawl_report.specs.ReportText.{report};
 ghost use Rattle.crawl_report.specs.Rows.{result_lines};
-ghost use Rattle.crawl_report.specs.Tallies.{pointed};
+ghost use Rattle.crawl_sources.specs.Tallies.{pointed};
 
 use crate::out::Out;
 use crate::printing::{row_of, total_of};

@@ -2,7 +2,7 @@
 ghost use Rattle.std.specs.Prelude.{◌≡◌, false, IfOk};
 ghost use Rattle.crawl_report.specs.Printing.{Adds};
 ghost use Rattle.crawl_report.specs.Rows.{part_lines, plain_parts};
-ghost use Rattle.crawl_report.specs.Tallies.{pointed};
+ghost use Rattle.crawl_sources.specs.Tallies.{pointed};
 
 mod moved;
 mod referrers;
@@ -16,28 +16,28 @@ use crawl_keys::CanonUrl;
 use crawl_pages::{NoMemory, PageResult};
 use std::alloc::Global;
 
-/// Which sources of missing URLs a report tells.
+/// Which sources of missing URLs a report has.
 #[derive(Clone, Copy, Debug)]
 pub enum Sources {
     None,
-    /// How many there are, and the first of them.
+    /// Their number, and the first of them.
     First,
-    /// Each of them besides.
+    /// Their number, and each of them.
     All,
 }
 
-/// What a report tells besides results, total and queues. Who crawls hands it on as it is.
+/// Which sections a report has in addition to results, total and queues.
 #[derive(Clone, Copy, Debug)]
 pub struct Parts {
     pub sources: Sources,
-    /// Whether it tells where pages moved to, and the sources of those pages where sources are told.
+    /// Whether it has the targets of moved pages, and if it has sources, those of moved pages too.
     pub moved: bool,
-    /// Whether it tells the pages of the web that no result has.
+    /// Whether it has the pages of the saved web that no result has.
     pub unreached: bool,
 }
 
 impl Parts {
-    /// No more than results, total and queues.
+    /// Only results, total and queues.
     pub fn none() -> Parts
         ensures { result ≡ plain_parts false }
     {
@@ -49,19 +49,19 @@ impl Parts {
     }
 }
 
-/// What a report tells, and of what.
+/// A report.
 #[derive(Clone, Copy)]
 pub struct Report<'r> {
-    /// The results. A crawl's ascend by URL; they are told in the order given.
+    /// The results, in the order in which they are printed. Those of a crawl are in ascending order of their URLs.
     pub pages: &'r [PageResult],
-    /// How many URLs each queue had; none where this is not told.
+    /// How many URLs each queue had. Empty if this is not printed.
     pub queues: &'r [u64],
-    /// Pages that no result has, as [`unreached`](crate::unreached) gives them; none where they are not told.
+    /// The pages that no result has, as [`unreached`](crate::unreached) returns them. Empty if they are not printed.
     pub unreached: &'r [&'r CanonUrl],
     pub parts: Parts,
 }
 
-/// What is printed, and behind it the lines of the parts.
+/// Prints the lines of the parts.
 #[tactic(auto, using(crate::proofs::Adding::then_more))]
 pub(crate) fn with_parts(alloc: Global, out: Out, report: &Report<'_>) -> Result<Out, NoMemory>
     ensures { IfOk result (λ more. Adds out more (part_lines report.now.parts report.now.pages.now (pointed report.now.unreached.now))) }

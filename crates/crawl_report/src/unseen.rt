@@ -1,10 +1,10 @@
-//! Pages of a web that no result has.
+//! Pages of a saved web that no result has.
 ghost use Rattle.std.specs.Prelude.{◌≡◌, ℕ, List, IfOk};
 ghost use Rattle.std.specs.List.Sorted.{IsPermutation, IsSortedByKey};
 ghost use Rattle.std.specs.Cmp.Lexicographic.{slice_cmp};
 ghost use Rattle.std.specs.Ordering.{nat_cmp};
 ghost use Rattle.crawl_keys.specs.HostFilter.{allows};
-ghost use Rattle.crawl_report.specs.Tallies.{pointed};
+ghost use Rattle.crawl_sources.specs.Tallies.{pointed};
 ghost use Rattle.crawl_report.specs.Unreached.{has_result, unreached_of, unseen_of, is_in};
 
 use crawl_keys::{CanonUrl, Filter};
@@ -15,10 +15,10 @@ use std::collections::BTreeSet;
 
 type Urls<'a> = BTreeSet<HashedText<'a>>;
 
-/// Those of the URLs that the filter allows and no result has, in ascending order of their bytes.
+/// Returns the URLs that the filter allows and no result has, in ascending byte order.
 ///
 /// # Errors
-/// Out of memory alone.
+/// Only out of memory.
 pub fn unreached<'r>(
     alloc: Global,
     filter: &Filter,
@@ -37,7 +37,7 @@ pub fn unreached<'r>(
     Ok(found)
 }
 
-/// The URLs of the results as a set.
+/// Returns the URLs of the results as a set.
 fn urls_of(alloc: Global, results: &[PageResult]) -> Result<Urls<'_>, NoMemory>
     ensures { IfOk result (λ set. (url : List ℕ) → is_in set url ≡ has_result results.now url) }
 {
@@ -48,7 +48,7 @@ fn urls_of(alloc: Global, results: &[PageResult]) -> Result<Urls<'_>, NoMemory>
     Ok(set)
 }
 
-/// Those of the URLs that are allowed and not in the set.
+/// Returns the URLs that the filter allows and that are not in the set.
 fn not_seen<'r>(
     alloc: Global,
     filter: &Filter,

@@ -8,6 +8,7 @@ use Rattle.std.proofs.lemmas.List.Sums.{fold-append}
 use Rattle.std.proofs.lemmas.Slice.Eq.{bytes_eq-Decides}
 use Rattle.std.specs.Borrow.{Bor}
 use Rattle.std.specs.BTreeMap as tree
+use Rattle.std.specs.BTreeSet as sets
 use Rattle.std.specs.List.{list_any}
 use Rattle.std.specs.Option.{option_map}
 use Rattle.std.specs.Str.{bytes_eq}
@@ -15,7 +16,7 @@ use Rattle.hash_order.specs.HashOrder.{by_hash, by_hash_ties}
 use Rattle.crawl_pages.specs.Pages.{links_of}
 use Rattle.crawl_pages.specs.declared.page.PageResult.{PageResult}
 use Rattle.crawl_pages.proofs.StableSort.{filter-kept, filter-dropped}
-use Rattle.crawl_sources.specs.Sources.{links_to, sources_of, least, least_with, source_line, line_of}
+use Rattle.crawl_sources.specs.Sources.{links_to, sources_of, least, least_with}
 use Rattle.crawl_sources.specs.Tallies.{pointed, Count, none_counted, counted, Tallies, count_of, IsCount, IsTally}
 
 -- ---- lists
@@ -49,6 +50,18 @@ pub url_among : (all : List (Bor PageResult)) (i : ℕ) (x : Bor PageResult) →
 url_among all i x below is =
     let p : PageResult → Bool = λ r. bytes_eq r.url x.now.url in
     list_any_at p (pointed all) i x.now (omega (arith, length_pointed all, below)) (ap p (read_pointed all i x is) ∙ (bytes_eq-Decides x.now.url x.now.url).1 refl)
+
+-- ---- what a set has after one URL was put in
+
+pub set_put : (old new : sets.BTreeSet (List ℕ)) (key : List ℕ) → sets.Updates by_hash old new key true → (url : List ℕ) → sets.contains by_hash new url ≡ (sets.contains by_hash old url || bytes_eq key url)
+set_put old new key updates url =
+    updates.0 url ∙ ap (λ b. cond b true (sets.contains by_hash old url)) (sym (by_hash_ties key url)) ∙ or_by_cond (bytes_eq key url) (sets.contains by_hash old url)
+  where
+    or_by_cond : (b o : Bool) → cond b true o ≡ (o || b)
+    or_by_cond true true = refl
+    or_by_cond true false = refl
+    or_by_cond false true = refl
+    or_by_cond false false = refl
 
 -- ---- what a map has after one count was written
 
@@ -151,12 +164,5 @@ pub kept_some : (f : Count → Count) (old new : Option Count) → new ≡ optio
 kept_some f None new is some = absurd (cc)
 kept_some f (Some c) new is some = subst IsSome (sym is) refl
 
--- ---- the line of a count
-
 pub no_count : (o : Option Count) → o ≡ None → IsSome o → ⊥
 no_count o none some = let clash : IsSome {T = Count} None = subst IsSome none some in (cc)
-
-pub line_counted : (all : Bool) (results : List PageResult) (url : List ℕ) (o : Option Count) (c : Count) → o ≡ Some c → IsTally all results url o → source_line c.count c.page url ≡ line_of results url
-line_counted all results url o c is k =
-    let kept : IsCount all results url c = subst (IsTally all results url) is k in
-    (λ i. source_line (kept.count i) (kept.page i) url)

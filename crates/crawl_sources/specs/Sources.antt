@@ -5,8 +5,7 @@ use Rattle.std.specs.Fmt.{decimal}
 use Rattle.std.specs.Ordering.{is_lt, nat_cmp}
 use Rattle.std.specs.Cmp.Lexicographic.{slice_cmp}
 use Rattle.std.specs.Str.{bytes_eq}
-use Rattle.crawl_pages.specs.Pages.{links_of}
-use Rattle.crawl_pages.specs.Pages.{is_missing}
+use Rattle.crawl_pages.specs.Pages.{links_of, is_missing}
 use Rattle.crawl_pages.specs.ResultOrder.{results_by_url}
 use Rattle.crawl_pages.specs.declared.page.PageResult.{PageResult}
 

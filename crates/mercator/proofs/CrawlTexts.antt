@@ -8,7 +8,7 @@ use Rattle.crawl_keys.specs.HostFilter.{allows}
 use Rattle.crawl_report.specs.Json.{printed_line}
 use Rattle.crawl_report.specs.Printing.{joined}
 use Rattle.crawl_report.specs.Rows.{rows_with}
-use Rattle.crawl_report.specs.Tallies.{pointed}
+use Rattle.crawl_sources.specs.Tallies.{pointed}
 use Rattle.crawl_report.specs.Unreached.{unreached_of}
 use Rattle.crawl_pages.specs.declared.page.PageResult.{PageResult}
 use Rattle.mercator.specs.WebCrawl.{AreUnreached, IsTextOf}

@@ -1,6 +1,6 @@
 //! The external links of a site.
 ghost use Rattle.std.specs.Prelude.{◌≡◌, ◌≤◌, ◌++◌, ◌∷◌, [], OnOk, IfOk, map};
-ghost use Rattle.crawl_report.specs.Tallies.{pointed};
+ghost use Rattle.crawl_sources.specs.Tallies.{pointed};
 ghost use Rattle.mercator_site.specs.External.{AreExternal, outside, outside_links, row, row_of, runs, runs_from};
 
 use crate::own::is_own;

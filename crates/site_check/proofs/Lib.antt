@@ -1,4 +1,3 @@
-pub mod AliasSets
 pub mod AllRows
 pub mod Counting
 pub mod Fronts

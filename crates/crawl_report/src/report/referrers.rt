@@ -1,4 +1,4 @@
-//! Which pages link to the URLs that a report tells as missing or moved.
+//! Which pages link to the missing URLs of a report, and to the moved ones.
 ghost use Rattle.std.specs.Prelude.{◌≡◌, ℕ, List, ◌∷◌, true, IfOk, IsSome, map, filter};
 ghost use Rattle.std.specs.List.{list_any, flat_map};
 ghost use Rattle.std.specs.Str.{bytes_eq};
@@ -16,7 +16,7 @@ use crawl_pages::{NoMemory, PageResult};
 use crawl_sources::{Tallies, Tally, tally_links, tally_of};
 use std::alloc::Global;
 
-/// Prints the sources of the URLs that are told.
+/// Prints the sources of the missing URLs, and if `moved`, of the moved ones.
 pub fn with_sources(
     alloc: Global,
     out: Out,
@@ -47,7 +47,7 @@ fn with_all(
     with_told(out, &told, &tallies, all)
 }
 
-/// The results whose sources are told, in their order.
+/// Returns the results whose sources are printed, in their order.
 fn told(alloc: Global, pages: &[PageResult], moved: bool) -> Result<Vec<&PageResult>, NoMemory>
     ensures { IfOk result (λ all. pointed all.items ≡ filter (is_told moved) pages.now) }
 {

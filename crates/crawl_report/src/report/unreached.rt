@@ -2,7 +2,7 @@
 ghost use Rattle.std.specs.Prelude.{IfOk, map};
 ghost use Rattle.crawl_report.specs.Lines as line;
 ghost use Rattle.crawl_report.specs.Printing.{Adds};
-ghost use Rattle.crawl_report.specs.Tallies.{pointed};
+ghost use Rattle.crawl_sources.specs.Tallies.{pointed};
 
 use crate::out::Out;
 use crate::row::Row;

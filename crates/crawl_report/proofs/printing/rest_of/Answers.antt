@@ -3,7 +3,7 @@ use Rattle.std.specs.List.{flat_map}
 use Rattle.crawl_report.specs.Json.{printed_line}
 use Rattle.crawl_report.specs.Lines.{Line}
 use Rattle.crawl_report.specs.Rows.{part_lines, queue_lines, rows_behind, total_of}
-use Rattle.crawl_report.specs.Tallies.{pointed}
+use Rattle.crawl_sources.specs.Tallies.{pointed}
 use Rattle.crawl_report.proofs.Adding.{adds_same, rest_printed}
 use Rattle.crawl_report.proofs.printing.rest_of.Goals as goal
 

@@ -1,6 +1,6 @@
 use Rattle.std.proofs.Common.{◌≡◌, take}
 use Rattle.crawl_keys.specs.HostFilter.{allows}
-use Rattle.crawl_report.specs.Tallies.{pointed}
+use Rattle.crawl_sources.specs.Tallies.{pointed}
 use Rattle.crawl_report.specs.Unreached.{unseen_of}
 use Rattle.crawl_report.proofs.unseen.not_seen.Given as goal
 

@@ -5,7 +5,7 @@ use Rattle.std.specs.Cmp.Lexicographic.{slice_cmp, nat_list_cmp_total}
 use Rattle.std.specs.List.Sorted.{IsPermutation}
 use Rattle.std.specs.Ordering.{nat_cmp, is_lt}
 use Rattle.crawl_keys.specs.HostFilter.{allows}
-use Rattle.crawl_report.specs.Tallies.{pointed}
+use Rattle.crawl_sources.specs.Tallies.{pointed}
 use Rattle.crawl_report.proofs.Sets.{sorted_pointed, unseen_unreached}
 use Rattle.crawl_report.proofs.unseen.unreached.Goals as goal
 

@@ -3,8 +3,7 @@ use Rattle.std.proofs.lemmas.List.{take_more}
 use Rattle.std.specs.Str.{bytes_eq}
 use Rattle.crawl_pages.specs.declared.page.PageResult.{PageResult}
 use Rattle.crawl_report.specs.Unreached.{has_result}
-use Rattle.crawl_sources.proofs.Counts.{any_push}
-use Rattle.crawl_report.proofs.Sets.{set_put}
+use Rattle.crawl_sources.proofs.Counts.{any_push, set_put}
 use Rattle.crawl_report.proofs.unseen.urls_of.Goals as goal
 
 pub loop-one-preserved : goal.loop-one-preserved

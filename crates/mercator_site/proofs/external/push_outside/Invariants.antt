@@ -1,5 +1,5 @@
 use Rattle.std.proofs.Common.{◌≡◌, ◌++◌, take}
-use Rattle.crawl_report.specs.Tallies.{pointed}
+use Rattle.crawl_sources.specs.Tallies.{pointed}
 use Rattle.mercator_site.specs.External.{outside}
 use Rattle.mercator_site.proofs.external.push_outside.Given as goal
 

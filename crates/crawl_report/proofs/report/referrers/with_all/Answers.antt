@@ -5,7 +5,7 @@ use Rattle.std.specs.Str.{bytes_eq}
 use Rattle.crawl_pages.specs.declared.page.PageResult.{PageResult}
 use Rattle.crawl_report.specs.Printing.{Adds}
 use Rattle.crawl_report.specs.Rows.{lines_at}
-use Rattle.crawl_report.specs.Tallies.{pointed}
+use Rattle.crawl_sources.specs.Tallies.{pointed}
 use Rattle.crawl_report.proofs.report.referrers.with_all.Goals as goal
 
 pub with_told-requires : goal.with_told-requires

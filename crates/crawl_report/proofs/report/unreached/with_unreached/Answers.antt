@@ -1,7 +1,7 @@
 use Rattle.std.proofs.Common.{ℕ, List, [], ◌∷◌, map, ap, ◌∙◌}
 use Rattle.std.specs.Borrow.{Bor}
 use Rattle.crawl_report.specs.Lines as line
-use Rattle.crawl_report.specs.Tallies.{pointed}
+use Rattle.crawl_sources.specs.Tallies.{pointed}
 use Rattle.crawl_report.proofs.Adding.{adds_none, adds_same, lines_all, pointed_line_at}
 use Rattle.crawl_report.proofs.report.unreached.with_unreached.Goals as goal
 

@@ -1,5 +1,5 @@
 use Rattle.std.proofs.Common.{[], ap, ◌∙◌, if◌then◌else◌}
-use Rattle.crawl_report.specs.Tallies.{pointed}
+use Rattle.crawl_sources.specs.Tallies.{pointed}
 use Rattle.mercator.proofs.CrawlTexts.{text_told, unreached_told}
 use Rattle.mercator.proofs.commands.crawl_text.crawl_text.Goals as goal
 
