@@ -55,7 +55,7 @@ part tests/stress_crawl.py
 part tests/stress_threads.sh
 part tests/waiting.sh
 part tests/large_crawl.py
-part tests/real-site.sh
+part tests/real_sites.py
 part tests/refused-growths.sh
 part tests/refused-growths.sh tests
 part tests/drawn.py --count 100000

@@ -270,7 +270,7 @@ class Model:
         self.settings, self.site = settings, Site(folder, settings)
         self.responses: Dict[str, Response] = {}
         self.links: Dict[str, List[Link]] = {}  # by the own URL of each file
-        self.skipped = 0
+        self.skipped: Counter[str] = Counter()  # by the own URL of each file, the links that are not http or https
         waiting = [str(drawn.url_of(seed, self.site.base)) for seed in settings.seeds] or [str(self.site.base)]
         while waiting:
             url = waiting.pop()
@@ -313,7 +313,7 @@ class Model:
             text = with_query_in(TOOL.cleaned(link.text), document.charset)
             target = url_of(text if TOOL.scheme_of(text) else front + text, base)
             if target is None:
-                self.skipped += TOOL.scheme_of(front + text) not in (None, "http", "https") or is_short("link", text)
+                self.skipped[url] += TOOL.scheme_of(front + text) not in (None, "http", "https") or is_short("link", text)
             elif is_short("link", target if has_base else text.partition("#")[0]):
                 fragment = None if document.ids is None else fragment_of(link.text)
                 yield Link(target, fragment, Place(name, *document.lines.place(link.at)))
@@ -335,7 +335,7 @@ class Model:
         total = {
             "kind": "total", "pages": len(self.links), "redirects": len(redirects), **counts,
             "aliases": sum(isinstance(response, Alias) for response in self.responses.values()),
-            "links": self.skipped + sum(map(len, self.links.values())), "broken": len(places),
+            "links": sum(self.skipped.values()) + sum(map(len, self.links.values())), "broken": len(places),
             "missing_pages": sum(row["kind"] == "broken" and row["missing"] == "page" for row in broken),
             "missing_anchors": sum(row["kind"] == "broken" and row["missing"] == "anchor" for row in broken),
         }
