@@ -62,6 +62,7 @@ part tests/drawn.py --count 100000
 part tests/plain_texts.py
 part tests/serve.py
 part tests/check.py --drawn 10000 --changed 50 --large 20000
+part tests/check.py --model --drawn 1000
 part tests/site.py
 part tests/cluster_model.py
 part tests/cluster.sh

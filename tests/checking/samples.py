@@ -157,7 +157,7 @@ class Folder:
         file = self.file_of(target)
         ids = (self.document(file).ids or frozenset()) if file else frozenset()
         others = [one for one in sorted(ids) if one.lower() == unquote(fragment).lower()]
-        return [f"other spellings: {', '.join(others[:SHOWN])}"] if others else [f"no id of {len(ids)} has this name"]
+        return [f"other spellings: {', '.join(others[:SHOWN])}"] if others else [f"no id has this name: {len(ids)} ids"]
 
     def file_of(self, target: str) -> Optional[str]:
         """The file of a target."""
