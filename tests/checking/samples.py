@@ -34,6 +34,7 @@ class Handler(http.server.SimpleHTTPRequestHandler):
     """Python's static server of a folder at a path, without its lists of files and its log."""
 
     protocol_version = "HTTP/1.1"
+    disable_nagle_algorithm = True  # else each answer waits for an acknowledgement
 
     def __init__(self, prefix: str, *arguments: Any, **names: Any) -> None:
         self.prefix = prefix
