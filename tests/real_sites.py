@@ -83,7 +83,8 @@ def fetch(cache: Path, package: str) -> Optional[str]:
         got = subprocess.run(["apt-get", "-q", "download", package], cwd=scratch, capture_output=True, check=False)
         files = list(Path(scratch).glob("*.deb"))
         if got.returncode or not files:
-            return got.stderr.decode(errors="replace").strip().splitlines()[-1:][0] if got.stderr else "not downloaded"
+            lines = got.stderr.decode(errors="replace").splitlines()
+            return lines[-1] if lines else "not downloaded"
         unpacked = Path(scratch, "unpacked")
         subprocess.run(["dpkg-deb", "-x", str(files[0]), str(unpacked)], check=True)
         unpacked.rename(cache / package)
