@@ -55,13 +55,14 @@ part tests/stress_crawl.py
 part tests/stress_threads.sh
 part tests/waiting.sh
 part tests/large_crawl.py
-part tests/real-site.sh
+part tests/real_sites.py
 part tests/refused-growths.sh
 part tests/refused-growths.sh tests
 part tests/drawn.py --count 100000
 part tests/plain_texts.py
 part tests/serve.py
 part tests/check.py --drawn 10000 --changed 50 --large 20000
+part tests/check.py --model --drawn 1000
 part tests/site.py
 part tests/cluster_model.py
 part tests/cluster.sh

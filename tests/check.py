@@ -5,7 +5,8 @@ The model (tests/checking/) has its own tokenizer, server, search and anchors, w
 small folders with known results, the shipped site, each FOLDER, and random folders: odd names, links in many spellings, base
 elements, encodings, redirects, and symbolic links. Without a FOLDER it takes the documentation folders that are installed
 (DOCUMENTATION in tests/checking/loading.py). The saved webs of random folders are compared with those of tools/site_to_web.py
-with the model's tokenizer. In every eighth random folder, the other forms of the report are compared, too.
+with the model's tokenizer. In every eighth random folder, the other forms of the report are compared, too. With --model, only the
+model is tested: with the known results, the pages that the converter finds, and the answers of Python's static server.
 
 A random folder depends only on the seed and its number. The first folders that differ are kept, and their paths are printed.
 With at least 1,000 random folders, each kind of row must occur at least 5 times; otherwise the test fails. The environment
@@ -27,11 +28,13 @@ from functools import lru_cache, partial
 from pathlib import Path
 from random import Random
 from typing import Dict, List, NamedTuple, Optional, Tuple
+from urllib.parse import quote, unquote_to_bytes
 
 import drawn
-from checking import drawing, forms, loading
+from checking import drawing, forms, loading, samples
+from checking.documents import TOOL
 from checking.known import KNOWN, Known, To, Zeros
-from checking.model import Model, Row, Settings
+from checking.model import Model, Moved, Row, Settings, is_short
 from checking.tags import start_tags
 from checking.webs import Converter, first_difference, model_fault
 
@@ -162,9 +165,9 @@ def known_faults(program: Optional[str], number: int) -> Faults:
     known = KNOWN[number]
     with tempfile.TemporaryDirectory() as scratch:
         folder = write_known(known, Path(scratch, "site"))
-        settings = Settings(BASE, follow=known.follow)
+        settings = Settings(BASE, follow=known.follow)._replace(**dict(known.rules))
         faults = [(f"{known.name}, model", known_fault(known, Model(folder, settings._replace(front=BASE)).rows()))]
-        if program:
+        if program and not known.rules:
             faults.append((known.name, difference(printed_rows(program, settings, folder), Model(folder, settings).rows())))
         return faults
 
@@ -277,15 +280,49 @@ def compare_number(program: str, seed: int, number: int) -> Outcome:
 
 
 def compare_models(seed: int, number: int) -> Outcome:
-    """Compares the pages that the model finds in the random folder with this number with those of the converter."""
+    """Compares the pages that the model finds in the random folder with this number with those of the converter and a static server."""
     with tempfile.TemporaryDirectory() as above:
         folder, settings, _ = draw_number(seed, number, above)
         try:
             model = Model(folder, settings._replace(base=BASE, seeds=()))
+            served = Model(folder, SERVER)
         except drawn.NotPlain:
             return Outcome(number, [], Counter(), True)
         options = [f"--{name}" for name in ("exact", "follow", "queries") if getattr(settings, name)]
-        return Outcome(number, [("model", model_fault(model, converter().web(folder, options, BASE)))], Counter(), False)
+        faults: Faults = [("model", model_fault(model, converter().web(folder, options, BASE))), ("server", server_fault(served, folder))]
+        return Outcome(number, faults, Counter(), False)
+
+
+# The rules of Python's static server
+SERVER = Settings(BASE, follow=True, slashes=True, indices=("index.html", "index.htm"))
+
+
+def server_fault(model: Model, folder: str) -> Optional[str]:
+    """A URL for which Python's static server returns something else than the model."""
+    with samples.server(folder, "/") as connection:
+        for url, response in model.responses.items():
+            if is_served(folder, url):
+                connection.request("GET", url[len(BASE) - 1:])
+                answer = connection.getresponse()
+                answer.read()
+                expected = 404 if response is None else 301 if isinstance(response, Moved) else 200
+                if answer.status != expected:
+                    return f"{url}: status {answer.status}, expected {expected}"
+    return None
+
+
+def is_served(folder: str, url: str) -> bool:
+    """Whether the server and the model must agree on a URL.
+
+    Its line and that of the file's own URL are short enough, the name is UTF-8, and it is a file, a folder or nothing. The server
+    redirects a path that ends in `%2F`, for which others, and the model, return the folder.
+    """
+    request = url[len(BASE):].partition("?")[0]
+    name = unquote_to_bytes(request)
+    path = os.path.join(os.fsencode(folder), name.lstrip(b"/"))
+    is_known = os.path.isfile(path) or os.path.isdir(path) or not os.path.lexists(path)
+    is_line = is_short("page", url) and is_short("page", BASE + quote(name))
+    return is_known and is_line and TOOL.is_utf8(name) and not request.lower().endswith("%2f")
 
 
 def keep(seed: int, number: int) -> str:
@@ -397,7 +434,7 @@ def main() -> int:
         "--tags", type=int, default=0, metavar="COUNT",
         help="also compare the tags of this number of random documents with html5lib (Debian's python3-html5lib)",
     )
-    option("--model", action="store_true", help="test only the model, without the program: with known results and the converter")
+    option("--model", action="store_true", help="test only the model, without the program: with known results, the converter, and Python's static server")
     options = parser.parse_args()
     program = None if options.model else loading.program()
     compare_known(program, options.jobs)

@@ -52,7 +52,9 @@ def character(byte: int) -> str:
         return chr(byte)
 
 
-BYTES = {character(byte): bytes([byte]) for byte in range(256)}
+CHARACTERS = {byte: character(byte) for byte in range(256)}
+BYTES = {letter: bytes([byte]) for byte, letter in CHARACTERS.items()}
+ASCII = {byte: UNKNOWN for byte in range(128, 256)}
 
 
 def text_of(body: bytes) -> Tuple[str, str]:
@@ -68,17 +70,12 @@ def text_of(body: bytes) -> Tuple[str, str]:
         if name in UTF_8:
             return body.decode("utf-8", "replace"), "utf-8"
         if name in WINDOWS:
-            return "".join(map(character, body)), "windows-1252"
+            return body.decode("latin-1").translate(CHARACTERS), "windows-1252"
     try:
         return body.decode("utf-8"), "utf-8"
     except UnicodeError:
-        of_byte = ascii_character if names else character
-        return "".join(map(of_byte, body)), "other" if names else "windows-1252"
-
-
-def ascii_character(byte: int) -> str:
-    """The character of a byte if only ASCII is known."""
-    return chr(byte) if byte < 128 else UNKNOWN
+        # In another encoding only ASCII is known
+        return body.decode("latin-1").translate(ASCII if names else CHARACTERS), "other" if names else "windows-1252"
 
 
 def is_absolute(link: str) -> bool:

@@ -26,11 +26,17 @@ class Known(NamedTuple):
     broken: List[str]
     rows: Tuple[Dict[str, Any], ...] = ()  # some members of some rows
     follow: bool = False  # whether symbolic links out of the folder are followed
+    rules: Tuple[Tuple[str, Any], ...] = ()  # rules of hosts that only the model has
 
 
 def total(pages: int, links: int, redirects: int, aliases: int) -> Tuple[Dict[str, Any]]:
     """The row of totals."""
     return ({"kind": "total", "pages": pages, "links": links, "redirects": redirects, "aliases": aliases},)
+
+
+SLASHES = (("slashes", True),)
+INDICES = (("indices", ("index.html", "index.htm", "index.xhtml")),)
+FALLBACK = (("fallback", True),)
 
 
 def anchors(name: str, ids: str, links: str, broken: List[str]) -> Known:
@@ -223,5 +229,55 @@ KNOWN = [
         {"index.html": "<a href=x.html#y>", "x.html": Zeros(3 << 30)},
         [],
         total(pages=2, links=1, redirects=0, aliases=0),
+    ),
+    Known(
+        "consecutive slashes",
+        {
+            "index.html": "<a href=.//a.html#y><a href=d//b.html><a href=d//><a href=d///e//b.html#x><a href=.//d><a href=a.html//><a href=.//gone>",
+            "a.html": "<p id=x>", "d/index.html": "<a href=../a.html#z>", "d/b.html": "<a href=.//gone>", "d/e/b.html": "<p id=x>",
+        },
+        [
+            "/a.html#y index.html:1:9", "a.html#z d/index.html:1:9", "a.html// index.html:1:96", "/gone index.html:1:113",
+            "d//gone d/b.html:1:9",
+        ],
+        (*total(pages=5, links=9, redirects=1, aliases=4), {"kind": "redirect", "page": "/d", "to": "d/", "pages": 1}),
+        rules=SLASHES,
+    ),
+    Known(
+        "escaped slashes",
+        {
+            "index.html": "<a href=d%2Fa.html#x><a href=d%2f><a href=%2Fd%2Fe><a href=d%2F%2Fa.html><a href=d%2F..%2Fd/a.html>"
+            "<a href=..%2Fd/a.html><a href=d%252Fa.html><a href=d%2Fgone>",
+            "d/index.html": "", "d/a.html": "<p id=x>", "d/e/index.html": "",
+        },
+        ["..%2Fd/a.html index.html:1:108", "d%252Fa.html index.html:1:130", "d%2Fgone index.html:1:151"],
+        (*total(pages=4, links=8, redirects=1, aliases=4), {"kind": "redirect", "page": "%2Fd%2Fe", "to": "d/e/", "pages": 1}),
+        rules=SLASHES,
+    ),
+    Known(
+        "without rules of hosts slashes are different",
+        {"index.html": "<a href=.//a.html><a href=d%2Fa.html><a href=d//>", "a.html": "", "d/index.html": "", "d/a.html": ""},
+        ["/a.html index.html:1:9", "d%2Fa.html index.html:1:27", "d// index.html:1:46"],
+        total(pages=1, links=3, redirects=0, aliases=0),
+    ),
+    Known(
+        "several names of index files",
+        {
+            "index.htm": "<a href=d/><a href=d/index.htm#x><a href=d/index.xhtml><a href=e/#x><a href=e/index.xhtml><a href=f/><a href=index.html>",
+            "d/index.html": "<a href=gone>", "d/index.htm": "<a href=none>", "d/index.xhtml": "", "e/index.xhtml": "<p id=x>", "f/INDEX.HTML": "",
+        },
+        ["d/gone d/index.html:1:9", "d/index.htm#x index.htm:1:20", "d/none d/index.htm:1:9", "f/ index.htm:1:99", "index.html index.htm:1:110"],
+        total(pages=5, links=9, redirects=0, aliases=1),
+        rules=INDICES,
+    ),
+    Known(
+        "a suffix that a link omits",
+        {
+            "index.html": "<a href=a#x><a href=a#y><a href=b><a href=a/><a href=c><a href=index><a href=d/b?q>", "a.html": "<p id=x>",
+            "b/index.html": "", "b.html": "", "d/b.html": "<a href=.>", "c.htm": "",
+        },
+        ["a#y index.html:1:21", "a/ index.html:1:43", "c index.html:1:54", "d/ d/b.html:1:9"],
+        (*total(pages=4, links=8, redirects=1, aliases=3), {"kind": "redirect", "page": "b", "to": "b/", "pages": 1}),
+        rules=FALLBACK,
     ),
 ]

@@ -20,7 +20,6 @@ FRAGMENT = "\"<>`"  # percent-encoded in a fragment, in addition to controls, sp
 MOST_FILES = 10  # the number of files in the list of files with the most broken links
 LINE_LIMIT = 4096  # the most bytes in a line of a saved web
 FILE_LIMIT = 1 << 30  # the most bytes of a file that is read
-INDEX = b"index.html"
 
 
 class Found(NamedTuple):
@@ -75,6 +74,10 @@ class Settings(NamedTuple):
     queries: bool = False
     seeds: Tuple[str, ...] = ()  # links on the top at which the search starts
     workers: int = 1  # which makes no difference
+    # Rules of hosts that the program does not have yet
+    slashes: bool = False  # consecutive slashes in a path are one, and `%2F` is a slash
+    indices: Tuple[str, ...] = ("index.html",)  # the names of index files; in each folder the first one counts
+    fallback: bool = False  # a file is also found without its suffix .html
 
 
 def url_of(text: str, base: drawn.Url) -> Optional[str]:
@@ -185,7 +188,7 @@ class Site:
     def __init__(self, folder: str, settings: Settings) -> None:
         self.folder = os.fsencode(folder)
         self.base = drawn.url_of(settings.base)
-        self.exact, self.queries = settings.exact, settings.queries
+        self.settings = settings
         self.names, self.links = names_below(self.folder, settings.follow)
         self.documents: Dict[bytes, Optional[Document]] = {}
         self.files: Dict[Key, bytes] = {}  # the first file in the order of names has the key
@@ -199,11 +202,14 @@ class Site:
 
     def keys(self, name: bytes) -> Iterator[Key]:
         """What a server looks up to return a file."""
-        path, mark, query = name.partition(b"?") if self.queries else (name, b"", b"")
+        path, mark, query = name.partition(b"?") if self.settings.queries else (name, b"", b"")
         key = Key(path, unquote_to_bytes(query) if mark else None)
         yield key
-        if os.path.basename(path) == INDEX:
-            yield key._replace(path=path[:-len(INDEX)])
+        folder, file = os.path.split(path)
+        folder = os.path.join(folder, b"")
+        indices = [index for index in map(str.encode, self.settings.indices) if folder + index + mark + query in self.names]
+        if indices[:1] == [file]:
+            yield key._replace(path=folder)
 
     def url(self, key: Key) -> str:
         """The URL of a key in a server's spelling."""
@@ -222,17 +228,38 @@ class Site:
             return None
         if request.path[:len(front)] != front:
             return None
-        parts = [unquote_to_bytes(part) for part in request.path[len(front):]]
-        key = Key(b"/".join(parts), unquote_to_bytes(request.query[1:]) if self.queries and request.query else None)
-        if any(b"/" in part for part in parts) or (self.exact and url != self.url(key)) or not is_short("page", url):
+        path = self.path_of([unquote_to_bytes(part) for part in request.path[len(front):]])
+        if path is None or not is_short("page", url):
+            return None
+        key = Key(path, unquote_to_bytes(request.query[1:]) if self.settings.queries and request.query else None)
+        if self.settings.exact and url != self.url(key):
             return None
         key = key._replace(path=self.own_path(key.path))
         if key.path + b"/" in self.names and key.query is None:
             return Moved(self.url(key._replace(path=key.path + b"/")) + request.query)
         name = self.by_url.get(url) or self.files.get(key)
+        if name is None and self.settings.fallback and os.path.basename(key.path):
+            name = self.files.get(key._replace(path=key.path + b".html"))
         if name is None or not is_short("page", self.own[name]):
             return None
         return Found(name) if url == self.own[name] else Alias(name, self.own[name])
+
+    def path_of(self, parts: List[bytes]) -> Optional[bytes]:
+        """The path in the folder that a server looks up, or None if it looks up none."""
+        path = b"/".join(parts)
+        if not self.settings.slashes:
+            return None if any(b"/" in part for part in parts) else path
+        *folders, last = path.split(b"/")
+        # A `..` may come from `%2F..%2F`. The others were resolved in the URL.
+        walked: List[bytes] = []
+        for name in [*folders, *([last] if last in (b".", b"..") else [])]:
+            if name == b"..":
+                if not walked:
+                    return None
+                walked.pop()
+            elif name not in (b"", b"."):
+                walked.append(name)
+        return b"".join(name + b"/" for name in walked) + (b"" if last in (b".", b"..") else last)
 
     def own_path(self, path: bytes) -> bytes:
         """A path with the one that counts in place of other paths of its folders."""
@@ -270,7 +297,7 @@ class Model:
         self.settings, self.site = settings, Site(folder, settings)
         self.responses: Dict[str, Response] = {}
         self.links: Dict[str, List[Link]] = {}  # by the own URL of each file
-        self.skipped = 0
+        self.skipped: Counter[str] = Counter()  # by the own URL of each file, the links that are not http or https
         waiting = [str(drawn.url_of(seed, self.site.base)) for seed in settings.seeds] or [str(self.site.base)]
         while waiting:
             url = waiting.pop()
@@ -313,7 +340,7 @@ class Model:
             text = with_query_in(TOOL.cleaned(link.text), document.charset)
             target = url_of(text if TOOL.scheme_of(text) else front + text, base)
             if target is None:
-                self.skipped += TOOL.scheme_of(front + text) not in (None, "http", "https") or is_short("link", text)
+                self.skipped[url] += TOOL.scheme_of(front + text) not in (None, "http", "https") or is_short("link", text)
             elif is_short("link", target if has_base else text.partition("#")[0]):
                 fragment = None if document.ids is None else fragment_of(link.text)
                 yield Link(target, fragment, Place(name, *document.lines.place(link.at)))
@@ -335,7 +362,7 @@ class Model:
         total = {
             "kind": "total", "pages": len(self.links), "redirects": len(redirects), **counts,
             "aliases": sum(isinstance(response, Alias) for response in self.responses.values()),
-            "links": self.skipped + sum(map(len, self.links.values())), "broken": len(places),
+            "links": sum(self.skipped.values()) + sum(map(len, self.links.values())), "broken": len(places),
             "missing_pages": sum(row["kind"] == "broken" and row["missing"] == "page" for row in broken),
             "missing_anchors": sum(row["kind"] == "broken" and row["missing"] == "anchor" for row in broken),
         }

@@ -1,0 +1,15 @@
+"""Sites of tests/real_sites.py."""
+
+from __future__ import annotations
+
+from typing import FrozenSet, NamedTuple, Optional, Tuple
+
+
+class Site(NamedTuple):
+    """A folder, the URL of its top, and the links from this URL at which the check starts, or none for the top."""
+
+    name: str
+    folder: str
+    base: str
+    starts: Tuple[str, ...] = ()
+    broken: Optional[FrozenSet[str]] = None  # the targets of all broken links, without the base, if they are known

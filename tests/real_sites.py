@@ -1,0 +1,227 @@
+#!/usr/bin/env python3
+"""Compares checks and crawls of real sites with the independent model: real_sites.py [OPTION..] [NAME ..].
+
+The sites are the shipped one, the documentation in Debian packages (tests/real_sites.txt), and small sites that are made by those
+of five generators that are installed (tests/checking/generators.py). With a NAME, only the sites with this package or generator
+are compared. A package is downloaded by `apt-get download` and unpacked into the cache, and not installed: together they have
+250 MB, and 1.2 GB unpacked. A package that cannot be downloaded, and a generator that is not installed, is named and skipped.
+
+Of each site, all rows of `mercator check --json` are compared with the model's, finding by finding. Then `mercator site` makes
+its saved web, and the report of `mercator crawl --sources` with 1 and with 4 workers is compared with that of the model's search.
+The findings of a generated site must be the broken links that its sources have.
+
+With --sample, random findings of each site are printed in a form that a person can judge: the text of the link, and notes such as
+whether Python's static server has the target, and which files have a similar name. How many findings have each note is printed,
+too. The environment variable PROGRAM names the program to test; the default is the one built in crates/mercator_cli. The last line
+is `N passed, M failed`; the exit status is 1 if any failed.
+"""
+
+from __future__ import annotations
+
+import argparse
+import json
+import os
+import shutil
+import subprocess
+import sys
+import tempfile
+from collections import Counter
+from concurrent.futures import ProcessPoolExecutor
+from functools import partial
+from pathlib import Path
+from random import Random
+from typing import Any, Dict, Iterator, List, NamedTuple, Optional, Tuple
+
+from check import arguments
+from checking import generators, loading, samples
+from checking.model import Model, Moved, Response, Row, Settings
+from checking.samples import Finding
+from checking.sites import Site
+
+BASE = "http://docs.test/"
+SHOWN = 5  # the most differences of a site that are printed
+SECONDS = 600  # the time limit of a command
+
+
+class Options(NamedTuple):
+    """What is done with each site."""
+
+    program: str
+    sample: int
+    seed: int
+
+
+class Outcome(NamedTuple):
+    """The result of a site."""
+
+    name: str
+    text: str
+    failed: bool
+
+
+def packages(cache: Path, names: List[str]) -> Iterator[Site]:
+    """The sites of the listed packages that are in the cache or can be downloaded."""
+    for line in (loading.ROOT / "tests/real_sites.txt").read_text("utf-8").splitlines():
+        package, *places = line.split()
+        if package == "#" or (names and package not in names):
+            continue
+        folder, *starts = places
+        fault = fetch(cache, package)
+        if fault:
+            print(f"{package}: skipped, {fault}", flush=True)
+            continue
+        yield Site(package, str(cache / package / folder), BASE, () if starts == ["./"] else tuple(starts))
+
+
+def fetch(cache: Path, package: str) -> Optional[str]:
+    """Downloads and unpacks a package, if it is not in the cache. Returns what went wrong."""
+    if (cache / package).is_dir():
+        return None
+    if not shutil.which("apt-get") or not shutil.which("dpkg-deb"):
+        return "no apt-get"
+    with tempfile.TemporaryDirectory(dir=cache) as scratch:
+        got = subprocess.run(["apt-get", "-q", "download", package], cwd=scratch, capture_output=True, check=False)
+        files = list(Path(scratch).glob("*.deb"))
+        if got.returncode or not files:
+            lines = got.stderr.decode(errors="replace").splitlines()
+            return lines[-1] if lines else "not downloaded"
+        unpacked = Path(scratch, "unpacked")
+        subprocess.run(["dpkg-deb", "-x", str(files[0]), str(unpacked)], check=True)
+        unpacked.rename(cache / package)
+    return None
+
+
+def run(words: List[str], given: Optional[bytes] = None) -> "subprocess.CompletedProcess[bytes]":
+    """Runs a command."""
+    return subprocess.run(words, input=given or b"", capture_output=True, check=False, timeout=SECONDS)
+
+
+def rows_of(program: str, site: Site) -> List[Row]:
+    """The rows that the program prints for a site."""
+    settings = Settings(site.base, unreached=True, external=True, seeds=site.starts)
+    done = run([program, *arguments(settings, site.folder, "")])
+    rows = [json.loads(line) for line in done.stdout.splitlines()]
+    for row in rows:
+        row.pop("base", None)
+    status = 4 if any(row["kind"] == "broken" for row in rows) else 0
+    return rows if done.returncode == status else [{"kind": "status", "actual": done.returncode, "expected": status}, *rows]
+
+
+def differences(actual: List[Any], expected: List[Any]) -> List[str]:
+    """What only one of two lists has."""
+    ours, theirs = (Counter(row if isinstance(row, str) else json.dumps(row, sort_keys=True) for row in rows) for rows in (actual, expected))
+    found = [f"only the program: {row}" for row in ours - theirs] + [f"only the model:   {row}" for row in theirs - ours]
+    return found or ([] if actual == expected else ["the same rows in another order"])
+
+
+def line_of(model: Model, url: str, response: Response) -> str:
+    """The line of a page in the report of a crawl."""
+    if response is None:
+        return f"missing {url}"
+    if isinstance(response, Moved):
+        return f"moved {url}"
+    # An alias has one link, to the file's own URL
+    links, skipped = (len(model.links[url]), model.skipped[url]) if url in model.links else (1, 0)
+    return f"ok {links + skipped} {skipped} {url}"
+
+
+def report_of(model: Model) -> List[str]:
+    """The report of a crawl of the site's saved web, with the sources of missing pages."""
+    linking = model.linking()
+    responses = {**dict.fromkeys(linking), **model.responses}
+    ordered = sorted(responses.items(), key=lambda page: page[0])
+    report = [line_of(model, url, response) for url, response in ordered]
+    counts = Counter(line.split(" ")[0] for line in report)
+    moved = f" moved {counts['moved']}" if counts["moved"] else ""
+    total = f"total {len(report)} ok {counts['ok']} missing {counts['missing']}{moved}"
+    missing = [(url, linking.get(url, ())) for url, response in ordered if response is None]
+    sources = [f"from {len(pages)} {min(pages, default='-')} {url}" for url, pages in missing]
+    return [*report, total, *sources]
+
+
+def crawl_differences(program: str, site: Site, model: Model) -> List[str]:
+    """How the crawls of a site's saved web differ from the model's search."""
+    web = run([program, "site", site.folder, site.base])
+    if web.returncode:
+        return [f"site: exit status {web.returncode}, {web.stderr.decode(errors='replace')}"]
+    expected, found = report_of(model), []
+    for workers in ("1", "4"):
+        words = [program, "crawl", "--sources", "--workers", workers, "-", *(site.base + start for start in site.starts or ("",))]
+        actual = run(words, web.stdout).stdout.decode().splitlines()
+        found += [f"crawl with {workers} workers: {one}" for one in differences(actual, expected)]
+    return found
+
+
+def findings_of(rows: List[Row], base: str) -> List[Finding]:
+    """The broken links of a site."""
+    places = [row for row in rows if row["kind"] == "place"]
+    return [Finding(row["file"], row["line"], row["column"], row["target"][len(base):], row["missing"]) for row in places]
+
+
+def planted_fault(site: Site, findings: List[Finding]) -> List[str]:
+    """How the findings of a generated site differ from the broken links in its sources."""
+    if site.broken is None:
+        return []
+    targets = {finding.target for finding in findings}
+    extra, lacking = sorted(targets - site.broken), sorted(site.broken - targets)
+    return [f"not in the sources: {target}" for target in extra] + [f"not found: {target}" for target in lacking]
+
+
+def sampled(site: Site, findings: List[Finding], options: Options) -> List[str]:
+    """How many findings have each note, and random findings in a form that a person can judge."""
+    prefix = "/" + site.base.split("/", 3)[3]
+    chosen = sorted(Random(f"{options.seed} {site.name}").sample(findings, min(options.sample, len(findings))))
+    with samples.server(site.folder, prefix) as connection:
+        folder = samples.Folder(site.folder, prefix, connection)
+        kinds: Counter[str] = Counter()
+        for finding in findings:
+            kinds[", ".join(note.partition(":")[0] for note in folder.notes(finding))] += 1
+        counts = [f"  {count} {note}" for note, count in kinds.most_common()]
+        return counts + [f"{number}. {samples.shown(folder, finding)}" for number, finding in enumerate(chosen, 1)]
+
+
+def compare(options: Options, site: Site) -> Outcome:
+    """Compares a site."""
+    model = Model(site.folder, Settings(site.base, unreached=True, external=True, seeds=site.starts))
+    rows, expected = rows_of(options.program, site), model.rows()
+    findings = findings_of(rows, site.base)
+    faults = differences(rows, expected) + planted_fault(site, findings) + crawl_differences(options.program, site, model)
+    total: Dict[str, int] = rows[0]
+    counts = ", ".join(f"{total.get(name)} {name}" for name in ("pages", "links", "missing_pages", "missing_anchors"))
+    text = [f"{site.name}: {counts}, {len(findings)} findings, {len(faults)} differences"]
+    text += faults[:SHOWN] + (sampled(site, findings, options) if options.sample else [])
+    return Outcome(site.name, "\n".join(text), bool(faults))
+
+
+def sites(cache: Path, names: List[str], scratch: str) -> Iterator[Site]:
+    """All sites with these names."""
+    if not names or "shipped" in names:
+        yield Site("shipped", str(loading.ROOT / "examples/site"), "http://site.test/", ())
+    yield from packages(cache, names)
+    yield from generators.sites(Path(scratch), names)
+
+
+def main() -> int:
+    """Runs the comparisons."""
+    parser = argparse.ArgumentParser(description=__doc__, formatter_class=argparse.RawDescriptionHelpFormatter)
+    option = parser.add_argument
+    default = os.path.join(os.environ.get("XDG_CACHE_HOME") or os.path.expanduser("~/.cache"), "mercator-real-sites")
+    option("names", nargs="*", metavar="NAME", help="package, generator, or `shipped`")
+    option("--cache", type=Path, default=Path(default), metavar="FOLDER", help=f"folder of the packages (default: {default})")
+    option("--sample", type=int, default=0, metavar="COUNT", help="number of random findings of each site that are printed (default: 0)")
+    option("--seed", type=int, default=1, help="seed of the sample (default: 1)")
+    option("--jobs", type=int, default=os.cpu_count() or 1, help="number of processes (default: that of the processors)")
+    options = parser.parse_args()
+    options.cache.mkdir(parents=True, exist_ok=True)
+    passed = failed = 0
+    with tempfile.TemporaryDirectory() as scratch, ProcessPoolExecutor(options.jobs) as pool:
+        task = partial(compare, Options(loading.program(), options.sample, options.seed))
+        for outcome in pool.map(task, sites(options.cache.resolve(), options.names, scratch)):
+            print(outcome.text, flush=True)
+            passed, failed = passed + (not outcome.failed), failed + outcome.failed
+    print(f"{passed} passed, {failed} failed")
+    return 1 if failed or not passed else 0
+
+
+if __name__ == "__main__":
+    sys.exit(main())
