@@ -65,6 +65,13 @@ __all__ = [
 # previous one are still outstanding, so at most twice as many bytes are unanswered.
 _PIECE = 16_384
 
+# The number of bytes (PIPE_BUF) that are written to a pipe as a whole or not at all. It is also the
+# size of the longest request.
+_WHOLE = 4_096
+
+# Written in place of the beginning of a longer request. As a request, it is refused.
+_TOO_LONG = b"offer ".ljust(_WHOLE, b"x")
+
 # The number of URLs that are offered before another thread may use the frontier.
 _SLICE = 4_096
 
@@ -529,7 +536,7 @@ class Channel:
             raise FrontierEnded(str(self._end), self._end.status, self._end.told)
         self._received.clear()
         try:
-            self._send_all(memoryview(requests), requests)
+            self._send_all(requests)
         except OSError as error:
             raise self._ended() from error
         except BaseException:
@@ -557,7 +564,7 @@ class Channel:
                 assert pipe
                 pipe.close()
 
-    def _send_all(self, view: memoryview, requests: bytes) -> None:
+    def _send_all(self, requests: bytes) -> None:
         """Send the requests in pieces.
 
         Before a piece is sent, all answers are read except those to the previous piece.
@@ -569,14 +576,27 @@ class Channel:
             self._receive_until(before)
             before = requests.count(b"\n", begin, end)
             self._owed += before
-            self._send(view[begin:end])
+            self._send(requests[begin:end])
             begin = end
         self._receive_until(0)
 
-    def _send(self, piece: memoryview) -> None:
-        while piece:
+    def _send(self, piece: bytes) -> None:
+        """Write each request as a whole, so that no kill of this process cuts one off."""
+        begin = 0
+        while begin < len(piece):
+            end = piece.rfind(b"\n", begin, begin + _WHOLE) + 1 or begin + _WHOLE
+            if piece[end - 1:end] == b"\n" or piece.startswith((b"\n", b"\r\n"), end):
+                self._write(piece[begin:end])
+            else:
+                self._write(_TOO_LONG)
+                end = piece.index(b"\n", end) - 2  # two bytes, since a CR would be ignored
+            begin = end
+
+    def _write(self, some: bytes) -> None:
+        while True:
             try:
-                piece = piece[os.write(self._requests, piece):]
+                os.write(self._requests, some)
+                return
             except BlockingIOError:
                 self._wait()
 

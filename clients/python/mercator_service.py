@@ -366,7 +366,7 @@ class _Connection(Channel):
     def leave(self) -> None:
         self._ended("a frontier cannot be used in a forked process")
 
-    def _send(self, piece: memoryview) -> None:
+    def _send(self, piece: bytes) -> None:
         while piece:
             try:
                 piece = piece[self._socket.send(piece, socket.MSG_DONTWAIT):]
