@@ -58,18 +58,18 @@ from typing import (
 __all__ = [
     "Accepted", "Channel", "Closed", "Frontier", "FrontierEnded", "FrontierError", "LogInUse",
     "NoSuchQueue", "NothingTaken", "Offer", "Pending", "ProgramMissing", "QueueBusy", "Refusal",
-    "Stats", "UnknownAnswer", "link_word", "request_lines", "wait_for_log",
+    "Stats", "UnknownAnswer", "link_word", "request_lines", "wait_for_log", "whole_pieces",
 ]
 
 # Requests are sent in pieces of at most this many bytes. A piece is sent while the answers to the
 # previous one are still outstanding, so at most twice as many bytes are unanswered.
 _PIECE = 16_384
 
-# The number of bytes (PIPE_BUF) that are written to a pipe as a whole or not at all. It is also the
-# size of the longest request.
+# A pipe takes at most this many bytes (PIPE_BUF) as a whole. It is also the size of the longest
+# request.
 _WHOLE = 4_096
 
-# Written in place of the beginning of a longer request. As a request, it is refused.
+# Sent in place of the beginning of a longer request. As a request, it is refused.
 _TOO_LONG = b"offer ".ljust(_WHOLE, b"x")
 
 # The number of URLs that are offered before another thread may use the frontier.
@@ -581,24 +581,13 @@ class Channel:
         self._receive_until(0)
 
     def _send(self, piece: bytes) -> None:
-        """Write each request as a whole, so that no kill of this process cuts one off."""
-        begin = 0
-        while begin < len(piece):
-            end = piece.rfind(b"\n", begin, begin + _WHOLE) + 1 or begin + _WHOLE
-            if piece[end - 1:end] == b"\n" or piece.startswith((b"\n", b"\r\n"), end):
-                self._write(piece[begin:end])
-            else:
-                self._write(_TOO_LONG)
-                end = piece.index(b"\n", end) - 2  # two bytes, since a CR would be ignored
-            begin = end
-
-    def _write(self, some: bytes) -> None:
-        while True:
-            try:
-                os.write(self._requests, some)
-                return
-            except BlockingIOError:
-                self._wait()
+        for some in whole_pieces(piece):
+            while True:
+                try:
+                    os.write(self._requests, some)
+                    break
+                except BlockingIOError:
+                    self._wait()
 
     def _wait(self) -> None:
         """Wait until more can be sent or answers arrive, and read these."""
@@ -699,6 +688,22 @@ def link_word(base: str) -> str:
     In a request, the base ends at the first space, so the spaces of the base are escaped.
     """
     return f"link {base.strip(_TRIMMED).translate(_IN_BASE)[:_LONGEST]} "
+
+
+def whole_pieces(requests: bytes) -> Iterator[bytes]:
+    """Yield request lines in pieces that a pipe takes as a whole or not at all.
+
+    So if the process that writes them is killed, no request is cut off.
+    """
+    begin = 0
+    while begin < len(requests):
+        end = requests.rfind(b"\n", begin, begin + _WHOLE) + 1 or begin + _WHOLE
+        if requests[end - 1:end] == b"\n" or requests.startswith((b"\n", b"\r\n"), end):
+            yield requests[begin:end]
+        else:
+            yield _TOO_LONG
+            end = requests.index(b"\n", end) - 2  # two bytes, since a CR would be ignored
+        begin = end
 
 
 def _offers_in(answers: List[bytes]) -> List[Offer]:
