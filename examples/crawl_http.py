@@ -1,10 +1,10 @@
 #!/usr/bin/env python3
 """Crawl sites over HTTP, with `mercator serve` as the URL frontier.
 
-N fetchers run in threads, and each host is fetched by one of them. For each URL, the crawler prints
-a line with the status, the number of new links, and the URL. The status is `robots` if robots.txt
-forbids the URL, `no-robots` if robots.txt cannot be read, and `failed` if the host does not respond
-or the response cannot be read.
+N fetchers run in threads, and no two of them visit a host at the same time. For each URL, the
+crawler prints a line with the status, the number of new links, and the URL. The status is `robots`
+if robots.txt forbids the URL, `no-robots` if robots.txt cannot be read, and `failed` if the host
+does not respond or the response cannot be read.
 
 - The crawler obeys robots.txt. Between two requests to a host it waits --delay seconds, or the
   Crawl-delay of robots.txt if that is longer. Meanwhile it fetches from other hosts, so the URLs of
@@ -27,15 +27,15 @@ from __future__ import annotations
 
 import argparse
 import http.client
+import io
 import logging
 import re
 import socket
 import sys
-import threading
 import time
-from contextlib import closing, contextmanager, suppress
+from contextlib import closing, suppress
 from pathlib import Path
-from typing import Dict, Iterator, NamedTuple, Optional, Tuple
+from typing import Any, Dict, NamedTuple, Optional, Tuple, cast
 from urllib.parse import SplitResult, urljoin, urlsplit
 from urllib.robotparser import RobotFileParser
 
@@ -79,33 +79,38 @@ def fetch(url: str, agent: str, largest: int, is_robots: bool = False) -> Reply:
     """Fetch a URL, and at most `largest` bytes of its page."""
     try:
         parts = urlsplit(url)
-        with closing(connected(parts)) as connection, in_time(connection):
+        with closing(connected(parts)) as connection:
             target = parts.path + ("?" + parts.query if parts.query else "")
             connection.request("GET", target, headers={"User-Agent": agent})
-            return reply_of(connection.getresponse(), largest, is_robots)
+            answer = http.client.HTTPResponse(cast(socket.socket, Receiver(connection.sock)))
+            answer.begin()
+            return reply_of(answer, largest, is_robots)
     except (OSError, http.client.HTTPException):
         return Reply("failed")
 
 
-@contextmanager
-def in_time(connection: http.client.HTTPConnection) -> Iterator[None]:
-    """Close the connection after twice SECONDS.
+class Receiver(io.RawIOBase):
+    """What a host sends in twice SECONDS.
 
     A host that sends one byte at a time would never exceed the time limit of the socket.
     """
-    connection.connect()
-    watch = threading.Timer(2 * SECONDS, cut_off, (connection.sock,))
-    watch.daemon = True
-    watch.start()
-    try:
-        yield
-    finally:
-        watch.cancel()
 
+    def __init__(self, end: socket.socket) -> None:
+        self.end, self.until = end, time.monotonic() + 2 * SECONDS
 
-def cut_off(end: socket.socket) -> None:
-    with suppress(OSError):
-        end.shutdown(socket.SHUT_RDWR)
+    def readable(self) -> bool:
+        return True
+
+    def readinto(self, buffer: Any) -> int:
+        left = self.until - time.monotonic()
+        if left <= 0:
+            raise TimeoutError
+        self.end.settimeout(min(SECONDS, left))
+        return self.end.recv_into(buffer)
+
+    def makefile(self, mode: str) -> io.BufferedReader:
+        """Return the reader that an HTTPResponse wants of a socket."""
+        return io.BufferedReader(self)
 
 
 def reply_of(answer: http.client.HTTPResponse, largest: int, is_robots: bool) -> Reply:
@@ -316,14 +321,10 @@ def main() -> int:
                 ready_at=lambda queue, url: known[queue].ready_at(url, options),
                 retries=options.retries, pause=options.pause,
             )
-            crawl.run(options.seed)
+            return 0 if crawl.run(options.seed) else 2
     except FrontierError as error:
         print(f"crawl_http: {error}", file=sys.stderr)
         return 1
-    if crawl.failed:
-        print(f"crawl_http: a fetcher failed: {crawl.failed!r}", file=sys.stderr)
-        return 1
-    return 2 if crawl.stopped.is_set() else 0
 
 
 if __name__ == "__main__":

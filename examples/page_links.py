@@ -7,11 +7,13 @@ pages, so a page of 80 kB can take minutes. It also raises exceptions for some p
 from __future__ import annotations
 
 import json
+import os
 import signal
 import subprocess
 import sys
 from contextlib import suppress
 from html.parser import HTMLParser
+from queue import LifoQueue
 from typing import List, NamedTuple, Optional, Tuple
 from urllib.parse import urljoin
 
@@ -38,14 +40,14 @@ def links_of(url: str, body: bytes, charset: Optional[str]) -> Links:
 
     If Python does not know the charset, or there is none, the page is decoded as UTF-8.
     """
+    reader, free = readers.get(), None
     try:
-        reader = idle.pop()
-    except IndexError:
-        reader = Reader()
-    links = reader.links_of(url, body, charset)
-    if reader.process.returncode is None:
-        idle.append(reader)
-    return links
+        reader = reader or Reader()
+        links = reader.links_of(url, body, charset)
+        free = reader if reader.process.returncode is None else None
+        return links
+    finally:
+        readers.put(free)
 
 
 class Reader:
@@ -80,8 +82,10 @@ class Reader:
         return f"links not read: the reader ended with status {self.process.returncode}"
 
 
-# The readers that are free. `append` and `pop` are atomic, so no lock is needed.
-idle: List[Reader] = []
+# The readers that are free, or None for one that is not started yet. The last one is used first.
+readers: LifoQueue[Optional[Reader]] = LifoQueue()
+for _ in range(max(2, os.cpu_count() or 1)):
+    readers.put(None)
 
 
 # ---- the process

@@ -24,7 +24,6 @@ from serving.trial import SECONDS, expect, expect_error, program_of, run_all
 
 CRAWLER = ROOT / "examples/crawl_http.py"
 sys.path.insert(0, str(CRAWLER.parent))
-from fetchers import OLD_HOSTS
 from mercator_frontier import Accepted, Frontier, NoSuchQueue, NothingTaken, Pending, Stats
 
 
@@ -251,7 +250,7 @@ def hosts_that_fail() -> None:
 
 
 def many_hosts() -> None:
-    """One fetcher visits ten hosts in about the time that one host takes, and each with its delay."""
+    """One queue visits ten hosts in about the time that one host takes, and each with its delay."""
     web = Web()
     hosts, pages, delay = 10, 5, 0.3
     with web.served(hosts):
@@ -268,7 +267,7 @@ def many_hosts() -> None:
 
 
 def one_host() -> None:
-    """A queue with one host puts back at most OLD_HOSTS URLs per page."""
+    """In a queue with one host, no URL is put back twice: there is none to visit instead."""
     web = Web()
     with web.served(1), tempfile.TemporaryDirectory() as folder:
         log = Path(folder, "crawl.log")
@@ -276,7 +275,7 @@ def one_host() -> None:
         found = web.crawl("--workers", 1, "--delay", 0.02, "--log", log, web.url(1))
         expect(len(found) == 31, f"{found}")
         count = log.read_text().count("\nlater ")
-        expect(0 < count <= 31 * (OLD_HOSTS + 1), f"{count} URLs were put back")
+        expect(0 < count <= 30, f"{count} URLs were put back")
 
 
 def killed() -> None:

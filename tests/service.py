@@ -20,6 +20,7 @@ import time
 import urllib.error
 import urllib.request
 from collections import Counter
+from contextlib import suppress
 from functools import partial
 from pathlib import Path
 from random import Random
@@ -526,8 +527,45 @@ def killed_services(folder: Path) -> None:
         service.process.kill()
 
 
+# A program that stops reading at the first offer, until the service is killed. It writes to a file what it has read.
+SLOW_READER = """
+import os, sys, time
+parent, data = os.getppid(), b""
+while b"offer" not in data:
+    some = os.read(0, 65536)
+    data += some
+    os.write(1, some.count(b"again") * b"refused nothing\\n")
+while os.getppid() == parent:
+    time.sleep(0.01)
+while some := os.read(0, 65536):
+    data += some
+with open(sys.argv[0] + ".new", "wb") as file:
+    file.write(data)
+os.rename(sys.argv[0] + ".new", sys.argv[0] + ".read")
+"""
+
+
+def cut_off(folder: Path) -> None:
+    """A service that is killed while it waits to write leaves no part of a request to the program."""
+    program, read = folder / "program", folder / "program.read"
+    program.write_text(f"#!{sys.executable}\n{SLOW_READER}")
+    program.chmod(0o755)
+    service = Service(folder, f"--program={program}")
+    for count in (1, 30, 1000):  # these are more than the pipe takes
+        wire = Wire(service.unix)
+        wire.socket.settimeout(0.3)
+        with suppress(socket.timeout):
+            wire.send(*(f"offer http://a.test/{count}/{number}/{'a' * 300}" for number in range(count)))
+        time.sleep(0.3)
+    service.end(signal.SIGKILL)
+    until(read.exists, "the program runs on")
+    lines = read.read_bytes().split(b"\n")
+    expect(lines[-1] == b"" and len(lines) > 100, f"{len(lines)} lines, and the last is {lines[-1]!r}")
+
+
 TESTS: Tuple[Callable[[Path], None], ...] = (
     same_answers, owners, waits, no_lost_wakeups, slow_client, metrics, ends, killed_crawlers, killed_services,
+    cut_off,
 )
 
 

@@ -119,7 +119,7 @@ class Event(NamedTuple):
 
     number: int
     word: str
-    action: str  # exit, kill, half, answer
+    action: str  # exit, kill, half, answer, kill_crawler
     text: str
 
 
@@ -169,7 +169,7 @@ class Trap:
             setattr(self, word, words)
         elif word == "stats":
             self.has_stats = True
-        elif word == "expect" and rest in ("closed", "failure"):
+        elif word == "expect" and rest in ("closed", "failure", "killed"):
             self.expected = rest
         else:
             sys.exit(f"{self.name}: unknown line: {word} {rest}")
@@ -347,6 +347,7 @@ class Run:
             status: Optional[int] = None
             with suppress(subprocess.TimeoutExpired):
                 status = process.wait(self.trap.limit)
+                self.end_programs(program.parent)  # which may be in the group of the crawler
             with suppress(ProcessLookupError):
                 os.killpg(process.pid, signal.SIGKILL)
             process.wait()
@@ -378,6 +379,9 @@ class Run:
                 self.violations.append("the crawler ended with status 0, as if the crawl were over")
             if not stderr:
                 self.violations.append("the crawler did not say on standard error what failed")
+        elif trap.expected == "killed":
+            if status not in (-signal.SIGKILL, 128 + signal.SIGKILL):
+                self.violations.append(f"the crawler was not killed, but ended with status {status}")
         elif status != 0:
             last = stderr.splitlines()[-1] if stderr else ""
             self.violations.append(f"the crawler ended with status {status}: {last[:200]}")

@@ -188,6 +188,12 @@ class Frontier:
         return (f"stats accepted {accepted} done {done} in-progress {busy} waiting {waiting}"
                 f" put-back {put_back}")
 
+    def judge_offers(self) -> None:
+        """Judges the offers of a crawler that was killed."""
+        known = set(map(canonical, self.trap.seeds)).union(*map(self.trap.targets, self.trap.pages))
+        for url in sorted(self.offered - known):
+            self.violation(f"a request was cut off, so that {url[:100]} was offered")
+
     def replay(self, lines: List[bytes]) -> None:
         self.is_replaying = True
         for line in lines:
@@ -231,6 +237,7 @@ class Session:
         # Answers that are not written yet, and the queues whose answer `pending` is held back.
         self.out: List[bytes] = []
         self.held: Dict[int, int] = {}
+        self.is_orphan = False  # whether the crawler was killed
 
     def run(self) -> None:
         rest = b""
@@ -245,6 +252,8 @@ class Session:
             for line in lines:
                 self.answer(line)
             if not some:
+                if self.is_orphan:
+                    self.frontier.judge_offers()
                 return self.write()
             self.write(min(self.held.values(), default=len(self.out)))
             # If nothing else comes, the client waits for the answers that are held back.
@@ -260,6 +269,8 @@ class Session:
             event = self.events.get((self.words[word], word))
             if event and event.action == "answer":
                 answer = event.text
+            elif event and event.action == "kill_crawler":
+                self.kill_crawler()
             elif event:
                 self.end(event.action, event.text, answer)
         if self.trap.hold:
@@ -274,6 +285,12 @@ class Session:
             self.held.pop(int(answer.split()[1]), None)
         if answer == "count 0":
             self.held.clear()
+
+    def kill_crawler(self) -> None:
+        """Kills the crawler once it can write no more. What it has written is read as usual."""
+        time.sleep(1)
+        os.kill(os.getppid(), signal.SIGKILL)
+        self.is_orphan = True
 
     def end(self, action: str, text: str, answer: str) -> NoReturn:
         if action == "half":
@@ -293,6 +310,8 @@ class Session:
             try:
                 answers = answers[os.write(1, answers[:size]):]
             except BrokenPipeError:
+                if self.is_orphan:
+                    return
                 sys.exit(1)
             if self.trap.chop:
                 time.sleep(0.0002)

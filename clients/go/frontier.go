@@ -30,6 +30,9 @@ var (
 	errPending       = errors.New("frontier: the queue is empty")
 )
 
+// A request that is sent for any of more than 4,096 bytes. If a kill cuts it off, it is refused, too.
+var tooLong = "offer " + strings.Repeat("x", 4091)
+
 var refusals = map[string]error{ // by answer, without its number
 	"pending":         errPending,
 	"refused busy":    ErrQueueBusy,
@@ -154,14 +157,17 @@ func (f *Frontier) Links(base string, texts ...string) ([]Status, error) {
 	// In a request the base ends at its first space. The rest is what the URL Standard strips.
 	base = strings.TrimFunc(base, func(r rune) bool { return r <= ' ' })
 	base = strings.NewReplacer("\t", "", "\n", "", "\r", "", " ", "%20").Replace(base)
-	return f.offer(fmt.Sprintf("link %.5000s ", base), texts)
+	return f.offer("link "+base+" ", texts)
 }
 
 func (f *Frontier) offer(word string, texts []string) ([]Status, error) {
 	requests := make([]string, len(texts))
 	for i, text := range texts {
-		// The URL Standard removes line feeds. Above 4,096 bytes, all texts have the same answer.
-		requests[i] = fmt.Sprintf("%s%.5000s", word, strings.ReplaceAll(text, "\n", ""))
+		// The URL Standard removes line feeds, and a carriage return at the end.
+		requests[i] = word + strings.TrimSuffix(strings.ReplaceAll(text, "\n", ""), "\r")
+		if len(requests[i]) > 4096 {
+			requests[i] = tooLong
+		}
 	}
 	f.mu.Lock()
 	defer f.mu.Unlock()

@@ -34,7 +34,7 @@ import { setTimeout as sleep } from 'node:timers/promises';
  */
 
 const PIECE = 1_000; // this many requests are sent before their answers are awaited
-const LONGEST = 5_000; // longer texts are cut: above 4,096 bytes, all are answered `line too long`
+const TOO_LONG = `offer ${'x'.repeat(4_091)}`; // sent for any request of more than 4,096 bytes
 const EXIT_MS = 10_000; // how long the program may take to exit
 const STATS = /^accepted (\d+) done (\d+) in-progress (\d+) waiting (\d+) put-back (\d+)$/;
 const REFUSALS = /** @type {const} */ (['seen', 'filtered', 'not a URL', 'not http or https',
@@ -85,6 +85,7 @@ class Channel {
     child.stderr.setEncoding('utf8').on('data', (text) => {
       this.#stderr = (this.#stderr + text).slice(-8_192);
     });
+    child.stdin._writev = undefined; // Node would join pieces that wait: see `send`
     // EPIPE: the program has exited, and the event `close` says how.
     child.stdin.on('error', () => {});
     this.exited = /** @type {Promise<void>} */ (new Promise((resolve) => {
@@ -108,7 +109,10 @@ class Channel {
     /** @type {(error: Error) => void} */ fail) {
     if (this.#end) return fail(this.#end);
     this.#owed.push({ left: lines.length, each, fail });
-    this.child.stdin.write(`${lines.join('\n')}\n`);
+    // Up to 4,096 bytes are written as a whole, so a kill of this process cuts off no request. A
+    // character has at most three bytes.
+    const pieces = `${lines.join('\n')}\n`.match(/[^]{0,1364}\n|[^\n]*\n/g) ?? [];
+    for (const piece of pieces) this.child.stdin.write(piece);
   }
 
   #read(/** @type {string} */ text) {
@@ -212,7 +216,7 @@ export class Frontier {
   links(/** @type {string} */ base, /** @type {Iterable<string>} */ texts) {
     // In a request the base ends at its first space. The rest is what the URL Standard strips.
     const trimmed = base.replace(/^[\0- ]+|[\0- ]+$|[\t\n\r]/g, '').replace(/ /g, '%20');
-    return this.#offerEach(`link ${trimmed.slice(0, LONGEST)} `, texts);
+    return this.#offerEach(`link ${trimmed} `, texts);
   }
 
   /**
@@ -321,8 +325,9 @@ export class Frontier {
   }
 
   async #offerEach(/** @type {string} */ word, /** @type {Iterable<string>} */ texts) {
-    // A request is one line. The URL Standard removes each LF.
-    const lines = Array.from(texts, (text) => word + text.replace(/\n/g, '').slice(0, LONGEST));
+    // A request is one line. The URL Standard removes each LF, and a CR at the end.
+    const lines = Array.from(texts, (text) => word + text.replace(/\n|\r$/g, ''))
+      .map((line) => (Buffer.byteLength(line) > 4_096 ? TOO_LONG : line));
     const offers = /** @type {Offer[]} */ ([]);
     while (offers.length < lines.length) {
       const piece = lines.slice(offers.length, offers.length + PIECE);

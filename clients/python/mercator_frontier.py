@@ -58,12 +58,19 @@ from typing import (
 __all__ = [
     "Accepted", "Channel", "Closed", "Frontier", "FrontierEnded", "FrontierError", "LogInUse",
     "NoSuchQueue", "NothingTaken", "Offer", "Pending", "ProgramMissing", "QueueBusy", "Refusal",
-    "Stats", "UnknownAnswer", "link_word", "request_lines", "wait_for_log",
+    "Stats", "UnknownAnswer", "link_word", "request_lines", "wait_for_log", "whole_pieces",
 ]
 
 # Requests are sent in pieces of at most this many bytes. A piece is sent while the answers to the
 # previous one are still outstanding, so at most twice as many bytes are unanswered.
 _PIECE = 16_384
+
+# A pipe takes at most this many bytes (PIPE_BUF) as a whole. It is also the size of the longest
+# request.
+_WHOLE = 4_096
+
+# Sent in place of the beginning of a longer request. As a request, it is refused.
+_TOO_LONG = b"offer ".ljust(_WHOLE, b"x")
 
 # The number of URLs that are offered before another thread may use the frontier.
 _SLICE = 4_096
@@ -529,7 +536,7 @@ class Channel:
             raise FrontierEnded(str(self._end), self._end.status, self._end.told)
         self._received.clear()
         try:
-            self._send_all(memoryview(requests), requests)
+            self._send_all(requests)
         except OSError as error:
             raise self._ended() from error
         except BaseException:
@@ -557,7 +564,7 @@ class Channel:
                 assert pipe
                 pipe.close()
 
-    def _send_all(self, view: memoryview, requests: bytes) -> None:
+    def _send_all(self, requests: bytes) -> None:
         """Send the requests in pieces.
 
         Before a piece is sent, all answers are read except those to the previous piece.
@@ -569,16 +576,18 @@ class Channel:
             self._receive_until(before)
             before = requests.count(b"\n", begin, end)
             self._owed += before
-            self._send(view[begin:end])
+            self._send(requests[begin:end])
             begin = end
         self._receive_until(0)
 
-    def _send(self, piece: memoryview) -> None:
-        while piece:
-            try:
-                piece = piece[os.write(self._requests, piece):]
-            except BlockingIOError:
-                self._wait()
+    def _send(self, piece: bytes) -> None:
+        for some in whole_pieces(piece):
+            while True:
+                try:
+                    os.write(self._requests, some)
+                    break
+                except BlockingIOError:
+                    self._wait()
 
     def _wait(self) -> None:
         """Wait until more can be sent or answers arrive, and read these."""
@@ -679,6 +688,22 @@ def link_word(base: str) -> str:
     In a request, the base ends at the first space, so the spaces of the base are escaped.
     """
     return f"link {base.strip(_TRIMMED).translate(_IN_BASE)[:_LONGEST]} "
+
+
+def whole_pieces(requests: bytes) -> Iterator[bytes]:
+    """Yield request lines in pieces that a pipe takes as a whole or not at all.
+
+    So if the process that writes them is killed, no request is cut off.
+    """
+    begin = 0
+    while begin < len(requests):
+        end = requests.rfind(b"\n", begin, begin + _WHOLE) + 1 or begin + _WHOLE
+        if requests[end - 1:end] == b"\n" or requests.startswith((b"\n", b"\r\n"), end):
+            yield requests[begin:end]
+        else:
+            yield _TOO_LONG
+            end = requests.index(b"\n", end) - 2  # two bytes, since a CR would be ignored
+        begin = end
 
 
 def _offers_in(answers: List[bytes]) -> List[Offer]:

@@ -57,7 +57,9 @@ from typing import (
     Any, Awaitable, Callable, Deque, Dict, List, NamedTuple, Optional, Set, Tuple, Union,
 )
 
-from mercator_frontier import Channel, Frontier, FrontierEnded, FrontierError, wait_for_log
+from mercator_frontier import (
+    Channel, Frontier, FrontierEnded, FrontierError, wait_for_log, whole_pieces,
+)
 
 __all__ = ["Fetcher"]
 
@@ -101,6 +103,7 @@ class Service:
 
     def __init__(self, workers: int) -> None:
         self.workers = workers
+        self.unsent: Deque[bytes] = deque()
         self.owed: Deque[Tuple[List[bytes], asyncio.Future[List[bytes]]]] = deque()
         self.owners: Dict[int, Client] = {}
         self.clients: Dict[Client, asyncio.Task[None]] = {}
@@ -111,10 +114,13 @@ class Service:
 
     async def start(self, command: List[str]) -> None:
         """Start the program."""
+        requests, self.requests = os.pipe()
+        os.set_blocking(self.requests, False)
         self.process = await asyncio.create_subprocess_exec(
-            *command, stdin=asyncio.subprocess.PIPE, stdout=asyncio.subprocess.PIPE,
+            *command, stdin=requests, stdout=asyncio.subprocess.PIPE,
             start_new_session=True, limit=READ_SIZE,
         )
+        os.close(requests)
         self.reading = asyncio.ensure_future(self.read_answers())
 
     async def resume(self) -> None:
@@ -132,8 +138,10 @@ class Service:
             client.writer.transport.abort()
         if tasks:
             await asyncio.wait(tasks, timeout=SECONDS_TO_END)
-        assert self.process.stdin
-        self.process.stdin.close()
+        if self.owed:
+            await asyncio.wait([self.owed[-1][1]], timeout=SECONDS_TO_END)
+        asyncio.get_running_loop().remove_writer(self.requests)
+        os.close(self.requests)
         try:
             return await asyncio.wait_for(self.process.wait(), SECONDS_TO_END)
         except asyncio.TimeoutError:
@@ -151,9 +159,22 @@ class Service:
             answers.set_result([])
         else:
             self.owed.append((requests, answers))
-            assert self.process.stdin
-            self.process.stdin.write(b"\n".join(requests) + b"\n")
+            self.unsent += whole_pieces(b"\n".join(requests) + b"\n")
+            self.write()
         return answers
+
+    def write(self) -> None:
+        """Write requests until the pipe is full, and again when it is not."""
+        loop = asyncio.get_running_loop()
+        loop.remove_writer(self.requests)
+        try:
+            while self.unsent:
+                os.write(self.requests, self.unsent[0])
+                self.unsent.popleft()
+        except BlockingIOError:
+            loop.add_writer(self.requests, self.write)
+        except BrokenPipeError:
+            pass  # `read_answers` sees the end of the program
 
     async def read_answers(self) -> None:
         """Read answers until the program has ended."""
@@ -366,7 +387,7 @@ class _Connection(Channel):
     def leave(self) -> None:
         self._ended("a frontier cannot be used in a forked process")
 
-    def _send(self, piece: memoryview) -> None:
+    def _send(self, piece: bytes) -> None:
         while piece:
             try:
                 piece = piece[self._socket.send(piece, socket.MSG_DONTWAIT):]

@@ -17,6 +17,7 @@ from typing import Deque, Dict, List, Optional, Set, Tuple
 from urllib.parse import urljoin, urlsplit
 
 MISTAKE, WORKERS, LOG, SEEDS = sys.argv[1], int(sys.argv[2]), sys.argv[3], sys.argv[4:]
+TOO_LONG = b"offer ".ljust(4097, b"x")
 
 
 class Failure(Exception):
@@ -28,6 +29,10 @@ class Client:
 
     def __init__(self, process: asyncio.subprocess.Process) -> None:
         self.process = process
+        self.unsent = b""
+        assert process.stdin
+        # Each drain waits until a request is written, since the transport would join others to it.
+        process.stdin.transport.set_write_buffer_limits(0)
         self.owed: Deque[Tuple[str, asyncio.Future[str]]] = deque()
         self.waiting: Dict[int, asyncio.Future[None]] = {}
         self.kept: List[str] = []
@@ -83,7 +88,12 @@ class Client:
         assert self.process.stdin
         answer: asyncio.Future[str] = asyncio.get_running_loop().create_future()
         self.owed.append((request, answer))
-        self.process.stdin.write(request.encode() + b"\n")
+        line = request.encode()
+        # The beginning of a longer request could be another one.
+        self.unsent += (line if len(line) <= 4096 or MISTAKE == "cut_off" else TOO_LONG) + b"\n"
+        if MISTAKE != "cut_off" or not request.startswith("link ") or len(self.unsent) > 500_000:
+            self.process.stdin.write(self.unsent)
+            self.unsent = b""
         return answer
 
     async def take(self, queue: int) -> Optional[str]:
@@ -198,7 +208,7 @@ async def links(client: Client, url: str, status: int, lines: List[str]) -> None
         assert client.process.stdin
         if MISTAKE == "send_all":
             os.set_blocking(client.process.stdin.get_extra_info("pipe").fileno(), True)
-        elif len(answers) % 100 == 0:
+        else:
             await client.process.stdin.drain()
     if MISTAKE != "done_first":
         await asyncio.gather(*answers)

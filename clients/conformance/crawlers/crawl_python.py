@@ -17,7 +17,7 @@ from urllib.parse import urlsplit
 TOP = Path(__file__).resolve().parents[3]
 sys.path[:0] = [str(TOP / "clients/python"), str(TOP / "examples")]
 from fetchers import Crawl, Visit
-from mercator_frontier import Frontier, FrontierError
+from mercator_frontier import Frontier, FrontierError, Stats
 
 
 def get(url: str) -> Tuple[int, Optional[str], List[str]]:
@@ -37,10 +37,15 @@ def get(url: str) -> Tuple[int, Optional[str], List[str]]:
         connection.close()
 
 
-def print_stats(frontier: Frontier, queue: int) -> None:
-    for name, numbers in ((queue, frontier.stats(queue)), ("all", frontier.stats())):
+class PrintingFrontier(Frontier):
+    """A frontier that prints the numbers of URLs when they are requested. `Crawl` requests some."""
+
+    def stats(self, queue: Optional[int] = None) -> Stats:
+        numbers = super().stats(queue)
+        name = "all" if queue is None else queue
         # One call per line, since other threads print too.
         sys.stdout.write(f"stats {name} {' '.join(map(str, numbers))}\n")
+        return numbers
 
 
 def fetch(url: str) -> Visit:
@@ -57,16 +62,14 @@ def fetch(url: str) -> Visit:
 def main() -> int:
     workers, log, seeds = int(sys.argv[1]), sys.argv[2], sys.argv[3:]
     try:
-        with Frontier(workers, log=None if log == "-" else log) as frontier:
+        with PrintingFrontier(workers, log=None if log == "-" else log) as frontier:
             def visit(queue: int, url: str) -> Visit:
                 if "STATS" in os.environ:
-                    print_stats(frontier, queue)
+                    frontier.stats(queue)
+                    frontier.stats()
                 return fetch(url)
 
-            crawl = Crawl(frontier, visit, retries=10, pause=0.01)
-            crawl.run(seeds)
-            if crawl.failed:
-                raise crawl.failed
+            Crawl(frontier, visit, retries=10, pause=0.01).run(seeds)
     except FrontierError as error:
         print(f"crawl_python: {error}", file=sys.stderr)
         return 1
