@@ -118,7 +118,7 @@ def has_id(text: str, ids: AbstractSet[str]) -> bool:
     """Whether a document with these ids has the anchor that the text after a `#` names."""
     fragment = drawn.encoded(text, FRAGMENT).partition(":~:")[0]
     read = unquote_to_bytes(fragment).decode("utf-8", "replace")
-    return not fragment or fragment in ids or read in ids or read.lower() == "top"
+    return not fragment or fragment in ids or read in ids or read.lower() == "top" or read.startswith(("/", "!"))
 
 
 def last_of(url: str) -> str:

@@ -9,7 +9,7 @@ use Rattle.percent_encoding.specs.AsciiSet.{should_percent_encode}
 use Rattle.percent_encoding.specs.Percent.{IsKept, percent_decode}
 use Rattle.percent_encoding.proofs.PercentLemmas.{IsAscii_from_kept, percent_decode-nil, percent_decode_not_percent, percent_encode_unchanged}
 use Rattle.page_anchors.specs.Escapes.{is_escaped, is_odd}
-use Rattle.page_anchors.specs.Indicated.{before_directive, begins_directive, decoded_of, fragment_of, front_indicated, has_decoded, has_id, is_indicated, is_top}
+use Rattle.page_anchors.specs.Indicated.{before_directive, begins_directive, decoded_of, fragment_of, front_indicated, has_decoded, has_id, is_indicated, is_route, is_top}
 use Rattle.page_anchors.specs.declared.indicated.TheConstants.{IN_FRAGMENT}
 
 -- a byte of such a text
@@ -68,4 +68,4 @@ plain_indicated ids text none =
     ap (front_indicated ids) (plain_front text none)
     ∙ ap (λ f. if length text == 0 then true else (if has_id ids f then true else has_decoded ids (decoded_of f))) fragment
     ∙ ap (λ d. if length text == 0 then true else (if has_id ids text then true else has_decoded ids d)) (own_decoded text none)
-    ∙ ap (λ q. if length text == 0 then true else q) (once (has_id ids text) (is_top text))
+    ∙ ap (λ q. if length text == 0 then true else q) (once (has_id ids text) (is_top text || is_route text))

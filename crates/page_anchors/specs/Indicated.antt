@@ -1,4 +1,4 @@
--- The indicated part of a document, by the HTML Standard.
+-- The indicated part of a document, by the HTML Standard. A route names no part, and is never missing.
 use Rattle.std.specs.Prelude.{ℕ, ◌==◌, Bool, true, false, ◌&&◌, ◌||◌, List, [], ◌∷◌, codes, length, nat_eq, slice_index, if◌then◌else◌}
 use Rattle.std.specs.Cmp.Lexicographic.{slice_cmp}
 use Rattle.std.specs.List.{list_any, starts_with}
@@ -46,8 +46,13 @@ abbrev pub is_top : List ℕ → Bool
 is_top text =
     if length text == 3 then is_letter (slice_index text 0) 84 116 && is_letter (slice_index text 1) 79 111 && is_letter (slice_index text 2) 80 112 else false
 
+-- `/` or `!` at the start, as in `#/page` and `#!page`: a route, which a script of the page reads. This is no rule of the Standard.
+abbrev pub is_route : List ℕ → Bool
+is_route [] = false
+is_route (b ∷ bs) = (b == 47) || (b == 33)
+
 abbrev pub has_decoded : List (List ℕ) → List ℕ → Bool
-has_decoded ids text = if has_id ids text then true else is_top text
+has_decoded ids text = if has_id ids text then true else (is_top text || is_route text)
 
 abbrev pub decoded_has : List (List ℕ) → List ℕ → Bool
 decoded_has ids fragment = has_decoded ids (decoded_of fragment)

@@ -2,7 +2,7 @@
 ghost use Rattle.std.specs.Prelude.{◌≡◌, IfOk, false, not};
 ghost use Rattle.std.specs.List.{list_any};
 ghost use Rattle.page_anchors.specs.Escapes.{is_escaped, is_odd};
-ghost use Rattle.page_anchors.specs.Indicated.{before_directive, begins_directive, decoded_has, has_decoded, has_fragment, has_part, is_indicated, is_letter, is_top, DoAscend};
+ghost use Rattle.page_anchors.specs.Indicated.{before_directive, begins_directive, decoded_has, has_decoded, has_fragment, has_part, is_indicated, is_letter, is_route, is_top, DoAscend};
 
 use crate::ids::{Ids, NoMemory};
 use crate::search::has_id;
@@ -15,8 +15,9 @@ pub const IN_FRAGMENT: AsciiSet = ascii_set!(
 );
 
 /// Whether a document with these ids, in ascending order, has the anchor that the text after a `#` names. It does if the text is
-/// empty, if an id is the fragment as a URL parser writes it, or if the fragment after percent-decoding is an id or `top` in any
-/// case. Everything from `:~:` on is ignored.
+/// empty, if an id is the fragment as a URL parser writes it, or if the fragment after percent-decoding is an id, or `top` in any
+/// case. A decoded fragment that begins with `/` or `!` is a route, which names no anchor, so none is missing. Everything from
+/// `:~:` on is ignored.
 ///
 /// # Errors
 /// Out of memory.
@@ -118,7 +119,7 @@ fn has_decoded(ids: &Ids, text: &[u8]) -> bool
     if has_id(ids, text) {
         return true;
     }
-    is_top(text)
+    is_top(text) || is_route(text)
 }
 
 fn is_top(text: &[u8]) -> bool
@@ -136,4 +137,11 @@ fn is_letter(byte: u8, upper: u8, lower: u8) -> bool
     ensures { result ≡ is_letter byte upper lower }
 {
     byte == upper || byte == lower
+}
+
+/// Whether a script of the page reads the text as a route, as in `#/page` and `#!page`.
+fn is_route(text: &[u8]) -> bool
+    ensures { result ≡ is_route text.now }
+{
+    matches!(text, [b'/' | b'!', ..])
 }
