@@ -1,15 +1,15 @@
 //! When a run is certified.
 ghost use Rattle.std.specs.Prelude.{◌≡◌, List, true, length, vec_len, IfOk, OnOk};
 ghost use Rattle.std.specs.List.{All};
-ghost use Rattle.std.specs.List.Sorted.{IsPermutation, IsSortedByKey};
-ghost use Rattle.std.specs.Cmp.Lexicographic.{slice_cmp};
-ghost use Rattle.std.specs.Ordering.{nat_cmp};
+ghost use Rattle.std.specs.List.Sorted.{IsPermutation};
 ghost use Rattle.crawl_keys.specs.HostFilter.{allows};
 ghost use Rattle.crawl_certificate.specs.AccountEntries.{entries_of, DifferByUrl};
 ghost use Rattle.crawl_certificate.specs.ResultPages.{page_in};
 ghost use Rattle.crawl_certificate.specs.Reachable.{WalkOf};
 ghost use Rattle.crawl_certificate.specs.Certificate.{Tells, IsAscending, AreReachable, CountsOf, NothingLost, entry_urls, result_urls};
+ghost use Rattle.crawl_pages.specs.ResultOrder.{results_by_url};
 ghost use Rattle.crawl_pages.specs.declared.page.PageResult.{PageResult};
+ghost use Rattle.crawl_certificate.specs.Lookups.{pointed};
 ghost use Rattle.crawl_certificate.specs.Marks.{AreMarks};
 ghost use Rattle.crawl_certificate.specs.CertFaults.{first_fault};
 ghost use Rattle.crawl_certificate.specs.Culprits.{NamesCulprit, NamesFirst, first_named};
@@ -28,7 +28,7 @@ use crate::walk::is_faultless;
 use crawl_frontier::Account;
 use crawl_keys::{CanonUrl, Filter};
 use crawl_pages::PageResult;
-use result_order::in_order;
+use result_order::{in_order, results_by_url};
 use std::alloc::{AllocError, Global};
 use std::marker::Model;
 use std::thread::Threads;
@@ -218,23 +218,14 @@ fn verdict(
 
 /// Copies of the results in ascending order of their URLs.
 fn sorted_copies(alloc: Global, results: &[PageResult]) -> Result<Vec<PageResult>, AllocError>
-    ensures same { IfOk result (λ pages. IsPermutation results.now pages.items) }
-    ensures sorted { IfOk result (λ pages. IsSortedByKey (λ r. r.url) (slice_cmp nat_cmp) pages.items) }
+    ensures { IfOk result (λ pages. pages.items ≡ results_by_url results.now) }
 {
-    let mut pages = copies(alloc, results)?;
-    sort_by_url(pages.as_mut_slice());
-    Ok(pages)
+    let ordered = results_by_url(alloc, results)?;
+    copies(alloc, &ordered)
 }
 
-fn sort_by_url(pages: &mut [PageResult])
-    ensures same { IsPermutation pages.old pages.new }
-    ensures sorted { IsSortedByKey (λ r. r.url) (slice_cmp nat_cmp) pages.new }
-{
-    pages.sort_unstable_by(|a, b| a.url.cmp(&b.url));
-}
-
-fn copies(alloc: Global, results: &[PageResult]) -> Result<Vec<PageResult>, AllocError>
-    ensures { IfOk result (λ copies. copies.items ≡ results.now) }
+fn copies(alloc: Global, results: &[&PageResult]) -> Result<Vec<PageResult>, AllocError>
+    ensures { IfOk result (λ copies. copies.items ≡ pointed results.now) }
 {
     let mut copies = Vec::with_capacity(alloc, results.len())?;
     for one in results {

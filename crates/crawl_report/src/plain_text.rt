@@ -9,6 +9,7 @@ ghost use Rattle.crawl_sources.specs.Tallies.{pointed};
 use crate::out::Out;
 use crate::printing::{row_of, total_of};
 use crawl_pages::{NoMemory, PageResult};
+use result_order::results_by_url;
 use std::alloc::Global;
 
 /// The report of the results, each line ended by LF.
@@ -27,21 +28,6 @@ pub fn report_text(alloc: Global, results: &[PageResult]) -> Result<Vec<u8>, NoM
     let lines = with_each(Out::new(alloc, false), &ordered)?;
     let text = lines.with(total_of(results))?;
     Ok(text.into_bytes())
-}
-
-/// Returns references to the results, in ascending byte order of URL. No URL is copied.
-fn results_by_url(alloc: Global, results: &[PageResult]) -> Result<Vec<&PageResult>, NoMemory>
-    ensures { IfOk result (λ ordered. pointed ordered.items ≡ results_by_url results.now) }
-{
-    let mut ordered = references(alloc, results)?;
-    ordered.sort_by(|a, b| a.url.cmp(&b.url))?;
-    Ok(ordered)
-}
-
-fn references(alloc: Global, results: &[PageResult]) -> Result<Vec<&PageResult>, NoMemory>
-    ensures { IfOk result (λ all. pointed all.items ≡ results.now) }
-{
-    results.iter().collect(alloc)
 }
 
 /// Prints a line for each of these results.

@@ -4,6 +4,8 @@
 mod beginning;
 mod numbered;
 mod numbering;
+mod references;
 mod sorting;
 
+pub use references::results_by_url;
 pub use sorting::in_order;

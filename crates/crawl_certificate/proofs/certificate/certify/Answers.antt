@@ -1,5 +1,12 @@
-use Rattle.std.proofs.Common.{ap, subst}
+use Rattle.std.proofs.Common.{ap, subst, sym}
+use Rattle.std.specs.Cmp.Lexicographic.{slice_cmp}
+use Rattle.std.specs.List.Sorted.{IsPermutation, IsSortedByKey}
+use Rattle.std.specs.Ordering.{nat_cmp}
 use Rattle.crawl_keys.specs.HostFilter.{allows}
+use Rattle.crawl_pages.specs.ResultOrder.{is_before}
+use Rattle.crawl_pages.specs.declared.page.PageResult.{PageResult}
+use Rattle.crawl_pages.proofs.OrderLaws.{results_by_url-in_order}
+use Rattle.crawl_pages.proofs.StableSort.{IsPermutation-stable_sort}
 use Rattle.crawl_certificate.specs.AccountEntries.{DifferByUrl}
 use Rattle.crawl_certificate.specs.Certificate.{unless_fault}
 use Rattle.crawl_certificate.proofs.Certificates.{certified}
@@ -8,14 +15,17 @@ use Rattle.crawl_certificate.proofs.certificate.certify.Goals as goal
 pub returns : goal.returns
 returns c =
     let accepted = c.in_ok-accepted in
+    let results = c.args.results.now in
     let pages = c.in_ok-pages in
+    let same = subst (IsPermutation results) (sym pages.ensures) (IsPermutation-stable_sort is_before results) in
+    let sorted = subst (IsSortedByKey (λ (r : PageResult). r.url) (slice_cmp nat_cmp)) (sym pages.ensures) (results_by_url-in_order results).ascends in
     let all =
-    certified c.args.account.now (allows c.args.filter.now) c.args.seeds.now accepted.accepted c.args.results.now pages.pages.items
+    certified c.args.account.now (allows c.args.filter.now) c.args.seeds.now accepted.accepted results pages.pages.items
     accepted.ensures.all (subst DifferByUrl accepted.ensures.all accepted.ensures.apart) accepted.ensures.queues
-    (c.in_ok-fault_by_marks.ensures c.args.results.now c.in_ok-marks.ensures) pages.ensures.same pages.ensures.sorted in
+    (c.in_ok-fault_by_marks.ensures results c.in_ok-marks.ensures) same sorted in
     record {
       fault = ap unless_fault all.fault;
-      same = pages.ensures.same;
+      same = same;
       ascends = all.ascends;
       one_each = all.one_each;
       counts = all.counts;

@@ -1,5 +1,6 @@
 use Rattle.std.proofs.Common.{◌≡◌, take}
+use Rattle.crawl_certificate.specs.Lookups.{pointed}
 use Rattle.crawl_certificate.proofs.certificate.copies.Given as goal
 
 abbrev pub invariant-loop-one : goal.invariant-loop-one
-invariant-loop-one l = l.copies.items ≡ take l.one-index l.results
+invariant-loop-one l = l.copies.items ≡ pointed (take l.one-index l.results)

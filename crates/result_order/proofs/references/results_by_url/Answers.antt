@@ -2,7 +2,7 @@ use Rattle.std.proofs.Common.{ap, ◌∙◌, rules}
 use Rattle.std.proofs.lemmas.List.Sorted.{answers_always}
 use Rattle.crawl_pages.specs.ResultOrder.{is_before, results_by_url}
 use Rattle.crawl_pages.proofs.OrderLaws.{references_rank, results_by_url-from_sort}
-use Rattle.crawl_report.proofs.plain_text.results_by_url.Goals as goal
+use Rattle.result_order.proofs.references.results_by_url.Goals as goal
 
 pub returns : goal.returns
 returns c =
