@@ -9,7 +9,6 @@ mod linked_page;
 mod linker;
 mod page_list;
 mod part;
-mod url_list;
 
 use crawl_keys::CanonUrl;
 use crawl_pages::{FetchError, Page, SessionFetch};
