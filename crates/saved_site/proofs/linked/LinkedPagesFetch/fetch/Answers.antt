@@ -2,7 +2,7 @@ use Rattle.std.proofs.Common.{List, sym, ap, ◌∙◌}
 use Rattle.std.specs.List.{flat_map}
 use Rattle.saved_site.proofs.Parts.{at_some, at_none}
 use Rattle.saved_site.specs.Linked.{PageFound, page_with}
-use Rattle.saved_site.proofs.linked.LinkedPagesSessionFetch.fetch_in.Goals as goal
+use Rattle.saved_site.proofs.linked.LinkedPagesFetch.fetch.Goals as goal
 
 pub returns-in-Some-clause-meaning : goal.returns-in-Some-clause-meaning
 returns-in-Some-clause-meaning c =
