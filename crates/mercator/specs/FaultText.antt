@@ -8,8 +8,8 @@ use Rattle.crawl_frontier.specs.declared.error.FinishError.{FinishError}
 use Rattle.crawl_frontier.specs.declared.error.FinishError.TheVariants as finish
 use Rattle.crawl_keys.specs.CanonicalText.{message}
 use Rattle.crawl_workers.specs.ErrorTexts.{run_error_text}
-use Rattle.saved_web.specs.declared.error.WebError.{WebError}
-use Rattle.saved_web.specs.declared.error.WebError.TheVariants as web
+use Rattle.saved_pages.specs.declared.error.WebError.{WebError}
+use Rattle.saved_pages.specs.declared.error.WebError.TheVariants as web
 use Rattle.crawl_sources.specs.declared.seeds.SeedsFault.{SeedsFault}
 use Rattle.crawl_sources.specs.declared.seeds.SeedsFault.TheVariants as seeds
 use Rattle.crawl_workers.specs.declared.losses.Losses.{Losses}

@@ -4,8 +4,8 @@ use Rattle.crawl_keys.specs.declared.error.KeyError.{KeyError}
 use Rattle.crawl_keys.specs.declared.error.KeyError.TheVariants as key
 use Rattle.crawl_keys.specs.declared.filter.error.FilterError.{FilterError}
 use Rattle.crawl_keys.specs.declared.filter.error.FilterError.TheVariants as filter
-use Rattle.saved_web.specs.declared.error.WebError.{WebError}
-use Rattle.saved_web.specs.declared.error.WebError.TheVariants as web
+use Rattle.saved_pages.specs.declared.error.WebError.{WebError}
+use Rattle.saved_pages.specs.declared.error.WebError.TheVariants as web
 use Rattle.crawl_sources.specs.declared.seeds.SeedsFault.{SeedsFault}
 use Rattle.crawl_sources.specs.declared.seeds.SeedsFault.TheVariants as seeds
 use Rattle.crawl_session.specs.declared.serving.ServeError.{ServeError}

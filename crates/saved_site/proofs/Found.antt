@@ -5,8 +5,8 @@ use Rattle.std.specs.Str.{bytes_eq}
 use Rattle.std.specs.Str.Lines.{lines}
 use Rattle.std.proofs.lemmas.Bool.{and_parts, cases_Bool, cond-true, cond-false}
 use Rattle.saved_web.specs.SavedWeb.{lines_behind, put_link, link_texts, put_moved, moved_text, page_with, page_behind, page_of}
-use Rattle.saved_web.specs.WebLines.{is_page_at}
-use Rattle.saved_web.specs.declared.line.Line.{Line}
+use Rattle.saved_pages.specs.WebLines.{is_page_at}
+use Rattle.saved_pages.specs.declared.line.Line.{Line}
 use Rattle.saved_site.proofs.Says as lemma
 use Rattle.saved_site.proofs.Sound.{AllPages, links, under_lines, page_lines, at_link, at_moved, at_page, at_header, web_cut}
 use Rattle.saved_site.specs.Meaning.{under_page, page_in}

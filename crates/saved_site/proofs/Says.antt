@@ -6,13 +6,13 @@ use Rattle.std.specs.Str.{is_utf8, IsUtf8}
 use Rattle.std.proofs.lemmas.Bool.{and_parts, leb-true, cond-true}
 use Rattle.std.proofs.lemmas.Str.{IsUtf8-append, IsUtf8-from_is_utf8}
 use Rattle.text_lines.proofs.CutLines.{text_of-utf8}
-use Rattle.saved_web.proofs.WebLines.{line_of-utf8}
+use Rattle.saved_pages.proofs.WebLines.{line_of-utf8}
 use Rattle.crawl_limits.specs.Limits.{line_limit}
 use Rattle.text_lines.specs.Lines.{text_of}
 use Rattle.text_lines.specs.Fields.{at_space}
-use Rattle.saved_web.specs.WebLines.{said_apart, line_of_text, line_of}
-use Rattle.saved_web.specs.declared.line.Line.{Line}
-use Rattle.saved_web.specs.declared.line.Line.TheVariants as line_says
+use Rattle.saved_pages.specs.WebLines.{said_apart, line_of_text, line_of}
+use Rattle.saved_pages.specs.declared.line.Line.{Line}
+use Rattle.saved_pages.specs.declared.line.Line.TheVariants as line_says
 use Rattle.document_links.specs.Texts.{is_inner, fits}
 
 -- the line is a text, whatever its number, and says this

@@ -18,13 +18,13 @@ use Rattle.std.proofs.lemmas.List.Folds.{list_any-append}
 use Rattle.crawl_keys.specs.declared.error.KeyError.{KeyError}
 use Rattle.saved_web.proofs.ReadWeb.{under_more}
 use Rattle.text_lines.specs.LeastFault.{SoundAfter}
-use Rattle.saved_web.specs.WebChecks.{is_second, under_last_page, before, header_of, header_fault, page_fault, under_fault, said_fault, text_fault, fault_after}
-use Rattle.saved_web.specs.WebFaults.{IsSound}
-use Rattle.saved_web.specs.WebLines.{says_page, says_moved, url_said, is_page, is_moved_line, is_link, is_page_at}
-use Rattle.saved_web.specs.declared.error.WebError.{WebError}
-use Rattle.saved_web.specs.declared.error.WebError.TheVariants as wrong
-use Rattle.saved_web.specs.declared.line.Line.{Line}
-use Rattle.saved_web.specs.declared.line.Line.TheVariants as line_says
+use Rattle.saved_web.specs.WebFaults.{is_second, under_last_page, before, fault_after, IsSound}
+use Rattle.saved_pages.specs.WebChecks.{header_of, header_fault, page_fault, under_fault, said_fault, text_fault}
+use Rattle.saved_pages.specs.WebLines.{says_page, says_moved, url_said, is_page, is_moved_line, is_link, is_page_at}
+use Rattle.saved_pages.specs.declared.error.WebError.{WebError}
+use Rattle.saved_pages.specs.declared.error.WebError.TheVariants as wrong
+use Rattle.saved_pages.specs.declared.line.Line.{Line}
+use Rattle.saved_pages.specs.declared.line.Line.TheVariants as line_says
 use Rattle.document_links.proofs.Fitting.{fits_inner}
 use Rattle.saved_site.proofs.Lines.{first_line, line_on}
 use Rattle.saved_site.proofs.Says as lemma

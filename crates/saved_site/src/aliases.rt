@@ -7,10 +7,10 @@ ghost use Rattle.saved_site.specs.Linked.{page_at};
 use crate::linked::LinkedPages;
 use crate::web::Alias;
 use crawl_keys::CanonUrl;
-use crawl_pages::{Page, SessionFetch};
+use crawl_pages::{Fetch, Page};
 use std::alloc::{AllocError, Global};
 
-/// The aliases whose page has only the link to the own URL. All have, but this is checked since it is promised.
+/// Returns the aliases whose page has only the link to the own URL. All have, but this is checked, because a contract promises it.
 pub(crate) fn aliases_among(
     alloc: Global,
     pages: &LinkedPages,
@@ -31,7 +31,7 @@ pub(crate) fn aliases_among(
 fn has_alias(alloc: Global, pages: &LinkedPages, alias: &Alias) -> Result<bool, AllocError>
     ensures { IfOk result (λ has. has ≡ true → page_at pages.now alias.now.url ≡ alias_page alias.now) }
 {
-    match pages.fetch_in(alloc, &mut (), &alias.url) {
+    match pages.fetch(alloc, &alias.url) {
         Ok(page) => Ok(is_alias_page(&page, &alias.own)),
         Err(_) => Err(AllocError),
     }

@@ -1,4 +1,4 @@
-//! The pages of a site as a source of a crawl, whose links are the indices of URLs.
+//! The pages of a site as a source of a crawl. Their links are stored as indices of URLs.
 ghost use Rattle.std.specs.Prelude.{◌≡◌, IfOk, IfErr};
 ghost use Rattle.std.specs.List.{flat_map};
 ghost use Rattle.saved_site.specs.Linked.{AreKept, IsSiteSource, page_at, page_with};
@@ -9,19 +9,18 @@ mod linked_page;
 mod linker;
 mod page_list;
 mod part;
-mod url_list;
 
 use crawl_keys::CanonUrl;
-use crawl_pages::{FetchError, Page, SessionFetch};
+use crawl_pages::{Fetch, FetchError, Page};
 pub(crate) use linker::Linker;
 use part::Part;
 use std::alloc::{AllocError, Global};
 use std::marker::Model;
 
-/// The pages of a site, of whose links the indices of their URLs are kept.
+/// The pages of a site. Of each link the index of its URL is stored.
 #[derive(Drop)]
 pub struct LinkedPages {
-    /// Those that a thread has made, each part with URLs of its own.
+    /// A part for each thread that made pages. Each part has URLs of its own.
     parts: Vec<Part>,
 }
 
@@ -37,7 +36,7 @@ impl Model for LinkedPages {
 }
 
 impl LinkedPages {
-    /// The pages of the site with this top, which threads have made.
+    /// Returns the pages of the site with this top, which threads have made.
     #[tactic(auto, using(crate::proofs::SiteSource::site_source))]
     pub(crate) fn new(
         alloc: Global,
@@ -51,7 +50,7 @@ impl LinkedPages {
     }
 }
 
-/// The pages that threads have made. Those of another site are left out.
+/// Returns the pages that threads have made, except those of another site.
 fn parts_of(alloc: Global, top: &str, linkers: Vec<Linker>) -> Result<Vec<Part>, AllocError>
     ensures { IfOk result (λ parts. AreKept top.now (flat_map (λ part. part) parts.items)) }
 {
@@ -64,7 +63,7 @@ fn parts_of(alloc: Global, top: &str, linkers: Vec<Linker>) -> Result<Vec<Part>,
     Ok(parts)
 }
 
-/// The page at the URL in the first part that has one.
+/// Returns the page at the URL in the first part that has one.
 fn first_page(alloc: Global, parts: &[Part], url: &CanonUrl) -> Result<Option<Page>, AllocError>
     ensures { IfOk result (λ page. page ≡ page_with (flat_map (λ part. part) parts.now) url.now) }
 {
@@ -77,20 +76,14 @@ fn first_page(alloc: Global, parts: &[Part], url: &CanonUrl) -> Result<Option<Pa
     Ok(None)
 }
 
-impl SessionFetch for LinkedPages {
+impl Fetch for LinkedPages {
     ghost use Rattle.saved_site.specs.Linked.{page_at};
-
-    type Session = ();
 
     ghost meaning = { λ source. page_at source };
 
-    ghost is_of = { λ _ _. Unit {0} };
-
-    fn open_session(&self, _alloc: Global, _among: u32) {}
-
-    fn fetch_in(&self, alloc: Global, _session: &mut (), url: &CanonUrl) -> Result<Page, FetchError>
+    fn fetch(&self, alloc: Global, url: &CanonUrl) -> Result<Page, FetchError>
         ensures meaning { IfOk result (λ page. page ≡ page_at self.now url.now) }
-        // It never fails of itself.
+        // Its only error is `NoMemory`.
         ensures refused { IfErr result (λ e. e ≡ FetchError.NoMemory) }
     {
         match first_page(alloc, self.parts.as_slice(), url)? {

@@ -4,11 +4,11 @@ use Rattle.std.specs.Str.Lines.{lines}
 use Rattle.std.proofs.lemmas.List.{map-id, map_more, map_push}
 use Rattle.hash_index.specs.Lists.{index_of}
 use Rattle.hash_index.proofs.Listed.{found_at, push_cases}
-use Rattle.saved_web.proofs.PageIndex.{with_url}
+use Rattle.saved_pages.proofs.PageIndex.{with_url}
 use Rattle.saved_web.proofs.PartPlaces.{get_front}
 use Rattle.saved_web.specs.Ahead.{shown_page, LeadTo, KeepIndices, IsAhead, AreAhead}
 use Rattle.saved_web.specs.KnownPages.{known_page}
-use Rattle.saved_web.specs.PageLists.{PageRead, page_with}
+use Rattle.saved_pages.specs.PageLists.{PageRead, page_with}
 use Rattle.saved_web.specs.SavedWeb.{page_behind}
 use Rattle.crawl_pages.specs.declared.page.Page.{Page}
 use Rattle.crawl_pages.specs.declared.page.Page.TheVariants.{Found}

@@ -18,16 +18,17 @@ use Rattle.saved_web.proofs.ReadWeb.{known_urls}
 use Rattle.saved_web.specs.KnownPages.{KnownPages, known_page}
 use Rattle.text_lines.specs.LeastFault.{SoundAfter}
 use Rattle.crawl_limits.specs.Limits.{line_limit}
-use Rattle.saved_web.specs.PageLists.{PageRead, urls, has}
-use Rattle.saved_web.specs.PageLists as list
+use Rattle.saved_pages.specs.PageLists.{PageRead, urls, has}
+use Rattle.saved_pages.specs.PageLists as list
 use Rattle.saved_web.specs.Reading.{AreRead, AreReadBehind, IsHeader}
-use Rattle.saved_web.specs.SavedWeb.{lines_behind, put_link, link_texts, put_moved, moved_text, page_with, page_behind, page_of}
-use Rattle.saved_web.specs.WebChecks.{Before, under_last_page, before, page_fault, under_fault, said_fault, text_fault, line_fault, fault_after}
-use Rattle.saved_web.specs.WebLines.{line_of_text, line_of, says_page, url_said, is_page, is_page_at, page_url, page_urls, is_link, is_moved_line}
+use Rattle.saved_web.specs.SavedWeb.{lines_behind, put_link, link_texts, put_moved, moved_text, page_with, page_behind, page_of, page_urls}
+use Rattle.saved_pages.specs.WebChecks.{Before, page_fault, under_fault, said_fault, text_fault, line_fault}
+use Rattle.saved_web.specs.WebFaults.{under_last_page, before, fault_after}
+use Rattle.saved_pages.specs.WebLines.{line_of_text, line_of, says_page, url_said, is_page, is_page_at, page_url, is_link, is_moved_line}
 use Rattle.text_lines.specs.declared.lines.LineError.TheVariants.{TooLong, NotText}
-use Rattle.saved_web.specs.declared.error.WebError.TheVariants as wrong
-use Rattle.saved_web.specs.declared.line.Line.{Line}
-use Rattle.saved_web.specs.declared.line.Line.TheVariants as says
+use Rattle.saved_pages.specs.declared.error.WebError.TheVariants as wrong
+use Rattle.saved_pages.specs.declared.line.Line.{Line}
+use Rattle.saved_pages.specs.declared.line.Line.TheVariants as says
 
 or_true : (a b : Bool) → b ≡ true → (a || b) ≡ true
 or_true true b e = refl

@@ -3,10 +3,9 @@ use Rattle.std.proofs.Common.{◌≡◌, inl, inr, ℕ, List, [], ◌∷◌, ◌
 use Rattle.std.specs.Option.{option_or}
 use Rattle.crawl_keys.specs.Outcome.{IsRefusal}
 use Rattle.text_lines.specs.LeastFault.{SoundAfter, IsLeastFault}
-use Rattle.saved_web.specs.WebChecks.{fault_after}
-use Rattle.saved_web.specs.WebFaults.{IsSound, IsWebFault, IsWebRefusal}
-use Rattle.saved_web.specs.declared.error.WebError.{WebError}
-use Rattle.saved_web.specs.declared.error.WebError.TheVariants as wrong
+use Rattle.saved_web.specs.WebFaults.{fault_after, IsSound, IsWebFault, IsWebRefusal}
+use Rattle.saved_pages.specs.declared.error.WebError.{WebError}
+use Rattle.saved_pages.specs.declared.error.WebError.TheVariants as wrong
 
 -- the fault of the first of these lines that has one, behind the earlier ones
 first_fault : List (List ℕ) → List (List ℕ) → Option WebError

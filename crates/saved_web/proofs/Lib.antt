@@ -4,11 +4,9 @@ pub mod JoinedParts
 pub mod LeastLine
 pub mod LinkIndex
 pub mod LongPages
-pub mod PageIndex
 pub mod PageLinks
 pub mod PartPages
 pub mod PartPlaces
 pub mod PassedLines
 pub mod ReadWeb
 pub mod Unmixed
-pub mod WebLines

@@ -9,9 +9,9 @@ use Rattle.saved_web.specs.LongPages.{AreFound}
 use Rattle.saved_web.proofs.JoinedParts.{links_end}
 use Rattle.saved_web.specs.SavedWeb.{put_link, link_texts, link_url, moved_text, found_page, page_with, page_behind}
 use Rattle.crawl_pages.specs.declared.page.Page.{Page}
-use Rattle.saved_web.specs.WebLines.{line_of, says_page, is_page}
-use Rattle.saved_web.specs.declared.line.Line.{Line}
-use Rattle.saved_web.specs.declared.line.Line.TheVariants as says
+use Rattle.saved_pages.specs.WebLines.{line_of, says_page, is_page}
+use Rattle.saved_pages.specs.declared.line.Line.{Line}
+use Rattle.saved_pages.specs.declared.line.Line.TheVariants as says
 use Rattle.saved_web.specs.declared.long.LinksFound.{LinksFound}
 
 -- a line that is no page, before those behind it

@@ -9,7 +9,7 @@ use Rattle.std.proofs.lemmas.List.{drop_more, map-append, take_more}
 use Rattle.std.proofs.lemmas.List.Concat.{flat_map-append}
 use Rattle.std.proofs.lemmas.Slice.Eq.{bytes_eq-Decides}
 use Rattle.saved_web.proofs.JoinedParts.{with_url-append, has-append}
-use Rattle.saved_web.specs.PageLists.{PageRead, urls, page_with, has}
+use Rattle.saved_pages.specs.PageLists.{PageRead, urls, page_with, has}
 
 or_none : (o : Option PageRead) → o ≡ None → (later : Option PageRead) → option_or o later ≡ later
 or_none (Some x) is later = absurd (cc)

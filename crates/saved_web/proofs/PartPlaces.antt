@@ -7,9 +7,9 @@ use Rattle.std.proofs.lemmas.List.{drop_more, length-map}
 use Rattle.std.proofs.lemmas.Option.{slice_get-get_or, slice_get_within}
 use Rattle.hash_index.specs.Lists.{index_of}
 use Rattle.hash_index.proofs.Listed.{found_at}
-use Rattle.saved_web.proofs.PageIndex.{page_there}
+use Rattle.saved_pages.proofs.PageIndex.{page_there}
 use Rattle.saved_web.proofs.PartPages.{found_part}
-use Rattle.saved_web.specs.PageLists.{PageRead, urls, page_with}
+use Rattle.saved_pages.specs.PageLists.{PageRead, urls, page_with}
 
 -- an element of the first list is one of both
 pub get_front : {X : Type 0} (xs ys : List X) (k : ℕ) (x : X) → slice_get xs k ≡ Some x → slice_get (xs ++ ys) k ≡ Some x

@@ -13,16 +13,17 @@ use Rattle.crawl_keys.specs.Outcome.{IsRefusal}
 use Rattle.text_lines.proofs.CutLines.{is_lf, lines_at, lines_only}
 use Rattle.text_lines.specs.LeastFault.{SoundAfter, IsLeastFault}
 use Rattle.saved_web.specs.Reading.{ReadTo, AllFound, FoundTo, AreRead, IsHeader}
-use Rattle.saved_web.specs.SavedWeb.{lines_behind, page_behind, page_of}
-use Rattle.saved_web.specs.WebLines.{says_page, says_link, says_moved, url_said, is_page, is_link, is_moved_line, is_page_at, page_url, page_urls}
-use Rattle.saved_web.specs.WebChecks.{is_second, under_last_page, line_fault, fault_after}
+use Rattle.saved_web.specs.SavedWeb.{lines_behind, page_behind, page_of, page_urls}
+use Rattle.saved_pages.specs.WebLines.{says_page, says_link, says_moved, url_said, is_page, is_link, is_moved_line, is_page_at, page_url}
+use Rattle.saved_web.specs.WebFaults.{is_second, under_last_page, fault_after, IsSound, IsWebFault, IsWebRefusal}
+use Rattle.saved_pages.specs.WebChecks.{line_fault, checked}
 use Rattle.text_lines.specs.FirstLine.{behind_line}
-use Rattle.saved_web.specs.KnownPages.{KnownPages, has_some, known_behind, known_page, kept_before, Adds, Follows}
-use Rattle.saved_web.specs.PageLists.{PageRead, urls, page_with, has}
-use Rattle.saved_web.specs.WebFaults.{IsSound, IsWebFault, IsWebRefusal, checked}
-use Rattle.saved_web.specs.declared.add.Above.{Above}
-use Rattle.saved_web.specs.declared.error.WebError.{WebError}
-use Rattle.saved_web.specs.declared.error.WebError.TheVariants as wrong
+use Rattle.saved_web.specs.KnownPages.{KnownPages, known_behind, known_page}
+use Rattle.saved_pages.specs.AddedPages.{has_some, kept_before, Adds, Follows}
+use Rattle.saved_pages.specs.PageLists.{PageRead, urls, page_with, has}
+use Rattle.saved_pages.specs.declared.add.Above.{Above}
+use Rattle.saved_pages.specs.declared.error.WebError.{WebError}
+use Rattle.saved_pages.specs.declared.error.WebError.TheVariants as wrong
 
 or_false : (b : Bool) → b ≡ (b || false)
 or_false true = refl

@@ -8,14 +8,14 @@ use Rattle.saved_web.proofs.PassedLines.{said_passes}
 use Rattle.saved_web.proofs.ReadWeb.{under_more}
 use Rattle.text_lines.specs.LeastFault.{SoundAfter}
 use Rattle.saved_web.specs.SavedWeb.{lines_behind, up_to_page, IsUnmixed}
-use Rattle.saved_web.specs.WebChecks.{Before, under_fault, under_last_page, before, said_fault, fault_after}
-use Rattle.saved_web.specs.WebFaults.{IsSound}
-use Rattle.saved_web.specs.WebLines.{line_of, says_page, says_link, says_moved, url_said, is_page, is_link, is_moved_line, is_page_at}
+use Rattle.saved_pages.specs.WebChecks.{Before, under_fault, said_fault}
+use Rattle.saved_web.specs.WebFaults.{under_last_page, before, fault_after, IsSound}
+use Rattle.saved_pages.specs.WebLines.{line_of, says_page, says_link, says_moved, url_said, is_page, is_link, is_moved_line, is_page_at}
 use Rattle.std.specs.Option.{option_map_or}
 use Rattle.std.specs.Str.{bytes_eq}
-use Rattle.saved_web.specs.declared.error.WebError.TheVariants as wrong
-use Rattle.saved_web.specs.declared.line.Line.{Line}
-use Rattle.saved_web.specs.declared.line.Line.TheVariants as says
+use Rattle.saved_pages.specs.declared.error.WebError.TheVariants as wrong
+use Rattle.saved_pages.specs.declared.line.Line.{Line}
+use Rattle.saved_pages.specs.declared.line.Line.TheVariants as says
 
 -- ---- counts
 

@@ -1,7 +1,7 @@
 -- The links of a web's pages that are found ahead: of each link the index of its URL.
 use Rattle.std.specs.Prelude.{◌≡◌, ℕ, ◌+◌, List, map, slice_get, Option, Some, None}
 use Rattle.std.specs.Str.Lines.{lines}
-use Rattle.saved_web.specs.PageLists.{PageRead}
+use Rattle.saved_pages.specs.PageLists.{PageRead}
 use Rattle.saved_web.specs.SavedWeb.{page_behind}
 use Rattle.crawl_pages.specs.declared.page.Page.{Page}
 use Rattle.crawl_pages.specs.declared.page.Page.TheVariants.{Found, Missing}

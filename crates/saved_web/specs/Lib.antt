@@ -2,10 +2,6 @@ pub mod Ahead
 pub mod KnownLinks
 pub mod KnownPages
 pub mod LongPages
-pub mod PageLists
-pub mod PageTexts
 pub mod Reading
 pub mod SavedWeb
-pub mod WebChecks
 pub mod WebFaults
-pub mod WebLines

@@ -3,14 +3,15 @@ use Rattle.std.specs.Prelude.{◌≡◌, ℕ, Bool, List, [], ◌∷◌, ◌++�
 use Rattle.std.specs.List.{list_any}
 use Rattle.std.specs.Option.{option_or}
 use Rattle.std.specs.Str.{bytes_eq}
-use Rattle.saved_web.specs.KnownPages.{KnownPages, has_some, known_behind, known_page}
+use Rattle.saved_web.specs.KnownPages.{KnownPages, known_behind, known_page}
+use Rattle.saved_pages.specs.AddedPages.{has_some}
 use Rattle.text_lines.specs.LeastFault.{SoundAfter}
-use Rattle.saved_web.specs.PageLists.{urls}
-use Rattle.saved_web.specs.SavedWeb.{lines_behind, page_of}
-use Rattle.saved_web.specs.WebChecks.{is_second, under_last_page, fault_after}
-use Rattle.saved_web.specs.WebLines.{line_of, is_page, is_link, is_moved_line, page_urls}
-use Rattle.saved_web.specs.declared.add.Above.{Above}
-use Rattle.saved_web.specs.declared.line.Line.TheVariants as says
+use Rattle.saved_pages.specs.PageLists.{urls}
+use Rattle.saved_web.specs.SavedWeb.{lines_behind, page_of, page_urls}
+use Rattle.saved_web.specs.WebFaults.{is_second, under_last_page, fault_after}
+use Rattle.saved_pages.specs.WebLines.{line_of, is_page, is_link, is_moved_line}
+use Rattle.saved_pages.specs.declared.add.Above.{Above}
+use Rattle.saved_pages.specs.declared.line.Line.TheVariants as says
 
 -- of all these lines those before the rest are sound, and what the checks ask of them is known
 pub record ReadTo (all rest : List (List ℕ)) (number : ℕ) (above : Above) (pages : KnownPages) : Type 0 where

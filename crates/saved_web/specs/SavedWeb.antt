@@ -3,11 +3,11 @@ use Rattle.std.specs.Prelude.{◌≡◌, ◌⊎◌, ℕ, not, List, [], ◌∷�
 use Rattle.std.specs.List.{filter_map, take_while}
 use Rattle.std.specs.Result.{result_ok}
 use Rattle.crawl_keys.specs.CanonicalText.{resolve}
-use Rattle.saved_web.specs.WebLines.{line_of, is_page, is_link, is_moved_line, is_page_at}
+use Rattle.saved_pages.specs.WebLines.{line_of, is_page, is_link, is_moved_line, is_page_at, page_url}
 use Rattle.crawl_pages.specs.declared.page.Page.{Page}
 use Rattle.crawl_pages.specs.declared.page.Page.TheVariants.{Found, Moved, Missing}
-use Rattle.saved_web.specs.declared.line.Line.{Line}
-use Rattle.saved_web.specs.declared.line.Line.TheVariants as says
+use Rattle.saved_pages.specs.declared.line.Line.{Line}
+use Rattle.saved_pages.specs.declared.line.Line.TheVariants as says
 
 -- the lines behind the first that is the page with this URL
 abbrev pub lines_behind : List (List ℕ) → List ℕ → Option (List (List ℕ))
@@ -60,6 +60,10 @@ page_behind url (Some lines) = page_with url (moved_text lines) (link_texts line
 -- the page that the lines of a web say of a URL
 abbrev pub page_of : List (List ℕ) → List ℕ → Page
 page_of lines url = page_behind url (lines_behind lines url)
+
+-- the canonical URLs of the pages of a web with these lines
+abbrev pub page_urls : List (List ℕ) → List (List ℕ)
+page_urls lines = filter_map page_url lines
 
 -- ---- the words of the laws
 

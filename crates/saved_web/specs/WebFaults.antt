@@ -1,30 +1,52 @@
--- Which lines are a saved web, and the fault of lines that are none: that of the first line that fails a check.
-use Rattle.std.specs.Prelude.{◌≡◌, ◌⊎◌, ℕ, ◌<◌, List, [], ◌∷◌, length, Option, Some, None, Result, Ok, Err}
-use Rattle.crawl_keys.specs.Outcome.{Gives}
+-- Which lines are a saved web, and the fault of lines that are not: that of the first line that fails a check.
+use Rattle.std.specs.Prelude.{◌≡◌, ◌⊎◌, ℕ, ◌+◌, ◌<◌, Bool, false, List, [], ◌∷◌, length, codes, if◌then◌else◌, Option}
+use Rattle.std.specs.List.{list_any}
+use Rattle.std.specs.Str.{bytes_eq}
 use Rattle.text_lines.specs.LeastFault.{SoundAfter, IsLeastFault}
-use Rattle.saved_web.specs.WebChecks.{fault_after}
-use Rattle.saved_web.specs.declared.error.WebError.{WebError}
-use Rattle.saved_web.specs.declared.error.WebError.TheVariants as wrong
+use Rattle.saved_pages.specs.WebChecks.{Before, line_fault}
+use Rattle.saved_pages.specs.WebLines.{is_page, is_link, is_moved_line, is_page_at}
+use Rattle.saved_pages.specs.declared.error.WebError.{WebError}
+use Rattle.saved_pages.specs.declared.error.WebError.TheVariants as wrong
+
+-- ---- one line after others
+
+-- the first of the lines is the header of version 2
+abbrev pub is_second : List (List ℕ) → Bool
+is_second [] = false
+is_second (first ∷ more) = bytes_eq first (codes "savedweb 2")
+
+-- the lines under the last page; all of them if there is no page
+abbrev pub under_last_page : List (List ℕ) → List (List ℕ)
+under_last_page [] = []
+under_last_page (line ∷ more) = if list_any is_page (line ∷ more) then under_last_page more else line ∷ more
+
+-- what the checks of the next line need to know of these lines
+abbrev pub before : List (List ℕ) → Before
+before earlier = record {
+  number = length earlier + 1;
+  second = is_second earlier;
+  some_page = list_any is_page earlier;
+  link = list_any is_link (under_last_page earlier);
+  moved = list_any is_moved_line (under_last_page earlier);
+  known = λ url. list_any (is_page_at url) earlier;
+}
+
+-- the first check that a line fails after these earlier lines
+abbrev pub fault_after : List (List ℕ) → List ℕ → Option WebError
+fault_after earlier line = line_fault (before earlier) line
+
+-- ---- all lines
 
 -- there are lines, and none fails a check
 pub record IsSound (lines : List (List ℕ)) : Type 0 where
   pub some : 0 < length lines
   pub sound : SoundAfter fault_after [] lines
 
--- the fault of lines that are no saved web; no line at all is a bad header
+-- the fault of lines that are not a saved web; no line at all is a bad header
 abbrev pub IsWebFault : List (List ℕ) → WebError → Type 0
 IsWebFault [] fault = fault ≡ wrong.BadHeader
 IsWebFault (line ∷ more) fault = IsLeastFault fault_after (line ∷ more) fault
 
--- an error that may be told of lines: their fault, or want of memory
+-- an error that may be reported for lines: their fault, or out of memory
 abbrev pub IsWebRefusal : List (List ℕ) → WebError → Type 0
 IsWebRefusal lines told = IsWebFault lines told ⊎ (told ≡ wrong.NoMemory)
-
--- a check that a line fails, if it fails one, as a result
-abbrev pub checked : Option WebError → Result (Unit {0}) WebError
-checked None = Ok tt
-checked (Some fault) = Err fault
-
--- the result has the fault that is expected, or none, want of memory aside
-abbrev pub Tells : {T : Type 0} → Result T WebError → Option WebError → Type 0
-Tells result expected = Gives wrong.NoMemory (λ _. tt) result (checked expected)

@@ -1,11 +1,10 @@
-//! The links of a web's pages, found ahead by threads.
+//! The links of a web's pages, which threads resolve ahead.
 ghost use Rattle.std.specs.Prelude.{◌≡◌, List, All, slice_get, IfOk, IfSome};
 ghost use Rattle.saved_web.specs.Ahead.{IsChunk, shown_page};
 ghost use Rattle.saved_web.specs.KnownPages.{known_page};
-ghost use Rattle.saved_web.specs.PageLists.{PageRead};
+ghost use Rattle.saved_pages.specs.PageLists.{PageRead};
 
 mod chunk;
-mod url_list;
 
 use crate::web_pages::WebPages;
 use chunk::Chunk;
@@ -16,13 +15,13 @@ use std::marker::Model;
 use std::thread;
 use std::thread::Threads;
 
-/// A web with fewer bytes than this is not worth a thread.
+/// Links of a web with fewer bytes than this are not resolved ahead.
 const LEAST: usize = 1 << 19;
 
-/// So many threads find links, each those of a chunk.
+/// How many threads resolve links, each those of a chunk.
 const CHUNKS: usize = 4;
 
-/// The pages are cut into so many blocks, which the chunks have in turn: pages that cost much lie together.
+/// How many blocks the pages are cut into. The chunks get the blocks in turn, because pages that take long are near each other.
 const BLOCKS: usize = 64;
 
 /// The pages of a web, and the links of most of them, or of none.
@@ -37,7 +36,7 @@ impl<'w, 'a> Model for Ahead<'w, 'a> {
     ghost use Rattle.std.specs.Prelude.{List, All};
     ghost use Rattle.std.specs.Coded.{coded_list};
     ghost use Rattle.saved_web.specs.Ahead.{IsChunk};
-    ghost use Rattle.saved_web.specs.PageLists.{PageRead, page_read_code};
+    ghost use Rattle.saved_pages.specs.PageLists.{PageRead, page_read_code};
 
     ghost Value = { List PageRead };
 
@@ -49,8 +48,8 @@ impl<'w, 'a> Model for Ahead<'w, 'a> {
 }
 
 impl<'w, 'a> Ahead<'w, 'a> {
-    /// The links of all pages of a web of one host, by threads; of none where the web has other hosts or is small, or may not be
-    /// looked at by threads. One worker has all pages of a host, so it would find their links alone.
+    /// Resolves the links of all pages of a web of one host, in threads. Resolves none if the web has several hosts or is small, or
+    /// if `in_threads` is `false`. One worker has all pages of a host, and would resolve their links alone.
     pub fn new<R: Threads + Sync>(
         rt: &R,
         alloc: Global,
@@ -77,7 +76,7 @@ impl<'w, 'a> Ahead<'w, 'a> {
         }
     }
 
-    /// The page at the URL; nothing where its links were not found, or there is no room.
+    /// Returns the page at the URL. `None` if its links were not resolved, or if memory runs out.
     pub fn page(&self, alloc: Global, url: &CanonUrl) -> Option<Page>
         ensures { IfSome result (λ page. page ≡ known_page self.now url.now) }
     {
@@ -89,7 +88,7 @@ impl<'w, 'a> Ahead<'w, 'a> {
     }
 }
 
-/// The links of all pages, chunk by chunk.
+/// Resolves the links of all pages, chunk by chunk.
 fn chunks_of<R: Threads + Sync>(
     rt: &R,
     alloc: Global,
@@ -105,7 +104,7 @@ fn chunks_of<R: Threads + Sync>(
     )
 }
 
-/// The page of the web at the index; nothing where no chunk has its links, or there is no room.
+/// Returns the page of the web at the index. `None` if no chunk has its links, or if memory runs out.
 fn page_among(alloc: Global, chunks: &[Chunk], index: usize) -> Option<Page>
     ensures { (web : List PageRead) → All (IsChunk web) chunks.now → IfSome result (λ page. page ≡ shown_page (slice_get web index)) }
 {

@@ -1,4 +1,4 @@
-//! What stands under a page of a saved web, read from the text behind the page's line.
+//! The links or the target of a page of a saved web, read from the text after the page's line.
 ghost use Rattle.std.specs.Prelude.{◌≡◌, ◌<◌, ℕ, List, ◌∷◌, [], None, Some, length, OnOk, IfOk, IfErr, IfSome, MatchOption, count_by, is_none};
 ghost use Rattle.std.specs.List.{filter_map};
 ghost use Rattle.std.specs.Option.{option_map};
@@ -10,23 +10,22 @@ ghost use Rattle.crawl_pages.specs.declared.page.Page.TheVariants.{Moved};
 use crate::folder::Folder;
 use crate::known_link::{copy_of, link_of};
 use crate::known_links::KnownLinks;
-use crate::line::{Line, line_of};
 use crate::link_cache::{LinkCache, folder_hash};
 use crate::link_text::LinkText;
 use crawl_keys::{Base, CanonUrl, is_of_folder};
 use crawl_pages::{FetchError, Links, Page};
+use saved_pages::{Line, line_of};
 use std::alloc::{AllocError, Global};
 use std::mem;
 use text_lines::first_text;
 
-/// So many links of a page of which the folder does not come again are not known from then on: of many folders there is one page,
-/// with few links.
+/// How many links of a page are not stored if it is the first page of its folder. Many folders have one page with few links.
 const FEW_TEXTS: u64 = 8;
 
-/// A list of so many links, or fewer, has room for just these.
+/// A list of at most this number of links has no room for more.
 const FEW_LINKS: usize = 1_024;
 
-/// The page with this base, and these lines under its own, up to the next page or to the end.
+/// Returns the page with this base. The lines after its own line are `behind`.
 pub fn page_behind<'a>(
     alloc: Global,
     cache: &mut LinkCache<'a>,
@@ -42,7 +41,7 @@ pub fn page_behind<'a>(
     }
 }
 
-/// The page that has moved to where this text leads.
+/// Returns the page that has moved to the URL of this text.
 fn moved_page(alloc: Global, base: &Base, text: &str) -> Result<Page, FetchError>
     ensures page { IfOk result (λ page. page ≡ Moved (link_url base.now text.now)) }
     ensures refused { IfErr result (λ e. e ≡ FetchError.NoMemory) }
@@ -51,7 +50,7 @@ fn moved_page(alloc: Global, base: &Base, text: &str) -> Result<Page, FetchError
     Ok(Page::Moved { to })
 }
 
-/// The page with the links among these lines, by what the cache has of its folder.
+/// Returns the page with the links among these lines. Uses and updates what the cache has of its folder.
 fn remembering<'a>(
     alloc: Global,
     cache: &mut LinkCache<'a>,
@@ -76,7 +75,7 @@ fn remembering<'a>(
     Ok(page)
 }
 
-/// How many links the page has, those that lead to no URL too.
+/// Returns how many links the page has, including those that lead to no URL.
 fn count_of(page: &Page) -> u64 {
     match page {
         Page::Found { links, skipped } => skipped.saturating_add(links.as_slice().len() as u64),
@@ -84,7 +83,7 @@ fn count_of(page: &Page) -> u64 {
     }
 }
 
-/// The page with the links among these lines, up to the next page. The buffer has them until they are all found.
+/// Returns the page with the links among these lines, up to the next page. The buffer has them until all are resolved.
 fn found_page<'a>(
     alloc: Global,
     folder: &mut Folder<'a>,
@@ -103,7 +102,7 @@ fn found_page<'a>(
     })
 }
 
-/// Puts the links among these lines, up to the next page, in place of those before, and tells how many lead to no URL.
+/// Replaces the links by those among these lines, up to the next page. Returns how many lead to no URL.
 pub fn find_links<'a>(
     alloc: Global,
     folder: &mut Folder<'a>,
@@ -130,7 +129,8 @@ pub fn find_links<'a>(
     Ok(skipped)
 }
 
-/// All links of the buffer. Few are moved to a list with room for just these; of many the buffer itself is the list.
+/// Returns all links of the buffer. If they are few, they are moved to a list without room for more; otherwise the list is the
+/// buffer itself.
 fn take_links(alloc: Global, buffer: &mut Vec<CanonUrl>) -> Result<Vec<CanonUrl>, AllocError>
     ensures { IfOk result (λ links. links.items ≡ buffer.old.items) }
 {
@@ -142,8 +142,9 @@ fn take_links(alloc: Global, buffer: &mut Vec<CanonUrl>) -> Result<Vec<CanonUrl>
     Ok(links)
 }
 
-/// Where a link with this text leads, before which the page has so many: what is of the folder is known to it from now on, and what
-/// is not to this page. The first of a page are not, where its folder was not met before or texts do not come again.
+/// Returns the URL that a link with this text leads to. `before` is the number of links before it on the page. The text is stored for
+/// the folder, or for this page if it may lead elsewhere from another page. The first texts of a page are not stored if it is the
+/// first page of its folder.
 fn link_on<'a>(
     alloc: Global,
     folder: &mut Folder<'a>,
@@ -160,7 +161,7 @@ fn link_on<'a>(
     if before < FEW_TEXTS && !folder.comes_again() {
         return link_of(alloc, folder.page(), text);
     }
-    // Most texts are known as they stand, so nothing is searched for in them.
+    // Most texts are known as a whole, so nothing is searched for in them.
     let whole = LinkText::new(text);
     if let Some(link) = folder.find(&whole) {
         return Ok(copy_of(link)?);
@@ -173,7 +174,7 @@ fn link_on<'a>(
     }
 }
 
-/// The text of the first link before the next page, and what follows that line.
+/// Returns the text of the first link before the next page, and what follows that line.
 fn next_link(behind: &str) -> Option<(&str, &str)>
     ensures first { MatchOption result (link_texts (lines behind.now) ≡ []) (λ x. link_texts (lines behind.now) ≡ x.0.now ∷ link_texts (lines x.1.now)) }
     ensures shorter { IfSome result (λ x. length x.1.now < length behind.now) }
@@ -190,7 +191,7 @@ fn next_link(behind: &str) -> Option<(&str, &str)>
     None
 }
 
-/// The text of the moved line, where one comes before any page or link.
+/// Returns the text of the moved line, if there is one before any page or link.
 pub fn moved_text(behind: &str) -> Option<&str>
     ensures { option_map (λ text. text.now) result ≡ moved_text (lines behind.now) }
 {

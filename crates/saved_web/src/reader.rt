@@ -4,19 +4,18 @@ ghost use Rattle.std.specs.Str.Lines.{lines};
 ghost use Rattle.saved_web.specs.Reading.{FoundTo, AreRead};
 ghost use Rattle.saved_web.specs.WebFaults.{IsWebRefusal};
 
-use crate::add::{Above, add_line};
-use crate::error::WebError;
-use crate::pages::Pages;
+use saved_pages::{Above, Pages, WebError, add_line};
 use std::alloc::Global;
 use text_lines::first_text;
 
-/// How many bytes are looked at to tell how many pages a text may have.
+/// How many bytes are looked at to estimate how many pages a text has.
 const SAMPLE: usize = 1 << 14;
 
-/// A text is not taken to have more pages than one to so many bytes, so that no index is made that is large beside it.
+/// The estimate is at most one page for this number of bytes, so that the index is never much larger than the text.
 const LEAST_PAGE: usize = 32;
 
-/// The pages that the lines of this text are. So many lines come before them, and this is what their checks ask of those.
+/// Returns the pages of the lines of this text. `before` is the number of lines before them, and `above` is what their checks need
+/// to know of those.
 pub fn pages_behind(
     alloc: Global,
     text: &str,
@@ -24,7 +23,7 @@ pub fn pages_behind(
     above: Above,
 ) -> Result<Pages<'_>, WebError>
     requires { before ≤ 1 }
-    // Whatever the lines before were, where no page is among them.
+    // Whatever the lines before are, if no page is among them.
     ensures read { IfOk result (λ pages. (all : List (List ℕ)) → FoundTo all (lines text.now) before above [] → AreRead all pages) }
     ensures fault { IfErr result (λ told. (all : List (List ℕ)) → FoundTo all (lines text.now) before above [] → IsWebRefusal all told) }
 {
@@ -40,7 +39,7 @@ pub fn pages_behind(
     Ok(pages)
 }
 
-/// How many pages the text may have, if it goes on as it begins. An index with slots for them has not to grow.
+/// Estimates how many pages the text has, from its beginning. An index with slots for them does not have to grow.
 fn likely_pages(text: &str) -> usize {
     let bytes = text.as_bytes();
     let front = &bytes[..bytes.len().min(SAMPLE)];

@@ -1,23 +1,23 @@
-//! A saved web read by threads: each reads a part of its lines, and the parts are put together.
+//! A saved web that threads read: each reads a part of its lines, and the parts are put together.
 ghost use Rattle.std.specs.Prelude.{◌≡◌, ◌++◌, ◌<◌, ◌≤◌, length, IfSome};
 ghost use Rattle.std.specs.Str.Lines.{lines};
 ghost use Rattle.saved_web.specs.Reading.{AreRead, AreReadBehind, IsHeader};
 
-use crate::add::{Above, header};
 use crate::reader::pages_behind;
 use crate::web_pages::WebPages;
+use saved_pages::{Above, header};
 use simdutf8::compat::from_utf8;
 use std::alloc::Global;
 use std::thread::{Threads, join};
 use text_lines::{cut_line, first_line, text_of};
 
-/// Fewer bytes than this are not worth a thread.
+/// Threads do not read an input of fewer bytes than this.
 const LEAST: usize = 1 << 19;
 
-/// How often the lines are halved, so that as many threads read a part as two to this power.
+/// How often the lines are halved. The number of threads that read a part is two to this power.
 const HALVINGS: u32 = 2;
 
-/// Some of the lines behind the header of a saved web.
+/// Some of the lines after the header of a saved web.
 #[derive(Clone, Copy)]
 struct Part<'a> {
     /// The web has version 2.
@@ -26,7 +26,7 @@ struct Part<'a> {
 }
 
 impl<'a> Part<'a> {
-    /// Half of the lines each, about. The second half begins with a page, where there is one.
+    /// Returns two parts with about half of the lines each. The second begins with a page, if a page follows the middle.
     fn halves(self) -> (Part<'a>, Part<'a>)
         ensures second { (result.0.second ≡ self.entry.second) × (result.1.second ≡ self.entry.second) }
         ensures lines { lines self.entry.bytes.now ≡ lines result.0.bytes.now ++ lines result.1.bytes.now }
@@ -46,8 +46,8 @@ impl<'a> Part<'a> {
     }
 }
 
-/// The pages of the saved web that the bytes are, read by four threads; nothing where one thread has to look at them: where there
-/// is a fault, or no room, or too little to do.
+/// Returns the pages of the saved web that the bytes are, read by four threads. `None` if one thread has to read them: if a line
+/// fails a check, memory runs out, or there are too few bytes.
 pub fn pages_in_threads<'a, R: Threads + Sync>(
     rt: &R,
     alloc: Global,
@@ -68,7 +68,7 @@ pub fn pages_in_threads<'a, R: Threads + Sync>(
     pages_of_part(rt, alloc, HALVINGS, behind)
 }
 
-/// Whether the header, this line, says version 2; nothing where it is none.
+/// Returns whether the header, which is this line, says version 2. `None` if the line is not a header.
 fn version(line: &[u8]) -> Option<bool>
     ensures { IfSome result (λ second. IsHeader second line.now) }
 {
@@ -81,8 +81,8 @@ fn version(line: &[u8]) -> Option<bool>
     }
 }
 
-/// The pages of the part, by a thread for each half of it, as often as it is halved. Where none can be started this one reads
-/// both.
+/// Returns the pages of the part. The part is halved the given number of times, and a thread reads each half. If a thread cannot be
+/// started, the thread that needs it reads both halves.
 fn pages_of_part<'a, R: Threads + Sync>(
     rt: &R,
     alloc: Global,
@@ -108,7 +108,7 @@ fn pages_of_part<'a, R: Threads + Sync>(
     first.and(rt, second)
 }
 
-/// The pages of the part; nothing where it is no text.
+/// Returns the pages of the part. `None` if it is not UTF-8.
 fn read_part(alloc: Global, part: Part<'_>) -> Option<WebPages<'_>>
     ensures { IfSome result (AreReadBehind part.entry.second (lines part.entry.bytes.now)) }
 {
@@ -118,7 +118,7 @@ fn read_part(alloc: Global, part: Part<'_>) -> Option<WebPages<'_>>
     }
 }
 
-/// The pages of a part that is this text.
+/// Returns the pages of a part that is this text.
 fn read_text(alloc: Global, second: bool, text: &str) -> Option<WebPages<'_>>
     ensures { IfSome result (AreReadBehind second (lines text.now)) }
 {
@@ -136,7 +136,7 @@ fn read_text(alloc: Global, second: bool, text: &str) -> Option<WebPages<'_>>
     }
 }
 
-/// The bytes, cut at the end of a line: of the first that ends behind so many bytes and is followed by a page.
+/// Returns the bytes, cut at the end of a line: of the first line that ends after `from` and is followed by a page.
 pub fn cut_before_page(bytes: &[u8], from: usize) -> (&[u8], &[u8])
     requires { from ≤ length bytes.now }
     ensures { lines bytes.now ≡ lines result.0.now ++ lines result.1.now }

@@ -2,22 +2,19 @@
 ghost use Rattle.std.specs.Prelude.{◌≡◌, ℕ, List, Ok, Err, IfOk, IfErr, IsUtf8};
 ghost use Rattle.crawl_keys.specs.Outcome.{Gives};
 ghost use Rattle.std.specs.Str.Lines.{lines};
-ghost use Rattle.saved_web.specs.SavedWeb.{page_of};
+ghost use Rattle.saved_web.specs.SavedWeb.{page_of, page_urls};
 ghost use Rattle.saved_web.specs.KnownPages.{page_at, urls_of};
 ghost use Rattle.saved_web.specs.Reading.{AreRead};
-ghost use Rattle.saved_web.specs.WebLines.{page_urls};
 ghost use Rattle.saved_web.specs.WebFaults.{IsSound, IsWebFault, IsWebRefusal};
 
-use crate::add::{Above, check_line};
-use crate::error::WebError;
 use crate::link_cache::LinkCache;
 use crate::links::page_behind;
-use crate::pages::Pages;
 use crate::reader::pages_behind;
 use crate::threads::pages_in_threads;
 use crate::web_pages::WebPages;
 use crawl_keys::{Base, CanonUrl};
 use crawl_pages::{Fetch, FetchError, NoMemory, Page};
+use saved_pages::{Above, Pages, WebError, check_line};
 use simdutf8::compat::from_utf8;
 use std::alloc::Global;
 use std::thread::Threads;

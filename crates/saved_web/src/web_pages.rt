@@ -2,20 +2,25 @@
 ghost use Rattle.std.specs.Prelude.{◌≡◌, ◌++◌, ℕ, List, Some, true, false, slice_get, IfOk, IfSome};
 ghost use Rattle.std.specs.List.{flat_map};
 ghost use Rattle.std.specs.Option.{option_map};
-ghost use Rattle.saved_web.specs.PageLists.{page_with, has, urls};
+ghost use Rattle.saved_pages.specs.PageLists.{page_with, has, urls};
 
-use crate::known_page::KnownPage;
-use crate::pages::Pages;
 use crawl_keys::CanonUrl;
 use crawl_pages::NoMemory;
+use saved_pages::{KnownPage, Pages};
 use std::alloc::{AllocError, Global};
 use std::marker::Model;
-use std::thread::Threads;
+use std::thread::{Threads, join};
 
-/// So many pages are looked at, about, to tell whether all have one host.
+/// About how many pages are looked at to find whether all have one host.
 const SAMPLES: usize = 1_024;
 
-/// The pages of a saved web: in one part, or in as many as threads have read, each with its own index.
+/// Threads do not look at a list of fewer pages than this.
+const LEAST: usize = 4_096;
+
+/// How often a list is halved. The number of threads that look at a part is two to this power.
+const HALVINGS: u32 = 2;
+
+/// The pages of a saved web: in one part, or in one part for each thread that read some. Each part has its own index.
 #[derive(Drop)]
 pub struct WebPages<'a> {
     parts: Vec<Pages<'a>>,
@@ -26,7 +31,7 @@ impl<'a> Model for WebPages<'a> {
     ghost use Rattle.std.specs.Prelude.{List};
     ghost use Rattle.std.specs.Coded.{coded_list};
     ghost use Rattle.std.specs.List.{flat_map};
-    ghost use Rattle.saved_web.specs.PageLists.{PageRead, page_read_code};
+    ghost use Rattle.saved_pages.specs.PageLists.{PageRead, page_read_code};
 
     ghost Value = { List PageRead };
 
@@ -36,7 +41,7 @@ impl<'a> Model for WebPages<'a> {
 }
 
 impl<'a> WebPages<'a> {
-    /// Pages in one part.
+    /// Returns the pages in one part.
     pub fn one(alloc: Global, pages: Pages<'a>) -> Result<WebPages<'a>, AllocError>
         ensures { IfOk result (λ web. web ≡ pages.entry) }
     {
@@ -74,8 +79,8 @@ impl<'a> WebPages<'a> {
         urls_in(alloc, &self.parts)
     }
 
-    /// Reads what look-ups of URLs with these hashes read, and what stands first on their pages: the slots of all, then what these
-    /// lead to. The answer says nothing.
+    /// Reads what look-ups of URLs with these hashes read, and the beginning of their pages: first all slots, then what the slots
+    /// name. The result has no meaning.
     pub fn read_ahead(&self, hashes: &[u64]) -> u64 {
         let mut sum: u64 = 0;
         for part in &self.parts {
@@ -90,7 +95,7 @@ impl<'a> WebPages<'a> {
         sum
     }
 
-    /// How many bytes of the input are theirs, about.
+    /// Returns about how many bytes of the input are theirs.
     pub fn bytes(&self) -> usize {
         let mut bytes: usize = 0;
         for part in &self.parts {
@@ -99,7 +104,7 @@ impl<'a> WebPages<'a> {
         bytes
     }
 
-    /// The index of the first page behind so many of these bytes.
+    /// Returns the index of the first page after the given number of these bytes.
     pub fn index_behind(&self, bytes: usize) -> usize {
         let mut bytes = bytes;
         let mut before: usize = 0;
@@ -114,7 +119,7 @@ impl<'a> WebPages<'a> {
         before
     }
 
-    /// Whether all pages have one host, as far as those tell that are looked at.
+    /// Whether all pages that are looked at have one host.
     pub fn has_one_host(&self) -> bool {
         let Some(first) = self.page(0) else {
             return false;
@@ -131,7 +136,7 @@ impl<'a> WebPages<'a> {
         true
     }
 
-    /// Whether some page has so many bytes, about.
+    /// Whether some page has about the given number of bytes.
     pub fn has_long_page(&self, bytes: usize) -> bool {
         for part in &self.parts {
             if part.has_long_page(bytes) {
@@ -141,7 +146,7 @@ impl<'a> WebPages<'a> {
         false
     }
 
-    /// The pages of both, these first; nothing where a page of each has one URL, or there is no room.
+    /// Returns the pages of both, these first. `None` if a page of each has the same URL, or if memory runs out.
     pub fn and<R: Threads + Sync>(self, rt: &R, more: WebPages<'a>) -> Option<WebPages<'a>>
         ensures both { IfSome result (λ web. web ≡ self.entry ++ more.entry) }
         ensures apart { IfSome result (λ _. (url : List ℕ) → has more.entry url ≡ true → has self.entry url ≡ false) }
@@ -158,7 +163,7 @@ impl<'a> WebPages<'a> {
     }
 }
 
-/// The page with the URL in the first part that has one.
+/// Returns the page with the URL in the first part that has one.
 fn first_with<'p, 'a>(parts: &'p [Pages<'a>], url: &CanonUrl) -> Option<&'p KnownPage<'a>>
     ensures page { option_map (λ page. page.now) result ≡ page_with (flat_map (λ part. part) parts.now) url.now }
     ensures same { IfSome result (λ page. page.now.url ≡ url.now) }
@@ -171,7 +176,7 @@ fn first_with<'p, 'a>(parts: &'p [Pages<'a>], url: &CanonUrl) -> Option<&'p Know
     None
 }
 
-/// The index of the page with the URL among those of the parts.
+/// Returns the index of the page with the URL among those of the parts.
 fn index_with(parts: &[Pages<'_>], url: &CanonUrl) -> Option<usize>
     ensures { IfSome result (λ index. slice_get (flat_map (λ part. part) parts.now) index ≡ page_with (flat_map (λ part. part) parts.now) url.now) }
 {
@@ -185,7 +190,7 @@ fn index_with(parts: &[Pages<'_>], url: &CanonUrl) -> Option<usize>
     None
 }
 
-/// The page at the index among those of the parts.
+/// Returns the page at the index among those of the parts.
 fn page_at<'p, 'a>(parts: &'p [Pages<'a>], index: usize) -> Option<&'p KnownPage<'a>>
     ensures { IfSome result (λ page. slice_get (flat_map (λ part. part) parts.now) index ≡ Some page.now) }
 {
@@ -210,7 +215,7 @@ fn urls_in(alloc: Global, parts: &[Pages<'_>]) -> Result<Vec<CanonUrl>, NoMemory
     Ok(all)
 }
 
-/// Whether a page of each has one URL.
+/// Whether a page of the parts and a page of the others have the same URL.
 fn some_known<R: Threads + Sync>(rt: &R, parts: &[Pages<'_>], others: &[Pages<'_>]) -> bool
     ensures { result ≡ false → (url : List ℕ) → has (flat_map (λ part. part) others.now) url ≡ true → has (flat_map (λ part. part) parts.now) url ≡ false }
 {
@@ -222,12 +227,63 @@ fn some_known<R: Threads + Sync>(rt: &R, parts: &[Pages<'_>], others: &[Pages<'_
     false
 }
 
-/// Whether a page of the parts and one of the other have one URL.
+/// Whether a page of the parts and a page of `other` have the same URL.
 fn is_known<R: Threads + Sync>(rt: &R, parts: &[Pages<'_>], other: &Pages<'_>) -> bool
     ensures { result ≡ false → (url : List ℕ) → has other.now url ≡ true → has (flat_map (λ part. part) parts.now) url ≡ false }
 {
     for part in parts {
-        if part.shares_url(rt, other) {
+        if share_url(rt, part, other) {
+            return true;
+        }
+    }
+    false
+}
+
+/// Whether a page of each has the same URL. If there are many others, threads look for some of them each.
+fn share_url<R: Threads + Sync>(rt: &R, pages: &Pages<'_>, others: &Pages<'_>) -> bool
+    ensures { result ≡ false → (url : List ℕ) → has others.now url ≡ true → has pages.now url ≡ false }
+{
+    let halvings = if others.len() < LEAST { 0 } else { HALVINGS };
+    some_has_in_threads(rt, halvings, pages, others.as_slice())
+}
+
+/// Whether one of the pages in the list has the URL of a page. The list is halved the given number of times, and a thread looks at
+/// each half. If a thread cannot be started, the thread that needs it looks at both halves.
+fn some_has_in_threads<R: Threads + Sync>(
+    rt: &R,
+    halvings: u32,
+    pages: &Pages<'_>,
+    list: &[KnownPage<'_>],
+) -> bool
+    ensures { result ≡ false → (url : List ℕ) → has list.now url ≡ true → has pages.now url ≡ false }
+{
+    if halvings == 0 {
+        return some_has(pages, list);
+    }
+    let fewer = halvings - 1;
+    let (front, back) = halves(list);
+    let in_front = move || -> bool
+        ensures { result ≡ false → (url : List ℕ) → has front.entry.now url ≡ true → has pages.entry.now url ≡ false }
+    { some_has_in_threads(rt, fewer, pages, front) };
+    let in_back = move || -> bool
+        ensures { result ≡ false → (url : List ℕ) → has back.entry.now url ≡ true → has pages.entry.now url ≡ false }
+    { some_has_in_threads(rt, fewer, pages, back) };
+    let (first, second) = join(rt, in_front, in_back);
+    first || second
+}
+
+fn halves<'l, 'a>(list: &'l [KnownPage<'a>]) -> (&'l [KnownPage<'a>], &'l [KnownPage<'a>])
+    ensures { result.0.now ++ result.1.now ≡ list.now }
+{
+    list.split_at(list.len() / 2)
+}
+
+/// Whether one of the pages in the list has the URL of a page.
+fn some_has(pages: &Pages<'_>, list: &[KnownPage<'_>]) -> bool
+    ensures { result ≡ false → (url : List ℕ) → has list.now url ≡ true → has pages.now url ≡ false }
+{
+    for page in list {
+        if pages.has(page) {
             return true;
         }
     }

@@ -7,9 +7,8 @@ ghost use Rattle.crawl_run.specs.Crawls.{AreCounts, CrawlFails, IsJudgedAt};
 ghost use Rattle.crawl_run.specs.JudgedRuns.{CountsLosses};
 ghost use Rattle.crawl_run.specs.Losses.{IsLost};
 ghost use Rattle.saved_web.specs.KnownPages.{page_at, urls_of};
-ghost use Rattle.saved_web.specs.SavedWeb.{page_of};
+ghost use Rattle.saved_web.specs.SavedWeb.{page_of, page_urls};
 ghost use Rattle.saved_web.specs.WebFaults.{IsSound, IsWebRefusal};
-ghost use Rattle.saved_web.specs.WebLines.{page_urls};
 ghost use Rattle.mercator.specs.WebCrawl.{AreAllSeeds, AreSeeds, IsBegun, IsFound, IsSeedFault, IsUnbegun, IsUnread};
 
 use crate::commands::fault::Fault;

@@ -1,6 +1,6 @@
 //! Files in memory: their saved web, their pages, and a check of them. A file that grows while it is read.
 use crawl_keys::{CanonUrl, canonical};
-use crawl_pages::{Fetch, Page, SessionFetch};
+use crawl_pages::{Fetch, Page};
 use mercator_site::{
     CheckForm, CheckReport, CheckSettings, Files, report_of_files, report_of_pages,
 };
@@ -94,7 +94,7 @@ fn has_pages<R: Threads + Sync>(
 ) -> Option<bool> {
     let files = SiteFiles::new(alloc, site.input()).ok()?;
     let linked = site_pages(rt, &files, &[], Vec::new(alloc), &site.bytes()).ok()?;
-    let page = linked.pages.fetch_in(alloc, &mut (), top).ok()?;
+    let page = linked.pages.fetch(alloc, top).ok()?;
     Some(is_its_page(&page))
 }
 

@@ -5,72 +5,10 @@ ghost use Rattle.crawl_keys.specs.Folders.{is_of_folder};
 ghost use Rattle.saved_web.specs.SavedWeb.{link_url};
 ghost use Rattle.saved_site.specs.Leads.{AreKnown, AreOfFolder, LeadsTo};
 
-use crawl_keys::before_fragment;
 use hash_index::{HashIndex, Keyed};
-use hash_order::hash_of;
+use saved_web::LinkText;
 use std::alloc::{AllocError, Global};
 use std::marker::Model;
-
-/// The text of a link, as a key to find by what is known of it. Its hash is made once.
-#[derive(Drop)]
-pub(crate) struct TextKey<'a> {
-    hash: u64,
-    text: &'a str,
-}
-
-// Contracts see the text.
-impl<'a> Model for TextKey<'a> {
-    ghost use Rattle.std.specs.Prelude.{◌≡◌, ℕ, List};
-    ghost use Rattle.hash_order.specs.HashOrder.{hash_of};
-
-    ghost Value = { List ℕ };
-
-    ghost view = { λ key. key.text.now };
-
-    ghost invariant = { λ key. key.hash ≡ hash_of key.text.now };
-}
-
-impl<'a> TextKey<'a> {
-    /// The text with its hash.
-    fn new(text: &'a str) -> TextKey<'a>
-        ensures { result ≡ text.now }
-    {
-        TextKey {
-            hash: hash_of(text),
-            text,
-        }
-    }
-
-    /// The text before the fragment, which leads to the same URL.
-    pub(crate) fn before_fragment(text: &'a str) -> TextKey<'a>
-        ensures { (base : List ℕ) → link_url base result ≡ link_url base text.now }
-    {
-        TextKey::new(before_fragment(text))
-    }
-
-    /// The text.
-    pub(crate) fn as_str(&self) -> &'a str
-        ensures { result.now ≡ self.now }
-    {
-        self.text
-    }
-}
-
-impl Keyed for TextKey<'_> {
-    ghost use Rattle.hash_order.specs.HashOrder.{hash_of};
-
-    ghost text = { λ key. key };
-
-    ghost hash = { hash_of };
-
-    fn text(&self) -> &str {
-        self.text
-    }
-
-    fn text_hash(&self) -> u64 {
-        self.hash
-    }
-}
 
 /// A text, and the index of the URL that a link with it leads to, if it leads to one.
 #[derive(Drop)]
@@ -93,13 +31,13 @@ impl Model for KnownText {
 }
 
 impl KnownText {
-    fn new(alloc: Global, key: &TextKey<'_>, index: Option<u32>) -> Result<KnownText, AllocError>
+    fn new(alloc: Global, key: &LinkText<'_>, index: Option<u32>) -> Result<KnownText, AllocError>
         ensures { IfOk result (λ known. known ≡ (key.now, index)) }
     {
-        let text = String::from_str(alloc, key.text)?;
+        let text = String::from_str(alloc, key.as_str())?;
         Ok(KnownText {
             text,
-            hash: key.hash,
+            hash: key.text_hash(),
             index,
         })
     }
@@ -158,7 +96,7 @@ impl KnownTexts {
     }
 
     /// The index that is known of a text.
-    pub(crate) fn find(&self, key: &TextKey<'_>) -> Option<Option<u32>>
+    pub(crate) fn find(&self, key: &LinkText<'_>) -> Option<Option<u32>>
         ensures { IfSome result (λ index. Contains self.now (key.now, index)) }
     {
         match self.index.find(&self.texts, key) {
@@ -171,7 +109,7 @@ impl KnownTexts {
     pub(crate) fn add(
         &mut self,
         alloc: Global,
-        key: &TextKey<'_>,
+        key: &LinkText<'_>,
         index: Option<u32>,
     ) -> Result<(), AllocError>
         ensures known { (base : List ℕ) (urls : List (List ℕ)) → AreKnown base urls self.old → LeadsTo urls index (link_url base key.now) → OnOk result (AreKnown base urls self.new) }

@@ -10,12 +10,12 @@ ghost use Rattle.saved_site.specs.Meaning.{under_page};
 ghost use Rattle.saved_site.specs.declared.linked.link_table.LinkTable.{LinkTable};
 
 use crate::line_text::LineText;
-use crate::linked::known_texts::{KnownTexts, TextKey};
+use crate::linked::known_texts::KnownTexts;
 use crate::linked::linked_page::Leads;
-use crate::linked::url_list::UrlList;
 use crate::page::Under;
-use crawl_keys::{Base, CanonUrl, KeyError, is_of_folder};
+use crawl_keys::{Base, CanonUrl, KeyError, before_fragment, is_of_folder};
 use document_links::LinkTexts;
+use saved_web::{LinkText, UrlList};
 use std::alloc::{AllocError, Global};
 use std::mem;
 
@@ -133,7 +133,7 @@ impl LinkTable {
         ensures keep { KeepIndices self.old.urls self.new.urls }
         ensures known { OnOk result (IsTableOf base.now self.new) }
     {
-        let key = TextKey::before_fragment(text);
+        let key = LinkText::new(before_fragment(text));
         match self.known.find(&key) {
             Some(index) => Ok(index),
             None => self.learn(alloc, base, &key),
@@ -145,7 +145,7 @@ impl LinkTable {
         &mut self,
         alloc: Global,
         base: &Base,
-        key: &TextKey<'_>,
+        key: &LinkText<'_>,
     ) -> Result<Option<u32>, AllocError>
         requires { IsTableOf base.now self.old }
         ensures leads { IfOk result (λ index. LeadsTo self.new.urls index (link_url base.now key.now)) }
@@ -182,7 +182,7 @@ fn url_index(
 {
     match link_of(alloc, base, text)? {
         Some(url) => {
-            let index = urls.find_or_insert(url)?;
+            let index = urls.find_or_insert(&url)?;
             Ok(Some(index))
         }
         None => Ok(None),

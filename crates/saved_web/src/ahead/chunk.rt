@@ -1,18 +1,18 @@
-//! The links of some pages of a web, found ahead.
+//! The links of some pages of a web, resolved ahead.
 ghost use Rattle.std.specs.Prelude.{◌≡◌, ◌+◌, List, Some, length, slice_get, IfOk, IfSome};
 ghost use Rattle.saved_web.specs.Ahead.{IsAhead, IsChunk, KeepIndices, LeadTo, shown_page};
-ghost use Rattle.saved_web.specs.PageLists.{PageRead};
+ghost use Rattle.saved_pages.specs.PageLists.{PageRead};
 ghost use Rattle.crawl_pages.specs.declared.page.Page.{Page};
 
-use crate::ahead::url_list::UrlList;
 use crate::ahead::{BLOCKS, CHUNKS};
-use crate::known_page::KnownPage;
 use crate::link_cache::LinkCache;
 use crate::links::page_behind;
 use crate::long;
+use crate::url_list::UrlList;
 use crate::web_pages::WebPages;
 use crawl_keys::{Base, CanonUrl};
 use crawl_pages::{FetchError, Links, Page};
+use saved_pages::KnownPage;
 use std::alloc::{AllocError, Global};
 
 /// Some pages of a web, and the links of most of them.
@@ -23,7 +23,7 @@ pub struct Chunk {
     urls: UrlList,
 }
 
-/// A page whose links were found.
+/// A page whose links were resolved.
 #[derive(Drop)]
 struct PageAhead {
     /// Its index among the pages of the web.
@@ -36,12 +36,12 @@ struct PageAhead {
 struct LinksAhead {
     /// The index of the URL of each link, in order.
     indices: Vec<u32>,
-    /// How many links there are besides that lead to no URL.
+    /// How many other links there are, which lead to no URL.
     skipped: u64,
 }
 
 impl Chunk {
-    /// The links of the pages in this block, and in each that is so many chunks behind, as far as there is room.
+    /// Resolves the links of the pages in this block and in each block that is a multiple of `CHUNKS` later, until memory runs out.
     pub fn new(alloc: Global, web: &WebPages<'_>, first: usize) -> Chunk
         ensures { IsChunk web.now result }
     {
@@ -60,7 +60,7 @@ impl Chunk {
         chunk
     }
 
-    /// Finds the links of the pages of a block: all have as many bytes, about.
+    /// Resolves the links of the pages of a block. All blocks have about the same number of bytes.
     fn add_block<'a>(
         &mut self,
         alloc: Global,
@@ -80,7 +80,7 @@ impl Chunk {
         Ok(())
     }
 
-    /// Finds the links of the page at the index, which comes behind the others.
+    /// Resolves the links of the page at the index, which is after the others.
     fn add_page<'a>(
         &mut self,
         alloc: Global,
@@ -98,7 +98,7 @@ impl Chunk {
         Ok(())
     }
 
-    /// The page of the web at the index; nothing where its links are not here, or there is no room.
+    /// Returns the page of the web at the index. `None` if its links are not here, or if memory runs out.
     pub fn page(&self, alloc: Global, index: usize) -> Option<Page>
         ensures { (web : List PageRead) → IsChunk web self.now → IfSome result (λ page. page ≡ shown_page (slice_get web index)) }
     {
@@ -111,7 +111,7 @@ impl Chunk {
 }
 
 impl LinksAhead {
-    /// The page with these links.
+    /// Returns the page with these links.
     fn page(&self, alloc: Global, urls: &UrlList) -> Option<Page>
         ensures { (page : Page) → IsAhead page urls.now self.now → IfSome result (λ told. told ≡ page) }
     {
@@ -123,7 +123,7 @@ impl LinksAhead {
     }
 }
 
-/// The URLs with these indices, sharing their texts; nothing where there is no room.
+/// Returns the URLs with these indices, which share their texts. `None` if memory runs out.
 fn copies(alloc: Global, urls: &UrlList, indices: &[u32]) -> Option<Vec<CanonUrl>>
     ensures { IfSome result (λ links. LeadTo urls.now indices.now links.items) }
 {
@@ -140,8 +140,8 @@ fn copies(alloc: Global, urls: &UrlList, indices: &[u32]) -> Option<Vec<CanonUrl
     Some(links)
 }
 
-/// The links of the page at the index; nothing where there is none, or where its links are not to be found ahead: it has moved,
-/// or threads look at it when it is fetched.
+/// Resolves the links of the page at the index. `None` if there is no page, or if its links are not resolved ahead: it has moved, or
+/// is so long that threads resolve its links when it is fetched.
 fn links_at<'a>(
     alloc: Global,
     web: &WebPages<'a>,
@@ -161,7 +161,7 @@ fn links_at<'a>(
     links_of(alloc, page, cache, urls)
 }
 
-/// The links of the page; nothing where it has moved.
+/// Resolves the links of the page. `None` if it has moved.
 fn links_of<'a>(
     alloc: Global,
     page: &KnownPage<'a>,
@@ -183,7 +183,7 @@ fn links_of<'a>(
     }
 }
 
-/// The indices of the URLs of links, which are put to the others.
+/// Returns the indices of the URLs of links. New URLs are pushed to the list.
 fn indices_of(alloc: Global, urls: &mut UrlList, links: &[CanonUrl]) -> Result<Vec<u32>, AllocError>
     ensures lead { IfOk result (λ indices. LeadTo urls.new indices.items links.now) }
     ensures keep { KeepIndices urls.old urls.new }

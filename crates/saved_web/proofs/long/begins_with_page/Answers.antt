@@ -1,6 +1,6 @@
 use Rattle.std.proofs.Common.{◌≡◌, true, sym, ap, ◌∙◌}
 use Rattle.saved_web.proofs.LongPages.{page_begins}
-use Rattle.saved_web.specs.WebLines.{is_page}
+use Rattle.saved_pages.specs.WebLines.{is_page}
 use Rattle.saved_web.proofs.long.begins_with_page.Goals as goal
 
 pub returns-in-Ok : goal.returns-in-Ok

@@ -1,5 +1,5 @@
 use Rattle.std.proofs.Common.{rules, ◌≡◌, Some, None, sym, ◌∙◌}
-use Rattle.saved_web.specs.PageLists.{page_with}
+use Rattle.saved_pages.specs.PageLists.{page_with}
 use Rattle.saved_web.proofs.PartPages.{passed_part, found_part}
 use Rattle.saved_web.proofs.web_pages.first_with.Goals as goal
 

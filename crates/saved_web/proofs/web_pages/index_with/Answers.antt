@@ -1,8 +1,8 @@
 use Rattle.std.proofs.Common.{rules, arith, ◌≡◌, ◌+◌, slice_get, Some, None, refl, sym, ap, ◌∙◌}
 use Rattle.std.specs.List.{flat_map}
 use Rattle.hash_index.specs.Lists.{index_of}
-use Rattle.saved_web.specs.PageLists.{page_with, urls}
-use Rattle.saved_web.proofs.PageIndex.{no_page}
+use Rattle.saved_pages.specs.PageLists.{page_with, urls}
+use Rattle.saved_pages.proofs.PageIndex.{no_page}
 use Rattle.saved_web.proofs.PartPages.{passed_part}
 use Rattle.saved_web.proofs.PartPlaces.{found_index, passed_index, summed_index}
 use Rattle.saved_web.proofs.web_pages.index_with.Goals as goal

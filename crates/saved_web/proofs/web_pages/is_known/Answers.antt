@@ -1,5 +1,5 @@
 use Rattle.std.proofs.Common.{rules, ◌≡◌, ℕ, List, true, false}
-use Rattle.saved_web.specs.PageLists.{has}
+use Rattle.saved_pages.specs.PageLists.{has}
 use Rattle.saved_web.proofs.PartPages.{none_in_more}
 use Rattle.saved_web.proofs.web_pages.is_known.Goals as goal
 

@@ -1,6 +1,6 @@
 use Rattle.std.proofs.Common.{rules, ◌≡◌, ℕ, List, true, false}
 use Rattle.std.specs.List.{flat_map}
-use Rattle.saved_web.specs.PageLists.{has}
+use Rattle.saved_pages.specs.PageLists.{has}
 use Rattle.saved_web.proofs.PartPages.{none_of_more}
 use Rattle.saved_web.proofs.web_pages.some_known.Goals as goal
 

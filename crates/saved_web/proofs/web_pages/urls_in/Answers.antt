@@ -1,5 +1,5 @@
 use Rattle.std.proofs.Common.{◌++◌, sym, ap, ◌∙◌}
-use Rattle.saved_web.specs.PageLists.{urls}
+use Rattle.saved_pages.specs.PageLists.{urls}
 use Rattle.saved_web.proofs.PartPages.{urls_more}
 use Rattle.saved_web.proofs.web_pages.urls_in.Goals as goal
 

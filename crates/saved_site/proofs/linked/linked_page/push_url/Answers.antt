@@ -1,6 +1,6 @@
 use Rattle.std.proofs.Common.{rules, ◌≡◌, [], ◌∷◌, ◌++◌, slice_get, Some, sym, ap, ◌∙◌}
 use Rattle.std.specs.Option.{option_map}
-use Rattle.saved_web.proofs.PageIndex.{item_at}
+use Rattle.saved_pages.proofs.PageIndex.{item_at}
 use Rattle.saved_site.proofs.LedPages.{url_there, no_url_there}
 use Rattle.saved_site.proofs.linked.linked_page.push_url.Goals as goal
 

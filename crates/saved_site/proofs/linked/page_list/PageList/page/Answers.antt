@@ -1,6 +1,6 @@
 use Rattle.std.proofs.Common.{rules, ◌≡◌, Some, None, sym, ap, ◌∙◌}
 use Rattle.std.specs.Option.{option_map}
-use Rattle.saved_web.proofs.PageIndex.{item_at}
+use Rattle.saved_pages.proofs.PageIndex.{item_at}
 use Rattle.hash_index.specs.Lists.{index_of}
 use Rattle.saved_site.proofs.LedPages.{found_there, none_there}
 use Rattle.saved_site.specs.LinkedPages.{page_led, urls_of}

@@ -1,0 +1,2 @@
+pub mod PageIndex
+pub mod WebLines

@@ -1,0 +1,83 @@
+-- Which check a line of a saved web fails first, by what is known of the lines before it.
+use Rattle.std.specs.Prelude.{ℕ, ◌==◌, Bool, true, false, ◌||◌, List, codes, if◌then◌else◌, Option, Some, None, Result, Ok, Err}
+use Rattle.std.specs.Str.{bytes_eq}
+use Rattle.crawl_keys.specs.CanonicalText.{canonical}
+use Rattle.crawl_keys.specs.Outcome.{Gives}
+use Rattle.crawl_keys.specs.declared.error.KeyError.{KeyError}
+use Rattle.text_lines.specs.Lines.{text_of}
+use Rattle.saved_pages.specs.WebLines.{line_of_text}
+use Rattle.text_lines.specs.declared.lines.LineError.{LineError}
+use Rattle.text_lines.specs.declared.lines.LineError.TheVariants.{TooLong, NotText}
+use Rattle.saved_pages.specs.declared.error.WebError.{WebError}
+use Rattle.saved_pages.specs.declared.error.WebError.TheVariants as wrong
+use Rattle.saved_pages.specs.declared.line.Line.{Line}
+use Rattle.saved_pages.specs.declared.line.Line.TheVariants as says
+
+-- what the checks of a line need to know of the lines before it
+pub record Before : Type 0 where
+  -- the number of the line itself, from 1
+  pub number : ℕ
+  -- the first line says version 2
+  pub second : Bool
+  -- there is a page
+  pub some_page : Bool
+  -- a link, or a moved line, is under the last page
+  pub link : Bool
+  pub moved : Bool
+  -- a page has this URL
+  pub known : List ℕ → Bool
+
+-- the fault of a web one of whose lines has no text
+abbrev pub fault_of : LineError → WebError
+fault_of (TooLong number) = wrong.LineTooLong number
+fault_of (NotText number) = wrong.NotText number
+
+-- the first line: whether it says version 2
+abbrev pub header_of : List ℕ → Result Bool WebError
+header_of text =
+    if bytes_eq text (codes "savedweb 1") then Ok false
+    else if bytes_eq text (codes "savedweb 2") then Ok true
+    else Err wrong.BadHeader
+
+abbrev pub header_fault : Result Bool WebError → Option WebError
+header_fault (Ok second) = None
+header_fault (Err fault) = Some fault
+
+-- a page, by its URL and which URLs are known
+abbrev pub page_fault : ℕ → (List ℕ → Bool) → Result (List ℕ) KeyError → Option WebError
+page_fault number known (Ok url) = if known url then Some (wrong.PageTwice number) else None
+page_fault number known (Err _) = Some (wrong.BadPageUrl number)
+
+-- a line that needs a page above it, by whether there is one, and whether the lines under that page rule this line out
+abbrev pub under_fault : ℕ → Bool → Bool → Option WebError
+under_fault number some_page mixed =
+    if some_page then (if mixed then Some (wrong.MovedMixed number) else None)
+    else Some (wrong.LinkBeforePage number)
+
+-- a line after the first, by what it says; version 1 has no moved lines
+abbrev pub said_fault : Before → Line (List ℕ) → Option WebError
+said_fault b (says.Page text) = page_fault b.number b.known (canonical text)
+said_fault b (says.Link text) = under_fault b.number b.some_page b.moved
+said_fault b (says.Moved text) =
+    if b.second then under_fault b.number b.some_page (b.link || b.moved) else Some (wrong.BadLine b.number)
+said_fault b says.Empty = None
+said_fault b says.Other = Some (wrong.BadLine b.number)
+
+abbrev pub text_fault : Before → Result (List ℕ) LineError → Option WebError
+text_fault b (Err fault) = Some (fault_of fault)
+text_fault b (Ok text) = if b.number == 1 then header_fault (header_of text) else said_fault b (line_of_text text)
+
+-- the first check that a line fails: its length, its bytes, and then what it says
+abbrev pub line_fault : Before → List ℕ → Option WebError
+line_fault b line = text_fault b (text_of b.number line)
+
+-- ---- results
+
+-- a check that a line fails, if it fails one, as a result
+abbrev pub checked : Option WebError → Result (Unit {0}) WebError
+checked None = Ok tt
+checked (Some fault) = Err fault
+
+-- the result is the expected error, or a success if none is expected; or memory ran out
+abbrev pub Tells : {T : Type 0} → Result T WebError → Option WebError → Type 0
+Tells result expected = Gives wrong.NoMemory (λ _. tt) result (checked expected)

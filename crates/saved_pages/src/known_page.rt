@@ -1,0 +1,182 @@
+//! A page of a saved web, as it is stored.
+ghost use Rattle.std.specs.Prelude.{◌≡◌, IfOk, Ok};
+ghost use Rattle.crawl_keys.specs.CanonicalText.{canonical};
+ghost use Rattle.text_lines.specs.FirstLine.{behind_line, line_in};
+
+use crawl_keys::{CanonUrl, canonical};
+use hash_index::Keyed;
+use hash_order::hash_of;
+use std::alloc::{AllocError, Global};
+use std::marker::Model;
+use std::mem::size_of;
+use text_lines::split_line;
+
+/// How many bytes most processors read from memory at a time.
+const LINE: usize = 64;
+
+/// How many such lines of a page are read ahead.
+const LINES_AHEAD: usize = 5;
+
+/// A page of a saved web: its URL, and all that follows its line.
+#[derive(Drop)]
+pub struct KnownPage<'a> {
+    text: PageText<'a>,
+}
+
+// The size of a page in memory, without the input and its slot in the index.
+const _: () = prove!(size_of::<KnownPage<'static>>() == 24);
+
+/// The text of a page.
+#[derive(Drop)]
+enum PageText<'a> {
+    /// The input from its URL on. Most pages are written like this.
+    Written(&'a str),
+    /// The line of the page spells its URL in another way.
+    Made(Box<MadePage<'a>>),
+}
+
+/// A page whose line spells its URL in another way.
+#[derive(Drop)]
+struct MadePage<'a> {
+    url: CanonUrl,
+    behind: &'a str,
+}
+
+// Contracts see the text of the URL, which is canonical, and what follows the line.
+impl<'a> Model for KnownPage<'a> {
+    ghost use Rattle.std.specs.Prelude.{◌≡◌, Ok};
+    ghost use Rattle.crawl_keys.specs.CanonicalText.{canonical};
+    ghost use Rattle.saved_pages.specs.PageLists.{PageRead, page_read_code};
+
+    ghost Value = { PageRead };
+
+    ghost coded = { page_read_code };
+
+    ghost use Rattle.saved_pages.specs.PageTexts.{page_in};
+
+    ghost view = { λ page. page_in page.text };
+
+    ghost invariant = { λ page. canonical (page_in page.text).url ≡ Ok (page_in page.text).url };
+}
+
+impl<'a> KnownPage<'a> {
+    /// Returns the page with this URL, which the first line of this text spells.
+    pub fn new(alloc: Global, url: CanonUrl, text: &'a str) -> Result<KnownPage<'a>, AllocError>
+        ensures { IfOk result (λ page. page ≡ record { url = url; behind = behind_line text.now }) }
+    {
+        let (spelled, behind) = split_line(text);
+        if url.as_str() == spelled {
+            return Ok(KnownPage {
+                text: PageText::Written(text),
+            });
+        }
+        match Box::new(alloc, MadePage { url, behind }) {
+            Ok(page) => Ok(KnownPage {
+                text: PageText::Made(page),
+            }),
+            Err(_) => Err(AllocError),
+        }
+    }
+
+    /// Returns the page whose URL is the first line of this text.
+    pub fn written(text: &'a str) -> KnownPage<'a>
+        requires { canonical (line_in text.now) ≡ Ok (line_in text.now) }
+        ensures { result ≡ record { url = line_in text.now; behind = behind_line text.now } }
+    {
+        KnownPage {
+            text: PageText::Written(text),
+        }
+    }
+
+    /// Returns the text of its URL.
+    pub fn url(&self) -> &str
+        ensures text { result.now ≡ self.now.url }
+        ensures canonical { canonical self.now.url ≡ Ok self.now.url }
+    {
+        match &self.text {
+            PageText::Written(text) => split_line(*text).0,
+            PageText::Made(page) => page.url.as_str(),
+        }
+    }
+
+    /// Returns its URL.
+    pub fn to_url(&self, alloc: Global) -> Result<CanonUrl, AllocError>
+        ensures { IfOk result (λ url. url ≡ self.now.url) }
+    {
+        match canonical(alloc, self.url()) {
+            Ok(url) => Ok(url),
+            Err(_) => Err(AllocError),
+        }
+    }
+
+    /// Returns the lines after its own, to the end.
+    pub fn behind(&self) -> &'a str
+        ensures { result.now ≡ self.now.behind }
+    {
+        match &self.text {
+            PageText::Written(text) => split_line(*text).1,
+            PageText::Made(page) => page.behind,
+        }
+    }
+}
+
+impl KnownPage<'_> {
+    /// Returns about how many bytes of the input are left where the page begins.
+    pub fn bytes_left(&self) -> usize {
+        match &self.text {
+            PageText::Written(text) => text.len(),
+            PageText::Made(page) => page.behind.len(),
+        }
+    }
+
+    /// Reads a byte of each of its first lines of memory. The result has no meaning.
+    pub fn read_ahead(&self) -> u64 {
+        let bytes = match &self.text {
+            PageText::Written(text) => text.as_bytes(),
+            PageText::Made(page) => page.behind.as_bytes(),
+        };
+        let mut sum: u64 = 0;
+        for line in 0..LINES_AHEAD {
+            if let Some(byte) = bytes.get(LINE * line) {
+                sum = sum.wrapping_add(u64::from(*byte));
+            }
+        }
+        sum
+    }
+
+    /// Returns about how many bytes the page has, up to the next page, if there is one.
+    pub fn bytes_before(&self, next: Option<&KnownPage<'_>>) -> usize {
+        let left = self.bytes_left();
+        let behind = match next {
+            Some(next) => next.bytes_left(),
+            None => 0,
+        };
+        // The next page may be one of other bytes.
+        if behind < left { left - behind } else { left }
+    }
+
+    /// Returns the host of its URL, with the port.
+    pub fn host(&self) -> &str {
+        match self.url().split('/').nth(2) {
+            Some(host) => host,
+            None => "",
+        }
+    }
+}
+
+impl Keyed for KnownPage<'_> {
+    ghost use Rattle.hash_order.specs.HashOrder.{hash_of};
+
+    ghost text = { λ page. page.url };
+
+    ghost hash = { hash_of };
+
+    fn text(&self) -> &str {
+        self.url()
+    }
+
+    // Called for the page that is added, and when the index grows.
+    fn text_hash(&self) -> u64 {
+        hash_of(self.url())
+    }
+}

@@ -1,0 +1,14 @@
+//! The pages of a saved web: what a line says, the checks of a line, and the pages of the lines, each URL once.
+#![tactic(auto)]
+
+mod add;
+mod error;
+mod known_page;
+mod line;
+mod pages;
+
+pub use add::{Above, add_line, check_line, header};
+pub use error::WebError;
+pub use known_page::KnownPage;
+pub use line::{Line, line_of};
+pub use pages::Pages;

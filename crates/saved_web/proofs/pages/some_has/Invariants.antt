@@ -1,6 +1,0 @@
-use Rattle.std.proofs.Common.{◌≡◌, ℕ, List, true, false, take}
-use Rattle.saved_web.specs.PageLists.{has}
-use Rattle.saved_web.proofs.pages.some_has.Given as goal
-
-abbrev pub invariant-loop-page : goal.invariant-loop-page
-invariant-loop-page l = (url : List ℕ) → has (take l.page-index l.list) url ≡ true → has l.pages url ≡ false

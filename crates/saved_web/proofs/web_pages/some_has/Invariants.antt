@@ -1,0 +1,6 @@
+use Rattle.std.proofs.Common.{◌≡◌, ℕ, List, true, false, take}
+use Rattle.saved_pages.specs.PageLists.{has}
+use Rattle.saved_web.proofs.web_pages.some_has.Given as goal
+
+abbrev pub invariant-loop-page : goal.invariant-loop-page
+invariant-loop-page l = (url : List ℕ) → has (take l.page-index l.list) url ≡ true → has l.pages url ≡ false
