@@ -1,6 +1,7 @@
+pub mod Ends
+pub mod Logs
 pub mod Lossless
+pub mod Offers
 pub mod Outcomes
-pub mod Running
 pub mod Slots
-pub mod Tallies
 pub mod Turning

@@ -1,5 +1,5 @@
--- What a worker lost, by why.
-use Rattle.std.specs.Prelude.{ℕ, ◌+◌, ◌-◌, ◌^◌, min, Bool, true, false, Option, Some, None}
+-- What a worker lost, by cause.
+use Rattle.std.specs.Prelude.{ℕ, ◌+◌, ◌-◌, ◌^◌, min, Option, Some, None}
 use Rattle.crawl_frontier.specs.declared.error.OfferError.{OfferError}
 use Rattle.crawl_frontier.specs.declared.error.OfferError.TheVariants as refused
 use Rattle.crawl_workers.specs.declared.losses.Loss.{Loss}
@@ -24,6 +24,10 @@ with_loss loss.NoMemory losses = record losses { no_memory = one_more losses.no_
 
 abbrev pub all_losses : Losses → ℕ
 all_losses losses = losses.failed + losses.unkept + losses.full + losses.too_far + losses.crossed + losses.no_memory
+
+-- their sum, up to the greatest count
+abbrev pub sum_of : Losses → ℕ
+sum_of losses = min (all_losses losses) (2 ^ 64 - 1)
 
 -- why a link is lost whose offer was refused
 abbrev pub loss_of : OfferError → Option Loss
@@ -56,9 +60,3 @@ both_losses a b = record {
   crossed = sum a.crossed b.crossed;
   no_memory = sum a.no_memory b.no_memory;
 }
-
--- the loss of a link, and not of a URL that was taken
-abbrev pub is_of_link : Loss → Bool
-is_of_link loss.Failed = false
-is_of_link loss.Unkept = false
-is_of_link _ = true

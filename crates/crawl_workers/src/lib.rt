@@ -9,6 +9,7 @@ mod ahead;
 mod error;
 pub mod laws;
 mod losses;
+mod offers;
 mod output;
 mod recent;
 mod run;

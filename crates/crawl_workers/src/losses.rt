@@ -1,7 +1,7 @@
 //! What a worker lost, by cause.
 ghost use Rattle.std.specs.Prelude.{◌≡◌, ◌≢◌, Some, true};
 ghost use Rattle.crawl_frontier.specs.declared.error.OfferError.TheVariants as error;
-ghost use Rattle.crawl_workers.specs.Losses.{all_losses, both_losses, loss_of, no_losses, with_loss, with_refusal};
+ghost use Rattle.crawl_workers.specs.Losses.{all_losses, both_losses, loss_of, no_losses, sum_of, with_loss, with_refusal};
 
 use crawl_frontier::OfferError;
 
@@ -48,17 +48,24 @@ impl Losses {
         }
     }
 
+    /// Returns the sum of all counts, up to the greatest u64.
+    pub fn total(&self) -> u64
+        ensures { result ≡ sum_of self.now }
+    {
+        self.failed
+            .saturating_add(self.unkept)
+            .saturating_add(self.full)
+            .saturating_add(self.too_far)
+            .saturating_add(self.crossed)
+            .saturating_add(self.no_memory)
+    }
+
     /// Returns whether nothing was lost.
     pub fn is_none(&self) -> bool
         ensures none { result ≡ true → all_losses self.now ≡ 0 }
         ensures some { all_losses self.now ≡ 0 → result ≡ true }
     {
-        self.failed == 0
-            && self.unkept == 0
-            && self.full == 0
-            && self.too_far == 0
-            && self.crossed == 0
-            && self.no_memory == 0
+        self.total() == 0
     }
 
     /// Returns the sums of both. Each count stops at the greatest u64.
