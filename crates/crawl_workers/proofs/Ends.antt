@@ -12,18 +12,18 @@ use Rattle.crawl_queues.specs.Entries.{KeepsRule}
 use Rattle.crawl_queues.specs.Books.{BookId}
 use Rattle.crawl_frontier.specs.declared.error.OfferError.TheVariants as refused
 use Rattle.crawl_frontier.specs.Parts.{WorkerId}
-use Rattle.crawl_workers.specs.declared.losses.Loss.{Loss}
-use Rattle.crawl_workers.specs.declared.losses.Loss.TheVariants as loss
-use Rattle.crawl_workers.specs.declared.losses.Losses.{Losses}
-use Rattle.crawl_workers.specs.declared.offers.LinkOffers.{LinkOffers}
-use Rattle.crawl_workers.specs.Logs.{AllLogged, Grows}
-use Rattle.crawl_workers.specs.Losses.{all_losses, no_losses, sum_of, with_loss}
-use Rattle.crawl_workers.specs.Offers.{Answer, losses_by, with_losses}
+use Rattle.link_offers.specs.declared.losses.Loss.{Loss}
+use Rattle.link_offers.specs.declared.losses.Loss.TheVariants as loss
+use Rattle.link_offers.specs.declared.losses.Losses.{Losses}
+use Rattle.link_offers.specs.declared.offers.LinkOffers.{LinkOffers}
+use Rattle.link_offers.specs.Logs.{AllLogged, Grows}
+use Rattle.link_offers.specs.Losses.{all_losses, no_losses, sum_of, with_loss}
+use Rattle.link_offers.specs.Offers.{Answer, losses_by, with_losses}
 use Rattle.crawl_workers.specs.Outcomes.{Outcome, Turn, IsTurn, AreTurns, IsTold, losses_at, found_at, entries_in, failed, unkept, kept}
 use Rattle.crawl_workers.specs.Ran.{Fate, results_of, taken_in, most_lost_at, most_lost, Ran, IsTally}
 use Rattle.crawl_workers.specs.Turn.{Progress}
-use Rattle.crawl_workers.proofs.Logs.{grows_same, grows_on, all_logged_on}
-use Rattle.crawl_workers.proofs.Offers.{SameBusy, answers_few, answers_logged}
+use Rattle.link_offers.proofs.Logs.{grows_same, grows_on, all_logged_on}
+use Rattle.link_offers.proofs.LinkAnswers.{SameBusy, answers_few, answers_logged}
 use Rattle.crawl_workers.proofs.Outcomes.{goes_on_same}
 
 -- ## How many are lost
@@ -52,9 +52,6 @@ sum_with loss.TooFar l lost is = (sum_more (2 ^ 64 - 1) l.failed l.unkept l.full
 sum_with loss.Crossed l lost is = (sum_more (2 ^ 64 - 1) l.failed l.unkept l.full l.too_far l.crossed l.no_memory lost is).4
 sum_with loss.NoMemory l lost is = (sum_more (2 ^ 64 - 1) l.failed l.unkept l.full l.too_far l.crossed l.no_memory lost is).5
 
-min_more : (most n k : ℕ) → min (n + (k + 1)) most ≡ min (min (n + 1) most + k) most
-min_more most n k = omega arith
-
 -- the sum of losses is their number, up to the greatest count
 number_of : (why : List Loss) (losses : Losses) (lost : ℕ) → lost ≡ sum_of losses → min (lost + length why) (2 ^ 64 - 1) ≡ sum_of (with_losses why losses)
 number_of [] losses lost is = is_least (2 ^ 64 - 1) (all_losses losses) lost is
@@ -62,7 +59,8 @@ number_of [] losses lost is = is_least (2 ^ 64 - 1) (all_losses losses) lost is
     is_least : (most n lost : ℕ) → lost ≡ min n most → min (lost + 0) most ≡ min n most
     is_least most n lost is = omega (arith, is)
 number_of (why ∷ more) losses lost is =
-    min_more (2 ^ 64 - 1) lost (length more) ∙ number_of more (with_loss why losses) (min (lost + 1) (2 ^ 64 - 1)) (sum_with why losses lost is)
+    let first : min (lost + length (why ∷ more)) (2 ^ 64 - 1) ≡ min (min (lost + 1) (2 ^ 64 - 1) + length more) (2 ^ 64 - 1) = omega arith in
+    first ∙ number_of more (with_loss why losses) (min (lost + 1) (2 ^ 64 - 1)) (sum_with why losses lost is)
 
 -- ## URLs and links
 
@@ -72,22 +70,30 @@ is_of_url loss.Failed = true
 is_of_url loss.Unkept = true
 is_of_url _ = false
 
+one_url_more : (most a b count : ℕ) →
+    (min (a + 1) most + b + count < most → min (a + 1) most + b ≡ a + b + 1)
+    × (a + min (b + 1) most + count < most → a + min (b + 1) most ≡ a + b + 1)
+    × (a + b ≡ a + b + 0)
+one_url_more most a b count = (λ less. omega (arith, less), λ less. omega (arith, less), omega arith)
+
 url_more : (why : Loss) (l : Losses) (count : ℕ) → (with_loss why l).failed + (with_loss why l).unkept + count < 2 ^ 64 - 1
     → (with_loss why l).failed + (with_loss why l).unkept ≡ l.failed + l.unkept + cond (is_of_url why) 1 0
-url_more loss.Failed l count less = omega (arith, less)
-url_more loss.Unkept l count less = omega (arith, less)
-url_more loss.Full l count less = omega arith
-url_more loss.TooFar l count less = omega arith
-url_more loss.Crossed l count less = omega arith
-url_more loss.NoMemory l count less = omega arith
+url_more loss.Failed l count less = (one_url_more (2 ^ 64 - 1) l.failed l.unkept count).0 less
+url_more loss.Unkept l count less = (one_url_more (2 ^ 64 - 1) l.failed l.unkept count).1 less
+url_more loss.Full l count less = (one_url_more (2 ^ 64 - 1) l.failed l.unkept count).2
+url_more loss.TooFar l count less = (one_url_more (2 ^ 64 - 1) l.failed l.unkept count).2
+url_more loss.Crossed l count less = (one_url_more (2 ^ 64 - 1) l.failed l.unkept count).2
+url_more loss.NoMemory l count less = (one_url_more (2 ^ 64 - 1) l.failed l.unkept count).2
 
 urls_counted : (why : List Loss) (l : Losses) → (with_losses why l).failed + (with_losses why l).unkept < 2 ^ 64 - 1
     → (with_losses why l).failed + (with_losses why l).unkept ≡ l.failed + l.unkept + count_by is_of_url why
-urls_counted [] l less = omega arith
+urls_counted [] l less = (one_url_more 0 l.failed l.unkept 0).2
 urls_counted (why ∷ more) l less =
-    let rest = urls_counted more (with_loss why l) less in
-    let one = url_more why l (count_by is_of_url more) (omega (arith, rest, less)) in
-    rw (sum_by-cons (λ (x : Loss). cond (is_of_url x) 1 0) why more) (omega (arith, rest, one))
+    let fewer : (with_losses more (with_loss why l)).failed + (with_losses more (with_loss why l)).unkept < 2 ^ 64 - 1 = less in
+    let rest = urls_counted more (with_loss why l) fewer in
+    let one = url_more why l (count_by is_of_url more) (omega (arith, rest, fewer)) in
+    let all : (with_losses more (with_loss why l)).failed + (with_losses more (with_loss why l)).unkept ≡ l.failed + l.unkept + (cond (is_of_url why) 1 0 + count_by is_of_url more) = omega (arith, rest, one) in
+    rw (sum_by-cons (λ (x : Loss). cond (is_of_url x) 1 0) why more) all
 
 answer_no_url : (answer : Answer) → count_by is_of_url (losses_by answer) ≡ 0
 answer_no_url None = refl
@@ -104,13 +110,18 @@ counted_append xs ys = sum_by-append (λ (x : Loss). cond (is_of_url x) 1 0) xs 
 
 answers_no_url : (answers : List Answer) → count_by is_of_url (flat_map losses_by answers) ≡ 0
 answers_no_url [] = refl
-answers_no_url (a ∷ answers) = omega (arith, counted_append (losses_by a) (flat_map losses_by answers), answer_no_url a, answers_no_url answers)
+answers_no_url (a ∷ answers) =
+    let cut : count_by is_of_url (flat_map losses_by (a ∷ answers)) ≡ count_by is_of_url (losses_by a) + count_by is_of_url (flat_map losses_by answers) = counted_append (losses_by a) (flat_map losses_by answers) in
+    cut ∙ omega (arith, answer_no_url a, answers_no_url answers)
 
 -- a URL has a result, or is lost as one
 one_of_each : (meaning : List ℕ → Page) (url : List ℕ) (outcome : Outcome) → count_by is_of_url (losses_at outcome) + length (found_at meaning url outcome) ≡ 1
 one_of_each meaning url failed = refl
-one_of_each meaning url (unkept answers) = omega (arith, counted_append (flat_map losses_by answers) (loss.Unkept ∷ []), answers_no_url answers)
-one_of_each meaning url (kept answers) = omega (arith, answers_no_url answers)
+one_of_each meaning url (unkept answers) =
+    let none = answers_no_url answers in
+    let cut : count_by is_of_url (losses_at (unkept answers)) ≡ count_by is_of_url (flat_map losses_by answers) + 1 = counted_append (flat_map losses_by answers) (loss.Unkept ∷ []) in
+    omega (arith, cut, none)
+one_of_each meaning url (kept answers) = let none = answers_no_url answers in omega (arith, none)
 
 -- ## Turns
 
@@ -125,8 +136,8 @@ turns_counted meaning [] = refl
 turns_counted meaning (t ∷ ts) =
     let rest = turns_counted meaning ts in
     let one = one_of_each meaning t.0.url t.1 in
-    let losses = counted_append (losses_at t.1) (losses_in ts) in
-    let found = length-append (found_at meaning t.0.url t.1) (found_in meaning ts) in
+    let losses : count_by is_of_url (losses_in (t ∷ ts)) ≡ count_by is_of_url (losses_at t.1) + count_by is_of_url (losses_in ts) = counted_append (losses_at t.1) (losses_in ts) in
+    let found : length (found_in meaning (t ∷ ts)) ≡ length (found_at meaning t.0.url t.1) + length (found_in meaning ts) = length-append (found_at meaning t.0.url t.1) (found_in meaning ts) in
     omega (arith, rest, one, losses, found)
 
 -- what became of a URL, as `Ran` says it
@@ -156,11 +167,12 @@ pages_right meaning ((e, kept answers) ∷ ts) =
 
 -- a turn loses no more than the links that are allowed, and the URL if it has no result
 turn_few : (workers : ℕ) (allowed : List ℕ → Bool) (meaning : List ℕ → Page) (b c : BookId) (e : Entry) (outcome : Outcome) → IsTurn workers allowed meaning b c e outcome
-    → length (losses_at outcome) ≤ most_lost allowed meaning ((e, page_at meaning e.url outcome) ∷ [])
+    → length (losses_at outcome) ≤ most_lost_at allowed (links_of (meaning e.url)) (page_at meaning e.url outcome)
 turn_few workers allowed meaning b c e failed turn = omega arith
 turn_few workers allowed meaning b c e (unkept answers) turn =
     let few = answers_few workers allowed turn.before turn.after (links_of (meaning e.url)) answers turn.links in
-    rw length-append (omega (arith, few))
+    let cut : length (losses_at (unkept answers)) ≡ length (flat_map losses_by answers) + 1 = length-append (flat_map losses_by answers) (loss.Unkept ∷ []) in
+    omega (arith, few, cut)
 turn_few workers allowed meaning b c e (kept answers) turn = answers_few workers allowed turn.before turn.after (links_of (meaning e.url)) answers turn.links
 
 turns_few : (workers : ℕ) (allowed : List ℕ → Bool) (meaning : List ℕ → Page) (b c : BookId) (turns : List Turn) → AreTurns workers allowed meaning b c turns
@@ -169,12 +181,15 @@ turns_few workers allowed meaning b c [] are = omega arith
 turns_few workers allowed meaning b c (t ∷ ts) are =
     let one = turn_few workers allowed meaning b are.0 t.0 t.1 are.1 in
     let rest = turns_few workers allowed meaning are.0 c ts are.2 in
-    let losses = length-append (losses_at t.1) (losses_in ts) in
-    rw (sum_by-cons (λ (f : Fate). most_lost_at allowed (links_of (meaning f.0.url)) f.1) (t.0, page_at meaning t.0.url t.1) (fates_in meaning ts)) (omega (arith, one, rest, losses))
+    let losses : length (losses_in (t ∷ ts)) ≡ length (losses_at t.1) + length (losses_in ts) = length-append (losses_at t.1) (losses_in ts) in
+    let most : most_lost allowed meaning (fates_in meaning (t ∷ ts)) ≡ most_lost_at allowed (links_of (meaning t.0.url)) (page_at meaning t.0.url t.1) + most_lost allowed meaning (fates_in meaning ts) =
+    sum_by-cons (λ (f : Fate). most_lost_at allowed (links_of (meaning f.0.url)) f.1) (t.0, page_at meaning t.0.url t.1) (fates_in meaning ts) in
+    rw most (omega (arith, one, rest, losses))
 
 turn_grows : (workers : ℕ) (allowed : List ℕ → Bool) (meaning : List ℕ → Page) (b c : BookId) (e : Entry) (outcome : Outcome) → IsTurn workers allowed meaning b c e outcome → Grows b c
 turn_grows workers allowed meaning b c e outcome turn =
-    rw (← turn.first, ← turn.last) (goes_on_same workers allowed turn.before turn.after (links_of (meaning e.url)) outcome turn.links).grows
+    let same = goes_on_same workers allowed turn.before turn.after (links_of (meaning e.url)) outcome turn.links in
+    rw (← turn.first, ← turn.last) same.grows
 
 turns_grow : (workers : ℕ) (allowed : List ℕ → Bool) (meaning : List ℕ → Page) (b c : BookId) (turns : List Turn) → AreTurns workers allowed meaning b c turns → Grows b c
 turns_grow workers allowed meaning b c [] are = grows_same b c are
@@ -186,15 +201,16 @@ turn_logged : (workers : ℕ) (allowed : List ℕ → Bool) (meaning : List ℕ 
     → AllLogged workers allowed c.log (links_of (meaning e.url))
 turn_logged workers allowed meaning b c e failed turn none = absurd (omega (arith, none))
 turn_logged workers allowed meaning b c e (unkept answers) turn none =
-    let both = length-append (flat_map losses_by answers) (loss.Unkept ∷ []) in absurd (omega (arith, none, both))
+    let cut : length (losses_at (unkept answers)) ≡ length (flat_map losses_by answers) + 1 = length-append (flat_map losses_by answers) (loss.Unkept ∷ []) in
+    absurd (omega (arith, none, cut))
 turn_logged workers allowed meaning b c e (kept answers) turn none =
-    rw ← turn.last (answers_logged workers allowed turn.before turn.after (links_of (meaning e.url)) answers turn.links none)
+    rw (← turn.last) (answers_logged workers allowed turn.before turn.after (links_of (meaning e.url)) answers turn.links none)
 
 turns_logged : (workers : ℕ) (allowed : List ℕ → Bool) (meaning : List ℕ → Page) (b c : BookId) (turns : List Turn) → AreTurns workers allowed meaning b c turns → length (losses_in turns) ≡ 0
     → All (λ r. AllLogged workers allowed c.log (links_of r.page)) (found_in meaning turns)
 turns_logged workers allowed meaning b c [] are none = All-nil (λ (r : PageResult). AllLogged workers allowed c.log (links_of r.page))
 turns_logged workers allowed meaning b c (t ∷ ts) are none =
-    let both = length-append (losses_at t.1) (losses_in ts) in
+    let both : length (losses_in (t ∷ ts)) ≡ length (losses_at t.1) + length (losses_in ts) = length-append (losses_at t.1) (losses_in ts) in
     let logged = turn_logged workers allowed meaning b are.0 t.0 t.1 are.1 (omega (arith, both, none)) in
     let grown = all_logged_on workers allowed are.0 c (links_of (meaning t.0.url)) (turns_grow workers allowed meaning are.0 c ts are.2) logged in
     All-append (λ (r : PageResult). AllLogged workers allowed c.log (links_of r.page)) (found_at meaning t.0.url t.1) (found_in meaning ts)
@@ -218,7 +234,7 @@ ran_by workers allowed meaning start now results offers lost sum so_far =
     let urls = turns_counted meaning told.turns in
     let some = count_by-le-length is_of_url (losses_in told.turns) in
     let found : length results ≡ length (found_in meaning told.turns) = ap (λ (rs : List PageResult). length rs) told.found in
-    let taken = ap (λ (es : List Entry). length es) told.taken in
+    let taken : length now.taken ≡ length (start.taken ++ entries_in told.turns) = ap (λ (es : List Entry). length es) told.taken in
     let few = turns_few workers allowed meaning start.book now.book told.turns told.books in
     let fates : length (fates_in meaning told.turns) ≡ length told.turns = length-map told.turns (λ (t : Turn). (t.0, page_at meaning t.0.url t.1)) in (
       record {
@@ -236,10 +252,11 @@ ran_by workers allowed meaning start now results offers lost sum so_far =
       record {
         all = sum;
         urls = λ less.
-            let counted = urls_counted (losses_in told.turns) no_losses (rw ← told.why less) in
-            let failed = ap (λ (l : Losses). l.failed) told.why in
-            let unkept = ap (λ (l : Losses). l.unkept) told.why in
-            let entries = length-map told.turns (λ (t : Turn). t.0) in
+            let all = with_losses (losses_in told.turns) no_losses in
+            let counted : all.failed + all.unkept ≡ 0 + 0 + count_by is_of_url (losses_in told.turns) = urls_counted (losses_in told.turns) no_losses (subst (λ (l : Losses). l.failed + l.unkept < 2 ^ 64 - 1) told.why less) in
+            let failed : offers.losses.failed ≡ all.failed = ap (λ (l : Losses). l.failed) told.why in
+            let unkept : offers.losses.unkept ≡ all.unkept = ap (λ (l : Losses). l.unkept) told.why in
+            let entries : length (entries_in told.turns) ≡ length told.turns = length-map told.turns (λ (t : Turn). t.0) in
             let both = length-append start.taken (entries_in told.turns) in
             omega (arith, counted, failed, unkept, urls, found, taken, entries, both);
       },

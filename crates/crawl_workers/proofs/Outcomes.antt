@@ -9,17 +9,17 @@ use Rattle.crawl_queues.specs.declared.entry.Entry.{Entry}
 use Rattle.crawl_queues.specs.Entries.{MayFollow, KeepsRule}
 use Rattle.crawl_queues.specs.Books.{BookId}
 use Rattle.crawl_frontier.specs.Parts.{WorkerId, BusyId, worker}
-use Rattle.crawl_workers.specs.declared.losses.Loss.{Loss}
-use Rattle.crawl_workers.specs.declared.losses.Loss.TheVariants as loss
-use Rattle.crawl_workers.specs.declared.losses.Losses.{Losses}
-use Rattle.crawl_workers.specs.declared.offers.LinkOffers.{LinkOffers}
+use Rattle.link_offers.specs.declared.losses.Loss.{Loss}
+use Rattle.link_offers.specs.declared.losses.Loss.TheVariants as loss
+use Rattle.link_offers.specs.declared.losses.Losses.{Losses}
+use Rattle.link_offers.specs.declared.offers.LinkOffers.{LinkOffers}
 use Rattle.crawl_workers.specs.declared.output.WorkerOutput.{WorkerOutput}
-use Rattle.crawl_workers.specs.Losses.{no_losses, with_loss}
-use Rattle.crawl_workers.specs.Offers.{AllAnswered, LinkAnswers, losses_by, with_losses}
+use Rattle.link_offers.specs.Losses.{no_losses, with_loss}
+use Rattle.link_offers.specs.Offers.{AllAnswered, LinkAnswers, losses_by, with_losses}
 use Rattle.crawl_workers.specs.Outcomes.{Outcome, GoesOn, Turn, IsTurn, AreTurns, losses_at, found_at, entries_in, failed, unkept, kept}
-use Rattle.crawl_workers.specs.Recent.{Knows}
+use Rattle.link_offers.specs.Recent.{Knows}
 use Rattle.crawl_workers.specs.Turn.{Progress, UrlOutcome, HasRoomOrNot}
-use Rattle.crawl_workers.proofs.Offers.{SameBusy, busy_same, answers_same, losses_on}
+use Rattle.link_offers.proofs.LinkAnswers.{SameBusy, busy_same, answers_same, losses_on}
 
 -- ## A URL
 
@@ -134,6 +134,6 @@ progress_more workers allowed meaning start w v b b' old new takes may queue tak
         why = losses_on (flat_map (λ (x : Turn). losses_at x.1) told.turns) (losses_at url.outcome) no_losses old.offers.losses new.offers.losses told.why url.losses
             ∙ ap (λ (xs : List Loss). with_losses xs no_losses) (flat_map_more (λ (x : Turn). losses_at x.1) [] told.turns t);
       };
-      rule = rw entries (rule_more workers start.queue start.taken (entries_in told.turns) b.message.entry so_far.rule (rw (← so_far.queue, ← told.taken) may));
+      rule = subst (λ (es : List Entry). KeepsRule workers start.queue start.taken es) (sym entries) (rule_more workers start.queue start.taken (entries_in told.turns) b.message.entry so_far.rule (rw (← so_far.queue, ← told.taken) may));
       known = subst (λ (x : BookId). Knows workers x.log new.offers.recent) (sym book) url.known;
     }

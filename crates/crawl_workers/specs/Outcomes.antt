@@ -7,11 +7,11 @@ use Rattle.crawl_pages.specs.Pages.{links_of}
 use Rattle.crawl_queues.specs.declared.entry.Entry.{Entry}
 use Rattle.crawl_queues.specs.Books.{BookId}
 use Rattle.crawl_frontier.specs.Parts.{WorkerId, BusyId}
-use Rattle.crawl_workers.specs.declared.losses.Loss.{Loss}
-use Rattle.crawl_workers.specs.declared.losses.Loss.TheVariants as loss
-use Rattle.crawl_workers.specs.declared.losses.Losses.{Losses}
-use Rattle.crawl_workers.specs.Losses.{no_losses}
-use Rattle.crawl_workers.specs.Offers.{Answer, AllAnswered, losses_by, with_losses}
+use Rattle.link_offers.specs.declared.losses.Loss.{Loss}
+use Rattle.link_offers.specs.declared.losses.Loss.TheVariants as loss
+use Rattle.link_offers.specs.declared.losses.Losses.{Losses}
+use Rattle.link_offers.specs.Losses.{no_losses}
+use Rattle.link_offers.specs.Offers.{Answer, AllAnswered, losses_by, with_losses}
 
 -- what became of a URL that was taken: its fetch failed, or the links of its page had these answers, and its result found no room
 -- or was kept

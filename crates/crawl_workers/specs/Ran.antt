@@ -7,9 +7,9 @@ use Rattle.crawl_pages.specs.Pages.{links_of}
 use Rattle.crawl_queues.specs.declared.entry.Entry.{Entry}
 use Rattle.crawl_queues.specs.Entries.{KeepsRule}
 use Rattle.crawl_frontier.specs.Parts.{WorkerId}
-use Rattle.crawl_workers.specs.Logs.{AllLogged, Grows}
-use Rattle.crawl_workers.specs.Losses.{sum_of}
-use Rattle.crawl_workers.specs.declared.losses.Losses.{Losses}
+use Rattle.link_offers.specs.Logs.{AllLogged, Grows}
+use Rattle.link_offers.specs.Losses.{sum_of}
+use Rattle.link_offers.specs.declared.losses.Losses.{Losses}
 
 -- what became of a URL that was taken: its page, if there is a result of it
 abbrev pub Fate : Type 0

@@ -5,15 +5,15 @@ use Rattle.crawl_pages.specs.declared.page.PageResult.{PageResult}
 use Rattle.crawl_pages.specs.Pages.{links_of}
 use Rattle.crawl_queues.specs.Entries.{KeepsRule}
 use Rattle.crawl_frontier.specs.Parts.{WorkerId, BusyId}
-use Rattle.crawl_workers.specs.declared.losses.Loss.TheVariants as loss
-use Rattle.crawl_workers.specs.declared.offers.LinkOffers.{LinkOffers}
+use Rattle.link_offers.specs.declared.losses.Loss.TheVariants as loss
+use Rattle.link_offers.specs.declared.offers.LinkOffers.{LinkOffers}
 use Rattle.crawl_workers.specs.declared.output.WorkerOutput.{WorkerOutput}
 use Rattle.crawl_workers.specs.declared.turn.Step.{Step}
 use Rattle.crawl_workers.specs.declared.turn.Step.TheVariants.{Worked, Waits, Closes}
-use Rattle.crawl_workers.specs.Losses.{with_loss}
-use Rattle.crawl_workers.specs.Offers.{with_losses}
+use Rattle.link_offers.specs.Losses.{with_loss}
+use Rattle.link_offers.specs.Offers.{with_losses}
 use Rattle.crawl_workers.specs.Outcomes.{Outcome, GoesOn, losses_at, found_at, entries_in, IsTold}
-use Rattle.crawl_workers.specs.Recent.{Knows}
+use Rattle.link_offers.specs.Recent.{Knows}
 
 -- the worker after a turn
 abbrev pub worker_in : {K : _} → Step K → WorkerId

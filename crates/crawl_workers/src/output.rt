@@ -1,17 +1,16 @@
 //! What a worker has found so far.
 ghost use Rattle.std.specs.Prelude.{◌≡◌, [], ℕ, List};
 ghost use Rattle.crawl_queues.specs.declared.book.Logged.{Logged};
-ghost use Rattle.crawl_workers.specs.Losses.{no_losses, sum_of};
-ghost use Rattle.crawl_workers.specs.Recent.{Knows};
+ghost use Rattle.link_offers.specs.Losses.{no_losses, sum_of};
+ghost use Rattle.link_offers.specs.Recent.{Knows};
 ghost use Rattle.crawl_workers.specs.Turn.{HasRoomOrNot};
 
 use crate::ahead::LookAhead;
-use crate::losses::Loss;
-use crate::offers::LinkOffers;
 use crate::worker_end::WorkerEnd;
 use crawl_frontier::{ClosedWorker, Name};
 use crawl_keys::CanonUrl;
 use crawl_pages::{Page, PageResult};
+use link_offers::{LinkOffers, Loss};
 use std::alloc::Global;
 
 /// The results so far, the offers of links with what was lost, and how far the worker has looked ahead.
@@ -53,12 +52,16 @@ impl WorkerOutput {
         ensures losses { result.losses ≡ self.offers.losses }
         ensures lost { result.lost ≡ sum_of result.losses }
     {
-        let losses = self.offers.losses;
+        let WorkerOutput {
+            results,
+            offers,
+            ..
+        } = self;
         WorkerEnd {
             closed,
-            results: self.results,
-            lost: losses.total(),
-            losses,
+            results,
+            lost: offers.losses.total(),
+            losses: offers.losses,
         }
     }
 }

@@ -1,13 +1,13 @@
 //! One turn of a worker: it takes a URL, fetches it, offers its links, and is done.
 ghost use Rattle.crawl_keys.specs.HostFilter.{allows};
 ghost use Rattle.crawl_frontier.specs.Parts.{WorkerId};
-ghost use Rattle.crawl_workers.specs.Recent.{Knows};
+ghost use Rattle.link_offers.specs.Recent.{Knows};
 ghost use Rattle.crawl_workers.specs.Turn.{Goes, UrlOutcome, worker_in};
 
-use crate::losses::Loss;
 use crate::output::WorkerOutput;
 use crawl_frontier::{BusyWorker, ClosedWorker, Frontier, Name, Turn, Worker};
 use crawl_pages::SessionFetch;
+use link_offers::Loss;
 use std::sync::Wait;
 
 /// What a worker did in a turn.

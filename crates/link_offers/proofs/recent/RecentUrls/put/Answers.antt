@@ -1,9 +1,9 @@
 use Rattle.std.proofs.Common.{IfSome, sym, subst, ◌∙◌, arith}
-use Rattle.crawl_workers.specs.declared.recent.Slot.{Slot}
-use Rattle.crawl_workers.specs.Logs.{HasLine}
-use Rattle.crawl_workers.specs.Recent.{url_in}
-use Rattle.crawl_workers.proofs.Slots.{moved_on}
-use Rattle.crawl_workers.proofs.recent.RecentUrls.put.Goals as goal
+use Rattle.link_offers.specs.declared.recent.Slot.{Slot}
+use Rattle.link_offers.specs.Logs.{HasLine}
+use Rattle.link_offers.specs.Recent.{url_in}
+use Rattle.link_offers.proofs.Slots.{moved_on}
+use Rattle.link_offers.proofs.recent.RecentUrls.put.Goals as goal
 
 pub returns-then-is_some : goal.returns-then-is_some
 returns-then-is_some c = λ workers log known line.

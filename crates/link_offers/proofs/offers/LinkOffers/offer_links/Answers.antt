@@ -1,9 +1,9 @@
 use Rattle.std.proofs.Common.{List, ℕ, [], ◌∷◌, refl, take, subst, ◌∙◌, slice_index_or}
 use Rattle.std.proofs.lemmas.List.{take_more}
 use Rattle.crawl_keys.specs.HostFilter.{allows}
-use Rattle.crawl_workers.specs.Offers.{LinkAnswers}
-use Rattle.crawl_workers.proofs.Offers.{link_answers_on, unchanged_at}
-use Rattle.crawl_workers.proofs.offers.LinkOffers.offer_links.Goals as goal
+use Rattle.link_offers.specs.Offers.{LinkAnswers}
+use Rattle.link_offers.proofs.LinkAnswers.{link_answers_on, unchanged_at}
+use Rattle.link_offers.proofs.offers.LinkOffers.offer_links.Goals as goal
 
 pub loop-index-init : goal.loop-index-init
 loop-index-init g c = (refl, λ known. record { answers = []; each = refl; losses = refl; known = known })

@@ -2,9 +2,9 @@
 use Rattle.std.proofs.Common.{◌≡◌, ◌<◌, ℕ, List, length, IfSome, sym, subst, slice_set, slice_index_or}
 use Rattle.std.proofs.lemmas.List.Elements.{All-set}
 use Rattle.crawl_queues.specs.declared.book.Logged.{Logged}
-use Rattle.crawl_workers.specs.declared.recent.Slot.{Slot}
-use Rattle.crawl_workers.specs.Logs.{HasLine}
-use Rattle.crawl_workers.specs.Recent.{AllKnown, url_in}
+use Rattle.link_offers.specs.declared.recent.Slot.{Slot}
+use Rattle.link_offers.specs.Logs.{HasLine}
+use Rattle.link_offers.specs.Recent.{AllKnown, url_in}
 
 -- a slot whose URL has a line comes to a place, and what was there to another
 pub moved_on : (workers : ℕ) (log : List Logged) (slots : List Slot) (i j : ℕ) (first second d : Slot) → AllKnown workers log slots → IfSome (url_in first) (HasLine workers log)

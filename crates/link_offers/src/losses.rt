@@ -1,7 +1,7 @@
 //! What a worker lost, by cause.
 ghost use Rattle.std.specs.Prelude.{◌≡◌, ◌≢◌, Some, true};
 ghost use Rattle.crawl_frontier.specs.declared.error.OfferError.TheVariants as error;
-ghost use Rattle.crawl_workers.specs.Losses.{all_losses, both_losses, loss_of, no_losses, sum_of, with_loss, with_refusal};
+ghost use Rattle.link_offers.specs.Losses.{all_losses, both_losses, loss_of, no_losses, sum_of, with_loss, with_refusal};
 
 use crawl_frontier::OfferError;
 
@@ -24,12 +24,18 @@ pub struct Losses {
 
 /// A cause of a loss.
 #[derive(Clone, Copy)]
-pub(crate) enum Loss {
+pub enum Loss {
+    /// The fetch of a URL failed.
     Failed,
+    /// A result found no memory.
     Unkept,
+    /// The offer of a link found as many pending URLs as the frontier allows.
     Full,
+    /// A link is too many hops away.
     TooFar,
+    /// The offer of a link found another sender with this worker's id.
     Crossed,
+    /// The offer of a link found no memory.
     NoMemory,
 }
 
@@ -98,7 +104,7 @@ impl Losses {
     }
 
     /// Counts one loss.
-    pub(crate) fn count(&mut self, loss: Loss)
+    pub fn count(&mut self, loss: Loss)
         ensures { self.new ≡ with_loss loss self.old }
     {
         match loss {

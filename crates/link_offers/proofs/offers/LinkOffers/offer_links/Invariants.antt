@@ -1,8 +1,8 @@
 use Rattle.std.proofs.Common.{◌≡◌, take}
 use Rattle.crawl_keys.specs.HostFilter.{allows}
-use Rattle.crawl_workers.specs.Recent.{Knows}
-use Rattle.crawl_workers.specs.Offers.{LinkAnswers}
-use Rattle.crawl_workers.proofs.offers.LinkOffers.offer_links.Given as goal
+use Rattle.link_offers.specs.Recent.{Knows}
+use Rattle.link_offers.specs.Offers.{LinkAnswers}
+use Rattle.link_offers.proofs.offers.LinkOffers.offer_links.Given as goal
 
 abbrev pub invariant-loop-index : goal.invariant-loop-index
 invariant-loop-index g l =

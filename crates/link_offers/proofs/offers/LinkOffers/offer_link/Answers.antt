@@ -1,10 +1,10 @@
 use Rattle.std.proofs.Common.{◌∷◌, [], None, Ok, Err, refl, sym, subst}
 use Rattle.crawl_keys.specs.HostFilter.{allows}
-use Rattle.crawl_workers.specs.Logs.{HasLine}
-use Rattle.crawl_workers.specs.Offers.{IsOffer}
-use Rattle.crawl_workers.proofs.Logs.{offer_line}
-use Rattle.crawl_workers.proofs.Offers.{link_offered, known_after, lost_as, lost_none}
-use Rattle.crawl_workers.proofs.offers.LinkOffers.offer_link.Goals as goal
+use Rattle.link_offers.specs.Logs.{HasLine}
+use Rattle.link_offers.specs.Offers.{IsOffer}
+use Rattle.link_offers.proofs.Logs.{offer_line}
+use Rattle.link_offers.proofs.LinkAnswers.{link_offered, known_after, lost_as, lost_none}
+use Rattle.link_offers.proofs.offers.LinkOffers.offer_link.Goals as goal
 
 pub returns-then-has_marked-clause-offered : goal.returns-then-has_marked-clause-offered
 returns-then-has_marked-clause-offered g c = λ known. record {

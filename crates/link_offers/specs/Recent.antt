@@ -2,10 +2,10 @@
 use Rattle.std.specs.Prelude.{ℕ, List, Option, None, Some, IfSome}
 use Rattle.std.specs.List.{All}
 use Rattle.crawl_queues.specs.declared.book.Logged.{Logged}
-use Rattle.crawl_workers.specs.declared.recent.RecentUrls.{RecentUrls}
-use Rattle.crawl_workers.specs.declared.recent.Slot.{Slot}
-use Rattle.crawl_workers.specs.declared.recent.Slot.TheVariants.{Vacant, Taken}
-use Rattle.crawl_workers.specs.Logs.{HasLine}
+use Rattle.link_offers.specs.declared.recent.RecentUrls.{RecentUrls}
+use Rattle.link_offers.specs.declared.recent.Slot.{Slot}
+use Rattle.link_offers.specs.declared.recent.Slot.TheVariants.{Vacant, Taken}
+use Rattle.link_offers.specs.Logs.{HasLine}
 
 -- the URL that stands in a slot
 abbrev pub url_in : Slot → Option (List ℕ)

@@ -12,9 +12,9 @@ use Rattle.crawl_frontier.specs.declared.error.OfferError.TheVariants as refused
 use Rattle.crawl_queues.specs.Entries.{entry}
 use Rattle.crawl_queues.specs.Books.{BookId, book_accepting, book_seeing}
 use Rattle.crawl_frontier.specs.Offers.{OfferBooks}
-use Rattle.crawl_workers.specs.declared.recent.RecentUrls.{RecentUrls}
-use Rattle.crawl_workers.specs.Logs.{line_of, HasLine, AllLogged, Grows}
-use Rattle.crawl_workers.specs.Recent.{Knows, url_in}
+use Rattle.link_offers.specs.declared.recent.RecentUrls.{RecentUrls}
+use Rattle.link_offers.specs.Logs.{line_of, HasLine, AllLogged, Grows}
+use Rattle.link_offers.specs.Recent.{Knows, url_in}
 
 pub grows_same : (b b' : BookId) → b' ≡ b → Grows b b'
 grows_same b b' same = record { more = []; id = ap (λ (x : BookId). x.id) same; log = ap (λ (x : BookId). x.log) same ∙ sym (append-nil b.log) }

@@ -1,9 +1,9 @@
 use Rattle.std.proofs.Common.{IfSome, Some}
 use Rattle.std.proofs.lemmas.List.Elements.{All-pop}
-use Rattle.crawl_workers.specs.declared.recent.Slot.{Slot}
-use Rattle.crawl_workers.specs.Logs.{HasLine}
-use Rattle.crawl_workers.specs.Recent.{url_in}
-use Rattle.crawl_workers.proofs.recent.RecentUrls.grow.Goals as goal
+use Rattle.link_offers.specs.declared.recent.Slot.{Slot}
+use Rattle.link_offers.specs.Logs.{HasLine}
+use Rattle.link_offers.specs.Recent.{url_in}
+use Rattle.link_offers.proofs.recent.RecentUrls.grow.Goals as goal
 
 pub loop-slot-preserved : goal.loop-slot-preserved
 loop-slot-preserved c = λ workers log was.

@@ -1,8 +1,8 @@
 //! The URLs that a worker offered recently: each has a line in the worker's log, and is not offered again.
 ghost use Rattle.std.specs.Prelude.{◌≡◌, ◌<◌, ◌≤◌, ◌+◌, true, ℕ, List, length, IfOk, IfSome, Some};
 ghost use Rattle.crawl_queues.specs.declared.book.Logged.{Logged};
-ghost use Rattle.crawl_workers.specs.Logs.{HasLine};
-ghost use Rattle.crawl_workers.specs.Recent.{AllKnown, Knows, url_in};
+ghost use Rattle.link_offers.specs.Logs.{HasLine};
+ghost use Rattle.link_offers.specs.Recent.{AllKnown, Knows, url_in};
 
 use crawl_keys::CanonUrl;
 use std::alloc::{AllocError, Global};

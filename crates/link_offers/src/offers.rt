@@ -3,9 +3,9 @@ ghost use Rattle.std.specs.Prelude.{◌≡◌, [], ◌∷◌, ℕ, List};
 ghost use Rattle.crawl_keys.specs.HostFilter.{allows};
 ghost use Rattle.crawl_pages.specs.Pages.{links_of};
 ghost use Rattle.crawl_queues.specs.declared.book.Logged.{Logged};
-ghost use Rattle.crawl_workers.specs.Losses.{no_losses};
-ghost use Rattle.crawl_workers.specs.Offers.{LinkAnswers};
-ghost use Rattle.crawl_workers.specs.Recent.{Knows};
+ghost use Rattle.link_offers.specs.Losses.{no_losses};
+ghost use Rattle.link_offers.specs.Offers.{LinkAnswers};
+ghost use Rattle.link_offers.specs.Recent.{Knows};
 
 use crate::losses::{Losses, loss_of};
 use crate::recent::{READ_AT_ONCE, RecentUrls};
@@ -17,7 +17,7 @@ use std::sync::Wait;
 
 /// The allocator of a worker's offers, the URLs that it offered recently, and what it has lost so far.
 #[derive(Drop)]
-pub(crate) struct LinkOffers {
+pub struct LinkOffers {
     pub alloc: Global,
     pub recent: RecentUrls,
     pub losses: Losses,

@@ -10,15 +10,15 @@ use Rattle.crawl_frontier.specs.declared.error.OfferError.{OfferError}
 use Rattle.crawl_frontier.specs.declared.error.OfferError.TheVariants as refused
 use Rattle.crawl_frontier.specs.Offers.{IsFiltered}
 use Rattle.crawl_frontier.specs.Parts.{WorkerId, BusyId, worker}
-use Rattle.crawl_workers.specs.declared.losses.Loss.{Loss}
-use Rattle.crawl_workers.specs.declared.losses.Losses.{Losses}
-use Rattle.crawl_workers.specs.declared.offers.LinkOffers.{LinkOffers}
-use Rattle.crawl_workers.specs.declared.recent.RecentUrls.{RecentUrls}
-use Rattle.crawl_workers.specs.Logs.{HasLine, AllLogged, Grows}
-use Rattle.crawl_workers.specs.Losses.{loss_of, with_loss}
-use Rattle.crawl_workers.specs.Offers.{Answer, IsOffer, Answers, AllAnswered, LinkAnswers, listed, losses_by, with_losses}
-use Rattle.crawl_workers.specs.Recent.{Knows}
-use Rattle.crawl_workers.proofs.Logs.{grows_same, grows_on, offer_grows, offer_line, has_line_on, knows_on}
+use Rattle.link_offers.specs.declared.losses.Loss.{Loss}
+use Rattle.link_offers.specs.declared.losses.Losses.{Losses}
+use Rattle.link_offers.specs.declared.offers.LinkOffers.{LinkOffers}
+use Rattle.link_offers.specs.declared.recent.RecentUrls.{RecentUrls}
+use Rattle.link_offers.specs.Logs.{HasLine, AllLogged, Grows}
+use Rattle.link_offers.specs.Losses.{loss_of, with_loss}
+use Rattle.link_offers.specs.Offers.{Answer, IsOffer, Answers, AllAnswered, LinkAnswers, listed, losses_by, with_losses}
+use Rattle.link_offers.specs.Recent.{Knows}
+use Rattle.link_offers.proofs.Logs.{grows_same, grows_on, offer_grows, offer_line, has_line_on, knows_on}
 
 -- a list with the same element written once more
 pub unchanged_at : {X : Type 0} (xs : List X) (i : ℕ) (x y : X) → y ≡ slice_index_or xs i x → slice_set xs i y ≡ xs
@@ -144,7 +144,8 @@ answers_few workers allowed b b' (url ∷ urls) [] all = absurd all
 answers_few workers allowed b b' (url ∷ urls) (a ∷ answers) all =
     let one = answer_few workers allowed b all.0 url a all.1 in
     let rest = answers_few workers allowed all.0 b' urls answers all.2 in
-    rw (length-append, sum_by-cons (λ (u : List ℕ). cond (allowed u) 1 0) url urls) (omega (arith, one, rest))
+    let cut : length (flat_map losses_by (a ∷ answers)) ≡ length (losses_by a) + length (flat_map losses_by answers) = length-append (losses_by a) (flat_map losses_by answers) in
+    rw (sum_by-cons (λ (u : List ℕ). cond (allowed u) 1 0) url urls) (omega (arith, cut, one, rest))
 
 -- ## Lines of links
 

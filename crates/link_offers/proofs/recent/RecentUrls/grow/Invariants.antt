@@ -1,7 +1,7 @@
 use Rattle.std.proofs.Common.{ℕ, List, vec_len}
 use Rattle.crawl_queues.specs.declared.book.Logged.{Logged}
-use Rattle.crawl_workers.specs.Recent.{AllKnown, Knows}
-use Rattle.crawl_workers.proofs.recent.RecentUrls.grow.Given as goal
+use Rattle.link_offers.specs.Recent.{AllKnown, Knows}
+use Rattle.link_offers.proofs.recent.RecentUrls.grow.Given as goal
 
 abbrev pub invariant-loop-slot : goal.invariant-loop-slot
 invariant-loop-slot l = (workers : ℕ) (log : List Logged) → AllKnown workers log l.fn.self.slots.items → AllKnown workers log l.old.items × Knows workers log l.self

@@ -2,9 +2,9 @@
 use Rattle.std.specs.Prelude.{ℕ, ◌+◌, ◌-◌, ◌^◌, min, Option, Some, None}
 use Rattle.crawl_frontier.specs.declared.error.OfferError.{OfferError}
 use Rattle.crawl_frontier.specs.declared.error.OfferError.TheVariants as refused
-use Rattle.crawl_workers.specs.declared.losses.Loss.{Loss}
-use Rattle.crawl_workers.specs.declared.losses.Loss.TheVariants as loss
-use Rattle.crawl_workers.specs.declared.losses.Losses.{Losses}
+use Rattle.link_offers.specs.declared.losses.Loss.{Loss}
+use Rattle.link_offers.specs.declared.losses.Loss.TheVariants as loss
+use Rattle.link_offers.specs.declared.losses.Losses.{Losses}
 
 abbrev pub no_losses : Losses
 no_losses = record { failed = 0; unkept = 0; full = 0; too_far = 0; crossed = 0; no_memory = 0 }

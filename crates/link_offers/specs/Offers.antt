@@ -5,12 +5,12 @@ use Rattle.crawl_frontier.specs.declared.offer.Offer.{Offer}
 use Rattle.crawl_frontier.specs.declared.error.OfferError.{OfferError}
 use Rattle.crawl_frontier.specs.Offers.{OfferBooks, OfferWordsBeside, IsFiltered}
 use Rattle.crawl_frontier.specs.Parts.{BusyId, worker}
-use Rattle.crawl_workers.specs.declared.losses.Loss.{Loss}
-use Rattle.crawl_workers.specs.declared.losses.Losses.{Losses}
-use Rattle.crawl_workers.specs.declared.offers.LinkOffers.{LinkOffers}
-use Rattle.crawl_workers.specs.Logs.{HasLine}
-use Rattle.crawl_workers.specs.Losses.{loss_of, with_loss}
-use Rattle.crawl_workers.specs.Recent.{Knows}
+use Rattle.link_offers.specs.declared.losses.Loss.{Loss}
+use Rattle.link_offers.specs.declared.losses.Losses.{Losses}
+use Rattle.link_offers.specs.declared.offers.LinkOffers.{LinkOffers}
+use Rattle.link_offers.specs.Logs.{HasLine}
+use Rattle.link_offers.specs.Losses.{loss_of, with_loss}
+use Rattle.link_offers.specs.Recent.{Knows}
 
 -- what became of a link: the worker remembers it and does not offer it, or its offer had this answer
 abbrev pub Answer : Type 0
