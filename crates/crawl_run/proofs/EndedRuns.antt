@@ -22,11 +22,11 @@ use Rattle.crawl_queues.specs.declared.entry.Entry.{Entry}
 use Rattle.crawl_gate.specs.Seat.{GateId, SeatId}
 use Rattle.crawl_pages.specs.declared.page.Page.{Page}
 use Rattle.crawl_pages.specs.declared.page.PageResult.{PageResult}
-use Rattle.crawl_workers.specs.Logs.{AllLogged}
-use Rattle.crawl_workers.specs.Losses.{all_losses, both_losses, sum, with_refusal}
+use Rattle.link_offers.specs.Logs.{AllLogged}
+use Rattle.link_offers.specs.Losses.{all_losses, both_losses, sum, with_refusal}
 use Rattle.crawl_workers.specs.Ran.{Ran}
 use Rattle.crawl_workers.specs.Runs.{AllRan}
-use Rattle.crawl_workers.specs.declared.losses.Losses.{Losses}
+use Rattle.link_offers.specs.declared.losses.Losses.{Losses}
 use Rattle.crawl_workers.specs.declared.worker_end.WorkerEnd.{WorkerEnd}
 use Rattle.crawl_run.specs.Crawls.{IsUncertified, losses_at, of_cert}
 use Rattle.crawl_run.specs.Losses.{IsLost, losses_with}

@@ -21,9 +21,9 @@ use Rattle.crawl_frontier.specs.declared.offer.Offer.{Offer}
 use Rattle.crawl_gate.specs.Seat.{GateId}
 use Rattle.crawl_pages.specs.declared.page.Page.{Page}
 use Rattle.crawl_pages.specs.declared.page.PageResult.{PageResult}
-use Rattle.crawl_workers.specs.Losses.{both_losses, no_losses, with_refusal}
+use Rattle.link_offers.specs.Losses.{both_losses, no_losses, with_refusal}
 use Rattle.crawl_workers.specs.Runs.{AllRan}
-use Rattle.crawl_workers.specs.declared.losses.Losses.{Losses}
+use Rattle.link_offers.specs.declared.losses.Losses.{Losses}
 use Rattle.crawl_workers.specs.declared.worker_end.WorkerEnd.{WorkerEnd}
 use Rattle.crawl_run.specs.Crawls.{losses_at, of_cert}
 use Rattle.crawl_run.specs.JudgedRuns.{AllOffered, AreOffered, CountsLosses, IsRun, IsSeedOffer}

@@ -19,7 +19,7 @@ use Rattle.crawl_pages.specs.Pages.{links_of}
 use Rattle.crawl_pages.specs.declared.page.Page.{Page}
 use Rattle.crawl_pages.specs.declared.page.PageResult.{PageResult}
 use Rattle.crawl_workers.proofs.Lossless.{all_taken_found, logged_accepted, links_accepted}
-use Rattle.crawl_workers.specs.Logs.{HasLine, AllLogged}
+use Rattle.link_offers.specs.Logs.{HasLine, AllLogged}
 use Rattle.crawl_workers.specs.Lossless.{IsAccepted, AllAccepted}
 use Rattle.crawl_run.specs.LosslessRuns.{Share, IsWithoutLoss}
 

@@ -18,10 +18,10 @@ use Rattle.crawl_gate.specs.GateError.{IsMaximum}
 use Rattle.crawl_keys.specs.Assignment.{subqueue_of}
 use Rattle.crawl_pages.specs.declared.page.Page.{Page}
 use Rattle.crawl_pages.specs.declared.page.PageResult.{PageResult}
-use Rattle.crawl_workers.specs.Losses.{no_losses}
+use Rattle.link_offers.specs.Losses.{no_losses}
 use Rattle.crawl_workers.specs.declared.error.RunError.{RunError}
 use Rattle.crawl_workers.specs.declared.error.RunError.TheVariants as run
-use Rattle.crawl_workers.specs.declared.losses.Losses.{Losses}
+use Rattle.link_offers.specs.declared.losses.Losses.{Losses}
 use Rattle.crawl_workers.specs.declared.worker_end.WorkerEnd.{WorkerEnd}
 use Rattle.crawl_run.specs.declared.settings.Mode.{Mode}
 use Rattle.crawl_run.specs.declared.settings.Mode.TheVariants.{Threads}

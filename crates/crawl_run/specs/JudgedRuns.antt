@@ -16,9 +16,9 @@ use Rattle.crawl_frontier.specs.declared.offer.Offer.{Offer}
 use Rattle.crawl_gate.specs.Seat.{GateId}
 use Rattle.crawl_pages.specs.declared.page.Page.{Page}
 use Rattle.crawl_pages.specs.declared.page.PageResult.{PageResult}
-use Rattle.crawl_workers.specs.Losses.{no_losses}
+use Rattle.link_offers.specs.Losses.{no_losses}
 use Rattle.crawl_workers.specs.Runs.{AllRan}
-use Rattle.crawl_workers.specs.declared.losses.Losses.{Losses}
+use Rattle.link_offers.specs.declared.losses.Losses.{Losses}
 use Rattle.crawl_workers.specs.declared.worker_end.WorkerEnd.{WorkerEnd}
 use Rattle.crawl_run.specs.Losses.{lost_seed, together}
 use Rattle.crawl_run.specs.LosslessRuns.{all_closed, all_found, all_lost}

@@ -4,7 +4,7 @@ use Rattle.crawl_frontier.specs.Parts.{WorkerId}
 use Rattle.crawl_pages.specs.declared.page.Page.{Page}
 use Rattle.crawl_pages.specs.declared.page.PageResult.{PageResult}
 use Rattle.crawl_workers.specs.Ran.{Ran}
-use Rattle.crawl_workers.specs.declared.losses.Losses.{Losses}
+use Rattle.link_offers.specs.declared.losses.Losses.{Losses}
 use Rattle.crawl_workers.specs.declared.worker_end.WorkerEnd.{WorkerEnd}
 
 -- what one worker did: how it began, how it ended, and what it found

@@ -5,7 +5,7 @@ ghost use Rattle.crawl_certificate.specs.Certificate.{ArePages, IsCrawl, Nothing
 ghost use Rattle.crawl_keys.specs.HostFilter.{allows};
 ghost use Rattle.crawl_pages.specs.declared.page.Page.{Page};
 ghost use Rattle.crawl_run.specs.Crawls.{AreCounts, ComesIn, IsJudgedAt, IsOfRun};
-ghost use Rattle.crawl_workers.specs.Losses.{all_losses};
+ghost use Rattle.link_offers.specs.Losses.{all_losses};
 ghost use Rattle.crawl_run.specs.JudgedRuns.{CountsLosses, IsRun};
 ghost use Rattle.crawl_run.specs.Losses.{IsLost};
 ghost use Rattle.crawl_run.specs.declared.settings.Mode.{Mode};

@@ -10,8 +10,8 @@ ghost use Rattle.crawl_frontier.specs.Parts.{SenderId};
 ghost use Rattle.crawl_queues.specs.declared.entry.Entry.{Entry};
 ghost use Rattle.crawl_pages.specs.declared.page.Page.{Page};
 ghost use Rattle.crawl_pages.specs.declared.page.PageResult.{PageResult};
-ghost use Rattle.crawl_workers.specs.Logs.{AllLogged};
-ghost use Rattle.crawl_workers.specs.declared.losses.Losses.{Losses};
+ghost use Rattle.link_offers.specs.Logs.{AllLogged};
+ghost use Rattle.link_offers.specs.declared.losses.Losses.{Losses};
 ghost use Rattle.crawl_run.specs.JudgedRuns.{IsRun};
 ghost use Rattle.crawl_run.specs.LosslessRuns.{Share, IsWithoutLoss};
 

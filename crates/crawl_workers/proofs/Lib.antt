@@ -1,6 +1,4 @@
+pub mod Ends
 pub mod Lossless
 pub mod Outcomes
-pub mod Running
-pub mod Slots
-pub mod Tallies
 pub mod Turning

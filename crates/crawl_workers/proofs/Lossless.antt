@@ -18,7 +18,7 @@ use Rattle.crawl_queues.specs.Entries.{has_url, entries_of}
 use Rattle.crawl_queues.specs.Books.{BookId, sent_to}
 use Rattle.crawl_frontier.specs.Parts.{WorkerId, SenderId}
 use Rattle.crawl_frontier.specs.Accounts.{At, IsPart, Agrees, Accounts}
-use Rattle.crawl_workers.specs.Logs.{line_of, HasLine, AllLogged}
+use Rattle.link_offers.specs.Logs.{line_of, HasLine, AllLogged}
 use Rattle.crawl_workers.specs.Ran.{Fate, results_of, taken_in, Ran}
 use Rattle.crawl_workers.specs.Lossless.{result_urls, entry_urls, IsAccepted, AllAccepted}
 

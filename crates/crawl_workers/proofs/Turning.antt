@@ -1,4 +1,4 @@
--- Workers in turn.
+-- Workers and their ends, in order, and workers in turn.
 use Rattle.std.proofs.Common.{◌≡◌, ℕ, zero, suc, ◌+◌, ◌<◌, Bool, List, [], ◌∷◌, ◌++◌, length, Some, refl, ap, subst, ◌∙◌, arith, slice_get, slice_set, slice_index_or, take}
 use Rattle.std.proofs.lemmas.List.{length_push}
 use Rattle.std.proofs.Math.Seq.{take-append_seam}
@@ -10,7 +10,28 @@ use Rattle.crawl_workers.specs.declared.turns.Runner.{Runner}
 use Rattle.crawl_workers.specs.declared.turns.Runner.TheVariants.{Going, Ended, Moved}
 use Rattle.crawl_workers.specs.Runs.{RanTo, AllRan}
 use Rattle.crawl_workers.specs.Rounds.{AllGo, RunnerRan, IsEnded, EndedBelow}
-use Rattle.crawl_workers.proofs.Running.{all_zip_push}
+
+all_zip_push : {A B : Type 0} (R : A → B → Type 0) (xs : List A) (ys : List B) (x : A) (y : B) → AllZip R xs ys → R x y → AllZip R (xs ++ x ∷ []) (ys ++ y ∷ [])
+all_zip_push R [] [] x y all last = (last, tt)
+all_zip_push R [] (b ∷ ys) x y all last = absurd all
+all_zip_push R (a ∷ xs) [] x y all last = absurd all
+all_zip_push R (a ∷ xs) (b ∷ ys) x y all last = (all.0, all_zip_push R xs ys x y all.1 last)
+
+all_zip_length : {A B : Type 0} (R : A → B → Type 0) (xs : List A) (ys : List B) → AllZip R xs ys → length ys ≡ length xs
+all_zip_length R [] [] all = refl
+all_zip_length R [] (b ∷ ys) all = absurd all
+all_zip_length R (a ∷ xs) [] all = absurd all
+all_zip_length R (a ∷ xs) (b ∷ ys) all = ap (λ n. suc n) (all_zip_length R xs ys all.1)
+
+-- the ends of all workers but the last, and that of the last
+pub all_ran_push : {K : _} (workers : ℕ) (allowed : List ℕ → Bool) (meaning : List ℕ → Page) (starts : List WorkerId) (ends : List (WorkerEnd K)) (w : WorkerId) (e : WorkerEnd K)
+    → AllRan workers allowed meaning starts ends → RanTo workers allowed meaning w e → AllRan workers allowed meaning (starts ++ w ∷ []) (ends ++ e ∷ [])
+all_ran_push {K} workers allowed meaning starts ends w e all ran =
+    all_zip_push (λ (v : WorkerId) (f : WorkerEnd K). RanTo workers allowed meaning v f) starts ends w e all ran
+
+pub all_ran_length : {K : _} (workers : ℕ) (allowed : List ℕ → Bool) (meaning : List ℕ → Page) (starts : List WorkerId) (ends : List (WorkerEnd K)) → AllRan workers allowed meaning starts ends → length ends ≡ length starts
+all_ran_length {K} workers allowed meaning starts ends all =
+    all_zip_length (λ (v : WorkerId) (f : WorkerEnd K). RanTo workers allowed meaning v f) starts ends all
 
 -- an element is changed
 all_zip_set : {A B : Type 0} (R : A → B → Type 0) (xs : List A) (ys : List B) (i : ℕ) (y y' : B) → slice_get ys i ≡ Some y → ((x : A) → R x y → R x y') → AllZip R xs ys → AllZip R xs (slice_set ys i y')

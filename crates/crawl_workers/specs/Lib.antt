@@ -1,10 +1,7 @@
 pub mod ErrorTexts
-pub mod Logs
-pub mod Losses
 pub mod Lossless
 pub mod Outcomes
 pub mod Ran
-pub mod Recent
 pub mod Rounds
 pub mod Runs
 pub mod Turn

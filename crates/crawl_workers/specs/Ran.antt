@@ -1,5 +1,5 @@
 -- What a worker has done in a run.
-use Rattle.std.specs.Prelude.{◌≡◌, ℕ, ◌+◌, ◌-◌, ◌^◌, ◌<◌, ◌≤◌, min, Bool, List, [], ◌∷◌, ◌++◌, length, map, Option, None, Some}
+use Rattle.std.specs.Prelude.{◌≡◌, ℕ, ◌+◌, ◌-◌, ◌^◌, ◌<◌, ◌≤◌, Bool, List, [], ◌∷◌, ◌++◌, length, map, Option, None, Some}
 use Rattle.std.specs.List.{All, flat_map, count_by, sum_by}
 use Rattle.crawl_pages.specs.declared.page.Page.{Page}
 use Rattle.crawl_pages.specs.declared.page.PageResult.{PageResult}
@@ -7,9 +7,9 @@ use Rattle.crawl_pages.specs.Pages.{links_of}
 use Rattle.crawl_queues.specs.declared.entry.Entry.{Entry}
 use Rattle.crawl_queues.specs.Entries.{KeepsRule}
 use Rattle.crawl_frontier.specs.Parts.{WorkerId}
-use Rattle.crawl_workers.specs.Logs.{AllLogged, Grows}
-use Rattle.crawl_workers.specs.Losses.{all_losses}
-use Rattle.crawl_workers.specs.declared.losses.Losses.{Losses}
+use Rattle.link_offers.specs.Logs.{AllLogged, Grows}
+use Rattle.link_offers.specs.Losses.{sum_of}
+use Rattle.link_offers.specs.declared.losses.Losses.{Losses}
 
 -- what became of a URL that was taken: its page, if there is a result of it
 abbrev pub Fate : Type 0
@@ -26,10 +26,6 @@ results_of fates = flat_map (λ (f : Fate). result_at f.0 f.1) fates
 -- the entries that were taken, in order
 abbrev pub taken_in : List Fate → List Entry
 taken_in fates = map (λ (f : Fate). f.0) fates
-
--- so much was lost, or no more can be counted
-abbrev pub AtLeast : ℕ → ℕ → Type 0
-AtLeast n lost = lost < 2 ^ 64 - 1 → n ≤ lost
 
 -- the most that is lost of a URL whose page has these links: those that are allowed, and the URL where it has no result
 abbrev pub most_lost_at : (List ℕ → Bool) → List (List ℕ) → Option Page → ℕ
@@ -59,5 +55,5 @@ pub record Ran (workers : ℕ) (allowed : List ℕ → Bool) (meaning : List ℕ
 -- What was lost, by why: `lost` is the sum of all, or no more can be counted; and each URL that was taken has a result, or its
 -- fetch failed, or there was no room for its result.
 pub record IsTally (start now : WorkerId) (results : List PageResult) (lost : ℕ) (losses : Losses) : Type 0 where
-  pub all : lost ≡ min (all_losses losses) (2 ^ 64 - 1)
+  pub all : lost ≡ sum_of losses
   pub urls : losses.failed + losses.unkept < 2 ^ 64 - 1 → length start.taken + length results + losses.failed + losses.unkept ≡ length now.taken

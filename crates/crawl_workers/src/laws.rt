@@ -11,7 +11,7 @@ ghost use Rattle.crawl_frontier.specs.Accounts.{At, IsPart, Accounts};
 ghost use Rattle.crawl_queues.specs.Books.{BookId};
 ghost use Rattle.crawl_frontier.specs.Offers.{OfferBooks};
 ghost use Rattle.crawl_frontier.specs.Parts.{WorkerId, SenderId};
-ghost use Rattle.crawl_workers.specs.Logs.{HasLine, Grows};
+ghost use Rattle.link_offers.specs.Logs.{HasLine, Grows};
 ghost use Rattle.crawl_workers.specs.Lossless.{result_urls, entry_urls, IsAccepted, AllAccepted};
 ghost use Rattle.crawl_workers.specs.Ran.{Ran};
 

@@ -8,22 +8,15 @@
 mod ahead;
 mod error;
 pub mod laws;
-mod losses;
 mod output;
-mod recent;
 mod run;
 mod threads;
 mod turn;
 mod turns;
 mod worker_end;
 
-/// Parts of a worker that only tests use.
-pub mod testing {
-    pub use crate::recent::RecentUrls;
-}
-
 pub use error::RunError;
-pub use losses::Losses;
+pub use link_offers::Losses;
 pub use run::run_worker;
 pub use threads::run_threads;
 pub use turns::run_turns;

@@ -1,7 +1,7 @@
 //! A worker's end.
-use crate::losses::Losses;
 use crawl_frontier::{ClosedWorker, Name};
 use crawl_pages::PageResult;
+use link_offers::Losses;
 
 /// A worker that found the gate closed, its results, and what it lost.
 #[derive(Drop)]

@@ -1,6 +1,6 @@
 //! A worker remembers the URLs that it offered.
 use crawl_keys::{CanonUrl, canonical};
-use crawl_workers::testing::RecentUrls;
+use link_offers::testing::RecentUrls;
 use std::alloc::Global;
 
 const URLS: u32 = 5_000;

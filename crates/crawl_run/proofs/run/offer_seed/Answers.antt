@@ -1,7 +1,7 @@
 use Rattle.std.proofs.Common.{◌∙◌, refl, Ok, Err}
 use Rattle.crawl_keys.specs.HostFilter.{allows}
-use Rattle.crawl_workers.proofs.Running.{offer_grows, offer_line}
-use Rattle.crawl_workers.specs.Logs.{HasLine}
+use Rattle.link_offers.proofs.Logs.{offer_grows, offer_line}
+use Rattle.link_offers.specs.Logs.{HasLine}
 use Rattle.crawl_run.proofs.EndedRuns.{refusal_filtered, refusal_line}
 use Rattle.crawl_run.proofs.JudgedRuns.{offered_more}
 use Rattle.crawl_run.proofs.run.offer_seed.Goals as goal

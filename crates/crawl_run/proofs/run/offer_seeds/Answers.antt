@@ -2,8 +2,8 @@ use Rattle.std.proofs.Common.{IsTrue, take, subst}
 use Rattle.std.proofs.lemmas.List.{take_all, take_more}
 use Rattle.std.proofs.lemmas.List.Elements.{All-nil}
 use Rattle.crawl_keys.specs.HostFilter.{allows}
-use Rattle.crawl_workers.proofs.Running.{all_logged_more}
-use Rattle.crawl_workers.specs.Logs.{AllLogged, HasLine}
+use Rattle.link_offers.proofs.Logs.{all_logged_more}
+use Rattle.link_offers.specs.Logs.{AllLogged, HasLine}
 use Rattle.crawl_run.specs.JudgedRuns.{AreOffered}
 use Rattle.crawl_run.proofs.JudgedRuns.{none_offered}
 use Rattle.crawl_run.proofs.run.offer_seeds.Goals as goal

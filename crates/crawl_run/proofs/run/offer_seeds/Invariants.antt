@@ -1,7 +1,7 @@
 use Rattle.std.proofs.Common.{◌≡◌, take}
 use Rattle.crawl_keys.specs.HostFilter.{allows}
-use Rattle.crawl_workers.specs.Logs.{AllLogged}
-use Rattle.crawl_workers.specs.Losses.{all_losses}
+use Rattle.link_offers.specs.Logs.{AllLogged}
+use Rattle.link_offers.specs.Losses.{all_losses}
 use Rattle.crawl_run.specs.JudgedRuns.{AreOffered}
 use Rattle.crawl_run.proofs.run.offer_seeds.Given as goal
 

@@ -2,7 +2,7 @@ use Rattle.std.proofs.Common.{◌≡◌, ◌<◌, IfOk, sym, subst}
 use Rattle.crawl_certificate.specs.AccountEntries.{entries_of}
 use Rattle.crawl_certificate.specs.Certificate.{NothingLost}
 use Rattle.crawl_keys.specs.HostFilter.{allows}
-use Rattle.crawl_workers.specs.Losses.{all_losses}
+use Rattle.link_offers.specs.Losses.{all_losses}
 use Rattle.crawl_run.proofs.EndedRuns.{found_of, nothing_lost_of}
 use Rattle.crawl_run.proofs.JudgedRuns.{run_of}
 use Rattle.crawl_run.proofs.RunResults.{all_pages}

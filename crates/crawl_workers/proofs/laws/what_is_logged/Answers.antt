@@ -1,5 +1,5 @@
 use Rattle.crawl_workers.proofs.Lossless.{logged_accepted}
-use Rattle.crawl_workers.proofs.Running.{offer_line, offer_grows, has_line_on}
+use Rattle.link_offers.proofs.Logs.{offer_line, offer_grows, has_line_on}
 use Rattle.crawl_workers.proofs.laws.what_is_logged.Goals as goal
 
 pub returns : goal.returns

@@ -1,7 +1,7 @@
 use Rattle.std.proofs.Common.{arith, ◌∙◌}
 use Rattle.crawl_keys.specs.HostFilter.{allows}
 use Rattle.crawl_workers.specs.Runs.{RanTo}
-use Rattle.crawl_workers.proofs.Running.{all_ran_push, all_ran_length}
+use Rattle.crawl_workers.proofs.Turning.{all_ran_push, all_ran_length}
 use Rattle.crawl_workers.proofs.threads.+fn-run_all-scope+run_all.Goals as goal
 
 pub scope-push_reserved-requires : goal.scope-push_reserved-requires

@@ -1,0 +1,264 @@
+-- What follows from the turns of a worker.
+use Rattle.std.proofs.Common.{◌≡◌, ℕ, ◌+◌, ◌-◌, ◌^◌, ◌<◌, ◌≤◌, min, Bool, true, false, cond, List, [], ◌∷◌, ◌++◌, length, map, Option, None, Some, Ok, Err, refl, sym, ap, subst, ◌∙◌, arith}
+use Rattle.std.specs.List.{All, count_by, flat_map}
+use Rattle.std.proofs.lemmas.List.{length-append, length-map}
+use Rattle.std.proofs.lemmas.List.Elements.{All-nil, All-append, All-cons}
+use Rattle.std.proofs.lemmas.List.Sums.{count_by-le-length, sum_by-append, sum_by-cons}
+use Rattle.crawl_pages.specs.declared.page.Page.{Page}
+use Rattle.crawl_pages.specs.declared.page.PageResult.{PageResult}
+use Rattle.crawl_pages.specs.Pages.{links_of}
+use Rattle.crawl_queues.specs.declared.entry.Entry.{Entry}
+use Rattle.crawl_queues.specs.Entries.{KeepsRule}
+use Rattle.crawl_queues.specs.Books.{BookId}
+use Rattle.crawl_frontier.specs.declared.error.OfferError.TheVariants as refused
+use Rattle.crawl_frontier.specs.Parts.{WorkerId}
+use Rattle.link_offers.specs.declared.losses.Loss.{Loss}
+use Rattle.link_offers.specs.declared.losses.Loss.TheVariants as loss
+use Rattle.link_offers.specs.declared.losses.Losses.{Losses}
+use Rattle.link_offers.specs.declared.offers.LinkOffers.{LinkOffers}
+use Rattle.link_offers.specs.Logs.{AllLogged, Grows}
+use Rattle.link_offers.specs.Losses.{all_losses, no_losses, sum_of, with_loss}
+use Rattle.link_offers.specs.Offers.{Answer, losses_by, with_losses}
+use Rattle.crawl_workers.specs.Outcomes.{Outcome, Turn, IsTurn, AreTurns, IsTold, losses_at, found_at, entries_in, failed, unkept, kept}
+use Rattle.crawl_workers.specs.Ran.{Fate, results_of, taken_in, most_lost_at, most_lost, Ran, IsTally}
+use Rattle.crawl_workers.specs.Turn.{Progress}
+use Rattle.link_offers.proofs.Logs.{grows_same, grows_on, all_logged_on}
+use Rattle.link_offers.proofs.LinkAnswers.{SameBusy, answers_few, answers_logged}
+use Rattle.crawl_workers.proofs.Outcomes.{goes_on_same}
+
+-- ## How many are lost
+
+sum_more : (most : ℕ) (a b c d e f lost : ℕ) → lost ≡ min (a + b + c + d + e + f) most →
+    (min (lost + 1) most ≡ min (min (a + 1) most + b + c + d + e + f) most)
+    × (min (lost + 1) most ≡ min (a + min (b + 1) most + c + d + e + f) most)
+    × (min (lost + 1) most ≡ min (a + b + min (c + 1) most + d + e + f) most)
+    × (min (lost + 1) most ≡ min (a + b + c + min (d + 1) most + e + f) most)
+    × (min (lost + 1) most ≡ min (a + b + c + d + min (e + 1) most + f) most)
+    × (min (lost + 1) most ≡ min (a + b + c + d + e + min (f + 1) most) most)
+sum_more most a b c d e f lost is = (
+  omega (arith, is),
+  omega (arith, is),
+  omega (arith, is),
+  omega (arith, is),
+  omega (arith, is),
+  omega (arith, is),
+)
+
+sum_with : (why : Loss) (losses : Losses) (lost : ℕ) → lost ≡ sum_of losses → min (lost + 1) (2 ^ 64 - 1) ≡ sum_of (with_loss why losses)
+sum_with loss.Failed l lost is = (sum_more (2 ^ 64 - 1) l.failed l.unkept l.full l.too_far l.crossed l.no_memory lost is).0
+sum_with loss.Unkept l lost is = (sum_more (2 ^ 64 - 1) l.failed l.unkept l.full l.too_far l.crossed l.no_memory lost is).1
+sum_with loss.Full l lost is = (sum_more (2 ^ 64 - 1) l.failed l.unkept l.full l.too_far l.crossed l.no_memory lost is).2
+sum_with loss.TooFar l lost is = (sum_more (2 ^ 64 - 1) l.failed l.unkept l.full l.too_far l.crossed l.no_memory lost is).3
+sum_with loss.Crossed l lost is = (sum_more (2 ^ 64 - 1) l.failed l.unkept l.full l.too_far l.crossed l.no_memory lost is).4
+sum_with loss.NoMemory l lost is = (sum_more (2 ^ 64 - 1) l.failed l.unkept l.full l.too_far l.crossed l.no_memory lost is).5
+
+-- the sum of losses is their number, up to the greatest count
+number_of : (why : List Loss) (losses : Losses) (lost : ℕ) → lost ≡ sum_of losses → min (lost + length why) (2 ^ 64 - 1) ≡ sum_of (with_losses why losses)
+number_of [] losses lost is = is_least (2 ^ 64 - 1) (all_losses losses) lost is
+  where
+    is_least : (most n lost : ℕ) → lost ≡ min n most → min (lost + 0) most ≡ min n most
+    is_least most n lost is = omega (arith, is)
+number_of (why ∷ more) losses lost is =
+    let first : min (lost + length (why ∷ more)) (2 ^ 64 - 1) ≡ min (min (lost + 1) (2 ^ 64 - 1) + length more) (2 ^ 64 - 1) = omega arith in
+    first ∙ number_of more (with_loss why losses) (min (lost + 1) (2 ^ 64 - 1)) (sum_with why losses lost is)
+
+-- ## URLs and links
+
+-- the loss of a URL that was taken, and not of a link
+is_of_url : Loss → Bool
+is_of_url loss.Failed = true
+is_of_url loss.Unkept = true
+is_of_url _ = false
+
+one_url_more : (most a b count : ℕ) →
+    (min (a + 1) most + b + count < most → min (a + 1) most + b ≡ a + b + 1)
+    × (a + min (b + 1) most + count < most → a + min (b + 1) most ≡ a + b + 1)
+    × (a + b ≡ a + b + 0)
+one_url_more most a b count = (λ less. omega (arith, less), λ less. omega (arith, less), omega arith)
+
+url_more : (why : Loss) (l : Losses) (count : ℕ) → (with_loss why l).failed + (with_loss why l).unkept + count < 2 ^ 64 - 1
+    → (with_loss why l).failed + (with_loss why l).unkept ≡ l.failed + l.unkept + cond (is_of_url why) 1 0
+url_more loss.Failed l count less = (one_url_more (2 ^ 64 - 1) l.failed l.unkept count).0 less
+url_more loss.Unkept l count less = (one_url_more (2 ^ 64 - 1) l.failed l.unkept count).1 less
+url_more loss.Full l count less = (one_url_more (2 ^ 64 - 1) l.failed l.unkept count).2
+url_more loss.TooFar l count less = (one_url_more (2 ^ 64 - 1) l.failed l.unkept count).2
+url_more loss.Crossed l count less = (one_url_more (2 ^ 64 - 1) l.failed l.unkept count).2
+url_more loss.NoMemory l count less = (one_url_more (2 ^ 64 - 1) l.failed l.unkept count).2
+
+urls_counted : (why : List Loss) (l : Losses) → (with_losses why l).failed + (with_losses why l).unkept < 2 ^ 64 - 1
+    → (with_losses why l).failed + (with_losses why l).unkept ≡ l.failed + l.unkept + count_by is_of_url why
+urls_counted [] l less = (one_url_more 0 l.failed l.unkept 0).2
+urls_counted (why ∷ more) l less =
+    let fewer : (with_losses more (with_loss why l)).failed + (with_losses more (with_loss why l)).unkept < 2 ^ 64 - 1 = less in
+    let rest = urls_counted more (with_loss why l) fewer in
+    let one = url_more why l (count_by is_of_url more) (omega (arith, rest, fewer)) in
+    let all : (with_losses more (with_loss why l)).failed + (with_losses more (with_loss why l)).unkept ≡ l.failed + l.unkept + (cond (is_of_url why) 1 0 + count_by is_of_url more) = omega (arith, rest, one) in
+    rw (sum_by-cons (λ (x : Loss). cond (is_of_url x) 1 0) why more) all
+
+answer_no_url : (answer : Answer) → count_by is_of_url (losses_by answer) ≡ 0
+answer_no_url None = refl
+answer_no_url (Some (Ok offer)) = refl
+answer_no_url (Some (Err refused.Filtered)) = refl
+answer_no_url (Some (Err refused.Closed)) = refl
+answer_no_url (Some (Err refused.Full)) = refl
+answer_no_url (Some (Err (refused.Crossed own found))) = refl
+answer_no_url (Some (Err refused.TooFar)) = refl
+answer_no_url (Some (Err refused.NoMemory)) = refl
+
+counted_append : (xs ys : List Loss) → count_by is_of_url (xs ++ ys) ≡ count_by is_of_url xs + count_by is_of_url ys
+counted_append xs ys = sum_by-append (λ (x : Loss). cond (is_of_url x) 1 0) xs ys
+
+answers_no_url : (answers : List Answer) → count_by is_of_url (flat_map losses_by answers) ≡ 0
+answers_no_url [] = refl
+answers_no_url (a ∷ answers) =
+    let cut : count_by is_of_url (flat_map losses_by (a ∷ answers)) ≡ count_by is_of_url (losses_by a) + count_by is_of_url (flat_map losses_by answers) = counted_append (losses_by a) (flat_map losses_by answers) in
+    cut ∙ omega (arith, answer_no_url a, answers_no_url answers)
+
+-- a URL has a result, or is lost as one
+one_of_each : (meaning : List ℕ → Page) (url : List ℕ) (outcome : Outcome) → count_by is_of_url (losses_at outcome) + length (found_at meaning url outcome) ≡ 1
+one_of_each meaning url failed = refl
+one_of_each meaning url (unkept answers) =
+    let none = answers_no_url answers in
+    let cut : count_by is_of_url (losses_at (unkept answers)) ≡ count_by is_of_url (flat_map losses_by answers) + 1 = counted_append (flat_map losses_by answers) (loss.Unkept ∷ []) in
+    omega (arith, cut, none)
+one_of_each meaning url (kept answers) = let none = answers_no_url answers in omega (arith, none)
+
+-- ## Turns
+
+losses_in : List Turn → List Loss
+losses_in turns = flat_map (λ (t : Turn). losses_at t.1) turns
+
+found_in : (List ℕ → Page) → List Turn → List PageResult
+found_in meaning turns = flat_map (λ (t : Turn). found_at meaning t.0.url t.1) turns
+
+turns_counted : (meaning : List ℕ → Page) (turns : List Turn) → count_by is_of_url (losses_in turns) + length (found_in meaning turns) ≡ length turns
+turns_counted meaning [] = refl
+turns_counted meaning (t ∷ ts) =
+    let rest = turns_counted meaning ts in
+    let one = one_of_each meaning t.0.url t.1 in
+    let losses : count_by is_of_url (losses_in (t ∷ ts)) ≡ count_by is_of_url (losses_at t.1) + count_by is_of_url (losses_in ts) = counted_append (losses_at t.1) (losses_in ts) in
+    let found : length (found_in meaning (t ∷ ts)) ≡ length (found_at meaning t.0.url t.1) + length (found_in meaning ts) = length-append (found_at meaning t.0.url t.1) (found_in meaning ts) in
+    omega (arith, rest, one, losses, found)
+
+-- what became of a URL, as `Ran` says it
+page_at : (List ℕ → Page) → List ℕ → Outcome → Option Page
+page_at meaning url (kept answers) = Some (meaning url)
+page_at meaning url _ = None
+
+fates_in : (List ℕ → Page) → List Turn → List Fate
+fates_in meaning turns = map (λ (t : Turn). (t.0, page_at meaning t.0.url t.1)) turns
+
+taken_same : (meaning : List ℕ → Page) (turns : List Turn) → taken_in (fates_in meaning turns) ≡ entries_in turns
+taken_same meaning [] = refl
+taken_same meaning (t ∷ ts) = ap (λ (es : List Entry). t.0 ∷ es) (taken_same meaning ts)
+
+results_same : (meaning : List ℕ → Page) (turns : List Turn) → found_in meaning turns ≡ results_of (fates_in meaning turns)
+results_same meaning [] = refl
+results_same meaning ((e, failed) ∷ ts) = results_same meaning ts
+results_same meaning ((e, unkept answers) ∷ ts) = results_same meaning ts
+results_same meaning ((e, kept answers) ∷ ts) = ap (λ (rs : List PageResult). record { url = e.url; page = meaning e.url } ∷ rs) (results_same meaning ts)
+
+pages_right : (meaning : List ℕ → Page) (turns : List Turn) → All (λ r. r.page ≡ meaning r.url) (found_in meaning turns)
+pages_right meaning [] = All-nil (λ (r : PageResult). r.page ≡ meaning r.url)
+pages_right meaning ((e, failed) ∷ ts) = pages_right meaning ts
+pages_right meaning ((e, unkept answers) ∷ ts) = pages_right meaning ts
+pages_right meaning ((e, kept answers) ∷ ts) =
+    All-cons (λ (r : PageResult). r.page ≡ meaning r.url) (record { url = e.url; page = meaning e.url }) (found_in meaning ts) refl (pages_right meaning ts)
+
+-- a turn loses no more than the links that are allowed, and the URL if it has no result
+turn_few : (workers : ℕ) (allowed : List ℕ → Bool) (meaning : List ℕ → Page) (b c : BookId) (e : Entry) (outcome : Outcome) → IsTurn workers allowed meaning b c e outcome
+    → length (losses_at outcome) ≤ most_lost_at allowed (links_of (meaning e.url)) (page_at meaning e.url outcome)
+turn_few workers allowed meaning b c e failed turn = omega arith
+turn_few workers allowed meaning b c e (unkept answers) turn =
+    let few = answers_few workers allowed turn.before turn.after (links_of (meaning e.url)) answers turn.links in
+    let cut : length (losses_at (unkept answers)) ≡ length (flat_map losses_by answers) + 1 = length-append (flat_map losses_by answers) (loss.Unkept ∷ []) in
+    omega (arith, few, cut)
+turn_few workers allowed meaning b c e (kept answers) turn = answers_few workers allowed turn.before turn.after (links_of (meaning e.url)) answers turn.links
+
+turns_few : (workers : ℕ) (allowed : List ℕ → Bool) (meaning : List ℕ → Page) (b c : BookId) (turns : List Turn) → AreTurns workers allowed meaning b c turns
+    → length (losses_in turns) ≤ most_lost allowed meaning (fates_in meaning turns)
+turns_few workers allowed meaning b c [] are = omega arith
+turns_few workers allowed meaning b c (t ∷ ts) are =
+    let one = turn_few workers allowed meaning b are.0 t.0 t.1 are.1 in
+    let rest = turns_few workers allowed meaning are.0 c ts are.2 in
+    let losses : length (losses_in (t ∷ ts)) ≡ length (losses_at t.1) + length (losses_in ts) = length-append (losses_at t.1) (losses_in ts) in
+    let most : most_lost allowed meaning (fates_in meaning (t ∷ ts)) ≡ most_lost_at allowed (links_of (meaning t.0.url)) (page_at meaning t.0.url t.1) + most_lost allowed meaning (fates_in meaning ts) =
+    sum_by-cons (λ (f : Fate). most_lost_at allowed (links_of (meaning f.0.url)) f.1) (t.0, page_at meaning t.0.url t.1) (fates_in meaning ts) in
+    rw most (omega (arith, one, rest, losses))
+
+turn_grows : (workers : ℕ) (allowed : List ℕ → Bool) (meaning : List ℕ → Page) (b c : BookId) (e : Entry) (outcome : Outcome) → IsTurn workers allowed meaning b c e outcome → Grows b c
+turn_grows workers allowed meaning b c e outcome turn =
+    let same = goes_on_same workers allowed turn.before turn.after (links_of (meaning e.url)) outcome turn.links in
+    rw (← turn.first, ← turn.last) same.grows
+
+turns_grow : (workers : ℕ) (allowed : List ℕ → Bool) (meaning : List ℕ → Page) (b c : BookId) (turns : List Turn) → AreTurns workers allowed meaning b c turns → Grows b c
+turns_grow workers allowed meaning b c [] are = grows_same b c are
+turns_grow workers allowed meaning b c (t ∷ ts) are =
+    grows_on b are.0 c (turn_grows workers allowed meaning b are.0 t.0 t.1 are.1) (turns_grow workers allowed meaning are.0 c ts are.2)
+
+-- the links of a turn that loses nothing have lines in the log at its end
+turn_logged : (workers : ℕ) (allowed : List ℕ → Bool) (meaning : List ℕ → Page) (b c : BookId) (e : Entry) (outcome : Outcome) → IsTurn workers allowed meaning b c e outcome → length (losses_at outcome) ≡ 0
+    → AllLogged workers allowed c.log (links_of (meaning e.url))
+turn_logged workers allowed meaning b c e failed turn none = absurd (omega (arith, none))
+turn_logged workers allowed meaning b c e (unkept answers) turn none =
+    let cut : length (losses_at (unkept answers)) ≡ length (flat_map losses_by answers) + 1 = length-append (flat_map losses_by answers) (loss.Unkept ∷ []) in
+    absurd (omega (arith, none, cut))
+turn_logged workers allowed meaning b c e (kept answers) turn none =
+    rw (← turn.last) (answers_logged workers allowed turn.before turn.after (links_of (meaning e.url)) answers turn.links none)
+
+turns_logged : (workers : ℕ) (allowed : List ℕ → Bool) (meaning : List ℕ → Page) (b c : BookId) (turns : List Turn) → AreTurns workers allowed meaning b c turns → length (losses_in turns) ≡ 0
+    → All (λ r. AllLogged workers allowed c.log (links_of r.page)) (found_in meaning turns)
+turns_logged workers allowed meaning b c [] are none = All-nil (λ (r : PageResult). AllLogged workers allowed c.log (links_of r.page))
+turns_logged workers allowed meaning b c (t ∷ ts) are none =
+    let both : length (losses_in (t ∷ ts)) ≡ length (losses_at t.1) + length (losses_in ts) = length-append (losses_at t.1) (losses_in ts) in
+    let logged = turn_logged workers allowed meaning b are.0 t.0 t.1 are.1 (omega (arith, both, none)) in
+    let grown = all_logged_on workers allowed are.0 c (links_of (meaning t.0.url)) (turns_grow workers allowed meaning are.0 c ts are.2) logged in
+    All-append (λ (r : PageResult). AllLogged workers allowed c.log (links_of r.page)) (found_at meaning t.0.url t.1) (found_in meaning ts)
+    (found_logged t.0.url t.1 grown) (turns_logged workers allowed meaning are.0 c ts are.2 (omega (arith, both, none)))
+  where
+    found_logged : (url : List ℕ) (outcome : Outcome) → AllLogged workers allowed c.log (links_of (meaning url)) → All (λ (r : PageResult). AllLogged workers allowed c.log (links_of r.page)) (found_at meaning url outcome)
+    found_logged url failed is = All-nil (λ (r : PageResult). AllLogged workers allowed c.log (links_of r.page))
+    found_logged url (unkept answers) is = All-nil (λ (r : PageResult). AllLogged workers allowed c.log (links_of r.page))
+    found_logged url (kept answers) is =
+        All-cons (λ (r : PageResult). AllLogged workers allowed c.log (links_of r.page)) (record { url = url; page = meaning url }) [] is (All-nil (λ (r : PageResult). AllLogged workers allowed c.log (links_of r.page)))
+
+-- ## An end
+
+pub ran_by : (workers : ℕ) (allowed : List ℕ → Bool) (meaning : List ℕ → Page) (start now : WorkerId) (results : List PageResult) (offers : LinkOffers) (lost : ℕ)
+    → lost ≡ sum_of offers.losses → Progress workers allowed meaning start now results offers
+    → Ran workers allowed meaning start now results lost × IsTally start now results lost offers.losses × IsTold workers allowed meaning start now results offers.losses
+ran_by workers allowed meaning start now results offers lost sum so_far =
+    let told = so_far.told in
+    let summed : lost ≡ min (0 + length (losses_in told.turns)) (2 ^ 64 - 1) = sum ∙ ap sum_of told.why ∙ sym (number_of (losses_in told.turns) no_losses 0 refl) in
+    let number : lost ≡ min (length (losses_in told.turns)) (2 ^ 64 - 1) = omega (arith, summed) in
+    let urls = turns_counted meaning told.turns in
+    let some = count_by-le-length is_of_url (losses_in told.turns) in
+    let found : length results ≡ length (found_in meaning told.turns) = ap (λ (rs : List PageResult). length rs) told.found in
+    let taken : length now.taken ≡ length (start.taken ++ entries_in told.turns) = ap (λ (es : List Entry). length es) told.taken in
+    let few = turns_few workers allowed meaning start.book now.book told.turns told.books in
+    let fates : length (fates_in meaning told.turns) ≡ length told.turns = length-map told.turns (λ (t : Turn). (t.0, page_at meaning t.0.url t.1)) in (
+      record {
+        fates = fates_in meaning told.turns;
+        queue = so_far.queue;
+        taken = told.taken ∙ ap (λ (es : List Entry). start.taken ++ es) (sym (taken_same meaning told.turns));
+        rule = subst (λ (es : List Entry). KeepsRule workers start.queue start.taken es) (sym (taken_same meaning told.turns)) so_far.rule;
+        found = told.found ∙ results_same meaning told.turns;
+        pages = rw told.found (pages_right meaning told.turns);
+        counted = λ less. omega (arith, number, less, urls, some, found, fates);
+        few = omega (arith, number, few);
+        grows = turns_grow workers allowed meaning start.book now.book told.turns told.books;
+        links = λ none. rw told.found (turns_logged workers allowed meaning start.book now.book told.turns told.books (omega (arith, number, none)));
+      },
+      record {
+        all = sum;
+        urls = λ less.
+            let all = with_losses (losses_in told.turns) no_losses in
+            let counted : all.failed + all.unkept ≡ 0 + 0 + count_by is_of_url (losses_in told.turns) = urls_counted (losses_in told.turns) no_losses (subst (λ (l : Losses). l.failed + l.unkept < 2 ^ 64 - 1) told.why less) in
+            let failed : offers.losses.failed ≡ all.failed = ap (λ (l : Losses). l.failed) told.why in
+            let unkept : offers.losses.unkept ≡ all.unkept = ap (λ (l : Losses). l.unkept) told.why in
+            let entries : length (entries_in told.turns) ≡ length told.turns = length-map told.turns (λ (t : Turn). t.0) in
+            let both = length-append start.taken (entries_in told.turns) in
+            omega (arith, counted, failed, unkept, urls, found, taken, entries, both);
+      },
+      told,
+    )

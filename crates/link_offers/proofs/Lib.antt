@@ -1,0 +1,3 @@
+pub mod LinkAnswers
+pub mod Logs
+pub mod Slots

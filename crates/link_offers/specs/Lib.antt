@@ -1,0 +1,4 @@
+pub mod Logs
+pub mod Losses
+pub mod Offers
+pub mod Recent

@@ -1,0 +1,60 @@
+-- What became of the links of a page, and what was lost by them.
+use Rattle.std.specs.Prelude.{◌≡◌, ◌↔◌, ℕ, ◌+◌, Bool, false, List, [], ◌∷◌, Option, None, Some, Result, Ok, Err}
+use Rattle.std.specs.List.{flat_map}
+use Rattle.crawl_frontier.specs.declared.offer.Offer.{Offer}
+use Rattle.crawl_frontier.specs.declared.error.OfferError.{OfferError}
+use Rattle.crawl_frontier.specs.Offers.{OfferBooks, OfferWordsBeside, IsFiltered}
+use Rattle.crawl_frontier.specs.Parts.{BusyId, worker}
+use Rattle.link_offers.specs.declared.losses.Loss.{Loss}
+use Rattle.link_offers.specs.declared.losses.Losses.{Losses}
+use Rattle.link_offers.specs.declared.offers.LinkOffers.{LinkOffers}
+use Rattle.link_offers.specs.Logs.{HasLine}
+use Rattle.link_offers.specs.Losses.{loss_of, with_loss}
+use Rattle.link_offers.specs.Recent.{Knows}
+
+-- what became of a link: the worker remembers it and does not offer it, or its offer had this answer
+abbrev pub Answer : Type 0
+Answer = Option (Result Offer OfferError)
+
+abbrev pub listed : Option Loss → List Loss
+listed None = []
+listed (Some why) = why ∷ []
+
+-- what is lost by it: one loss of the refusal's kind, and none if it is remembered, accepted, seen or filtered
+abbrev pub losses_by : Answer → List Loss
+losses_by None = []
+losses_by (Some (Ok offer)) = []
+losses_by (Some (Err refused)) = listed (loss_of refused)
+
+-- with these losses more
+abbrev pub with_losses : List Loss → Losses → Losses
+with_losses [] losses = losses
+with_losses (why ∷ more) losses = with_losses more (with_loss why losses)
+
+-- an offer of a link by a busy worker, with this answer
+pub record IsOffer (workers : ℕ) (allowed : List ℕ → Bool) (b b' : BusyId) (url : List ℕ) (answer : Result Offer OfferError) : Type 0 where
+  pub books : OfferBooks workers b.worker.book b'.worker.book url (b.message.entry.hops + 1) answer
+  pub words : OfferWordsBeside b.message.unit b'.message.unit b.worker.seat b'.worker.seat answer
+  pub filtered : IsFiltered answer ↔ (allowed url ≡ false)
+  pub entry : b'.message.entry ≡ b.message.entry
+  pub same : b'.worker ≡ worker b.worker.queue b'.worker.seat b.worker.taken b.worker.empty_pops b'.worker.book
+
+-- the busy worker before and after a link with this answer
+abbrev pub Answers : ℕ → (List ℕ → Bool) → BusyId → BusyId → List ℕ → Answer → Type 0
+Answers workers allowed b b' url None = (b' ≡ b) × HasLine workers b.worker.book.log url
+Answers workers allowed b b' url (Some answer) = IsOffer workers allowed b b' url answer
+
+-- the same of links, one after another
+abbrev pub AllAnswered : ℕ → (List ℕ → Bool) → BusyId → BusyId → List (List ℕ) → List Answer → Type 0
+AllAnswered workers allowed b b' [] [] = b' ≡ b
+AllAnswered workers allowed b b' [] (answer ∷ answers) = ⊥
+AllAnswered workers allowed b b' (url ∷ urls) [] = ⊥
+AllAnswered workers allowed b b' (url ∷ urls) (answer ∷ answers) =
+    (m : BusyId) × Answers workers allowed b m url answer × AllAnswered workers allowed m b' urls answers
+
+-- what became of these links, and exactly what was lost by it; the log has a line of each URL that is then remembered
+pub record LinkAnswers (workers : ℕ) (allowed : List ℕ → Bool) (urls : List (List ℕ)) (b b' : BusyId) (old new : LinkOffers) : Type 0 where
+  pub answers : List Answer
+  pub each : AllAnswered workers allowed b b' urls answers
+  pub losses : new.losses ≡ with_losses (flat_map losses_by answers) old.losses
+  pub known : Knows workers b'.worker.book.log new.recent

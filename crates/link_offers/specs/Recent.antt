@@ -1,0 +1,21 @@
+-- What a worker remembers of the URLs that it offered.
+use Rattle.std.specs.Prelude.{ℕ, List, Option, None, Some, IfSome}
+use Rattle.std.specs.List.{All}
+use Rattle.crawl_queues.specs.declared.book.Logged.{Logged}
+use Rattle.link_offers.specs.declared.recent.RecentUrls.{RecentUrls}
+use Rattle.link_offers.specs.declared.recent.Slot.{Slot}
+use Rattle.link_offers.specs.declared.recent.Slot.TheVariants.{Vacant, Taken}
+use Rattle.link_offers.specs.Logs.{HasLine}
+
+-- the URL that stands in a slot
+abbrev pub url_in : Slot → Option (List ℕ)
+url_in Vacant = None
+url_in (Taken mark url) = Some url
+
+-- the log has a line of each URL that stands in a slot
+abbrev pub AllKnown : ℕ → List Logged → List Slot → Type 0
+AllKnown workers log slots = All (λ slot. IfSome (url_in slot) (HasLine workers log)) slots
+
+-- the log has a line of each URL that is remembered
+abbrev pub Knows : ℕ → List Logged → RecentUrls → Type 0
+Knows workers log recent = AllKnown workers log recent.slots.items
