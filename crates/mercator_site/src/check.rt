@@ -1,10 +1,10 @@
 //! Checks a site: from its files to the report.
-ghost use Rattle.std.specs.Prelude.{◌≡◌, ℕ, List, IfErr, IfOk, map, string_bytes};
+ghost use Rattle.std.specs.Prelude.{◌≡◌, ℕ, List, IfErr, IfOk, map, string_bytes, false, true};
 ghost use Rattle.std.specs.Option.{option_map};
 ghost use Rattle.mercator_site.specs.Asks.{asks_in};
 ghost use Rattle.mercator_site.specs.Checks.{AreOthersListed, IsCheck, IsNamedCheck, IsNamedSiteCheck, IsReport, IsSiteCheck, IsSiteCheckAt, IsTopCrawl};
 ghost use Rattle.mercator_site.specs.External.{row_of};
-ghost use Rattle.mercator_site.specs.Faults.{IsTopIncomplete, status_of};
+ghost use Rattle.mercator_site.specs.Faults.{IsTopIncomplete, is_unfinished};
 ghost use Rattle.mercator_site.specs.Sources.{IsSourceOf};
 ghost use Rattle.saved_site.specs.Linked.{page_at};
 
@@ -122,7 +122,7 @@ pub fn report_of_pages<R: Threads + Wait + Sync, B: FileBytes + Sync>(
 ) -> Result<CheckReport, SiteFault>
     ensures done { (web : List ℕ) → IsSourceOf (page_at site.pages) web → IfOk result (λ report. IsCheck (string_bytes files.now.site.top) web site.aliases.items (asks_in settings.entry) report.is_broken report.text.items) }
     ensures named { (web : List ℕ) → IsSourceOf (page_at site.pages) web → IfOk result (λ report. IsNamedCheck settings.entry.name.now (string_bytes files.now.site.top) web site.aliases.items (asks_in settings.entry) report.is_broken report.text.items) }
-    ensures incomplete { (web : List ℕ) → IsSourceOf (page_at site.pages) web → IfErr result (λ fault. status_of fault ≡ 2 → IsTopIncomplete (string_bytes files.now.site.top) web (map string_bytes settings.entry.seeds.now) settings.entry.workers) }
+    ensures incomplete { (web : List ℕ) → IsSourceOf (page_at site.pages) web → IfErr result (λ fault. is_unfinished fault ≡ true → IsTopIncomplete (string_bytes files.now.site.top) web (map string_bytes settings.entry.seeds.now) settings.entry.workers) }
 {
     let LinkedSite {
         pages,
@@ -160,7 +160,7 @@ fn report_of_found<R: Threads + Wait + Sync, B: FileBytes + Sync>(
     settings: CheckSettings<'_>,
 ) -> Result<CheckReport, SiteFault>
     ensures named { (web : List ℕ) → IsTopCrawl (string_bytes files.now.site.top) web (map string_bytes settings.entry.seeds.now) found.crawled.result → IfOk result (λ report. IsNamedCheck settings.entry.name.now (string_bytes files.now.site.top) web found.aliases.items (asks_in settings.entry) report.is_broken report.text.items) }
-    ensures plain { IfErr result (λ fault. status_of fault ≡ 1) }
+    ensures plain { IfErr result (λ fault. is_unfinished fault ≡ false) }
 {
     let FoundSite {
         crawled,
