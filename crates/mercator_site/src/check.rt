@@ -11,7 +11,7 @@ ghost use Rattle.saved_site.specs.Linked.{page_at};
 use crate::crawl::{crawl_source, host_of};
 use crate::external::external_links;
 use crate::fault::SiteFault;
-use crate::options::CheckForm;
+use crate::options::ReportOptions;
 use crate::own::own_results;
 use crate::print::print_check;
 use check_report::{Contents, External};
@@ -46,15 +46,9 @@ pub struct CheckSettings<'a> {
     pub front: &'a str,
     /// The ignore list: each entry matches the targets that begin with it.
     pub ignores: &'a [String],
-    /// Whether unreached files are listed.
-    pub unreached: bool,
-    /// Whether external links are listed.
-    pub external: bool,
     /// The links on the site's top at which the crawl starts; if there are none, it starts at the top.
     pub seeds: &'a [String],
-    pub form: CheckForm,
-    /// Whether all locations of a broken link are listed, not only three.
-    pub all: bool,
+    pub report: ReportOptions,
     /// The folder that annotations put before the names of files; empty for files in memory.
     pub folder: &'a str,
 }
@@ -170,7 +164,7 @@ fn report_of_found<R: Threads + Wait + Sync, B: FileBytes + Sync>(
     } = found;
     let url = host_of(alloc, files.top())?;
     let pages = own_results(&url, crawled.result.pages());
-    let others = others_listed(alloc, settings.external, &url, pages)?;
+    let others = others_listed(alloc, settings.report.external, &url, pages)?;
     let input = input_of(
         settings,
         aliases.as_slice(),
@@ -204,7 +198,7 @@ fn input_of<'a>(
         aliases,
         anchors,
         places,
-        unreached: settings.unreached,
+        unreached: settings.report.unreached,
     }
 }
 
@@ -217,13 +211,14 @@ fn report_of(
 ) -> Result<CheckReport, AllocError>
     ensures { IfOk result (λ report. IsReport checked.now (option_map (λ urls. map row_of urls.items) others.now) settings.entry.name.now (asks_in settings.entry) report.is_broken report.text.items) }
 {
+    let options = settings.report;
     let contents = Contents {
-        unreached: settings.unreached,
+        unreached: options.unreached,
         external: slice_of(others),
         folder: settings.folder,
     };
     let findings = checked.findings(settings.name);
-    let text = print_check(alloc, &findings, contents, settings.form, settings.all)?;
+    let text = print_check(alloc, &findings, contents, options.form, options.all)?;
     Ok(CheckReport {
         text,
         is_broken: checked.is_broken(),

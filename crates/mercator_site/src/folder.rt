@@ -158,11 +158,8 @@ fn settings_of<'a>(
         name: name_of(options, top),
         front: front_of(options.paths, top),
         ignores: known,
-        unreached: options.unreached,
-        external: options.external,
         seeds: options.seeds.as_slice(),
-        form: options.form,
-        all: options.all,
+        report: options.report,
         folder: options.site.folder.as_str(),
     }
 }

@@ -16,4 +16,4 @@ pub use check::{CheckReport, CheckSettings, Files, report_of_files, report_of_pa
 pub use fault::SiteFault;
 pub use folder::{report_of_folder, web_of_folder};
 pub use notices::Notice;
-pub use options::{CheckForm, CheckOptions, SiteOptions};
+pub use options::{CheckForm, CheckOptions, ReportOptions, SiteOptions};

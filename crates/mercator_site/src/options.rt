@@ -16,6 +16,24 @@ pub enum CheckForm {
     Page,
 }
 
+impl Default for CheckForm {
+    fn default() -> CheckForm {
+        CheckForm::Text { colour: false }
+    }
+}
+
+/// The form of a report, and what it lists.
+#[derive(Clone, Copy, Debug, Default)]
+pub struct ReportOptions {
+    pub form: CheckForm,
+    /// Whether all locations of a broken link are listed, not only three.
+    pub all: bool,
+    /// Whether unreached files are listed.
+    pub unreached: bool,
+    /// Whether external links are listed.
+    pub external: bool,
+}
+
 /// The settings of `site`, which prints a folder as a saved web.
 #[derive(Debug, Drop)]
 pub struct SiteOptions {
@@ -38,15 +56,9 @@ pub struct CheckOptions {
     pub paths: bool,
     /// The number of workers, 1 to 512.
     pub workers: u32,
-    pub form: CheckForm,
-    /// Whether all locations of a broken link are listed.
-    pub all: bool,
     /// Whether anchors are checked.
     pub anchors: bool,
-    /// Whether unreached files are listed.
-    pub unreached: bool,
-    /// Whether external links are listed.
-    pub external: bool,
+    pub report: ReportOptions,
     /// The links on the top at which the crawl starts; if there are none, it starts at the top.
     pub seeds: Vec<String>,
 }

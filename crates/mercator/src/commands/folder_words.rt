@@ -5,7 +5,7 @@ use crate::commands::arguments::{
     Flag, Valued, command_with, option, push, push_flags, push_options, values_of, word, workers,
 };
 use clap::{Arg, ArgAction, ArgGroup, ArgMatches, Command};
-use mercator_site::{CheckForm, CheckOptions, SiteOptions};
+use mercator_site::{CheckForm, CheckOptions, ReportOptions, SiteOptions};
 use std::alloc::{AllocError, Global};
 
 /// The URL of the top if no BASE is given.
@@ -167,13 +167,20 @@ pub fn check_options(
         site: site_options(alloc, found, base.unwrap_or(LOCAL))?,
         paths: base.is_none(),
         workers,
-        form: form_of(found),
-        all: found.get_flag("all-sources"),
         anchors: !found.get_flag("no-anchors"),
-        unreached: found.get_flag("unreached"),
-        external: found.get_flag("external"),
+        report: report_options(found),
         seeds: values_of(alloc, found, "seed")?,
     })
+}
+
+/// The form of the report, and what it lists.
+fn report_options(found: &ArgMatches<'_>) -> ReportOptions {
+    ReportOptions {
+        form: form_of(found),
+        all: found.get_flag("all-sources"),
+        unreached: found.get_flag("unreached"),
+        external: found.get_flag("external"),
+    }
 }
 
 /// The form of the report. A report as text has no colour here.
@@ -185,6 +192,6 @@ fn form_of(found: &ArgMatches<'_>) -> CheckForm {
     } else if found.get_flag("html") {
         CheckForm::Page
     } else {
-        CheckForm::Text { colour: false }
+        CheckForm::default()
     }
 }

@@ -4,7 +4,7 @@ ghost use Rattle.mercator.specs.Plans.{IsWithinLimits, explains, file_of, listed
 
 use crate::commands::fault::Fault;
 use crawl_report::Parts;
-use mercator_site::{CheckForm, CheckOptions, SiteOptions};
+use mercator_site::{CheckForm, CheckOptions, ReportOptions, SiteOptions};
 
 /// What the arguments of a command line ask for.
 ///
@@ -136,11 +136,15 @@ impl Plan {
     {
         match self {
             Plan::Check { options, ignores } => {
-                let form = match options.form {
+                let form = match options.report.form {
                     CheckForm::Text { .. } => CheckForm::Text { colour: has_colour },
                     other => other,
                 };
-                let options = CheckOptions { form, ..options };
+                let report = ReportOptions {
+                    form,
+                    ..options.report
+                };
+                let options = CheckOptions { report, ..options };
                 Plan::Check { options, ignores }
             }
             plan => plan,
