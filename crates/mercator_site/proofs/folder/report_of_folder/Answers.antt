@@ -1,4 +1,4 @@
-use Rattle.std.proofs.Common.{List, String, Global, map, string_bytes, ap, ◌∙◌, rules}
+use Rattle.std.proofs.Common.{map, string_bytes, ap, ◌∙◌, rules}
 use Rattle.mercator_site.proofs.folder.report_of_folder.Goals as goal
 
 pub returns-clause-folder : goal.returns-clause-folder

@@ -46,8 +46,8 @@ returns-clause-folder g c = λ ignores read based.
         are_aliases = aliases_in c.in_ok-site.site.pages source.bytes c.in_ok-site.site.aliases.items (source_of _ _ source) c.in_ok-site.ensures.aliases;
         checked = named.check;
       };
-      fronted = c.settings_of-settings.ensures.front ∙ ap (λ (t : List ℕ). if paths then t else []) c.top.ensures;
-      base = named.base ∙ c.settings_of-settings.ensures.name ∙ ap (λ (t : List ℕ). if paths then folder else t) c.top.ensures;
+      fronted = c.settings_of-settings.ensures.front ∙ ap (λ (t : List ℕ). if paths then t else []) c.top-2.ensures;
+      base = named.base ∙ c.settings_of-settings.ensures.name ∙ ap (λ (t : List ℕ). if paths then folder else t) c.top-2.ensures;
       is_top = subst (λ b. IsTop b top) based c.in_ok-files.ensures.top;
       below = source.below;
     }
