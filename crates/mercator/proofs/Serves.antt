@@ -1,5 +1,5 @@
 -- What a session tells, by its plan.
-use Rattle.std.proofs.Common.{◌≡◌, ◌⊎◌, inl, inr, ℕ, List, [], ◌++◌, false, IfSome, Result, Ok, Err, IfOk, IfErr, Option, String, Global, refl, sym, subst, ◌∙◌}
+use Rattle.std.proofs.Common.{◌≡◌, ◌⊎◌, inl, inr, ℕ, List, [], ◌++◌, false, Result, Ok, Err, IfOk, IfErr, Option, String, Global, refl, sym, subst, ◌∙◌}
 use Rattle.std.specs.Io.KnownBytes.{Appends}
 use Rattle.std.proofs.KnownBytes.{Appends-nil, Appends-trans}
 use Rattle.std.specs.Str.Lines.{lines}
@@ -13,7 +13,7 @@ use Rattle.crawl_session.specs.Settings.{SessionView}
 use Rattle.crawl_session.specs.declared.serving.ServeError.{ServeError}
 use Rattle.crawl_session.specs.declared.serving.ServeError.TheVariants as serving
 use Rattle.crawl_session.proofs.Compacted.{compacts_both}
-use Rattle.mercator.specs.Compaction.{Compacted, IsCompacted}
+use Rattle.mercator.specs.Compaction.{Compacted}
 use Rattle.mercator.specs.Ending.{Begins}
 use Rattle.mercator.specs.Faults.{of_session, status_of_fault}
 use Rattle.mercator.specs.LogFile.{IsBreak, IsLogFault}
