@@ -53,7 +53,7 @@ THEOREMS = (
     ("A check, from files to the report", (
         Calls("mercator_site", "check.rt", ("report_of_files",)),
         Calls("mercator_site", "folder.rt", ("report_of_folder",)),
-        Calls("mercator_site", "program.rt", ("run_site_plan",)),
+        Calls("mercator", "commands.rt", ("run_plan",)),
     )),
     ("A replay, from bytes to bytes", (
         Calls("crawl_replay", "replay.rt", ("replay_text",)), Calls("crawl_replay", "laws.rt"),
@@ -67,9 +67,8 @@ THEOREMS = (
         Calls("html_links", "style.rt", ("style_links",)),
     )),
     ("The program", (
-        Calls("mercator", "commands.rt", ("run_words_with", "run_plan")),
+        Calls("mercator", "commands.rt", ("run_words", "run_plan")),
         Calls("mercator", "commands/words.rt", ("plan",)),
-        Calls("mercator_site", "program.rt", ("run_site_words", "run_site_plan")),
     )),
 )
 

@@ -1,5 +1,5 @@
 -- What a session tells, by its plan.
-use Rattle.std.proofs.Common.{◌≡◌, ◌⊎◌, inl, inr, ℕ, List, [], ◌++◌, false, IfSome, Result, Ok, Err, IfOk, IfErr, Option, String, Global, refl, sym, subst, ◌∙◌}
+use Rattle.std.proofs.Common.{◌≡◌, ◌⊎◌, inl, inr, ℕ, List, [], ◌++◌, false, Result, Ok, Err, IfOk, IfErr, Option, String, Global, refl, sym, subst, ◌∙◌}
 use Rattle.std.specs.Io.KnownBytes.{Appends}
 use Rattle.std.proofs.KnownBytes.{Appends-nil, Appends-trans}
 use Rattle.std.specs.Str.Lines.{lines}
@@ -13,15 +13,17 @@ use Rattle.crawl_session.specs.Settings.{SessionView}
 use Rattle.crawl_session.specs.declared.serving.ServeError.{ServeError}
 use Rattle.crawl_session.specs.declared.serving.ServeError.TheVariants as serving
 use Rattle.crawl_session.proofs.Compacted.{compacts_both}
-use Rattle.mercator.specs.Compaction.{Compacted, IsCompacted}
+use Rattle.mercator.specs.Compaction.{Compacted}
 use Rattle.mercator.specs.Ending.{Begins}
 use Rattle.mercator.specs.Faults.{of_session, status_of_fault}
 use Rattle.mercator.specs.LogFile.{IsBreak, IsLogFault}
-use Rattle.mercator.specs.Plans.{IsTelling, IsWithinLimits, has_log, is_bad_suffix, queues_of, suffixes_of}
+use Rattle.mercator.specs.Plans.{IsTelling, IsWithinLimits, has_notices, is_bad_suffix, queues_of, suffixes_of}
 use Rattle.mercator.specs.Told.{BreaksOff, EndsBy, Fails, FailsLog, Gains, IsDoneWithNote, MayNote, TellsFault, no_identity, part_of, settings_of}
 use Rattle.mercator.specs.declared.commands.fault.Fault.{Fault}
 use Rattle.mercator.specs.declared.commands.fault.Fault.TheVariants as wrong
 use Rattle.mercator.specs.declared.commands.log_file.LogFault.TheVariants as unlogged
+use Rattle.mercator_site.specs.declared.options.CheckOptions.{CheckOptions}
+use Rattle.mercator_site.specs.declared.options.SiteOptions.{SiteOptions}
 use Rattle.mercator.specs.declared.commands.planned.LogPlan.{LogPlan}
 use Rattle.mercator.specs.declared.commands.planned.Plan.{Plan}
 use Rattle.mercator.specs.declared.commands.planned.SessionPlan.{SessionPlan}
@@ -131,25 +133,32 @@ plain_log (wrong.Log why) is = refl
 plain_log fault is = absurd is
 
 -- a plan that is no session tells a text, and notes nothing
-pub is_telling : (plan : Plan) → ((asked : SessionPlan) → plan ≡ asks.Serve asked → ⊥) → ((asked : LogPlan) → plan ≡ asks.ServeLog asked → ⊥) → ((log : LogPlan) (new : String Global) → plan ≡ asks.Compact log new → ⊥) → IsTelling plan
-is_telling (asks.Serve asked) other logged compacts = other asked refl
-is_telling (asks.ServeLog asked) other logged compacts = logged asked refl
-is_telling (asks.Compact log new) other logged compacts = compacts log new refl
-is_telling plan other logged compacts = tt
+pub is_telling : (plan : Plan) → ((asked : SessionPlan) → plan ≡ asks.Serve asked → ⊥) → ((asked : LogPlan) → plan ≡ asks.ServeLog asked → ⊥) → ((log : LogPlan) (new : String Global) → plan ≡ asks.Compact log new → ⊥)
+    → ((options : SiteOptions) → plan ≡ asks.Site options → ⊥) → ((options : CheckOptions) (ignores : Option (String Global)) → plan ≡ asks.Check options ignores → ⊥) → IsTelling plan
+is_telling (asks.Serve asked) other logged compacts site check = other asked refl
+is_telling (asks.ServeLog asked) other logged compacts site check = logged asked refl
+is_telling (asks.Compact log new) other logged compacts site check = compacts log new refl
+is_telling (asks.Site options) other logged compacts site check = site options refl
+is_telling (asks.Check options ignores) other logged compacts site check = check options ignores refl
+is_telling plan other logged compacts site check = tt
 
 pub notes_nothing : (plan : Plan) (old new : Option (List ℕ)) → ((asked : LogPlan) → plan ≡ asks.ServeLog asked → ⊥) → MayNote plan old new
 notes_nothing (asks.ServeLog asked) old new plain = absurd (plain asked refl)
 notes_nothing plan old new plain = tt
 
 -- a fault's line is told, behind what a session with a log may have told
-pub tells_fault : (plan : Plan) (old middle new : Option (List ℕ)) (line : List ℕ) → (has_log plan ≡ false → middle ≡ old) → MayNote plan old middle → Begins middle new line → TellsFault plan old new line
+pub tells_fault : (plan : Plan) (old middle new : Option (List ℕ)) (line : List ℕ) → (has_notices plan ≡ false → middle ≡ old) → MayNote plan old middle → Begins middle new line → TellsFault plan old new line
 tells_fault (asks.ServeLog asked) old middle new line silent noted told = (middle, noted, told)
+tells_fault (asks.Site options) old middle new line silent noted told = (middle, told)
+tells_fault (asks.Check options ignores) old middle new line silent noted told = (middle, told)
 tells_fault plan old middle new line silent noted told = subst (λ o. Begins o new line) (silent refl) told
 
 -- words are done that are a plan's
-pub done_words : {E : Type 0} (plan : Plan) (contents : E → Option (List ℕ)) (input out_old out_new : Option (List ℕ)) (old new : E) → IsWithinLimits plan → Gains plan input out_old out_new → (has_log plan ≡ false → new ≡ old) → MayNote plan (contents old) (contents new)
+pub done_words : {E : Type 0} (plan : Plan) (contents : E → Option (List ℕ)) (input out_old out_new : Option (List ℕ)) (old new : E) → IsWithinLimits plan → Gains plan input out_old out_new → (has_notices plan ≡ false → new ≡ old) → MayNote plan (contents old) (contents new)
     → (new ≡ old) ⊎ ((plan : Plan) × IsWithinLimits plan × IsDoneWithNote plan input out_old out_new (contents old) (contents new))
-done_words (asks.ServeLog asked) contents input out_old out_new old new limits gains silent noted = inr (asks.ServeLog asked, limits, record { logged = refl; gains = gains; noted = noted })
+done_words (asks.ServeLog asked) contents input out_old out_new old new limits gains silent noted = inr (asks.ServeLog asked, limits, record { noting = refl; gains = gains; noted = noted })
+done_words (asks.Site options) contents input out_old out_new old new limits gains silent noted = inr (asks.Site options, limits, record { noting = refl; gains = gains; noted = noted })
+done_words (asks.Check options ignores) contents input out_old out_new old new limits gains silent noted = inr (asks.Check options ignores, limits, record { noting = refl; gains = gains; noted = noted })
 done_words plan contents input out_old out_new old new limits gains silent noted = inl (silent refl)
 
 -- what a compaction did, and more of it

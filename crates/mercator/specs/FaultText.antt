@@ -22,6 +22,8 @@ use Rattle.crawl_run.specs.declared.error.CrawlError.TheVariants as crawl
 use Rattle.crawl_run.specs.declared.failure.CrawlFailure.{CrawlFailure}
 use Rattle.crawl_replay.specs.declared.script.error.ScriptError.{ScriptError}
 use Rattle.crawl_replay.specs.declared.script.error.ScriptError.TheVariants as script
+use Rattle.mercator_site.specs.declared.fault.SiteFault.{SiteFault}
+use Rattle.mercator_site.specs.declared.fault.SiteFault.TheVariants as unsited
 use Rattle.shown_text.specs.Shown.{shown}
 
 -- what is wrong with a line
@@ -97,10 +99,22 @@ log_text unlogged.CannotWrite = codes "cannot write"
 log_text unlogged.CannotMakeNew = codes "cannot create the new log, which must not exist"
 log_text unlogged.CannotWriteNew = codes "cannot write the new log"
 
+-- why the folder with this name has no report, or no saved web
+abbrev pub site_text : List ℕ → SiteFault → List ℕ
+site_text file unsited.CannotReadFolder = codes "cannot read " ++ file
+site_text file unsited.BadBase = codes "BASE: must be an http or https URL without a query"
+site_text file unsited.BadHost = codes "BASE: the host may contain only letters, digits, - and ."
+site_text file unsited.NoFiles = file ++ codes ": no files"
+site_text file unsited.BadSeed = codes "--seed: not a URL below BASE"
+site_text file unsited.TooLarge = file ++ codes ": more than 1073741824 bytes of links"
+site_text file (unsited.Crawl failure) = crawl_text failure.error
+site_text file unsited.NoMemory = codes "out of memory"
+
 -- the text of an error about this file
 abbrev pub fault_text : List ℕ → Fault → List ℕ
 fault_text file wrong.CannotRead = codes "cannot read " ++ file
 fault_text file wrong.CannotReadSeeds = codes "cannot read " ++ file
+fault_text file wrong.CannotReadIgnores = codes "cannot read " ++ file
 fault_text file wrong.CannotWrite = codes "cannot write"
 fault_text file wrong.NoMemory = codes "out of memory"
 fault_text file wrong.BadSuffix = codes "bad suffix"
@@ -111,6 +125,7 @@ fault_text file wrong.NoSeed = codes "seeds: no seed in the list or on the comma
 fault_text file (wrong.Web fault) = codes "saved web: " ++ web_text fault
 fault_text file (wrong.Script fault) = codes "script: " ++ script_text fault
 fault_text file (wrong.Crawl failure) = crawl_text failure.error
+fault_text file (wrong.Site fault) = site_text file fault
 fault_text file (wrong.Log fault) = codes "log " ++ file ++ codes ": " ++ log_text fault
 
 -- the line that reports it; hidden characters in the name of the file are escaped
@@ -136,6 +151,10 @@ culprit_lines file failure (Some url) = culprit_line file (wrong.Crawl failure) 
 abbrev pub more_lines : List ℕ → Fault → List ℕ
 more_lines file (wrong.Crawl failure) = culprit_lines file failure failure.culprit
 more_lines file fault = []
+
+-- a line about something with this name
+abbrev pub note_line : List ℕ → List ℕ → List ℕ
+note_line name words = codes "mercator: " ++ shown name ++ codes ": " ++ words ++ 10 ∷ []
 
 -- the line that reports that the last line of this log had no end, and was removed
 abbrev pub torn_line : List ℕ → List ℕ

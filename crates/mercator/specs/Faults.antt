@@ -18,6 +18,8 @@ use Rattle.crawl_run.specs.Crawls.{is_incomplete}
 use Rattle.crawl_run.specs.declared.error.CrawlError.{CrawlError}
 use Rattle.crawl_run.specs.declared.error.CrawlError.TheVariants as crawl
 use Rattle.crawl_run.specs.declared.failure.CrawlFailure.{CrawlFailure}
+use Rattle.mercator_site.specs.declared.fault.SiteFault.{SiteFault}
+use Rattle.mercator_site.specs.declared.fault.SiteFault.TheVariants as unsited
 use Rattle.crawl_replay.specs.declared.script.error.ScriptError.{ScriptError}
 use Rattle.crawl_replay.specs.declared.script.error.ScriptError.TheVariants as script
 
@@ -29,6 +31,11 @@ of_unread _ = wrong.CannotRead
 abbrev pub of_unread_seeds : Unread → Fault
 of_unread_seeds unread.NoMemory = wrong.NoMemory
 of_unread_seeds _ = wrong.CannotReadSeeds
+
+-- for an ignore list
+abbrev pub of_unread_ignores : Unread → Fault
+of_unread_ignores unread.NoMemory = wrong.NoMemory
+of_unread_ignores _ = wrong.CannotReadIgnores
 
 abbrev pub of_seeds : SeedsFault → Fault
 of_seeds seeds.NoMemory = wrong.NoMemory
@@ -62,6 +69,12 @@ of_crawl_by error failure = wrong.Crawl failure
 
 abbrev pub of_crawl : CrawlFailure → Fault
 of_crawl failure = of_crawl_by failure.error failure
+
+-- for each error of a folder
+abbrev pub of_site : SiteFault → Fault
+of_site (unsited.Crawl failure) = of_crawl failure
+of_site unsited.NoMemory = wrong.NoMemory
+of_site fault = wrong.Site fault
 
 -- the exit status for an error: 2 if a crawl is incomplete, otherwise 1
 abbrev pub status_of_fault : Fault → ℕ

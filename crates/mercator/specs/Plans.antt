@@ -46,6 +46,8 @@ IsSessionPlan asked = AreLimits asked.workers asked.max × ((queues_of asked ≤
 abbrev pub IsWithinLimits : Plan → Type 0
 IsWithinLimits (asks.Crawl workers max queues file seeds within options) =
     AreLimits workers max × (IsSome options.listed ⊎ (1 ≤ length seeds.items)) × ((is_input (string_bytes file) && lists_input options.listed) ≡ false)
+IsWithinLimits (asks.Site options) = Unit {0}
+IsWithinLimits (asks.Check options ignores) = (1 ≤ options.workers) × (options.workers ≤ worker_limit)
 IsWithinLimits (asks.Key url workers) = (1 ≤ workers) × (workers ≤ worker_limit)
 IsWithinLimits (asks.Replay file) = Unit {0}
 IsWithinLimits (asks.Serve asked) = IsSessionPlan asked
@@ -70,23 +72,32 @@ abbrev pub known_seeds : Option (String Global) → Option (List ℕ) → Option
 known_seeds None input = Some []
 known_seeds (Some file) input = known_bytes (string_bytes file) input
 
+-- what is known of the bytes of an ignore list; without one there are none
+abbrev pub known_ignores : Option (String Global) → Option (List ℕ)
+known_ignores None = Some []
+known_ignores (Some file) = None
+
 -- the FILE of a plan; a key and a compaction have none, and a session reads the standard input
 abbrev pub file_of : Plan → List ℕ
 file_of (asks.Crawl workers max queues file seeds within options) = string_bytes file
+file_of (asks.Site options) = string_bytes options.folder
+file_of (asks.Check options ignores) = string_bytes options.site.folder
 file_of (asks.Key url workers) = []
 file_of (asks.Replay file) = string_bytes file
 file_of (asks.Serve asked) = codes "-"
 file_of (asks.ServeLog asked) = codes "-"
 file_of (asks.Compact log new) = []
 
--- the name of the file of seeds if there is one, else FILE
+-- the name of the list if there is one, else FILE
 abbrev pub listed_or : Option (String Global) → List ℕ → List ℕ
 listed_or None file = file
 listed_or (Some listed) file = string_bytes listed
 
--- the file that an error of a plan is about: the file of seeds if that cannot be read, the log if that cannot be used, else FILE
+-- the file that an error of a plan is about: the file of seeds or the ignore list if that cannot be read, the log if that cannot be
+-- used, else FILE
 abbrev pub told_file : Plan → Fault → List ℕ
 told_file (asks.Crawl workers max queues file seeds within options) fault.CannotReadSeeds = listed_or options.listed (string_bytes file)
+told_file (asks.Check options ignores) fault.CannotReadIgnores = listed_or ignores (string_bytes options.site.folder)
 told_file (asks.ServeLog asked) (fault.Log why) = string_bytes asked.file
 told_file (asks.Compact log new) (fault.Log why) = string_bytes log.file
 told_file plan fault = file_of plan
@@ -104,24 +115,30 @@ is_bad_suffix (Some suffix) = not (is_good (string_bytes suffix))
 -- the command reads the standard input: it is a session, or one of its files is the standard input; and the suffix is not bad
 abbrev pub reads_input : Plan → Bool
 reads_input (asks.Crawl workers max queues file seeds within options) = not (is_bad_suffix within) && (is_input (string_bytes file) || lists_input options.listed)
+reads_input (asks.Site options) = false
+reads_input (asks.Check options ignores) = false
 reads_input (asks.Key url workers) = false
 reads_input (asks.Replay file) = is_input (string_bytes file)
 reads_input (asks.Serve asked) = not (is_bad_suffix asked.within)
 reads_input (asks.ServeLog asked) = not (is_bad_suffix asked.session.within)
 reads_input (asks.Compact log new) = false
 
--- the command computes its whole output before any of it is written; a session answers while it reads, and a compaction has no
--- output
+-- the command prints only its output, which it computes before any of it is written; a session answers while it reads, a compaction
+-- has no output, and the commands for a folder also print notices
 abbrev pub IsTelling : Plan → Type 0
 IsTelling (asks.Serve asked) = ⊥
 IsTelling (asks.ServeLog asked) = ⊥
 IsTelling (asks.Compact log new) = ⊥
+IsTelling (asks.Site options) = ⊥
+IsTelling (asks.Check options ignores) = ⊥
 IsTelling plan = Unit {0}
 
--- the session has a log
-abbrev pub has_log : Plan → Bool
-has_log (asks.ServeLog asked) = true
-has_log plan = false
+-- the command may print notices if it succeeds: a session with a log, or a command for a folder
+abbrev pub has_notices : Plan → Bool
+has_notices (asks.ServeLog asked) = true
+has_notices (asks.Site options) = true
+has_notices (asks.Check options ignores) = true
+has_notices plan = false
 
 -- the command reports the first affected URL of an incomplete crawl
 abbrev pub explains : Plan → Bool

@@ -1,5 +1,5 @@
 -- What each command prints, and why it fails, by the bytes of its FILE.
-use Rattle.std.specs.Prelude.{◌≡◌, ◌⊎◌, ℕ, ◌≤◌, true, false, if◌then◌else◌, List, [], ◌++◌, codes, length, map, Option, Some, None, Err, IfSome, IsSome, IsSomeAnd, IsErr, String, string_bytes}
+use Rattle.std.specs.Prelude.{◌≡◌, ◌⊎◌, ℕ, ◌≤◌, Bool, true, false, if◌then◌else◌, List, [], ◌++◌, codes, length, map, Option, Some, None, Err, IfSome, IsSome, IsSomeAnd, IsErr, String, string_bytes}
 use Rattle.std.specs.Io.KnownBytes.{Appends}
 use Rattle.std.specs.declared.alloc.Global.{Global}
 use Rattle.crawl_keys.specs.CanonicalText.{canonical}
@@ -8,7 +8,7 @@ use Rattle.mercator.specs.FaultText.{fault_line, more_lines, torn_line}
 use Rattle.mercator.specs.Faults.{status_of_fault}
 use Rattle.mercator.specs.KeyLine.{IsKeyLine}
 use Rattle.mercator.specs.Limits.{most_input_bytes}
-use Rattle.mercator.specs.Plans.{IsVisible, explains, has_log, is_bad_suffix, is_input, known_bytes, known_seeds, queues_of, suffixes_of, told_file}
+use Rattle.mercator.specs.Plans.{IsVisible, explains, has_notices, is_bad_suffix, is_input, known_bytes, known_ignores, known_seeds, queues_of, suffixes_of, told_file}
 use Rattle.crawl_replay.specs.Replay.{IsReplay}
 use Rattle.crawl_replay.specs.Script.{script_of}
 use Rattle.crawl_session.specs.Answers.{answer_lines}
@@ -17,6 +17,11 @@ use Rattle.crawl_session.specs.Sessions.{answers, session_text, state_after}
 use Rattle.crawl_session.specs.Settings.{Settings}
 use Rattle.crawl_session.specs.declared.part.Part.{Part}
 use Rattle.std.specs.Str.Lines.{lines}
+use Rattle.mercator_site.specs.Ends.{IsFolderCheck}
+use Rattle.mercator_site.specs.Faults.{IsSiteIncomplete}
+use Rattle.mercator_site.specs.declared.options.CheckOptions.{CheckOptions}
+use Rattle.saved_site.specs.Below.{IsWebAt}
+use Rattle.saved_site.specs.Meaning.{IsSiteWeb}
 use Rattle.mercator.specs.WebCrawl.{IsBegun, IsCrawlText, IsUnbegun}
 use Rattle.mercator.specs.declared.commands.planned.CrawlOptions.{CrawlOptions}
 use Rattle.mercator.specs.declared.commands.planned.Plan.{Plan}
@@ -74,16 +79,27 @@ pub record GoesOn (asked : SessionPlan) (input : Option (List ℕ)) (text : List
   pub read : IfSome input (λ known. bytes ≡ known)
   pub answered : text ≡ answer_lines (answers (settings_of asked identity) (state_after (settings_of asked identity) (start (queues_of asked) asked.max) (lines log)) (lines bytes))
 
--- the text is the output of the plan
+-- the text is the report of a check of a folder, with the ignore list in this file
+abbrev pub IsChecked : CheckOptions → Option (String Global) → Bool → List ℕ → Type 0
+IsChecked options ignores broken text = OfFile (known_ignores ignores) (λ list. IsFolderCheck options list broken text)
+
+-- the text is the output of the plan; for a check, of one that found nothing broken
 abbrev pub IsTold : Plan → Option (List ℕ) → List ℕ → Type 0
 IsTold (asks.Crawl workers max queues file seeds within options) input text =
     (is_bad_suffix within ≡ false)
     × OfFiles (string_bytes file) options.listed input (λ bytes list. IsBegun bytes list (map string_bytes seeds.items) × IsCrawlText workers queues options bytes list (map string_bytes seeds.items) (suffixes_of within) text)
+IsTold (asks.Site options) input text = IsSiteWeb text × IsWebAt (string_bytes options.base) text
+IsTold (asks.Check options ignores) input text = IsChecked options ignores false text
 IsTold (asks.Key url workers) input text = IsKeyLine (string_bytes url) workers text
 IsTold (asks.Replay file) input text = OfFile (known_bytes (string_bytes file) input) (λ bytes. IsReplay bytes text)
 IsTold (asks.Serve asked) input text = (is_bad_suffix asked.within ≡ false) × IsAnswered asked input text
 IsTold (asks.ServeLog asked) input text = (is_bad_suffix asked.session.within ≡ false) × GoesOn asked.session input text
 IsTold (asks.Compact log new) input text = (is_bad_suffix log.session.within ≡ false) × (text ≡ [])
+
+-- the text is the report of a check that found something broken
+abbrev pub IsBroken : Plan → List ℕ → Type 0
+IsBroken (asks.Check options ignores) text = IsChecked options ignores true text
+IsBroken plan text = ⊥
 
 -- why a replay fails: the FILE cannot be read, or is no script, with this error; or memory runs out
 abbrev pub FailsReplay : List ℕ → Option (List ℕ) → Fault → Type 0
@@ -122,7 +138,8 @@ FailsLog within (wrong.Log fault) = is_bad_suffix within ≡ false
 FailsLog within wrong.NoMemory = Unit {0}
 FailsLog within _ = ⊥
 
--- why a session ends before its input does: the input cannot be read, an answer or the log cannot be written, or memory runs out
+-- why a session ends before its input does: the input cannot be read, an answer or the log cannot be written, or memory runs out.
+-- Memory may also run out while a saved web is written
 abbrev pub BreaksOff : Plan → Fault → Type 0
 BreaksOff (asks.Serve asked) wrong.CannotRead = is_bad_suffix asked.within ≡ false
 BreaksOff (asks.Serve asked) wrong.CannotWrite = is_bad_suffix asked.within ≡ false
@@ -131,11 +148,14 @@ BreaksOff (asks.ServeLog asked) wrong.CannotRead = is_bad_suffix asked.session.w
 BreaksOff (asks.ServeLog asked) wrong.CannotWrite = is_bad_suffix asked.session.within ≡ false
 BreaksOff (asks.ServeLog asked) wrong.NoMemory = is_bad_suffix asked.session.within ≡ false
 BreaksOff (asks.ServeLog asked) (wrong.Log unlogged.CannotWrite) = is_bad_suffix asked.session.within ≡ false
+BreaksOff (asks.Site options) wrong.NoMemory = (text : List ℕ) × IsSiteWeb text × IsWebAt (string_bytes options.base) text
 BreaksOff plan fault = ⊥
 
 -- the plan's command fails with this error before it writes
 abbrev pub Fails : Plan → Option (List ℕ) → Fault → Type 0
 Fails (asks.Crawl workers max queues file seeds within options) input fault = FailsCrawl workers max within (string_bytes file) options.listed (map string_bytes seeds.items) input fault
+Fails (asks.Site options) input fault = status_of_fault fault ≡ 1
+Fails (asks.Check options ignores) input fault = status_of_fault fault ≡ 2 → IsSiteIncomplete options
 Fails (asks.Key url workers) input fault = FailsKey (string_bytes url) fault
 Fails (asks.Replay file) input fault = FailsReplay (string_bytes file) input fault
 Fails (asks.Serve asked) input fault = FailsSession asked.within fault
@@ -147,16 +167,19 @@ Fails (asks.Compact log new) input fault = FailsLog log.session.within fault
 abbrev pub CannotTell : Plan → Option (List ℕ) → Type 0
 CannotTell (asks.Crawl workers max queues file seeds within options) input =
     (is_bad_suffix within ≡ true) ⊎ (OfFiles (string_bytes file) options.listed input (λ bytes list. IsBegun bytes list (map string_bytes seeds.items)) → ⊥)
+CannotTell (asks.Site options) input = ⊥
+CannotTell (asks.Check options ignores) input = ⊥
 CannotTell (asks.Key url workers) input = IsErr (canonical (string_bytes url))
 CannotTell (asks.Replay file) input = IsSomeAnd (known_bytes (string_bytes file) input) (λ bytes. IsErr (script_of bytes))
 CannotTell (asks.Serve asked) input = is_bad_suffix asked.within ≡ true
 CannotTell (asks.ServeLog asked) input = is_bad_suffix asked.session.within ≡ true
 CannotTell (asks.Compact log new) input = is_bad_suffix log.session.within ≡ true
 
--- only a crawl can be incomplete: one of a saved web, from at least one seed, whose seeds have canonical URLs
+-- only a crawl can be incomplete: one of a saved web, from at least one seed, whose seeds have canonical URLs; or that of a check
 abbrev pub MayLose : Plan → Option (List ℕ) → Type 0
 MayLose (asks.Crawl workers max queues file seeds within options) input =
     (is_bad_suffix within ≡ false) × OfFiles (string_bytes file) options.listed input (λ bytes list. IsBegun bytes list (map string_bytes seeds.items))
+MayLose (asks.Check options ignores) input = IsSiteIncomplete options
 MayLose _ input = ⊥
 
 -- the plan's output was appended to what a writer holds, if that is known
@@ -165,19 +188,33 @@ pub record Gains (plan : Plan) (input old new : Option (List ℕ)) : Type 0 wher
   pub told : IsTold plan input text
   pub gained : Appends old new text
 
--- why a plan's command ended with this error: it failed before it wrote anything; a write of its output failed; or it is a session
--- that ended early
-abbrev pub EndsBy : Plan → Option (List ℕ) → Fault → Type 0 → Type 0
-EndsBy plan input fault Unwritten = (Fails plan input fault × Unwritten) ⊎ (((fault ≡ wrong.CannotWrite) × ((text : List ℕ) × IsTold plan input text)) ⊎ BreaksOff plan fault)
+-- the report of a check that found something broken was appended
+pub record GainsBroken (plan : Plan) (old new : Option (List ℕ)) : Type 0 where
+  pub text : List ℕ
+  pub told : IsBroken plan text
+  pub gained : Appends old new text
 
--- what a session with a log may report in addition to an error: that the last line of the log was incomplete
+-- the one or the other
+abbrev pub GainsAs : Bool → Plan → Option (List ℕ) → Option (List ℕ) → Option (List ℕ) → Type 0
+GainsAs true plan input old new = GainsBroken plan old new
+GainsAs false plan input old new = Gains plan input old new
+
+-- why a plan's command ended with this error: it failed before it wrote anything; a write of its output failed; or it ended while
+-- it wrote
+abbrev pub EndsBy : Plan → Option (List ℕ) → Fault → Type 0 → Type 0
+EndsBy plan input fault Unwritten = (Fails plan input fault × Unwritten) ⊎ (((fault ≡ wrong.CannotWrite) × ((text : List ℕ) × (IsTold plan input text ⊎ IsBroken plan text))) ⊎ BreaksOff plan fault)
+
+-- what a command may print in addition to an error: a session with a log, that the last line of the log was incomplete; a command
+-- for a folder, any notices
 abbrev pub MayNote : Plan → Option (List ℕ) → Option (List ℕ) → Type 0
 MayNote (asks.ServeLog asked) old new = Begins old new (torn_line (string_bytes asked.file))
 MayNote plan old new = Unit {0}
 
--- the writer for errors gained the line, up to where it failed; for a session with a log, after what that may report
+-- the writer for errors gained the line, up to where it failed, after the notices
 abbrev pub TellsFault : Plan → Option (List ℕ) → Option (List ℕ) → List ℕ → Type 0
 TellsFault (asks.ServeLog asked) old new line = (middle : Option (List ℕ)) × MayNote (asks.ServeLog asked) old middle × Begins middle new line
+TellsFault (asks.Site options) old new line = (middle : Option (List ℕ)) × Begins middle new line
+TellsFault (asks.Check options ignores) old new line = (middle : Option (List ℕ)) × Begins middle new line
 TellsFault plan old new line = Begins old new line
 
 -- the lines that report an error: its own, and if the plan asks for them, those about the URL of a crawl's failure and what was lost
@@ -216,8 +253,8 @@ TellsWords unplanned.NoMemory old new = ⊥
 abbrev pub FailsWithoutPlan : Option (List ℕ) → Option (List ℕ) → Type 0 → Type 0
 FailsWithoutPlan old new Unwritten = Begins old new (fault_line [] wrong.CannotWrite) ⊎ (Begins old new (fault_line [] wrong.NoMemory) × Unwritten)
 
--- a session with a log is done, and may have reported that the log's last line was incomplete
+-- a command that may print notices is done, and may have printed some
 pub record IsDoneWithNote (plan : Plan) (input out_old out_new err_old err_new : Option (List ℕ)) : Type 0 where
-  pub logged : has_log plan ≡ true
+  pub noting : has_notices plan ≡ true
   pub gains : Gains plan input out_old out_new
   pub noted : MayNote plan err_old err_new

@@ -1,11 +1,11 @@
 //! The program, as a function of its arguments, an input and two writers.
-ghost use Rattle.std.specs.Prelude.{◌≡◌, ◌≤◌, ◌<◌, ◌⊎◌, List, ℕ, [], false, string_bytes, IfOk, IfErr, IsErr};
+ghost use Rattle.std.specs.Prelude.{◌≡◌, ◌<◌, ◌≤◌, ◌⊎◌, List, ℕ, [], true, false, string_bytes, IfOk, IfErr, IsErr};
 ghost use Rattle.std.specs.Io.KnownBytes.{Appends};
 ghost use Rattle.mercator.specs.Ending.{Begins};
 ghost use Rattle.mercator.specs.FaultText.{fault_line};
 ghost use Rattle.mercator.specs.Faults.{status_of_fault};
-ghost use Rattle.mercator.specs.Plans.{IsShown, IsWithinLimits, has_log, reads_input};
-ghost use Rattle.mercator.specs.Told.{CannotTell, EndsBy, EndsByFault, FailsWithoutPlan, Gains, IsDoneWithNote, MayLose, MayNote, TellsWords};
+ghost use Rattle.mercator.specs.Plans.{IsShown, IsWithinLimits, has_notices, reads_input};
+ghost use Rattle.mercator.specs.Told.{CannotTell, EndsBy, EndsByFault, FailsWithoutPlan, Gains, GainsAs, GainsBroken, IsDoneWithNote, MayLose, MayNote, TellsWords};
 ghost use Rattle.mercator.specs.declared.commands.planned.Plan.{Plan};
 ghost use Rattle.mercator.specs.declared.commands.words.PlanError.{PlanError};
 ghost use Rattle.mercator.specs.declared.commands.fault.Fault.TheVariants as wrong;
@@ -16,6 +16,7 @@ mod compacting;
 mod crawl_text;
 mod fault;
 mod fault_text;
+mod folder;
 mod folder_words;
 mod input;
 mod log_file;
@@ -35,10 +36,12 @@ mod words;
 mod writing;
 
 use compacting::compact_log;
-use crawl_run::{Observe, Unobserved};
+use crawl_run::Observe;
 pub use fault::Fault;
-pub use input::{InputLimits, Unread, input_limits, read_input};
-use log_file::{LockFile, NoLocks};
+use folder::{run_check, run_site};
+pub use input::{InputLimits, Unread, read_input};
+use log_file::LockFile;
+pub use log_file::NoLocks;
 pub use planned::Plan;
 pub use platform::Platform;
 use resuming::serve_log;
@@ -50,67 +53,24 @@ use std::sync::Wait;
 use std::thread::Threads;
 use tell::tell;
 pub use web_report::{Report, report_of_saved_web};
-pub use words::{BAD_COMMAND_LINE, PlanError, plan, whole_command};
+pub use words::{PlanError, plan};
 pub use writing::fault_line;
 use writing::{begin, end, end_by_parts, tell_ended, tell_fault};
 
+/// The exit status of a check that found something broken.
+const BROKEN: u8 = 4;
+
 /// Runs the program on the arguments after its name, and returns its exit status: 0 success, 1 an error, 2 an incomplete crawl,
-/// 3 a bad command line.
+/// 3 a bad command line, 4 a check that found something broken.
 ///
 /// [`plan`] parses the arguments, and [`run_plan`] runs what they ask for. Help is written to `out`, and an error in the
-/// arguments to `err`. Like [`run_plan`], this call is meant for a process that ends afterwards. It cannot lock files, so it
-/// fails to open a log.
+/// arguments to `err`. Like [`run_plan`], this call is meant for a process that ends afterwards.
 ///
-/// # Example
-///
-/// The exit status of a program without arguments, which is that of a bad command line:
+/// The program `mercator` is this call on the platform of the process:
 ///
 /// ```rust
-/// fn without_arguments<R: Files + Threads + Wait + Sync>(rt: &R, alloc: Global) -> u8 {
-///     let (mut out, mut err) = (Vec::new(alloc), Vec::new(alloc));
-///     run_words(rt, alloc, &[], &mut io::empty(), &mut out, &mut err)
-/// }
-/// ```
-pub fn run_words<R: Files + Threads + Wait + Sync, I: Read, O: Write, E: Write>(
-    rt: &R,
-    alloc: Global,
-    words: &[String],
-    input: &mut I,
-    out: &mut O,
-    err: &mut E,
-) -> u8
-    ensures statuses { result ≤ 3 }
-
-    // Success: help is written, or the whole output of a plan within the limits, which is that of the arguments.
-    ensures done { result ≡ 0 → ((input.new ≡ input.old) × ((text : List ℕ) × Appends (O.contents out.old) (O.contents out.new) text))
-        ⊎ ((plan : Plan) × IsWithinLimits plan × Gains plan (I.remaining input.old) (O.contents out.old) (O.contents out.new)) }
-
-    // A session with a log may report that its last line was incomplete; no other success writes to `err`.
-    ensures silent { result ≡ 0 → (err.new ≡ err.old)
-        ⊎ ((plan : Plan) × IsWithinLimits plan × IsDoneWithNote plan (I.remaining input.old) (O.contents out.old) (O.contents out.new) (E.contents err.old) (E.contents err.new)) }
-
-    // An error: help cannot be written, there is no memory for the plan, or the plan's command ends with this error.
-    ensures fault { result ≡ 1 → ((input.new ≡ input.old) × FailsWithoutPlan (E.contents err.old) (E.contents err.new) (out.new ≡ out.old))
-        ⊎ ((plan : Plan) × IsWithinLimits plan × EndsByFault plan result (I.remaining input.old) (E.contents err.old) (E.contents err.new) (out.new ≡ out.old)) }
-
-    // Only a crawl can be incomplete, and then nothing is written to `out`.
-    ensures incomplete { result ≡ 2 → (plan : Plan) × IsWithinLimits plan × EndsByFault plan result (I.remaining input.old) (E.contents err.old) (E.contents err.new) (out.new ≡ out.old) }
-
-    // A bad command line: the error is reported, and nothing else happens.
-    ensures bad_command { result ≡ 3 → (input.new ≡ input.old) × (out.new ≡ out.old) }
-    ensures bad_words { result ≡ 3 → (error : PlanError) × TellsWords error (E.contents err.old) (E.contents err.new) }
-{
-    run_words_with(&alone(rt), alloc, words, input, out, err)
-}
-
-/// Like [`run_words`], on a platform that can lock the files of logs and may have an observer of crawls.
-///
-/// The program `mercator` runs all commands except `check` and `site` by this call, on the platform of the process:
-///
-/// ```rust
-/// let progress = Progress::new(&rt);
-/// ExitCode::from(run_words_with(
-///     &watched(&rt, &progress),
+/// ExitCode::from(run_words(
+///     &platform_of(&rt, &progress),
 ///     rt.alloc(),
 ///     &words,
 ///     &mut rt.reader(),
@@ -118,8 +78,8 @@ pub fn run_words<R: Files + Threads + Wait + Sync, I: Read, O: Write, E: Write>(
 ///     &mut rt.stderr(),
 /// ))
 /// ```
-pub fn run_words_with<
-    R: Files + Threads + Wait + Sync,
+pub fn run_words<
+    R: Files<File: Send, Dir: Send> + Threads + Wait + Sync,
     L: LockFile<R::File>,
     V: Observe + Sync,
     I: Read,
@@ -133,13 +93,16 @@ pub fn run_words_with<
     out: &mut O,
     err: &mut E,
 ) -> u8
-    ensures statuses { result ≤ 3 }
+    ensures statuses { result ≤ 4 }
 
     // Success: help is written, or the whole output of a plan within the limits, which is that of the arguments.
     ensures done { result ≡ 0 → ((input.new ≡ input.old) × ((text : List ℕ) × Appends (O.contents out.old) (O.contents out.new) text))
         ⊎ ((plan : Plan) × IsWithinLimits plan × Gains plan (I.remaining input.old) (O.contents out.old) (O.contents out.new)) }
 
-    // A session with a log may report that its last line was incomplete; no other success writes to `err`.
+    // Something is broken: the report of a check that says so is written.
+    ensures broken { result ≡ 4 → (plan : Plan) × IsWithinLimits plan × GainsBroken plan (O.contents out.old) (O.contents out.new) }
+
+    // Only a session with a log and the commands for a folder write to `err` if they succeed.
     ensures silent { result ≡ 0 → (err.new ≡ err.old)
         ⊎ ((plan : Plan) × IsWithinLimits plan × IsDoneWithNote plan (I.remaining input.old) (O.contents out.old) (O.contents out.new) (E.contents err.old) (E.contents err.new)) }
 
@@ -148,28 +111,31 @@ pub fn run_words_with<
         ⊎ ((plan : Plan) × IsWithinLimits plan × EndsByFault plan result (I.remaining input.old) (E.contents err.old) (E.contents err.new) (out.new ≡ out.old)) }
 
     // Only a crawl can be incomplete, and then nothing is written to `out`.
-    ensures incomplete { result ≡ 2 → (plan : Plan) × IsWithinLimits plan × EndsByFault plan result (I.remaining input.old) (E.contents err.old) (E.contents err.new) (out.new ≡ out.old) }
+    ensures incomplete { result ≡ 2 → (out.new ≡ out.old) × ((plan : Plan) × IsWithinLimits plan × EndsByFault plan result (I.remaining input.old) (E.contents err.old) (E.contents err.new) (out.new ≡ out.old)) }
 
     // A bad command line: the error is reported, and nothing else happens.
     ensures bad_command { result ≡ 3 → (input.new ≡ input.old) × (out.new ≡ out.old) }
     ensures bad_words { result ≡ 3 → (error : PlanError) × TellsWords error (E.contents err.old) (E.contents err.new) }
 {
     match plan(alloc, words) {
-        Ok(plan) => run_plan(platform, alloc, &plan, input, out, err),
+        Ok(plan) => {
+            let plan = plan.with_colour(platform.has_colour);
+            run_plan(platform, alloc, &plan, input, out, err)
+        }
         Err(error) => show(alloc, error, out, err),
     }
 }
 
-/// Runs a plan and returns the exit status: 0 success, 1 an error, 2 an incomplete crawl.
+/// Runs a plan and returns the exit status: 0 success, 1 an error, 2 an incomplete crawl, 4 a check that found something broken.
 ///
 /// The whole output of a command is computed before any of it is written to `out`. An error is reported on `err` in a line of
 /// its own; then nothing is written to `out`, unless a write to it failed. A session answers while it reads, and an error
 /// leaves the answers before it.
 ///
 /// This call is meant for a process that ends afterwards: the pages of a crawl are not freed, since the end of the process
-/// frees them faster. A process that crawls repeatedly calls [`crawl_with`](crate::crawl_with), whose result it can free.
+/// frees them faster. A process that crawls repeatedly calls [`crawl`](crate::crawl), whose result it can free.
 pub fn run_plan<
-    R: Files + Threads + Wait + Sync,
+    R: Files<File: Send, Dir: Send> + Threads + Wait + Sync,
     L: LockFile<R::File>,
     V: Observe + Sync,
     I: Read,
@@ -184,28 +150,30 @@ pub fn run_plan<
     err: &mut E,
 ) -> u8
     requires { IsWithinLimits plan.now }
-    ensures statuses { result ≤ 2 }
+    ensures statuses { result ≤ 4 }
+    ensures planned { result ≡ 3 → ⊥ }
 
     // What is written when a command succeeds, for the bytes of its FILE.
     ensures done { result ≡ 0 → Gains plan.now (I.remaining input.old) (O.contents out.old) (O.contents out.new) }
-    ensures silent { has_log plan.now ≡ false → result ≡ 0 → err.new ≡ err.old }
+    ensures broken { result ≡ 4 → GainsBroken plan.now (O.contents out.old) (O.contents out.new) }
+    ensures silent { has_notices plan.now ≡ false → result ≡ 0 → err.new ≡ err.old }
 
     // The last line of a log may be incomplete.
     ensures noted { result ≡ 0 → MayNote plan.now (E.contents err.old) (E.contents err.new) }
 
     // Otherwise it ends with an error, which is reported in its line: the first one, and one by which this plan fails.
-    ensures fault { 0 < result → EndsByFault plan.now result (I.remaining input.old) (E.contents err.old) (E.contents err.new) (out.new ≡ out.old) }
+    ensures fault { 0 < result → result ≤ 2 → EndsByFault plan.now result (I.remaining input.old) (E.contents err.old) (E.contents err.new) (out.new ≡ out.old) }
 
     // A command that cannot have an output ends with an error, and nothing is written.
     ensures refused { CannotTell plan.now (I.remaining input.old) → (result ≡ 1) × (out.new ≡ out.old) }
 
-    // Only a crawl of a saved web can be incomplete, and then nothing is written.
+    // Only a crawl can be incomplete, and then nothing is written.
     ensures incomplete { result ≡ 2 → MayLose plan.now (I.remaining input.old) }
     ensures unreported { result ≡ 2 → out.new ≡ out.old }
     ensures unread { reads_input plan.now ≡ false → input.new ≡ input.old }
 {
     match run(platform, alloc, plan, input, out, err) {
-        Ok(()) => 0,
+        Ok(is_broken) => if is_broken { BROKEN } else { 0 },
         Err(fault) => {
             tell_ended(alloc, err, plan, &fault);
             fault.status()
@@ -213,18 +181,9 @@ pub fn run_plan<
     }
 }
 
-/// Returns a platform that cannot lock files and has no observer.
-fn alone<R>(rt: &R) -> Platform<'_, R, NoLocks, Unobserved> {
-    Platform {
-        rt,
-        locks: &NoLocks,
-        observer: None,
-    }
-}
-
-/// Runs a plan, without reporting its error.
+/// Runs a plan, without reporting its error. Returns whether it is a check that found something broken.
 fn run<
-    R: Files + Threads + Wait + Sync,
+    R: Files<File: Send, Dir: Send> + Threads + Wait + Sync,
     L: LockFile<R::File>,
     V: Observe + Sync,
     I: Read,
@@ -237,23 +196,40 @@ fn run<
     input: &mut I,
     out: &mut O,
     err: &mut E,
-) -> Result<(), Fault>
+) -> Result<bool, Fault>
     requires { IsWithinLimits plan.now }
-    ensures done { IfOk result (λ _. Gains plan.now (I.remaining input.old) (O.contents out.old) (O.contents out.new)) }
+    ensures done { IfOk result (λ broken. GainsAs broken plan.now (I.remaining input.old) (O.contents out.old) (O.contents out.new)) }
     ensures fault { IfErr result (λ fault. EndsBy plan.now (I.remaining input.old) fault (out.new ≡ out.old)) }
     ensures refused { CannotTell plan.now (I.remaining input.old) → IfErr result (λ fault. status_of_fault fault ≡ 1) × IsErr result × (out.new ≡ out.old) }
     ensures incomplete { IfErr result (λ fault. status_of_fault fault ≡ 2 → MayLose plan.now (I.remaining input.old) × (out.new ≡ out.old)) }
     ensures unread { reads_input plan.now ≡ false → input.new ≡ input.old }
-    ensures silent { has_log plan.now ≡ false → err.new ≡ err.old }
+    ensures silent { has_notices plan.now ≡ false → err.new ≡ err.old }
     ensures noted { MayNote plan.now (E.contents err.old) (E.contents err.new) }
 {
     match plan {
-        Plan::Serve(asked) => serve_plan(alloc, asked, input, out),
-        Plan::ServeLog(asked) => serve_log(platform, alloc, asked, input, out, err),
-        Plan::Compact { log, new } => compact_log(platform, alloc, log, new),
+        Plan::Check { options, ignores } => {
+            run_check(platform.rt, alloc, options, ignores, out, err)
+        }
+        Plan::Site(options) => {
+            run_site(platform.rt, alloc, options, out, err)?;
+            Ok(false)
+        }
+        Plan::Serve(asked) => {
+            serve_plan(alloc, asked, input, out)?;
+            Ok(false)
+        }
+        Plan::ServeLog(asked) => {
+            serve_log(platform, alloc, asked, input, out, err)?;
+            Ok(false)
+        }
+        Plan::Compact { log, new } => {
+            compact_log(platform, alloc, log, new)?;
+            Ok(false)
+        }
         _ => {
             let parts = tell(platform, alloc, plan, input)?;
-            end_by_parts(out, &parts)
+            end_by_parts(out, &parts)?;
+            Ok(false)
         }
     }
 }

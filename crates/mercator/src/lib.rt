@@ -1,8 +1,8 @@
-//! The library of the program `mercator`: keys of URLs and the command line, and the names of the crates below that belong to it.
+//! The program `mercator`: its command line, its commands, and their errors and exit statuses.
 //!
 //! - [`run_words`] runs the program on a command line. [`plan`] only parses one, and [`run_plan`] runs what was parsed.
 //! - [`report_of_saved_web`] crawls a saved web, which is a text file of pages and their links.
-//! - [`key_line`], [`fault_line`] and [`read_input`] are parts of the commands.
+//! - [`key_line`] is the line that the command `key` prints.
 //!
 //! Crawls come from `crawl_run`, certificates from `crawl_certificate`, runs of workers from `crawl_workers`, and scripts from
 //! `crawl_replay`. This crate exports their main names.
@@ -13,14 +13,21 @@ mod key;
 /// Theorems that connect the definitions of this crate and of the crates below it.
 pub mod laws;
 
+/// Parts of the commands that only tests call.
+pub mod testing {
+    pub use crate::commands::{InputLimits, NoLocks, Unread, fault_line, read_input};
+}
+
+/// Runs of the workers of a frontier.
+pub mod workers {
+    pub use crawl_workers::{RunError, WorkerEnd, run_threads, run_turns, run_worker};
+}
+
 pub use commands::{
-    BAD_COMMAND_LINE, Fault, InputLimits, Plan, PlanError, Platform, Report, Unread, fault_line,
-    input_limits, plan, read_input, report_of_saved_web, run_plan, run_words, run_words_with,
-    whole_command,
+    Fault, Plan, PlanError, Platform, Report, plan, report_of_saved_web, run_plan, run_words,
 };
 pub use crawl_certificate::{CertError, CrawlResult, certify};
 pub use crawl_replay::{Script, ScriptError, read_script, replay_text};
 pub use crawl_report::queue_text;
-pub use crawl_run::{CrawlError, Crawled, Mode, crawl, crawl_with};
-pub use crawl_workers::{RunError, WorkerEnd, run_threads, run_turns, run_worker};
+pub use crawl_run::{CrawlError, Crawled, Mode, crawl};
 pub use key::key_line;

@@ -3,8 +3,7 @@
 
 mod progress;
 
-use mercator::{BAD_COMMAND_LINE, Fault, Platform, run_words_with};
-use mercator_site::run_site_words;
+use mercator::{Fault, PlanError, Platform, run_words};
 use progress::Progress;
 use std::env::VarError;
 use std::fs::{self, Files};
@@ -19,19 +18,8 @@ fn main(rt: HostRuntime) -> ExitCode {
         Ok(words) => words,
         Err(error) => return ExitCode::from(without_words(&mut rt.stderr(), &error)),
     };
-    let folder = run_site_words(
-        &rt,
-        rt.alloc(),
-        &words,
-        has_colour(&rt, rt.stdout().is_terminal()),
-        &mut io::writer(&rt),
-        &mut rt.stderr(),
-    );
-    if let Some(status) = folder {
-        return ExitCode::from(status);
-    }
     let progress = Progress::new(&rt);
-    ExitCode::from(run_words_with(
+    ExitCode::from(run_words(
         &platform_of(&rt, &progress),
         rt.alloc(),
         &words,
@@ -48,12 +36,16 @@ fn placeholder<R: Files>(rt: &R) -> Option<R::File> {
     fs::open(rt, "/").ok()
 }
 
-/// Returns the platform of a runtime, with this observer.
-fn platform_of<'p, R, V>(rt: &'p R, observer: &'p V) -> Platform<'p, R, R, V> {
+/// Returns the platform of a process, with this observer.
+fn platform_of<'p, V>(
+    rt: &'p HostRuntime,
+    observer: &'p V,
+) -> Platform<'p, HostRuntime, HostRuntime, V> {
     Platform {
         rt,
         locks: rt,
         observer: Some(observer),
+        has_colour: has_colour(rt, rt.stdout().is_terminal()),
     }
 }
 
@@ -77,7 +69,10 @@ fn without_words<E: Write>(err: &mut E, error: &io::Error) -> u8 {
     let (line, status) = if error.kind() == ErrorKind::OutOfMemory {
         ("mercator: out of memory\n", Fault::NoMemory.status())
     } else {
-        ("error: the command line is not UTF-8\n", BAD_COMMAND_LINE)
+        (
+            "error: the command line is not UTF-8\n",
+            PlanError::BAD_COMMAND_LINE,
+        )
     };
     let _ = err.write_all(line.as_bytes());
     status

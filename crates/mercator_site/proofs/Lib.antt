@@ -1,5 +1,4 @@
 mod OwnPages
 mod Reports
 mod Runs
-mod Statuses
 mod TopCrawls

@@ -1,7 +1,7 @@
 -- A crawl of a source that has the pages of a saved web.
-use Rattle.std.specs.Prelude.{◌≡◌, ℕ, Bool, List, [], ◌∷◌, map, Result, Ok, Err}
+use Rattle.std.specs.Prelude.{◌≡◌, ℕ, Bool, true, List, [], ◌∷◌, map, Result, Ok, Err}
 use Rattle.std.specs.Str.Lines.{lines}
-use Rattle.std.proofs.Common.{get_or, sym, ap, subst, ◌∙◌}
+use Rattle.std.proofs.Common.{get_or, true≢false, sym, ap, subst, ◌∙◌}
 use Rattle.crawl_certificate.specs.Certificate.{IsCrawl}
 use Rattle.crawl_keys.specs.CanonicalText.{canonical, resolve}
 use Rattle.crawl_keys.specs.HostFilter.{allows}
@@ -10,11 +10,12 @@ use Rattle.crawl_keys.specs.declared.error.KeyError.{KeyError}
 use Rattle.saved_web.specs.SavedWeb.{page_of}
 use Rattle.crawl_pages.specs.declared.page.Page.{Page}
 use Rattle.crawl_pages.specs.declared.page.PageResult.{PageResult}
-use Rattle.crawl_run.specs.Crawls.{CrawlFails}
+use Rattle.crawl_run.specs.Crawls.{CrawlFails, is_incomplete}
 use Rattle.crawl_run.specs.declared.failure.CrawlFailure.{CrawlFailure}
-use Rattle.mercator_site.proofs.Statuses.{two_of}
+use Rattle.crawl_run.specs.declared.error.CrawlError.{CrawlError}
+use Rattle.crawl_run.specs.declared.error.CrawlError.TheVariants as crawl
 use Rattle.mercator_site.specs.Checks.{AreAliasesIn, IsTopCrawl, starts}
-use Rattle.mercator_site.specs.Faults.{IsTopIncomplete, of_crawl, status_of}
+use Rattle.mercator_site.specs.Faults.{IsTopIncomplete, is_unfinished, of_crawl, of_crawl_by}
 use Rattle.mercator_site.specs.Own.{AreOwn}
 use Rattle.mercator_site.specs.Sources.{IsSourceOf}
 use Rattle.saved_site.specs.Aliases.{AreAliases}
@@ -57,9 +58,14 @@ top_crawl meaning top web links url urls pages source canon resolved own found =
   found = crawl_of_same meaning (page_of (lines web)) (allows (host_key url ∷ [])) urls pages source.same found;
 }
 
+-- an unfinished check has an incomplete crawl
+unfinished_by : (error : CrawlError) (failure : CrawlFailure) → is_unfinished (of_crawl_by error failure) ≡ true → is_incomplete failure.error ≡ true
+unfinished_by crawl.NoMemory failure is = absurd (true≢false (sym is))
+unfinished_by error failure is = is
+
 -- why nothing is
 pub top_incomplete : (meaning : List ℕ → Page) (top web : List ℕ) (links : List (List ℕ)) (url : List ℕ) (urls : List (List ℕ)) (workers max : ℕ) (failure : CrawlFailure) → IsSourceOf meaning web
-    → canonical top ≡ Ok url → map (resolve url) (starts links) ≡ map Ok urls → AreOwn url urls → CrawlFails workers max failure.error → status_of (of_crawl failure) ≡ 2 → IsTopIncomplete top web links workers
+    → canonical top ≡ Ok url → map (resolve url) (starts links) ≡ map Ok urls → AreOwn url urls → CrawlFails workers max failure.error → is_unfinished (of_crawl failure) ≡ true → IsTopIncomplete top web links workers
 top_incomplete meaning top web links url urls workers max failure source canon resolved own fails two = record {
   url = url;
   canon = canon;
@@ -69,6 +75,6 @@ top_incomplete meaning top web links url urls workers max failure source canon r
   sound = source.sound;
   max = max;
   error = failure.error;
-  incomplete = two_of failure two;
+  incomplete = unfinished_by failure.error failure two;
   fails = fails;
 }

@@ -1,18 +1,13 @@
 -- The settings of a check.
-use Rattle.std.specs.Prelude.{ℕ, Bool, List, map, string_bytes}
+use Rattle.std.specs.Prelude.{ℕ, List, map, string_bytes}
 use Rattle.mercator_site.specs.declared.options.CheckOptions.{CheckOptions}
-use Rattle.mercator_site.specs.declared.options.CheckForm.{CheckForm}
+use Rattle.mercator_site.specs.declared.options.ReportOptions.{ReportOptions}
 use Rattle.mercator_site.specs.declared.check.CheckSettings.{CheckSettings}
 
 pub record Asks : Type 0 where
-  pub form : CheckForm
-  -- whether all locations of a broken link are listed
-  pub all : Bool
+  pub report : ReportOptions
   -- the folder that annotations put before the names of files
   pub folder : List ℕ
-  -- whether unreached files and external links are listed
-  pub unreached : Bool
-  pub external : Bool
   -- the links on the top at which the crawl starts; if there are none, it starts at the top
   pub seeds : List (List ℕ)
   -- the prefix that is removed from each URL
@@ -23,11 +18,8 @@ pub record Asks : Type 0 where
 -- the settings of the library's caller
 abbrev pub asks_in : CheckSettings → Asks
 asks_in s = record {
-  form = s.form;
-  all = s.all;
+  report = s.report;
   folder = s.folder.now;
-  unreached = s.unreached;
-  external = s.external;
   seeds = map string_bytes s.seeds.now;
   front = s.front.now;
   entries = map string_bytes s.ignores.now;
@@ -36,11 +28,8 @@ asks_in s = record {
 -- the settings of a command line, with this prefix and the entries of a file
 abbrev pub asks_of : CheckOptions → List ℕ → List (List ℕ) → Asks
 asks_of options front entries = record {
-  form = options.form;
-  all = options.all;
+  report = options.report;
   folder = string_bytes options.site.folder;
-  unreached = options.unreached;
-  external = options.external;
   seeds = map string_bytes options.seeds.items;
   front = front;
   entries = entries;

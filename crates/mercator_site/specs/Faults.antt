@@ -1,14 +1,12 @@
--- The errors of the commands for a folder.
-use Rattle.std.specs.Prelude.{◌≡◌, ℕ, true, if◌then◌else◌, List, [], ◌∷◌, ◌++◌, codes, map, string_bytes, Ok}
+-- The errors of a check of a folder, and of its saved web.
+use Rattle.std.specs.Prelude.{◌≡◌, ℕ, Bool, true, false, List, map, string_bytes, Ok}
 use Rattle.std.specs.Str.Lines.{lines}
 use Rattle.crawl_keys.specs.CanonicalText.{canonical, resolve}
-use Rattle.mercator.specs.FaultText.{fault_line}
 use Rattle.crawl_run.specs.Crawls.{CrawlFails, is_incomplete}
 use Rattle.crawl_run.specs.declared.error.CrawlError.{CrawlError}
 use Rattle.crawl_run.specs.declared.error.CrawlError.TheVariants as crawl
 use Rattle.crawl_run.specs.declared.failure.CrawlFailure.{CrawlFailure}
 use Rattle.saved_web.specs.WebFaults.{IsSound}
-use Rattle.mercator.specs.declared.commands.fault.Fault.TheVariants as ended
 use Rattle.mercator_site.specs.Checks.{starts}
 use Rattle.mercator_site.specs.Own.{AreOwn}
 use Rattle.mercator_site.specs.declared.options.CheckOptions.{CheckOptions}
@@ -17,7 +15,6 @@ use Rattle.mercator_site.specs.declared.fault.SiteFault.TheVariants as wrong
 use Rattle.saved_site.specs.Meaning.{IsSiteWeb}
 use Rattle.saved_site.specs.declared.error.SiteError.{SiteError}
 use Rattle.saved_site.specs.declared.error.SiteError.TheVariants as unmade
-use Rattle.shown_text.specs.Shown.{shown}
 
 -- the error for each error of a part
 abbrev pub of_site : SiteError → SiteFault
@@ -35,27 +32,10 @@ of_crawl_by error failure = wrong.Crawl failure
 abbrev pub of_crawl : CrawlFailure → SiteFault
 of_crawl failure = of_crawl_by failure.error failure
 
--- the exit status of an error: 2 if a crawl is incomplete, otherwise 1
-abbrev pub status_of : SiteFault → ℕ
-status_of (wrong.Crawl failure) = if is_incomplete failure.error then 2 else 1
-status_of fault = 1
-
--- a line about something with this name
-abbrev pub note_line : List ℕ → List ℕ → List ℕ
-note_line name words = codes "mercator: " ++ shown name ++ codes ": " ++ words ++ 10 ∷ []
-
--- the message of an error about this name
-abbrev pub site_line : List ℕ → SiteFault → List ℕ
-site_line name wrong.CannotReadFolder = fault_line name ended.CannotRead
-site_line name wrong.CannotReadKnown = fault_line name ended.CannotRead
-site_line name wrong.BadBase = note_line (codes "BASE") (codes "must be an http or https URL without a query")
-site_line name wrong.BadHost = note_line (codes "BASE") (codes "the host may contain only letters, digits, - and .")
-site_line name wrong.NoFiles = note_line name (codes "no files")
-site_line name wrong.BadSeed = note_line (codes "--seed") (codes "not a URL below BASE")
-site_line name wrong.TooLarge = note_line name (codes "more than 1073741824 bytes of links")
-site_line name (wrong.Crawl failure) = fault_line name (ended.Crawl failure)
-site_line name wrong.CannotWrite = fault_line name ended.CannotWrite
-site_line name wrong.NoMemory = fault_line name ended.NoMemory
+-- the crawl of a check is incomplete
+abbrev pub is_unfinished : SiteFault → Bool
+is_unfinished (wrong.Crawl failure) = is_incomplete failure.error
+is_unfinished fault = false
 
 -- a crawl of the saved web by this number of workers, from these links on the site's top, is incomplete
 pub record IsTopIncomplete (top web : List ℕ) (links : List (List ℕ)) (workers : ℕ) : Type 0 where

@@ -1,17 +1,17 @@
 //! Checks a site: from its files to the report.
-ghost use Rattle.std.specs.Prelude.{◌≡◌, ℕ, List, IfErr, IfOk, map, string_bytes};
+ghost use Rattle.std.specs.Prelude.{◌≡◌, ℕ, List, IfErr, IfOk, map, string_bytes, false, true};
 ghost use Rattle.std.specs.Option.{option_map};
 ghost use Rattle.mercator_site.specs.Asks.{asks_in};
 ghost use Rattle.mercator_site.specs.Checks.{AreOthersListed, IsCheck, IsNamedCheck, IsNamedSiteCheck, IsReport, IsSiteCheck, IsSiteCheckAt, IsTopCrawl};
 ghost use Rattle.mercator_site.specs.External.{row_of};
-ghost use Rattle.mercator_site.specs.Faults.{IsTopIncomplete, status_of};
+ghost use Rattle.mercator_site.specs.Faults.{IsTopIncomplete, is_unfinished};
 ghost use Rattle.mercator_site.specs.Sources.{IsSourceOf};
 ghost use Rattle.saved_site.specs.Linked.{page_at};
 
 use crate::crawl::{crawl_source, host_of};
 use crate::external::external_links;
 use crate::fault::SiteFault;
-use crate::options::CheckForm;
+use crate::options::ReportOptions;
 use crate::own::own_results;
 use crate::print::print_check;
 use check_report::{Contents, External};
@@ -46,15 +46,9 @@ pub struct CheckSettings<'a> {
     pub front: &'a str,
     /// The ignore list: each entry matches the targets that begin with it.
     pub ignores: &'a [String],
-    /// Whether unreached files are listed.
-    pub unreached: bool,
-    /// Whether external links are listed.
-    pub external: bool,
     /// The links on the site's top at which the crawl starts; if there are none, it starts at the top.
     pub seeds: &'a [String],
-    pub form: CheckForm,
-    /// Whether all locations of a broken link are listed, not only three.
-    pub all: bool,
+    pub report: ReportOptions,
     /// The folder that annotations put before the names of files; empty for files in memory.
     pub folder: &'a str,
 }
@@ -122,7 +116,7 @@ pub fn report_of_pages<R: Threads + Wait + Sync, B: FileBytes + Sync>(
 ) -> Result<CheckReport, SiteFault>
     ensures done { (web : List ℕ) → IsSourceOf (page_at site.pages) web → IfOk result (λ report. IsCheck (string_bytes files.now.site.top) web site.aliases.items (asks_in settings.entry) report.is_broken report.text.items) }
     ensures named { (web : List ℕ) → IsSourceOf (page_at site.pages) web → IfOk result (λ report. IsNamedCheck settings.entry.name.now (string_bytes files.now.site.top) web site.aliases.items (asks_in settings.entry) report.is_broken report.text.items) }
-    ensures incomplete { (web : List ℕ) → IsSourceOf (page_at site.pages) web → IfErr result (λ fault. status_of fault ≡ 2 → IsTopIncomplete (string_bytes files.now.site.top) web (map string_bytes settings.entry.seeds.now) settings.entry.workers) }
+    ensures incomplete { (web : List ℕ) → IsSourceOf (page_at site.pages) web → IfErr result (λ fault. is_unfinished fault ≡ true → IsTopIncomplete (string_bytes files.now.site.top) web (map string_bytes settings.entry.seeds.now) settings.entry.workers) }
 {
     let LinkedSite {
         pages,
@@ -160,7 +154,7 @@ fn report_of_found<R: Threads + Wait + Sync, B: FileBytes + Sync>(
     settings: CheckSettings<'_>,
 ) -> Result<CheckReport, SiteFault>
     ensures named { (web : List ℕ) → IsTopCrawl (string_bytes files.now.site.top) web (map string_bytes settings.entry.seeds.now) found.crawled.result → IfOk result (λ report. IsNamedCheck settings.entry.name.now (string_bytes files.now.site.top) web found.aliases.items (asks_in settings.entry) report.is_broken report.text.items) }
-    ensures plain { IfErr result (λ fault. status_of fault ≡ 1) }
+    ensures plain { IfErr result (λ fault. is_unfinished fault ≡ false) }
 {
     let FoundSite {
         crawled,
@@ -170,7 +164,7 @@ fn report_of_found<R: Threads + Wait + Sync, B: FileBytes + Sync>(
     } = found;
     let url = host_of(alloc, files.top())?;
     let pages = own_results(&url, crawled.result.pages());
-    let others = others_listed(alloc, settings.external, &url, pages)?;
+    let others = others_listed(alloc, settings.report.external, &url, pages)?;
     let input = input_of(
         settings,
         aliases.as_slice(),
@@ -204,7 +198,7 @@ fn input_of<'a>(
         aliases,
         anchors,
         places,
-        unreached: settings.unreached,
+        unreached: settings.report.unreached,
     }
 }
 
@@ -217,13 +211,14 @@ fn report_of(
 ) -> Result<CheckReport, AllocError>
     ensures { IfOk result (λ report. IsReport checked.now (option_map (λ urls. map row_of urls.items) others.now) settings.entry.name.now (asks_in settings.entry) report.is_broken report.text.items) }
 {
+    let options = settings.report;
     let contents = Contents {
-        unreached: settings.unreached,
+        unreached: options.unreached,
         external: slice_of(others),
         folder: settings.folder,
     };
     let findings = checked.findings(settings.name);
-    let text = print_check(alloc, &findings, contents, settings.form, settings.all)?;
+    let text = print_check(alloc, &findings, contents, options.form, options.all)?;
     Ok(CheckReport {
         text,
         is_broken: checked.is_broken(),

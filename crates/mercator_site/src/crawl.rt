@@ -1,8 +1,8 @@
 //! Crawls a site, from its top or from links on it, within the top's host.
-ghost use Rattle.std.specs.Prelude.{◌≡◌, ℕ, ◌∷◌, List, [], IfErr, IfOk, map, string_bytes, Ok};
+ghost use Rattle.std.specs.Prelude.{◌≡◌, ℕ, ◌∷◌, List, [], IfErr, IfOk, map, string_bytes, Ok, false, true};
 ghost use Rattle.crawl_keys.specs.CanonicalText.{canonical};
 ghost use Rattle.mercator_site.specs.Checks.{IsTopCrawl};
-ghost use Rattle.mercator_site.specs.Faults.{IsTopIncomplete, status_of};
+ghost use Rattle.mercator_site.specs.Faults.{IsTopIncomplete, is_unfinished};
 ghost use Rattle.mercator_site.specs.Sources.{IsSourceOf};
 
 use crate::fault::SiteFault;
@@ -25,7 +25,7 @@ pub(crate) fn crawl_source<F: SessionFetch + Sync, R: Threads + Wait + Sync>(
     workers: u32,
 ) -> Result<Crawled, SiteFault>
     ensures found { (web : List ℕ) → IsSourceOf (F.meaning source.now) web → IfOk result (λ found. IsTopCrawl top.now web (map string_bytes links.now) found.result) }
-    ensures incomplete { (web : List ℕ) → IsSourceOf (F.meaning source.now) web → IfErr result (λ fault. status_of fault ≡ 2 → IsTopIncomplete top.now web (map string_bytes links.now) workers) }
+    ensures incomplete { (web : List ℕ) → IsSourceOf (F.meaning source.now) web → IfErr result (λ fault. is_unfinished fault ≡ true → IsTopIncomplete top.now web (map string_bytes links.now) workers) }
 {
     let host = host_of(alloc, top)?;
     let filter = host_filter(alloc, host.host_key())?;
@@ -44,7 +44,7 @@ pub(crate) fn crawl_source<F: SessionFetch + Sync, R: Threads + Wait + Sync>(
 
 pub(crate) fn host_of(alloc: Global, top: &str) -> Result<CanonUrl, SiteFault>
     ensures canon { IfOk result (λ url. canonical top.now ≡ Ok url) }
-    ensures plain { IfErr result (λ fault. status_of fault ≡ 1) }
+    ensures plain { IfErr result (λ fault. is_unfinished fault ≡ false) }
 {
     match canonical(alloc, top) {
         Ok(url) => Ok(url),
@@ -55,7 +55,7 @@ pub(crate) fn host_of(alloc: Global, top: &str) -> Result<CanonUrl, SiteFault>
 
 fn host_filter(alloc: Global, host: &str) -> Result<Filter, SiteFault>
     ensures within { IfOk result (λ filter. filter ≡ host.now ∷ []) }
-    ensures plain { IfErr result (λ fault. status_of fault ≡ 1) }
+    ensures plain { IfErr result (λ fault. is_unfinished fault ≡ false) }
 {
     match Filter::new(alloc, &[host]) {
         Ok(filter) => Ok(filter),

@@ -1,4 +1,4 @@
-//! The commands for a folder of HTML pages: `site` prints its saved web, `check` reports its broken links.
+//! A site in a folder: its saved web, and the report of its broken links. It writes nothing and reads no command line.
 #![tactic(auto)]
 
 mod check;
@@ -6,15 +6,14 @@ mod crawl;
 mod external;
 mod fault;
 mod folder;
+mod notices;
 mod options;
 mod own;
 mod print;
-mod program;
 mod start;
-mod writing;
 
 pub use check::{CheckReport, CheckSettings, Files, report_of_files, report_of_pages};
 pub use fault::SiteFault;
 pub use folder::{report_of_folder, web_of_folder};
-pub use options::{CheckForm, CheckOptions, SiteOptions, SitePlan, site_plan};
-pub use program::{BROKEN, run_site_plan, run_site_words};
+pub use notices::Notice;
+pub use options::{CheckForm, CheckOptions, ReportOptions, SiteOptions};

@@ -1,8 +1,8 @@
 //! The URLs at which the crawl of a check starts.
-ghost use Rattle.std.specs.Prelude.{◌≡◌, ◌∷◌, [], true, IfErr, IfOk, map, string_bytes, Ok};
+ghost use Rattle.std.specs.Prelude.{◌≡◌, ◌∷◌, [], true, IfErr, IfOk, map, string_bytes, Ok, false};
 ghost use Rattle.crawl_keys.specs.CanonicalText.{resolve};
 ghost use Rattle.mercator_site.specs.Checks.{starts};
-ghost use Rattle.mercator_site.specs.Faults.{status_of};
+ghost use Rattle.mercator_site.specs.Faults.{is_unfinished};
 ghost use Rattle.mercator_site.specs.Own.{AreOwn};
 ghost use Rattle.saved_site.specs.Below.{begins};
 
@@ -19,7 +19,7 @@ pub(crate) fn starts(
 ) -> Result<Vec<CanonUrl>, SiteFault>
     ensures begun { IfOk result (λ seeds. map (resolve top.now) (starts (map string_bytes links.now)) ≡ map Ok seeds.items) }
     ensures own { IfOk result (λ seeds. AreOwn top.now seeds.items) }
-    ensures plain { IfErr result (λ fault. status_of fault ≡ 1) }
+    ensures plain { IfErr result (λ fault. is_unfinished fault ≡ false) }
 {
     match links.split_first() {
         Some(_) => seeds_of(alloc, top, links),
@@ -30,7 +30,7 @@ pub(crate) fn starts(
 fn top_alone(alloc: Global, top: &CanonUrl) -> Result<Vec<CanonUrl>, SiteFault>
     ensures resolved { IfOk result (λ seeds. map (resolve top.now) ([] ∷ []) ≡ map Ok seeds.items) }
     ensures own { IfOk result (λ seeds. AreOwn top.now seeds.items) }
-    ensures plain { IfErr result (λ fault. status_of fault ≡ 1) }
+    ensures plain { IfErr result (λ fault. is_unfinished fault ≡ false) }
 {
     let mut seeds = Vec::new(alloc);
     seeds.push(seed_of(alloc, top, "")?)?;
@@ -40,7 +40,7 @@ fn top_alone(alloc: Global, top: &CanonUrl) -> Result<Vec<CanonUrl>, SiteFault>
 fn seeds_of(alloc: Global, top: &CanonUrl, links: &[String]) -> Result<Vec<CanonUrl>, SiteFault>
     ensures resolved { IfOk result (λ seeds. map (resolve top.now) (map string_bytes links.now) ≡ map Ok seeds.items) }
     ensures own { IfOk result (λ seeds. AreOwn top.now seeds.items) }
-    ensures plain { IfErr result (λ fault. status_of fault ≡ 1) }
+    ensures plain { IfErr result (λ fault. is_unfinished fault ≡ false) }
 {
     let mut seeds = Vec::new(alloc);
     for link in links {
@@ -53,7 +53,7 @@ fn seeds_of(alloc: Global, top: &CanonUrl, links: &[String]) -> Result<Vec<Canon
 fn seed_of(alloc: Global, top: &CanonUrl, link: &str) -> Result<CanonUrl, SiteFault>
     ensures resolved { IfOk result (λ seed. resolve top.now link.now ≡ Ok seed) }
     ensures own { IfOk result (λ seed. begins top.now seed ≡ true) }
-    ensures plain { IfErr result (λ fault. status_of fault ≡ 1) }
+    ensures plain { IfErr result (λ fault. is_unfinished fault ≡ false) }
 {
     match resolve(alloc, top, link) {
         Ok(url) if is_own(top, &url) => Ok(url),

@@ -1,6 +1,6 @@
 //! Kinds of arguments, as `clap` parses them.
 use clap::builder::ValueParser;
-use clap::{Arg, ArgAction, Command};
+use clap::{Arg, ArgAction, ArgMatches, Command};
 use crawl_limits::WORKER_LIMIT;
 use std::alloc::{AllocError, Global};
 
@@ -87,4 +87,31 @@ pub fn workers<'a>(alloc: Global, default: &'a str, help: &'a str) -> Arg<'a> {
     option(alloc, "workers", "N", help)
         .value_parser(ValueParser::unsigned(1, WORKER_LIMIT as u64))
         .default_value(default)
+}
+
+/// Returns the value of an option, if it was given.
+pub fn value_of(
+    alloc: Global,
+    found: &ArgMatches<'_>,
+    option: &str,
+) -> Result<Option<String>, AllocError> {
+    match found.get_str(option) {
+        Some(value) => Ok(Some(String::from_str(alloc, value)?)),
+        None => Ok(None),
+    }
+}
+
+/// Returns the values of an option or an argument that may be repeated.
+pub fn values_of(
+    alloc: Global,
+    found: &ArgMatches<'_>,
+    name: &str,
+) -> Result<Vec<String>, AllocError> {
+    let mut values = Vec::new(alloc);
+    if let Some(texts) = found.get_strs(name) {
+        for text in texts {
+            values.push(String::from_str(alloc, text)?)?;
+        }
+    }
+    Ok(values)
 }

@@ -1,6 +1,6 @@
 //! Why a command failed.
-ghost use Rattle.std.specs.Prelude.{◌≡◌};
-ghost use Rattle.mercator.specs.Faults.{of_script, of_seeds, of_web, of_url, of_crawl, of_filter};
+ghost use Rattle.std.specs.Prelude.{◌≡◌, ◌≤◌};
+ghost use Rattle.mercator.specs.Faults.{of_script, of_seeds, of_web, of_url, of_crawl, of_filter, of_site};
 ghost use Rattle.mercator.specs.declared.commands.fault.Fault.TheVariants as wrong;
 
 use crate::commands::input::Unread;
@@ -9,10 +9,11 @@ use crawl_keys::{FilterError, KeyError};
 use crawl_replay::ScriptError;
 use crawl_run::{CrawlError, CrawlFailure};
 use crawl_sources::SeedsFault;
+use mercator_site::SiteFault;
 use saved_web::WebError;
 use std::alloc::{AllocError, AllocFailed};
 
-/// Why a command failed. [`fault_line`](crate::fault_line) returns the line that the program prints about it.
+/// Why a command failed.
 ///
 /// # Example
 ///
@@ -27,6 +28,8 @@ pub enum Fault {
     CannotRead,
     /// The file of seeds cannot be read or exceeds a limit.
     CannotReadSeeds,
+    /// The ignore list cannot be read or exceeds a limit.
+    CannotReadIgnores,
     /// The input is not a script.
     Script(ScriptError),
     /// The input is not a saved web.
@@ -41,6 +44,8 @@ pub enum Fault {
     Url(KeyError),
     /// A crawl has no certified result. The reason is never that memory ran out.
     Crawl(CrawlFailure),
+    /// A folder has no report, or no saved web. The reason is neither a crawl that failed nor that memory ran out.
+    Site(SiteFault),
     /// The suffix of `--within` cannot be the end of a host.
     BadSuffix,
     /// A write or a flush failed.
@@ -56,7 +61,9 @@ impl Fault {
 
     /// Returns the exit status: 2 if a crawl was made but not certified, or could not start a thread, else 1.
     pub fn status(&self) -> u8
-        ensures { result ≡ spec.status_of_fault self.now }
+        ensures status { result ≡ spec.status_of_fault self.now }
+        ensures some { 1 ≤ result }
+        ensures few { result ≤ 2 }
     {
         match self {
             Fault::Crawl(failure) => { if failure.error.is_incomplete() { 2 } else { 1 } }
@@ -80,6 +87,16 @@ impl Fault {
     {
         match why {
             Unread::Failed | Unread::Beyond => Fault::CannotReadSeeds,
+            Unread::NoMemory => Fault::NoMemory,
+        }
+    }
+
+    /// Returns the error about an ignore list that was not read to its end.
+    pub fn of_unread_ignores(why: Unread) -> Fault
+        ensures { result ≡ spec.of_unread_ignores why }
+    {
+        match why {
+            Unread::Failed | Unread::Beyond => Fault::CannotReadIgnores,
             Unread::NoMemory => Fault::NoMemory,
         }
     }
@@ -138,6 +155,18 @@ impl From<CrawlFailure> for Fault {
         match failure.error {
             CrawlError::NoMemory => Fault::NoMemory,
             _ => Fault::Crawl(failure),
+        }
+    }
+}
+
+impl From<SiteFault> for Fault {
+    ghost from_gives = { λ site fault. fault ≡ of_site site };
+
+    fn from(fault: SiteFault) -> Fault {
+        match fault {
+            SiteFault::Crawl(failure) => Fault::from(failure),
+            SiteFault::NoMemory => Fault::NoMemory,
+            _ => Fault::Site(fault),
         }
     }
 }

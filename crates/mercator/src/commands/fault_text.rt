@@ -1,6 +1,6 @@
 //! The texts of errors.
 ghost use Rattle.std.specs.Prelude.{◌≡◌, ◌++◌, Some, codes};
-ghost use Rattle.mercator.specs.FaultText.{fault_text, line_text, words_text, log_text, web_text, seeds_text, script_text, crawl_text, finish_text, cert_text};
+ghost use Rattle.mercator.specs.FaultText.{fault_text, line_text, words_text, log_text, web_text, seeds_text, script_text, crawl_text, finish_text, cert_text, site_text};
 
 use crate::commands::fault::Fault;
 use crate::commands::log_file::LogFault;
@@ -9,6 +9,7 @@ use crawl_frontier::FinishError;
 use crawl_replay::ScriptError;
 use crawl_run::CrawlError;
 use crawl_sources::SeedsFault;
+use mercator_site::SiteFault;
 use saved_web::WebError;
 use std::fmt;
 use std::fmt::Display;
@@ -27,7 +28,7 @@ impl fmt::Display for FaultText<'_> {
 
     fn fmt<W: fmt::Write>(&self, f: &mut fmt::Formatter<W>) -> fmt::Result {
         match self.fault {
-            Fault::CannotRead | Fault::CannotReadSeeds => {
+            Fault::CannotRead | Fault::CannotReadSeeds | Fault::CannotReadIgnores => {
                 let file = self.file;
                 write!(f, "cannot read {file}")
             }
@@ -59,6 +60,11 @@ impl fmt::Display for FaultText<'_> {
             }
             .fmt(f),
             Fault::Crawl(failure) => CrawlText(failure.error).fmt(f),
+            Fault::Site(fault) => SiteText {
+                file: self.file,
+                fault,
+            }
+            .fmt(f),
             Fault::Log(fault) => {
                 let (file, words) = (self.file, log_words(*fault));
                 write!(f, "log {file}: {words}")
@@ -224,6 +230,33 @@ impl fmt::Display for FinishText {
             FinishError::Unsettled { .. } => f.write_str("gate not closed"),
             FinishError::Disagree { queue } => write!(f, "subqueue {queue} disagrees"),
             FinishError::NoMemory => f.write_str("out of memory"),
+        }
+    }
+}
+
+/// The text of an error about a folder with this name.
+#[derive(Clone, Copy)]
+struct SiteText<'a> {
+    file: &'a str,
+    fault: &'a SiteFault,
+}
+
+impl fmt::Display for SiteText<'_> {
+    ghost output = { λ told. Some (site_text told.file.now told.fault.now) };
+
+    fn fmt<W: fmt::Write>(&self, f: &mut fmt::Formatter<W>) -> fmt::Result {
+        let file = self.file;
+        match self.fault {
+            SiteFault::CannotReadFolder => write!(f, "cannot read {file}"),
+            SiteFault::BadBase => f.write_str("BASE: must be an http or https URL without a query"),
+            SiteFault::BadHost => {
+                f.write_str("BASE: the host may contain only letters, digits, - and .")
+            }
+            SiteFault::NoFiles => write!(f, "{file}: no files"),
+            SiteFault::BadSeed => f.write_str("--seed: not a URL below BASE"),
+            SiteFault::TooLarge => write!(f, "{file}: more than 1073741824 bytes of links"),
+            SiteFault::Crawl(failure) => CrawlText(failure.error).fmt(f),
+            SiteFault::NoMemory => f.write_str("out of memory"),
         }
     }
 }

@@ -1,9 +1,15 @@
-//! The commands `check` and `site`, as `clap` parses them. The crate `mercator_site` runs them.
+//! The commands `check` and `site`, as `clap` parses them, and what their options ask for.
+ghost use Rattle.std.specs.Prelude.{◌≡◌, IfOk};
+
 use crate::commands::arguments::{
-    Flag, Valued, command_with, option, push, push_flags, push_options, word, workers,
+    Flag, Valued, command_with, option, push, push_flags, push_options, values_of, word, workers,
 };
-use clap::{Arg, ArgAction, ArgGroup, Command};
+use clap::{Arg, ArgAction, ArgGroup, ArgMatches, Command};
+use mercator_site::{CheckForm, CheckOptions, ReportOptions, SiteOptions};
 use std::alloc::{AllocError, Global};
+
+/// The URL of the top if no BASE is given.
+const LOCAL: &str = "http://localhost/";
 
 const SITE_HELP: &str = "\
 A saved web is a text file of pages and their links, which 'mercator crawl' reads. A page is
@@ -131,4 +137,61 @@ fn folder<'a>(alloc: Global, help: &'a str) -> Arg<'a> {
 
 fn base<'a>(alloc: Global, help: &'a str) -> Arg<'a> {
     word(alloc, "base", "BASE", help)
+}
+
+/// The settings of `site`, or those of a check that are the same, with this BASE.
+pub fn site_options(
+    alloc: Global,
+    found: &ArgMatches<'_>,
+    base: &str,
+) -> Result<SiteOptions, AllocError> {
+    Ok(SiteOptions {
+        folder: String::from_str(alloc, found.get_str("folder").unwrap_or("."))?,
+        base: String::from_str(alloc, base)?,
+        exact: found.get_flag("exact"),
+        queries: found.get_flag("queries"),
+        follow: found.get_flag("follow"),
+    })
+}
+
+/// The settings of a check by this number of workers.
+pub fn check_options(
+    alloc: Global,
+    found: &ArgMatches<'_>,
+    workers: u32,
+) -> Result<CheckOptions, AllocError>
+    ensures { IfOk result (λ options. options.workers ≡ workers) }
+{
+    let base = found.get_str("base");
+    Ok(CheckOptions {
+        site: site_options(alloc, found, base.unwrap_or(LOCAL))?,
+        paths: base.is_none(),
+        workers,
+        anchors: !found.get_flag("no-anchors"),
+        report: report_options(found),
+        seeds: values_of(alloc, found, "seed")?,
+    })
+}
+
+/// The form of the report, and what it lists.
+fn report_options(found: &ArgMatches<'_>) -> ReportOptions {
+    ReportOptions {
+        form: form_of(found),
+        all: found.get_flag("all-sources"),
+        unreached: found.get_flag("unreached"),
+        external: found.get_flag("external"),
+    }
+}
+
+/// The form of the report. A report as text has no colour here.
+fn form_of(found: &ArgMatches<'_>) -> CheckForm {
+    if found.get_flag("json") {
+        CheckForm::Json
+    } else if found.get_flag("annotations") {
+        CheckForm::Annotations
+    } else if found.get_flag("html") {
+        CheckForm::Page
+    } else {
+        CheckForm::default()
+    }
 }

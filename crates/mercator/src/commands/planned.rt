@@ -1,9 +1,10 @@
 //! What a command line asks for.
 ghost use Rattle.std.specs.Prelude.{◌≡◌};
-ghost use Rattle.mercator.specs.Plans.{explains, file_of, listed_or, told_file};
+ghost use Rattle.mercator.specs.Plans.{IsWithinLimits, explains, file_of, listed_or, told_file};
 
 use crate::commands::fault::Fault;
 use crawl_report::Parts;
+use mercator_site::{CheckForm, CheckOptions, ReportOptions, SiteOptions};
 
 /// What the arguments of a command line ask for.
 ///
@@ -40,6 +41,15 @@ pub enum Plan {
         within: Option<String>,
         /// The other options.
         options: CrawlOptions,
+    },
+    /// `site`: print a folder as a saved web.
+    Site(SiteOptions),
+    /// `check`: print the report of the broken links of a folder.
+    Check {
+        /// The settings of the check.
+        options: CheckOptions,
+        /// The file of the ignore list, if there is one.
+        ignores: Option<String>,
     },
     /// `key`: print the key line of a URL.
     Key {
@@ -112,9 +122,32 @@ impl Plan {
     {
         match self {
             Plan::Crawl { file, .. } | Plan::Replay { file } => file.as_str(),
+            Plan::Site(options) => options.folder.as_str(),
+            Plan::Check { options, .. } => options.site.folder.as_str(),
             Plan::Key { .. } => "",
             Plan::Serve(_) | Plan::ServeLog(_) => "-",
             Plan::Compact { .. } => "",
+        }
+    }
+
+    /// Returns the same plan. If `has_colour`, a report of a check as text has colour.
+    pub fn with_colour(self, has_colour: bool) -> Plan
+        ensures { IsWithinLimits self → IsWithinLimits result }
+    {
+        match self {
+            Plan::Check { options, ignores } => {
+                let form = match options.report.form {
+                    CheckForm::Text { .. } => CheckForm::Text { colour: has_colour },
+                    other => other,
+                };
+                let report = ReportOptions {
+                    form,
+                    ..options.report
+                };
+                let options = CheckOptions { report, ..options };
+                Plan::Check { options, ignores }
+            }
+            plan => plan,
         }
     }
 
@@ -128,8 +161,8 @@ impl Plan {
         }
     }
 
-    /// Returns the file that this error is about: the file of seeds if that cannot be read, the log if that cannot be used, else
-    /// FILE.
+    /// Returns the file that this error is about: the file of seeds or the ignore list if that cannot be read, the log if that
+    /// cannot be used, else FILE.
     pub fn told_file(&self, fault: &Fault) -> &str
         ensures { result.now ≡ told_file self.now fault.now }
     {
@@ -137,13 +170,16 @@ impl Plan {
             (Plan::Crawl { file, options, .. }, Fault::CannotReadSeeds) => {
                 listed_or(&options.listed, file.as_str())
             }
+            (Plan::Check { options, ignores }, Fault::CannotReadIgnores) => {
+                listed_or(ignores, options.site.folder.as_str())
+            }
             (Plan::ServeLog(log) | Plan::Compact { log, .. }, Fault::Log(_)) => log.file.as_str(),
             _ => self.file(),
         }
     }
 }
 
-/// Returns the name of the file of seeds if there is one, else FILE.
+/// Returns the name of the list if there is one, else FILE.
 fn listed_or<'a>(listed: &'a Option<String>, file: &'a str) -> &'a str
     ensures { result.now ≡ listed_or listed.now file.now }
 {

@@ -12,6 +12,7 @@
 ///         rt,
 ///         locks: rt,
 ///         observer: Some(observer),
+///         has_colour: false,
 ///     }
 /// }
 /// ```
@@ -23,6 +24,8 @@ pub struct Platform<'p, R, L, V> {
     pub locks: &'p L,
     /// The observer of crawls that ask for one, if there is one.
     pub observer: Option<&'p V>,
+    /// Whether a report as text has colour.
+    pub has_colour: bool,
 }
 
 impl<'p, R, L, V> Platform<'p, R, L, V> {
@@ -32,6 +35,7 @@ impl<'p, R, L, V> Platform<'p, R, L, V> {
             rt: self.rt,
             locks: self.locks,
             observer: if asked { self.observer } else { None },
+            has_colour: self.has_colour,
         }
     }
 }

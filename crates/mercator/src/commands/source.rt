@@ -11,7 +11,7 @@ use std::io::Read;
 /// Reads the whole FILE: the input if it is `-`, else the file with this name.
 ///
 /// # Errors
-/// Those of [`read_input`]; `Failed` also if the file does not exist or cannot be opened.
+/// Those of [`read_input`] and [`read_named`].
 pub fn read_file<R: Files, I: Read>(
     rt: &R,
     alloc: Global,
@@ -25,6 +25,16 @@ pub fn read_file<R: Files, I: Read>(
     if file == "-" {
         return read_input(alloc, input, input_limits());
     }
+    read_named(rt, alloc, file)
+}
+
+/// Reads the whole file with this name.
+///
+/// # Errors
+/// Those of [`read_input`]; `Failed` also if the file does not exist or cannot be opened.
+pub fn read_named<R: Files>(rt: &R, alloc: Global, file: &str) -> Result<Vec<u8>, Unread>
+    ensures { IfOk result (λ bytes. vec_len bytes ≤ most_input_bytes) }
+{
     let Ok(mut opened) = fs::open(rt, file) else {
         return Err(Unread::Failed);
     };

@@ -79,7 +79,11 @@ pub fn tell<R: Files + Threads + Wait + Sync, L, V: Observe + Sync, I: Read>(
             Ok(parts)
         }
         Plan::Key { url, workers } => tell_key(alloc, url, *workers),
-        Plan::Serve(_) | Plan::ServeLog(_) | Plan::Compact { .. } => {
+        Plan::Site(_)
+        | Plan::Check { .. }
+        | Plan::Serve(_)
+        | Plan::ServeLog(_)
+        | Plan::Compact { .. } => {
             unreachable!("a session answers while it reads, and a compaction has no output")
         }
     }

@@ -5,11 +5,13 @@ ghost use Rattle.crawl_limits.specs.Limits.{worker_limit, pending_limit};
 ghost use Rattle.mercator.specs.Plans.{IsPartOf, IsSessionPlan, IsShown, IsVisible, IsWithinLimits, all_queues, lists_input};
 ghost use Rattle.mercator.specs.declared.commands.words.PlanError.TheVariants as wrong;
 
+use crate::commands::arguments::{value_of, values_of};
 use crate::commands::command_line::{self, command_line};
+use crate::commands::folder_words::{check_options, site_options};
 use crate::commands::planned::{CrawlOptions, LogPlan, Plan, SessionPlan};
 use crate::commands::report_words::parts_of;
+use clap::ArgMatches;
 use clap::error::ErrorKind;
-use clap::{ArgMatches, Command};
 use crawl_core::QUEUE_LIMIT;
 use crawl_limits::{PENDING_LIMIT, WORKER_LIMIT};
 use crawl_replay::number32;
@@ -30,6 +32,11 @@ pub enum PlanError {
     },
     /// Out of memory. If `clap` runs out of memory, that may also be `Shown`.
     NoMemory,
+}
+
+impl PlanError {
+    /// The exit status of a bad command line.
+    pub const BAD_COMMAND_LINE: u8 = 3;
 }
 
 impl From<AllocError> for PlanError {
@@ -74,15 +81,6 @@ pub fn plan(alloc: Global, words: &[String]) -> Result<Plan, PlanError>
     }
 }
 
-/// Returns the whole command line as `clap` parses it. It includes `check` and `site`, which `mercator_site` runs: [`plan`]
-/// returns no plan for them.
-///
-/// # Errors
-/// If there is not enough memory.
-pub fn whole_command<'a>(alloc: Global) -> Result<Command<'a>, AllocError> {
-    command_line(alloc)
-}
-
 /// Puts the program's name, which appears in usage lines, before the arguments.
 fn after_the_name<'a>(alloc: Global, words: &'a [String]) -> Result<Vec<&'a str>, AllocError> {
     let mut named = Vec::new(alloc);
@@ -101,7 +99,7 @@ fn shown(alloc: Global, error: &clap::Error) -> PlanError
         return PlanError::NoMemory;
     }
     let status = if error.use_stderr() {
-        BAD_COMMAND_LINE
+        PlanError::BAD_COMMAND_LINE
     } else {
         0
     };
@@ -127,9 +125,6 @@ fn visible(alloc: Global, text: &str) -> Result<String, AllocError>
     shown_lines(alloc, text)
 }
 
-/// The exit status of a bad command line.
-pub const BAD_COMMAND_LINE: u8 = 3;
-
 const TWO_INPUTS: &str = "\
 error: FILE and '--seeds <LIST>' cannot both be '-'
 
@@ -148,7 +143,7 @@ fn misread(alloc: Global) -> PlanError
 {
     PlanError::Shown {
         text: String::new(alloc),
-        status: BAD_COMMAND_LINE,
+        status: PlanError::BAD_COMMAND_LINE,
     }
 }
 
@@ -161,6 +156,8 @@ fn plan_of(alloc: Global, matches: &ArgMatches<'_>) -> Result<Plan, PlanError>
         Some(("key", found)) => key_of(alloc, found),
         Some(("replay", found)) => replay_of(alloc, found),
         Some(("serve", found)) => serve_of(alloc, found),
+        Some(("site", found)) => site_of(alloc, found),
+        Some(("check", found)) => check_of(alloc, found),
         _ => Err(misread(alloc)),
     }
 }
@@ -176,8 +173,8 @@ fn crawl_of(alloc: Global, found: &ArgMatches<'_>) -> Result<Plan, PlanError>
     ) else {
         return Err(misread(alloc));
     };
-    let listed = option_of(alloc, found, "seeds")?;
-    let seeds = seeds_of(alloc, found)?;
+    let listed = value_of(alloc, found, "seeds")?;
+    let seeds = values_of(alloc, found, "seed")?;
     if listed.is_none() && seeds.is_empty() {
         return Err(misread(alloc));
     }
@@ -190,7 +187,7 @@ fn crawl_of(alloc: Global, found: &ArgMatches<'_>) -> Result<Plan, PlanError>
         queues: found.get_flag("queues"),
         file: String::from_str(alloc, file)?,
         seeds,
-        within: option_of(alloc, found, "within")?,
+        within: value_of(alloc, found, "within")?,
         options: options_of(found, listed),
     })
 }
@@ -238,7 +235,7 @@ fn serve_of(alloc: Global, found: &ArgMatches<'_>) -> Result<Plan, PlanError>
     ensures shown { IfErr result IsShown }
 {
     let session = session_of(alloc, found)?;
-    let Some(file) = option_of(alloc, found, "log")? else {
+    let Some(file) = value_of(alloc, found, "log")? else {
         return Ok(Plan::Serve(session));
     };
     let log = LogPlan {
@@ -246,10 +243,33 @@ fn serve_of(alloc: Global, found: &ArgMatches<'_>) -> Result<Plan, PlanError>
         file,
         sync: found.get_flag("sync"),
     };
-    match option_of(alloc, found, "compact")? {
+    match value_of(alloc, found, "compact")? {
         None => Ok(Plan::ServeLog(log)),
         Some(new) => Ok(Plan::Compact { log, new }),
     }
+}
+
+fn site_of(alloc: Global, found: &ArgMatches<'_>) -> Result<Plan, PlanError>
+    ensures limits { IfOk result IsWithinLimits }
+    ensures shown { IfErr result IsShown }
+{
+    match found.get_str("base") {
+        Some(base) => Ok(Plan::Site(site_options(alloc, found, base)?)),
+        None => Err(misread(alloc)),
+    }
+}
+
+fn check_of(alloc: Global, found: &ArgMatches<'_>) -> Result<Plan, PlanError>
+    ensures limits { IfOk result IsWithinLimits }
+    ensures shown { IfErr result IsShown }
+{
+    let Some(workers) = workers_of(found) else {
+        return Err(misread(alloc));
+    };
+    Ok(Plan::Check {
+        options: check_options(alloc, found, workers)?,
+        ignores: value_of(alloc, found, "ignore")?,
+    })
 }
 
 fn session_of(alloc: Global, found: &ArgMatches<'_>) -> Result<SessionPlan, PlanError>
@@ -263,7 +283,7 @@ fn session_of(alloc: Global, found: &ArgMatches<'_>) -> Result<SessionPlan, Plan
     Ok(SessionPlan {
         workers,
         max,
-        within: option_of(alloc, found, "within")?,
+        within: value_of(alloc, found, "within")?,
         part,
     })
 }
@@ -330,18 +350,6 @@ fn max_of(found: &ArgMatches<'_>) -> Option<u64>
     }
 }
 
-/// Returns the value of an option, if it was given.
-fn option_of(
-    alloc: Global,
-    found: &ArgMatches<'_>,
-    option: &str,
-) -> Result<Option<String>, AllocError> {
-    match found.get_str(option) {
-        Some(value) => Ok(Some(String::from_str(alloc, value)?)),
-        None => Ok(None),
-    }
-}
-
 /// Returns whether the file of seeds is the input.
 fn is_input(listed: &Option<String>) -> bool
     ensures { result ≡ lists_input listed.now }
@@ -358,7 +366,7 @@ fn two_inputs(alloc: Global) -> Result<PlanError, AllocError>
 {
     Ok(PlanError::Shown {
         text: visible(alloc, TWO_INPUTS)?,
-        status: BAD_COMMAND_LINE,
+        status: PlanError::BAD_COMMAND_LINE,
     })
 }
 
@@ -368,16 +376,6 @@ fn bad_part(alloc: Global) -> Result<PlanError, AllocError>
 {
     Ok(PlanError::Shown {
         text: visible(alloc, BAD_PART)?,
-        status: BAD_COMMAND_LINE,
+        status: PlanError::BAD_COMMAND_LINE,
     })
-}
-
-fn seeds_of(alloc: Global, found: &ArgMatches<'_>) -> Result<Vec<String>, AllocError> {
-    let mut seeds = Vec::new(alloc);
-    if let Some(texts) = found.get_strs("seed") {
-        for text in texts {
-            seeds.push(String::from_str(alloc, text)?)?;
-        }
-    }
-    Ok(seeds)
 }

@@ -1,18 +1,22 @@
 //! Writes the output of a command, or the line of its error.
-ghost use Rattle.std.specs.Prelude.{◌≡◌, ◌++◌, [], IfOk, string_bytes};
+ghost use Rattle.std.specs.Prelude.{◌≡◌, ◌++◌, ◌⊎◌, [], IfErr, IfOk, OnOk, string_bytes};
+ghost use Rattle.std.specs.Io.KnownBytes.{Appends};
 ghost use Rattle.crawl_report.specs.Printing.{joined};
 ghost use Rattle.mercator.specs.Ending.{Begins, EndsByText};
 ghost use Rattle.mercator.specs.FaultText.{culprit_line, fault_line, losses_line, more_lines};
 ghost use Rattle.mercator.specs.Told.{told_lines};
+ghost use Rattle.mercator.specs.declared.commands.fault.Fault.TheVariants as wrong;
 
 use crate::commands::fault::Fault;
 use crate::commands::fault_text::FaultText;
 use crate::commands::planned::Plan;
 use crawl_keys::CanonUrl;
 use crawl_workers::Losses;
+use saved_site::WebText;
 use shown_text::shown;
 use std::alloc::{AllocError, Global};
-use std::io::Write;
+use std::io;
+use std::io::{ErrorKind, Write};
 
 /// Writes the whole output of a command, and flushes it.
 pub fn end<O: Write>(out: &mut O, text: &[u8]) -> Result<(), Fault>
@@ -34,6 +38,27 @@ pub fn end_by_parts<O: Write>(out: &mut O, parts: &[Vec<u8>]) -> Result<(), Faul
         };
     }
     end(out, &[])
+}
+
+/// Like [`end`], for a saved web.
+pub fn end_by_web<O: Write>(out: &mut O, web: &WebText) -> Result<(), Fault>
+    ensures gained { OnOk result (Appends (O.contents out.old) (O.contents out.new) web.now) }
+    ensures fault { IfErr result (λ fault. (fault ≡ wrong.CannotWrite) ⊎ (fault ≡ wrong.NoMemory)) }
+{
+    if let Err(error) = web.write(out) {
+        return Err(unwritten(&error));
+    }
+    end(out, &[])
+}
+
+/// Returns the error for a saved web that could not be written.
+fn unwritten(error: &io::Error) -> Fault
+    ensures { (result ≡ wrong.CannotWrite) ⊎ (result ≡ wrong.NoMemory) }
+{
+    match error.kind() {
+        ErrorKind::OutOfMemory => Fault::NoMemory,
+        _ => Fault::CannotWrite,
+    }
 }
 
 /// Reports an error that belongs to no plan. What `err` does not accept of the line is dropped; so is the line if there is no

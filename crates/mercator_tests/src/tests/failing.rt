@@ -271,7 +271,10 @@ const ROWS: [(Row, Failing); 16] = [
 ];
 
 /// The first row with another result.
-fn first_wrong<R: Files + Threads + Wait + Sync>(rt: &R, alloc: Global) -> Option<&'static str> {
+fn first_wrong<R: Files<File: Send, Dir: Send> + Threads + Wait + Sync>(
+    rt: &R,
+    alloc: Global,
+) -> Option<&'static str> {
     for (row, failing) in &ROWS {
         if !holds(rt, alloc, row, *failing) {
             return Some(row.name);

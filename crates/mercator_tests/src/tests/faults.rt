@@ -3,7 +3,8 @@ use crawl_certificate::CertError;
 use crawl_frontier::{FinishError, FrontierError};
 use crawl_run::{CrawlError, CrawlFailure};
 use crawl_workers::RunError;
-use mercator::{Fault, fault_line};
+use mercator::Fault;
+use mercator::testing::fault_line;
 use std::alloc::Global;
 
 const ROWS: [(CrawlError, u8, &str); 12] = [

@@ -2,7 +2,7 @@
 use crawl_keys::{CanonUrl, canonical};
 use crawl_pages::{Fetch, Page};
 use mercator_site::{
-    CheckForm, CheckReport, CheckSettings, Files, report_of_files, report_of_pages,
+    CheckReport, CheckSettings, Files, ReportOptions, report_of_files, report_of_pages,
 };
 use saved_site::{Body, InMemory, Rules, SiteFiles, SiteNames, site_pages, site_web};
 use saved_web::SavedWeb;
@@ -104,11 +104,8 @@ fn settings(none: &[String]) -> CheckSettings<'_> {
         name: BASE,
         front: "",
         ignores: none,
-        unreached: false,
-        external: false,
         seeds: none,
-        form: CheckForm::Text { colour: false },
-        all: false,
+        report: ReportOptions::default(),
         folder: "",
     }
 }

@@ -1,6 +1,6 @@
 //! Inputs and their limits, with a reader that returns one byte at a time.
 use crate::tests::runs::Reader;
-use mercator::{InputLimits, Unread, read_input};
+use mercator::testing::{InputLimits, Unread, read_input};
 use std::alloc::Global;
 
 /// An input, the most bytes and the most reads, and the error if it is not read.

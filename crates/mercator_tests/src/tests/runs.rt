@@ -1,5 +1,7 @@
 //! Runs of the program by its arguments, with a reader and writers that may fail.
-use mercator::run_words;
+use crawl_run::Unobserved;
+use mercator::testing::NoLocks;
+use mercator::{Platform, run_words};
 use std::alloc::{AllocError, Global};
 use std::fs::Files;
 use std::io::{self, ErrorKind, Read, Write};
@@ -112,7 +114,17 @@ pub fn words(alloc: Global, text: &str) -> Result<Vec<String>, AllocError> {
     Ok(words)
 }
 
-fn ends<R: Files + Threads + Wait + Sync>(
+/// A platform that cannot lock files, without an observer and without colour.
+fn platform_of<R>(rt: &R) -> Platform<'_, R, NoLocks, Unobserved> {
+    Platform {
+        rt,
+        locks: &NoLocks,
+        observer: None,
+        has_colour: false,
+    }
+}
+
+fn ends<R: Files<File: Send, Dir: Send> + Threads + Wait + Sync>(
     rt: &R,
     alloc: Global,
     words: &[String],
@@ -134,12 +146,19 @@ fn ends<R: Files + Threads + Wait + Sync>(
         takes: failing.err,
         flushes: false,
     };
-    let status = run_words(rt, alloc, words, &mut input, &mut out, &mut err);
+    let status = run_words(
+        &platform_of(rt),
+        alloc,
+        words,
+        &mut input,
+        &mut out,
+        &mut err,
+    );
     status == row.status && out.has(row.out) && err.has(row.err)
 }
 
 /// Whether the program ends as the row says, with these failures.
-pub fn holds<R: Files + Threads + Wait + Sync>(
+pub fn holds<R: Files<File: Send, Dir: Send> + Threads + Wait + Sync>(
     rt: &R,
     alloc: Global,
     row: &Row,

@@ -3,7 +3,7 @@ use Rattle.mercator.proofs.Serves.{ends_compacting, is_telling}
 use Rattle.mercator.proofs.commands.run.Goals as goal
 
 pub tell-requires-clause-telling : goal.tell-requires-clause-telling
-tell-requires-clause-telling g c κs within = is_telling c.args.plan.now c.in_default.not-Serve c.in_default.not-ServeLog c.in_default.not-Compact
+tell-requires-clause-telling g c κs within = is_telling c.args.plan.now c.in_default.not-Serve c.in_default.not-ServeLog c.in_default.not-Compact c.in_default.not-Site c.in_default.not-Check
 
 pub returns-in-Compact-clause-fault : goal.returns-in-Compact-clause-fault
 returns-in-Compact-clause-fault g c =

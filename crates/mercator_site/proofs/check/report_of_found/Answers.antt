@@ -18,7 +18,7 @@ pub returns-clause-named : goal.returns-clause-named
 returns-clause-named g c = λ web crawled.
     let top = string_bytes c.args.files.now.site.top in
     let links = map string_bytes c.args.settings.seeds.now in
-    let external = c.args.settings.external in
+    let external = c.args.settings.report.external in
     let all = c.pages.result.now in
     let pages = c.own_results-pages.result.now in
     let C : List PageResult → Type 0 = λ ps. IsTopCrawl top web links ps in

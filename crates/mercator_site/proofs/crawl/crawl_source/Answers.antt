@@ -1,8 +1,8 @@
-use Rattle.std.proofs.Common.{◌≡◌, ◌∷◌, ◌∙◌, ℕ, List, [], ap, subst}
+use Rattle.std.proofs.Common.{◌≡◌, true, ◌∷◌, ◌∙◌, ℕ, List, [], ap, subst}
 use Rattle.crawl_certificate.specs.Certificate.{IsCrawl}
 use Rattle.crawl_keys.specs.HostFilter.{allows}
 use Rattle.mercator_site.proofs.TopCrawls.{top_crawl, top_incomplete}
-use Rattle.mercator_site.specs.Faults.{status_of}
+use Rattle.mercator_site.specs.Faults.{is_unfinished}
 use Rattle.mercator_site.specs.declared.fault.SiteFault.{SiteFault}
 use Rattle.mercator_site.proofs.crawl.crawl_source.Goals as goal
 
@@ -18,6 +18,6 @@ returns-in-Ok-clause-found g c = λ web source.
 
 pub returns-clause-incomplete : goal.returns-clause-incomplete
 returns-clause-incomplete g c = λ web source two.
-    let S : SiteFault → Type 0 = λ fault. status_of fault ≡ 2 in
+    let S : SiteFault → Type 0 = λ fault. is_unfinished fault ≡ true in
     top_incomplete (g.F.SessionFetch.meaning c.args.source.now) _ _ _ _ _ _ _ c.in-Err.failure source c.in_ok-host.ensures.canon c.in_ok-seeds.ensures.begun c.in_ok-seeds.ensures.own c.in-Err.ensures.numbers
     (subst S c.from.ensures two)

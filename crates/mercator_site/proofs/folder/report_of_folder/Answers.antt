@@ -1,5 +1,5 @@
-use Rattle.std.proofs.Common.{◌∙◌, rules}
+use Rattle.std.proofs.Common.{map, string_bytes, ap, ◌∙◌, rules}
 use Rattle.mercator_site.proofs.folder.report_of_folder.Goals as goal
 
 pub returns-clause-folder : goal.returns-clause-folder
-returns-clause-folder g c = c.report_of_names.ensures.folder (λ none. c.as_slice-5.ensures.value ∙ c.in_ok-known.ensures.none none) (search rules)
+returns-clause-folder g c = c.report_of_names.ensures.folder c.args.ignores.now (ap (map string_bytes) c.as_slice-5.ensures.value ∙ c.in_ok-known.ensures) (search rules)

@@ -1,0 +1,111 @@
+//! The commands for a folder: `site` and `check`.
+ghost use Rattle.std.specs.Prelude.{◌≡◌, ◌≤◌, ◌⊎◌, ℕ, List, Option, true, false, vec_len, IfOk, IfErr, IfSome, string_bytes};
+ghost use Rattle.mercator.specs.FaultText.{note_line};
+ghost use Rattle.mercator.specs.Faults.{status_of_fault};
+ghost use Rattle.mercator.specs.Limits.{most_input_bytes};
+ghost use Rattle.mercator.specs.Plans.{known_ignores};
+ghost use Rattle.mercator.specs.Told.{EndsBy, Gains, GainsAs};
+ghost use Rattle.mercator.specs.declared.commands.planned.Plan.TheVariants as asks;
+ghost use Rattle.mercator_site.specs.Faults.{IsSiteIncomplete};
+
+use crate::commands::fault::Fault;
+use crate::commands::source::read_named;
+use crate::commands::writing::{begin, end, end_by_web};
+use mercator_site::{CheckOptions, Notice, SiteOptions, report_of_folder, web_of_folder};
+use shown_text::shown;
+use std::alloc::{AllocError, Global};
+use std::fs::Files;
+use std::io::Write;
+use std::sync::Wait;
+use std::thread::Threads;
+
+/// Prints the saved web of a folder, and the notices on `err`.
+///
+/// # Errors
+/// `Site`, `CannotWrite`, `NoMemory`.
+pub fn run_site<R: Files<File: Send, Dir: Send> + Threads + Sync, O: Write, E: Write>(
+    rt: &R,
+    alloc: Global,
+    options: &SiteOptions,
+    out: &mut O,
+    err: &mut E,
+) -> Result<(), Fault>
+    ensures done { (input : Option (List ℕ)) → IfOk result (λ _. Gains (asks.Site options.now) input (O.contents out.old) (O.contents out.new)) }
+    ensures fault { (input : Option (List ℕ)) → IfErr result (λ fault. EndsBy (asks.Site options.now) input fault (out.new ≡ out.old)) }
+    ensures plain { IfErr result (λ fault. status_of_fault fault ≡ 1) }
+{
+    let mut notices = Vec::new(alloc);
+    let web = web_of_folder(rt, alloc, options, &mut notices);
+    print_notices(alloc, err, &notices)?;
+    end_by_web(out, &web?)
+}
+
+/// Checks a folder and prints the report, and the notices on `err`. Returns whether something is broken.
+///
+/// # Errors
+/// `CannotReadIgnores`, `Site`, `Crawl` if the crawl is incomplete, `CannotWrite`, `NoMemory`.
+pub fn run_check<R: Files<File: Send, Dir: Send> + Threads + Wait + Sync, O: Write, E: Write>(
+    rt: &R,
+    alloc: Global,
+    options: &CheckOptions,
+    ignores: &Option<String>,
+    out: &mut O,
+    err: &mut E,
+) -> Result<bool, Fault>
+    ensures done { (input : Option (List ℕ)) → IfOk result (λ broken. GainsAs broken (asks.Check options.now ignores.now) input (O.contents out.old) (O.contents out.new)) }
+    ensures fault { (input : Option (List ℕ)) → IfErr result (λ fault. EndsBy (asks.Check options.now ignores.now) input fault (out.new ≡ out.old)) }
+    ensures incomplete { IfErr result (λ fault. status_of_fault fault ≡ 2 → IsSiteIncomplete options.now × (out.new ≡ out.old)) }
+{
+    let list = read_ignore_list(rt, alloc, ignores)?;
+    let mut notices = Vec::new(alloc);
+    let report = report_of_folder(rt, alloc, options, list.as_slice(), &mut notices);
+    print_notices(alloc, err, &notices)?;
+    let report = report?;
+    end(out, report.text.as_slice())?;
+    Ok(report.is_broken)
+}
+
+/// Reads the ignore list. Without one, returns no bytes.
+fn read_ignore_list<R: Files>(
+    rt: &R,
+    alloc: Global,
+    ignores: &Option<String>,
+) -> Result<Vec<u8>, Fault>
+    ensures whole { IfOk result (λ bytes. IfSome (known_ignores ignores.now) (λ known. bytes.items ≡ known)) }
+    ensures within { IfOk result (λ bytes. vec_len bytes ≤ most_input_bytes) }
+    ensures plain { IfErr result (λ fault. status_of_fault fault ≡ 1) }
+{
+    let Some(file) = ignores else {
+        return Ok(Vec::new(alloc));
+    };
+    match read_named(rt, alloc, file) {
+        Ok(bytes) => Ok(bytes),
+        Err(why) => Err(Fault::of_unread_ignores(why)),
+    }
+}
+
+/// Prints a line for each notice. What `err` does not accept of it is dropped.
+fn print_notices<E: Write>(
+    alloc: Global,
+    err: &mut E,
+    notices: &[Notice],
+) -> Result<(), AllocError> {
+    for notice in notices {
+        let line = note_line(alloc, notice.place.as_str(), notice.words.as_str())?;
+        begin(err, line.as_bytes());
+    }
+    Ok(())
+}
+
+/// A line about something with this name. A name may come from anywhere, so its hidden characters are escaped.
+fn note_line(alloc: Global, name: &str, words: &str) -> Result<String, AllocError>
+    ensures { IfOk result (λ line. string_bytes line ≡ note_line name.now words.now) }
+{
+    let name = shown(alloc, name)?;
+    let mut line = String::from_str(alloc, "mercator: ")?;
+    line.push_str(name.as_str())?;
+    line.push_str(": ")?;
+    line.push_str(words)?;
+    line.push_str("\n")?;
+    Ok(line)
+}
