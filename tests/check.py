@@ -294,7 +294,7 @@ def compare_models(seed: int, number: int) -> Outcome:
 
 
 # The rules of Python's static server
-SERVER = Settings(BASE, follow=True, slashes=True, indices=("index.html", "index.htm"))
+SERVER = Settings(BASE, follow=True, indices=("index.html", "index.htm"))
 
 
 def server_fault(model: Model, folder: str) -> Optional[str]:

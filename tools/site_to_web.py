@@ -53,8 +53,9 @@ pages of a folder, as a plain static server returns them:
   - `/dir` is a redirect to `/dir/`, whether or not `/dir/` is a page.
   - An alias is another URL for which a server returns a file. `/dir/index.html` is
     always one. A URL in a link is one if it has other percent-escapes than a file's
-    own URL, or a query, which a server ignores for a file. The page of an alias has
-    one link, which is the file's own URL. So the links of a file are followed once.
+    own URL, consecutive slashes or `%2F`, which are one slash, or a query, which a
+    server ignores for a file. The page of an alias has one link, which is the file's
+    own URL. So the links of a file are followed once.
   - In the same way, a link to `/dir` in another spelling leads to a redirect.
   - With --exact, a link in another spelling or with a query leads to no page. With
     --queries, a `?` in a file name starts the query (the own URL of `index.html?x`
@@ -120,6 +121,7 @@ GREATEST_PORT = 65535
 IN_NAME = "!$&'()*+,;=:@[]|"
 IN_PATH = IN_NAME + "%"
 IN_QUERY = "!$%&()*+,/:;=?@[\\]^`{|}"
+SPELLED_LINK = re.compile(r"[?%\\]|[^:]//|/.*//")  # with consecutive slashes in addition to those of a host
 
 # The attributes of each element that name another document, including obsolete ones.
 LINKS = {
@@ -322,6 +324,22 @@ def canonical_path(path: str) -> str:
 def respelled(path: str) -> str:
     """Return a canonical path with the same percent-escapes as the URL of a file's page."""
     return "/".join(quote(unquote_to_bytes(part), safe=IN_NAME) for part in path.split("/"))
+
+
+def looked_up(path: str) -> Optional[str]:
+    """Return the path below the folder that a server looks up for one, or None if it leads out of the folder."""
+    *folders, last = unquote_to_bytes(path).split(b"/")
+    names: list[bytes] = []
+    for name in [*folders, *([last] if last in (b".", b"..") else [])]:
+        # The other dots were resolved when the URL was parsed
+        if name == b".." and not names:
+            return None
+        if name == b"..":
+            names.pop()
+        elif name not in (b"", b"."):
+            names.append(name)
+    end = b"" if last in (b".", b"..") else last
+    return "".join(quote(name, safe=IN_NAME) + "/" for name in names) + quote(end, safe=IN_NAME)
 
 
 # ---------------------------------------------------------------- HTML
@@ -938,7 +956,12 @@ class Folder:
         if target is None:
             return None
         text = target.text()
+        top = self.base.text()
         plain = target.site() + respelled(target.path)
+        path = looked_up(plain[len(top) :]) if plain.startswith(top) else None
+        if path is None:
+            return None
+        plain = top + path
         if target.query is not None and self.queries:
             plain += "?" + quote(unquote_to_bytes(target.query), safe=IN_QUERY)
         if text in self.files or text in self.moves or (self.exact and plain != text):
@@ -962,8 +985,8 @@ class Folder:
     def other_spellings(self, links: Iterable[str], url: str) -> dict[str, str]:
         """Return the URLs among links that spell a page's URL differently, each with the page's URL."""
         base = url_of(url)
-        # Only links with escapes or a query can, unless symbolic links lead to folders
-        marked = [link for link in dict.fromkeys(links) if self.linked or "?" in link or "%" in link]
+        # Only links with escapes, a query, a backslash or consecutive slashes in the path can, unless symbolic links lead to folders
+        marked = [link for link in dict.fromkeys(links) if self.linked or SPELLED_LINK.search(link)]
         found = (self.spelled_otherwise(link, base) for link in marked)
         return {} if self.exact and not self.linked else dict(filter(None, found))
 

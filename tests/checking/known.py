@@ -34,7 +34,6 @@ def total(pages: int, links: int, redirects: int, aliases: int) -> Tuple[Dict[st
     return ({"kind": "total", "pages": pages, "links": links, "redirects": redirects, "aliases": aliases},)
 
 
-SLASHES = (("slashes", True),)
 INDICES = (("indices", ("index.html", "index.htm", "index.xhtml")),)
 FALLBACK = (("fallback", True),)
 
@@ -241,7 +240,6 @@ KNOWN = [
             "d//gone d/b.html:1:9",
         ],
         (*total(pages=5, links=9, redirects=1, aliases=4), {"kind": "redirect", "page": "/d", "to": "d/", "pages": 1}),
-        rules=SLASHES,
     ),
     Known(
         "escaped slashes",
@@ -252,13 +250,6 @@ KNOWN = [
         },
         ["..%2Fd/a.html index.html:1:108", "d%252Fa.html index.html:1:130", "d%2Fgone index.html:1:151"],
         (*total(pages=4, links=8, redirects=1, aliases=4), {"kind": "redirect", "page": "%2Fd%2Fe", "to": "d/e/", "pages": 1}),
-        rules=SLASHES,
-    ),
-    Known(
-        "without rules of hosts slashes are different",
-        {"index.html": "<a href=.//a.html><a href=d%2Fa.html><a href=d//>", "a.html": "", "d/index.html": "", "d/a.html": ""},
-        ["/a.html index.html:1:9", "d%2Fa.html index.html:1:27", "d// index.html:1:46"],
-        total(pages=1, links=3, redirects=0, aliases=0),
     ),
     Known(
         "several names of index files",

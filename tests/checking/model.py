@@ -75,7 +75,6 @@ class Settings(NamedTuple):
     seeds: Tuple[str, ...] = ()  # links on the top at which the search starts
     workers: int = 1  # which makes no difference
     # Rules of hosts that the program does not have yet
-    slashes: bool = False  # consecutive slashes in a path are one, and `%2F` is a slash
     indices: Tuple[str, ...] = ("index.html",)  # the names of index files; in each folder the first one counts
     fallback: bool = False  # a file is also found without its suffix .html
 
@@ -246,10 +245,7 @@ class Site:
 
     def path_of(self, parts: List[bytes]) -> Optional[bytes]:
         """The path in the folder that a server looks up, or None if it looks up none."""
-        path = b"/".join(parts)
-        if not self.settings.slashes:
-            return None if any(b"/" in part for part in parts) else path
-        *folders, last = path.split(b"/")
+        *folders, last = b"/".join(parts).split(b"/")
         # A `..` may come from `%2F..%2F`. The others were resolved in the URL.
         walked: List[bytes] = []
         for name in [*folders, *([last] if last in (b".", b"..") else [])]:

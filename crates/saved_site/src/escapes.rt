@@ -1,4 +1,5 @@
 //! Names in URLs.
+use memchr::memrchr;
 use percent_encoding::{AsciiSet, NON_ALPHANUMERIC, ascii_set, percent_decode, percent_encode};
 use std::alloc::{AllocError, Global};
 
@@ -82,6 +83,60 @@ pub(crate) fn push_respelled(
         push_again(alloc, part, IN_NAME, url)?;
     }
     Ok(())
+}
+
+/// Appends the path below the top that a server looks up for a path below the top: without empty names, and with an escaped slash as a
+/// slash. So consecutive slashes are one. The escapes are those of a file's page. `false`, and part of the path, if it leads above the top:
+/// a dot behind an escaped slash is not resolved when the URL is parsed.
+pub(crate) fn push_looked_up(
+    alloc: Global,
+    below: &str,
+    url: &mut String,
+) -> Result<bool, AllocError> {
+    let mut path = Vec::new(alloc);
+    percent_decode(below.as_bytes()).append_to(&mut path)?;
+    let Some(names) = names_in(alloc, path.as_slice())? else {
+        return Ok(false);
+    };
+    let is_folder = ends_in_folder(path.as_slice());
+    let mut is_first = true;
+    for name in names.iter() {
+        if !is_first {
+            url.push('/')?;
+        }
+        is_first = false;
+        percent_encode(name, IN_NAME).append_to(url)?;
+    }
+    if is_folder && !is_first {
+        url.push('/')?;
+    }
+    Ok(true)
+}
+
+/// The names on a path, without empty ones and with dots resolved. `None` if it leads above its beginning.
+fn names_in(alloc: Global, path: &[u8]) -> Result<Option<Vec<&[u8]>>, AllocError> {
+    let mut names = Vec::new(alloc);
+    for name in path.split(|byte| *byte == b'/') {
+        match name {
+            b"" | b"." => {}
+            b".." => {
+                if names.pop().is_none() {
+                    return Ok(None);
+                }
+            }
+            _ => names.push(name)?,
+        }
+    }
+    Ok(Some(names))
+}
+
+/// Whether a path can only be that of a folder: it ends in a slash or in dots.
+fn ends_in_folder(path: &[u8]) -> bool {
+    let last = match memrchr(b'/', path) {
+        Some(at) => &path[at + 1..],
+        None => path,
+    };
+    matches!(last, b"" | b"." | b"..")
 }
 
 /// Appends a question mark and a query with its escapes written as those of a file's page are.

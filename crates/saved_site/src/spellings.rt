@@ -1,12 +1,12 @@
 //! Links with another spelling or query, or through a symbolic link, for which a server returns a page of the site.
 ghost use Rattle.std.specs.Prelude.{◌≡◌, bytes_eq};
 
-use crate::escapes::{push_query, push_respelled};
+use crate::escapes::{push_looked_up, push_query, push_respelled};
 use crate::site::{Rules, Site};
 use crate::site_input::SiteInput;
 use crawl_keys::{Base, CanonUrl};
 use document_links::{LINK_FRONT, LinkTexts, base_of, fits, resolved};
-use memchr::memchr2;
+use memchr::{memchr, memchr3, memmem};
 use std::alloc::{AllocError, Global};
 
 /// A URL, and the number of the page that a server returns for it.
@@ -52,14 +52,23 @@ fn first_spelling(input: SiteInput<'_>, links: &LinkTexts) -> usize {
     links.len()
 }
 
-/// Whether the URL of a link with this text can be another spelling. If no symbolic link leads to a folder, the text must have an escape
-/// or a query.
+/// Whether the URL of a link with this text can be another spelling. If no symbolic link leads to a folder, the text must have an escape,
+/// a query, or consecutive slashes in its path. A backslash is a slash in a URL.
 pub(crate) fn can_spell(input: SiteInput<'_>, text: &str) -> bool {
-    if input.site.linked.is_empty() {
-        !input.rules.exact && memchr2(b'?', b'%', text.as_bytes()).is_some()
-    } else {
-        true
+    if !input.site.linked.is_empty() {
+        return true;
     }
+    let bytes = text.as_bytes();
+    !input.rules.exact && (memchr3(b'?', b'%', b'\\', bytes).is_some() || has_empty_name(bytes))
+}
+
+/// Whether a text has two slashes in a row, in addition to those of a host.
+fn has_empty_name(text: &[u8]) -> bool {
+    let Some(at) = memmem::find(text, b"//") else {
+        return false;
+    };
+    let is_host = at == 0 || text[at - 1] == b':' && memchr(b'/', &text[..at]).is_none();
+    !is_host || memmem::find(&text[at + 2..], b"//").is_some()
 }
 
 /// The last text that was resolved.
@@ -121,7 +130,8 @@ fn has_line(site: &Site, entry: usize) -> bool {
     }
 }
 
-/// A canonical URL of the site in the spelling of files' URLs and by the own names of folders, if it is not that of a page.
+/// The URL of a file or folder that a server looks up for a canonical URL of the site, by the own names of folders. `None` if the URL is
+/// that of a page, or is not below the top.
 fn plain_of(
     alloc: Global,
     site: &Site,
@@ -138,8 +148,15 @@ fn plain_of(
         Some((path, query)) => (path, Some(query)),
         None => (rest, None),
     };
-    let mut plain = String::from_str(alloc, site.origin.as_str())?;
-    push_respelled(alloc, path, &mut plain)?;
+    let mut spelled = String::from_str(alloc, site.origin.as_str())?;
+    push_respelled(alloc, path, &mut spelled)?;
+    let Some(below) = spelled.as_str().strip_prefix(site.top()) else {
+        return Ok(None);
+    };
+    let mut plain = String::from_str(alloc, site.top())?;
+    if !push_looked_up(alloc, below, &mut plain)? {
+        return Ok(None);
+    }
     if rules.queries
         && let Some(query) = query
     {
