@@ -65,7 +65,7 @@ number_of (why ∷ more) losses lost is =
 -- ## URLs and links
 
 -- the loss of a URL that was taken, and not of a link
-is_of_url : Loss → Bool
+abbrev is_of_url : Loss → Bool
 is_of_url loss.Failed = true
 is_of_url loss.Unkept = true
 is_of_url _ = false
@@ -125,10 +125,10 @@ one_of_each meaning url (kept answers) = let none = answers_no_url answers in om
 
 -- ## Turns
 
-losses_in : List Turn → List Loss
+abbrev losses_in : List Turn → List Loss
 losses_in turns = flat_map (λ (t : Turn). losses_at t.1) turns
 
-found_in : (List ℕ → Page) → List Turn → List PageResult
+abbrev found_in : (List ℕ → Page) → List Turn → List PageResult
 found_in meaning turns = flat_map (λ (t : Turn). found_at meaning t.0.url t.1) turns
 
 turns_counted : (meaning : List ℕ → Page) (turns : List Turn) → count_by is_of_url (losses_in turns) + length (found_in meaning turns) ≡ length turns
@@ -141,11 +141,11 @@ turns_counted meaning (t ∷ ts) =
     omega (arith, rest, one, losses, found)
 
 -- what became of a URL, as `Ran` says it
-page_at : (List ℕ → Page) → List ℕ → Outcome → Option Page
+abbrev page_at : (List ℕ → Page) → List ℕ → Outcome → Option Page
 page_at meaning url (kept answers) = Some (meaning url)
 page_at meaning url _ = None
 
-fates_in : (List ℕ → Page) → List Turn → List Fate
+abbrev fates_in : (List ℕ → Page) → List Turn → List Fate
 fates_in meaning turns = map (λ (t : Turn). (t.0, page_at meaning t.0.url t.1)) turns
 
 taken_same : (meaning : List ℕ → Page) (turns : List Turn) → taken_in (fates_in meaning turns) ≡ entries_in turns

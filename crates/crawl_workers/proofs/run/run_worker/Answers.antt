@@ -1,4 +1,6 @@
+use Rattle.std.proofs.Common.{ap, ◌∙◌}
 use Rattle.crawl_keys.specs.HostFilter.{allows}
+use Rattle.link_offers.specs.Losses.{sum_of}
 use Rattle.crawl_workers.proofs.Ends.{ran_by}
 use Rattle.crawl_workers.proofs.Outcomes.{progress_none}
 use Rattle.crawl_workers.proofs.run.run_worker.Goals as goal
@@ -18,3 +20,11 @@ loop-preserved-then-spins-lt-SPINS g c = (c.in-Waits.ensures.right, c.in-Waits.e
 
 pub loop-preserved : goal.loop-preserved
 loop-preserved g c = (c.in-Waits.ensures.right, c.in-Waits.ensures.goes c.args.worker c.loop.invariant.1)
+
+pub returns-in-Closes : goal.returns-in-Closes
+returns-in-Closes g c =
+    let end = c.end.ensures in
+    let output = c.turn.new.output in
+    rw (end.closed, end.results, end.losses)
+    (ran_by g.K.Name.workers (allows g.K.Name.filter) (g.F.SessionFetch.meaning c.args.fetcher.now) c.args.worker c.in-Closes.closed output.results.items output.offers c.end.result.lost (end.lost ∙ ap sum_of end.losses)
+    (c.in-Closes.ensures.goes c.args.worker c.loop.invariant.1))

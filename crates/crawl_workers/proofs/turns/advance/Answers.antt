@@ -1,6 +1,8 @@
-use Rattle.std.proofs.Common.{sym, subst}
+use Rattle.std.proofs.Common.{ap, sym, subst, ◌∙◌}
 use Rattle.crawl_keys.specs.HostFilter.{allows}
+use Rattle.link_offers.specs.Losses.{sum_of}
 use Rattle.crawl_workers.specs.Rounds.{RunnerRan}
+use Rattle.crawl_workers.proofs.Ends.{ran_by}
 use Rattle.crawl_workers.proofs.turns.advance.Goals as goal
 
 pub returns-in-Worked-clause-ran : goal.returns-in-Worked-clause-ran
@@ -10,3 +12,11 @@ returns-in-Worked-clause-ran g c = λ start ran.
 pub returns-in-Waits-clause-ran : goal.returns-in-Waits-clause-ran
 returns-in-Waits-clause-ran g c = λ start ran.
     c.in-Waits.ensures.goes start (subst (RunnerRan g.K.Name.workers (allows g.K.Name.filter) (g.F.SessionFetch.meaning c.args.fetcher.now) start) (sym c.in-Going.ensures.value) ran)
+
+pub returns-in-Closes-clause-ran : goal.returns-in-Closes-clause-ran
+returns-in-Closes-clause-ran g c = λ start ran.
+    let end = c.end.ensures in
+    let output = c.turn.new.output in
+    rw (end.closed, end.results, end.losses)
+    (ran_by g.K.Name.workers (allows g.K.Name.filter) (g.F.SessionFetch.meaning c.args.fetcher.now) start c.in-Closes.closed output.results.items output.offers c.end.result.lost (end.lost ∙ ap sum_of end.losses)
+    (c.in-Closes.ensures.goes start (subst (RunnerRan g.K.Name.workers (allows g.K.Name.filter) (g.F.SessionFetch.meaning c.args.fetcher.now) start) (sym c.in-Going.ensures.value) ran)))
