@@ -19,6 +19,7 @@ from __future__ import annotations
 import argparse
 import json
 import os
+import re
 import subprocess
 import sys
 import tempfile
@@ -315,14 +316,14 @@ def is_served(folder: str, url: str) -> bool:
     """Whether the server and the model must agree on a URL.
 
     Its line and that of the file's own URL are short enough, the name is UTF-8, and it is a file, a folder or nothing. The server
-    redirects a path that ends in `%2F`, for which others, and the model, return the folder.
+    redirects a path that ends in `%2F`, or in dots after it, for which others, and the model, return the folder.
     """
     request = url[len(BASE):].partition("?")[0]
     name = unquote_to_bytes(request)
     path = os.path.join(os.fsencode(folder), name.lstrip(b"/"))
     is_known = os.path.isfile(path) or os.path.isdir(path) or not os.path.lexists(path)
     is_line = is_short("page", url) and is_short("page", BASE + quote(name))
-    return is_known and is_line and TOOL.is_utf8(name) and not request.lower().endswith("%2f")
+    return is_known and is_line and TOOL.is_utf8(name) and not re.search(r"%2f(?:\.|%2e)*$", request, re.IGNORECASE)
 
 
 def keep(seed: int, number: int) -> str:

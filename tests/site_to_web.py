@@ -429,8 +429,16 @@ class Folders(Converting):
         self.assertEqual(pages["http://a.test/"], ["link http://a.test/d%69r/a.html"])
         self.assertEqual(pages["http://a.test/d%69r/a.html"], ["link /dir/a.html"])
 
-    def test_an_escaped_slash_and_other_hosts_are_no_other_spelling(self) -> None:
-        self.put("dir/x.html", '<html><a href="/dir%2Fx.html"><a href="http://b.test/dir/x.html?q">')
+    def test_links_with_consecutive_and_escaped_slashes(self) -> None:
+        links = ["//a.test/dir//x.html", "/dir%2Fx.html", "/dir\\/x.html", "/dir%2F..%2Fdir/x.html", "/..%2Fdir/x.html", "/dir//y.html"]
+        self.put("dir/x.html", "<html>" + "".join(f'<a href="{link}">' for link in links))
+        pages = self.converted()
+        aliases = ["http://a.test/dir%2F..%2Fdir/x.html", "http://a.test/dir%2Fx.html", "http://a.test/dir//x.html"]
+        self.assertEqual(sorted(pages), sorted(["http://a.test/dir", "http://a.test/dir/x.html", *aliases]))
+        self.assertEqual([pages[url] for url in aliases], [["link /dir/x.html"]] * 3)
+
+    def test_a_link_to_another_host_is_no_other_spelling(self) -> None:
+        self.put("dir/x.html", '<html><a href="http://b.test/dir/x.html?q">')
         self.assertEqual(list(self.converted()), ["http://a.test/dir", "http://a.test/dir/x.html"])
 
     def test_another_index_file(self) -> None:
