@@ -1,6 +1,5 @@
 -- What a session tells, by its plan.
 use Rattle.std.proofs.Common.{◌≡◌, ◌⊎◌, inl, inr, ℕ, List, [], ◌++◌, false, Result, Ok, Err, IfOk, IfErr, Option, String, Global, refl, sym, subst, ◌∙◌}
-use Rattle.std.specs.Io.KnownBytes.{Appends}
 use Rattle.std.proofs.KnownBytes.{Appends-nil, Appends-trans}
 use Rattle.std.specs.Str.Lines.{lines}
 use Rattle.crawl_session.specs.Frontiers.{Shows, start}
