@@ -1,4 +1,5 @@
 pub mod CrawlTexts
+pub mod Folders
 pub mod PlanTexts
 pub mod PlainTexts
 pub mod Seeds

@@ -1,6 +1,5 @@
 -- What a session tells, by its plan.
 use Rattle.std.proofs.Common.{◌≡◌, ◌⊎◌, inl, inr, ℕ, List, [], ◌++◌, false, Result, Ok, Err, IfOk, IfErr, Option, String, Global, refl, sym, subst, ◌∙◌}
-use Rattle.std.specs.Io.KnownBytes.{Appends}
 use Rattle.std.proofs.KnownBytes.{Appends-nil, Appends-trans}
 use Rattle.std.specs.Str.Lines.{lines}
 use Rattle.crawl_session.specs.Frontiers.{Shows, start}
@@ -17,13 +16,11 @@ use Rattle.mercator.specs.Compaction.{Compacted}
 use Rattle.mercator.specs.Ending.{Begins}
 use Rattle.mercator.specs.Faults.{of_session, status_of_fault}
 use Rattle.mercator.specs.LogFile.{IsBreak, IsLogFault}
-use Rattle.mercator.specs.Plans.{IsTelling, IsWithinLimits, has_notices, is_bad_suffix, queues_of, suffixes_of}
+use Rattle.mercator.specs.Plans.{IsWithinLimits, has_notices, is_bad_suffix, queues_of, suffixes_of}
 use Rattle.mercator.specs.Told.{BreaksOff, EndsBy, Fails, FailsLog, Gains, IsDoneWithNote, MayNote, TellsFault, no_identity, part_of, settings_of}
 use Rattle.mercator.specs.declared.commands.fault.Fault.{Fault}
 use Rattle.mercator.specs.declared.commands.fault.Fault.TheVariants as wrong
 use Rattle.mercator.specs.declared.commands.log_file.LogFault.TheVariants as unlogged
-use Rattle.mercator_site.specs.declared.options.CheckOptions.{CheckOptions}
-use Rattle.mercator_site.specs.declared.options.SiteOptions.{SiteOptions}
 use Rattle.mercator.specs.declared.commands.planned.LogPlan.{LogPlan}
 use Rattle.mercator.specs.declared.commands.planned.Plan.{Plan}
 use Rattle.mercator.specs.declared.commands.planned.SessionPlan.{SessionPlan}
@@ -132,20 +129,6 @@ plain_log wrong.NoMemory is = refl
 plain_log (wrong.Log why) is = refl
 plain_log fault is = absurd is
 
--- a plan that is no session tells a text, and notes nothing
-pub is_telling : (plan : Plan) → ((asked : SessionPlan) → plan ≡ asks.Serve asked → ⊥) → ((asked : LogPlan) → plan ≡ asks.ServeLog asked → ⊥) → ((log : LogPlan) (new : String Global) → plan ≡ asks.Compact log new → ⊥)
-    → ((options : SiteOptions) → plan ≡ asks.Site options → ⊥) → ((options : CheckOptions) (ignores : Option (String Global)) → plan ≡ asks.Check options ignores → ⊥) → IsTelling plan
-is_telling (asks.Serve asked) other logged compacts site check = other asked refl
-is_telling (asks.ServeLog asked) other logged compacts site check = logged asked refl
-is_telling (asks.Compact log new) other logged compacts site check = compacts log new refl
-is_telling (asks.Site options) other logged compacts site check = site options refl
-is_telling (asks.Check options ignores) other logged compacts site check = check options ignores refl
-is_telling plan other logged compacts site check = tt
-
-pub notes_nothing : (plan : Plan) (old new : Option (List ℕ)) → ((asked : LogPlan) → plan ≡ asks.ServeLog asked → ⊥) → MayNote plan old new
-notes_nothing (asks.ServeLog asked) old new plain = absurd (plain asked refl)
-notes_nothing plan old new plain = tt
-
 -- a fault's line is told, behind what a session with a log may have told
 pub tells_fault : (plan : Plan) (old middle new : Option (List ℕ)) (line : List ℕ) → (has_notices plan ≡ false → middle ≡ old) → MayNote plan old middle → Begins middle new line → TellsFault plan old new line
 tells_fault (asks.ServeLog asked) old middle new line silent noted told = (middle, noted, told)
@@ -181,8 +164,3 @@ fails_compacting log file (Err fault) good is = λ input. log_fails log.session.
 pub plain_compacting : (r : Result (Unit {0}) Fault) → IfErr r IsLogFault → IfErr r (λ fault. status_of_fault fault ≡ 1)
 plain_compacting (Ok done) is = tt
 plain_compacting (Err fault) is = plain_log fault is
-
-pub ends_compacting : (plan : Plan) (log : LogPlan) (file : String Global) (r : Result (Unit {0}) Fault) (input : Option (List ℕ)) (Unwritten : Type 0) → plan ≡ asks.Compact log file → IfErr r (λ fault. (input : Option (List ℕ)) → Fails (asks.Compact log file) input fault) → Unwritten
-    → IfErr r (λ fault. EndsBy plan input fault Unwritten)
-ends_compacting plan log file (Ok done) input Unwritten is fails none = tt
-ends_compacting plan log file (Err fault) input Unwritten is fails none = subst (λ p. EndsBy p input fault Unwritten) (sym is) (inl (fails input, none))

@@ -1,0 +1,36 @@
+-- How the commands for a folder end.
+use Rattle.std.proofs.Common.{◌≡◌, ◌⊎◌, inl, inr, ℕ, Bool, true, false, if◌then◌else◌, List, Option, String, Global, refl, arith}
+use Rattle.crawl_run.specs.Crawls.{is_incomplete}
+use Rattle.crawl_run.specs.declared.error.CrawlError.{CrawlError}
+use Rattle.crawl_run.specs.declared.error.CrawlError.TheVariants as crawl
+use Rattle.crawl_run.specs.declared.failure.CrawlFailure.{CrawlFailure}
+use Rattle.mercator_site.specs.Faults.{IsSiteIncomplete, is_unfinished}
+use Rattle.mercator_site.specs.declared.fault.SiteFault.{SiteFault}
+use Rattle.mercator_site.specs.declared.fault.SiteFault.TheVariants as unsited
+use Rattle.mercator_site.specs.declared.options.CheckOptions.{CheckOptions}
+use Rattle.mercator.specs.Faults.{of_crawl_by, of_site, status_of_fault}
+use Rattle.mercator.specs.Told.{IsBroken, IsChecked, IsTold}
+use Rattle.mercator.specs.declared.commands.planned.Plan.TheVariants as asks
+
+-- the status 2 is that of an incomplete crawl
+is_two : (b : Bool) → ◌≡◌ {A = ℕ} (if b then 2 else 1) 2 → b ≡ true
+is_two true two = refl
+is_two false two = absurd (omega (arith, two))
+
+incomplete_by : (error : CrawlError) (failure : CrawlFailure) → status_of_fault (of_crawl_by error failure) ≡ 2 → is_incomplete failure.error ≡ true
+incomplete_by crawl.NoMemory failure two = absurd (omega (arith, two))
+incomplete_by error failure two = is_two (is_incomplete failure.error) two
+
+unfinished : (fault : SiteFault) → status_of_fault (of_site fault) ≡ 2 → is_unfinished fault ≡ true
+unfinished (unsited.Crawl failure) two = incomplete_by failure.error failure two
+unfinished fault two = absurd (omega (arith, two))
+
+-- a check ends with this status only if its crawl is incomplete
+pub incomplete_check : (options : CheckOptions) (fault : SiteFault) → (is_unfinished fault ≡ true → IsSiteIncomplete options) → status_of_fault (of_site fault) ≡ 2 → IsSiteIncomplete options
+incomplete_check options fault incomplete two = incomplete (unfinished fault two)
+
+-- the report of a check is a text that its command may print
+pub can_print : (options : CheckOptions) (ignores : Option (String Global)) (input : Option (List ℕ)) (broken : Bool) (text : List ℕ) → IsChecked options ignores broken text
+    → (text : List ℕ) × (IsTold (asks.Check options ignores) input text ⊎ IsBroken (asks.Check options ignores) text)
+can_print options ignores input false text checked = (text, inl checked)
+can_print options ignores input true text checked = (text, inr checked)
