@@ -1,30 +1,8 @@
 -- From the closing on.
-use Rattle.std.proofs.Common.{◌≡◌, ℕ, ◌<◌, true, List, [], ◌∷◌, ◌++◌, length, map, Option, None, refl, sym, ap, ◌∙◌, subst, arith, true≢false, append_assoc, filter_map}
-use Rattle.std.specs.List.{list_all}
-use Rattle.std.proofs.lemmas.List.{append-nil}
-use Rattle.std.proofs.lemmas.List.Elements.{filter_map-append}
-use Rattle.crawl_core.specs.declared.event.Event.{Event}
-use Rattle.crawl_core.specs.declared.event.Event.TheVariants.{Close}
-use Rattle.crawl_core.specs.declared.reply.Reply.{Reply}
+use Rattle.crawl_tie.proofs.Prelude.{◌≡◌, ℕ, ◌<◌, true, List, [], ◌∷◌, ◌++◌, length, map, Option, None, refl, sym, ap, ◌∙◌, subst, arith, append_assoc, filter_map, list_all, append-nil, filter_map-append, Event, Close, Reply, one_if, State, start, count_of, Run, Sound, gate_effect, closed_means_finished, bits, closed_at, IsMaximum, GateId, Entry, Message, plain, Whole, IsFirst, Act, Atomic, History, events_of, events, ShowsWhole, pushed_to, popped_from, fetched_at, accepted, delivered, fetches_done, is_closing, is_quiet, Delivers, Finished}
 use Rattle.crawl_core.specs.declared.reply.Reply.TheVariants as told
-use Rattle.crawl_core.specs.Flags.{one_if}
-use Rattle.crawl_core.specs.State.{State, start, count_of}
-use Rattle.crawl_core.specs.Run.{Run}
 use Rattle.crawl_core.specs.History as cores
 use Rattle.crawl_core.specs.Invariants as finish
-use Rattle.crawl_core.proofs.Sound.{Sound, gate_effect}
-use Rattle.crawl_core.proofs.RunLaws.{closed_means_finished}
-use Rattle.crawl_gate.specs.Word.{bits, closed_at}
-use Rattle.crawl_gate.specs.GateInvariant.{Moment}
-use Rattle.crawl_gate.specs.GateError.{IsMaximum}
-use Rattle.crawl_gate.specs.Seat.{GateId}
-use Rattle.crawl_queues.specs.declared.entry.Entry.{Entry}
-use Rattle.crawl_queues.specs.declared.entry.Message.{Message}
-use Rattle.crawl_queues.specs.Rule.{plain}
-use Rattle.crawl_tie.specs.Whole.{Whole, IsFirst}
-use Rattle.crawl_tie.specs.Acts.{Act, Enters, Pushes, Pops, Closes, NotClosesClosed, Atomic, History}
-use Rattle.crawl_tie.specs.Shows.{events_of, events, ShowsWhole}
-use Rattle.crawl_tie.specs.Headline.{pushed_to, popped_from, fetched_at, accepted, delivered, fetches_done, is_closing, is_quiet, Delivers, Finished}
 use Rattle.crawl_tie.proofs.Lanes.{all_taken, lists_split}
 use Rattle.crawl_tie.proofs.Steps.{Ties, met, step, runs, first_ties}
 use Rattle.crawl_tie.proofs.Lists.{Reached, reached_first, reached_all, delivers, some_there}
@@ -32,9 +10,7 @@ use Rattle.crawl_tie.proofs.Lists.{Reached, reached_first, reached_all, delivers
 -- a machine has one run
 pub run_same : (a b c : State) (xs : List (Event × Reply)) → Run a xs b → Run a xs c → b ≡ c
 run_same a b c [] first second = first ∙ sym second
-run_same a b c (x ∷ xs) first second =
-    let same : first.0 ≡ second.0 = first.1.state_is ∙ sym second.1.state_is in
-    run_same second.0 b c xs (subst (λ z. Run z xs b) same first.2) second.2
+run_same a b c (x ∷ xs) first second = grind (arith, run_same second.0 b c xs)
 
 events_append : (xs ys : List Act) → events (xs ++ ys) ≡ events xs ++ events ys
 events_append [] ys = refl
@@ -54,9 +30,7 @@ pub record Ends (act : Act) : Type 0 where
   pub word : (w v : Whole) → Atomic w act v → v.gate.words ≡ bits (closed_at 0) ∷ []
 
 ends : (act : Act) → is_closing act ≡ true → Ends act
-ends Closes e = record { event = refl; pushed = λ q. refl; popped = λ q. refl; finished = λ q. refl; word = λ w v a. ap (λ (u : Whole). u.gate.words) a.2 ∙ ap (λ (m : Moment). m.words) a.1.steps.next }
-ends NotClosesClosed e = record { event = refl; pushed = λ q. refl; popped = λ q. refl; finished = λ q. refl; word = λ w v a. ap (λ (u : Whole). u.gate.words) a.2 ∙ ap (λ (m : Moment). m.words) a.1.steps.next }
-ends _ e = absurd (true≢false (sym e))
+ends act e = grind arith
 
 unchanged : {B : Type 0} (h : Act → Option B) (xs : List Act) (act : Act) → h act ≡ None → filter_map h (xs ++ act ∷ []) ≡ filter_map h xs
 unchanged h xs act none = filter_map-append h xs (act ∷ []) ∙ rw none (append-nil (filter_map h xs))
@@ -68,19 +42,10 @@ AllQuiet es = list_all (λ x. cores.is_quiet x.1) es ≡ true
 
 quiet_run : (s t : State) (es : List (Event × Reply)) → Sound s → s.gate.closed ≡ true → Run s es t → AllQuiet es × (t.gate.closed ≡ true)
 quiet_run s t [] sound closed run = (refl, ap (λ (z : State). z.gate.closed) run ∙ closed)
-quiet_run s t (x ∷ xs) sound closed run =
-    let effect = gate_effect s sound x.0 in
-    let stays = effect.stays closed in
-    let next = subst (λ z. Sound z × (z.gate.closed ≡ true)) (sym run.1.state_is) (effect.sound, stays.0) in
-    let rest = quiet_run run.0 t xs next.0 next.1 run.2 in
-    let here : cores.is_quiet x.1 ≡ true = ap cores.is_quiet run.1.reply_is ∙ stays.1 in
-    (rw (here) rest.0, rest.1)
+quiet_run s t (x ∷ xs) sound closed run = grind (arith, gate_effect, quiet_run run.0 t xs)
 
 act_quiet : (act : Act) → AllQuiet (events_of act) → is_quiet act ≡ true
-act_quiet (Enters id n) e = e
-act_quiet (Pushes q x) e = e
-act_quiet (Pops q x) e = e
-act_quiet _ e = refl
+act_quiet act e = grind arith
 
 quiet_history : (gate : GateId) (workers : ℕ) (w v : Whole) (s : State) (acts : List Act) → Ties gate workers w s → s.gate.closed ≡ true → History w acts v → list_all is_quiet acts ≡ true
 quiet_history gate workers w v s [] ties closed h = refl

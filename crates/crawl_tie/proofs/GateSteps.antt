@@ -1,12 +1,6 @@
 -- What each step of the gate does to its word, and which steps a gate makes.
-use Rattle.std.proofs.Common.{◌≡◌, ℕ, ◌+◌, ◌<◌, ◌^◌, [], ◌∷◌, ap, arith}
-use Rattle.crawl_gate.specs.declared.rule.View.{View}
-use Rattle.crawl_gate.specs.Word.{Word, bits, open_at, closed_at}
-use Rattle.crawl_gate.specs.GateInvariant.{Moment, GateInvariant}
-use Rattle.crawl_gate.specs.History.{SeatSteps, GateStep}
+use Rattle.crawl_tie.proofs.Prelude.{◌≡◌, ℕ, ◌+◌, ◌<◌, ◌^◌, [], ◌∷◌, ap, arith, View, Word, bits, open_at, closed_at, Moment, GateInvariant, SeatSteps, GateStep, Splitting, Looking, Entering, Losing, Leaving, Closing, NotClosing, GateMoves, splitting_one, looking_one, entering_one, losing_one, leaving_one, closing_one, not_closing_one}
 use Rattle.crawl_gate.specs.History.GateStep.{splits, looks, enters, loses, leaves, closes, not_closes}
-use Rattle.crawl_tie.specs.Acts.{Splitting, Looking, Entering, Losing, Leaving, Closing, NotClosing}
-use Rattle.crawl_tie.specs.Parts.{GateMoves, splitting_one, looking_one, entering_one, losing_one, leaving_one, closing_one, not_closing_one}
 
 -- one step of the gate, from the word x to the word y
 pub record Goes (gate gate' : Moment) (x y : Word) : Type 0 where

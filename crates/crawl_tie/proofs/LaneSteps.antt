@@ -1,14 +1,8 @@
 -- Which steps a subqueue makes.
-use Rattle.std.proofs.Common.{◌≡◌, ◌≢◌, ℕ, ◌+◌, Bool, true, false, [], ◌∷◌, ◌++◌, set, refl, sym, ◌∙◌, subst, true≢false}
-use mathlib.Core.Option.{some, some-ne-none}
-use lib.ListN.{get_elem?}
-use Rattle.crawl_gate.specs.Seat.{GateId}
-use Rattle.crawl_queues.specs.declared.rule.PassView.{PassView}
-use Rattle.crawl_queues.specs.Rule.{SubqueueInvariant, home, pushing, popping, reunited, spent, plain}
+use Rattle.crawl_tie.proofs.Prelude.{◌≡◌, ◌≢◌, ℕ, ◌+◌, Bool, true, false, [], ◌∷◌, ◌++◌, set, refl, sym, ◌∙◌, subst, true≢false, some, get_elem?, GateId, PassView, SubqueueInvariant, home, pushing, popping, reunited, spent, plain, made, IsDivided, IsUnited, LaneMoves, IsMaking, pushing_one, popping_one, counting_one, taking_in_one}
+use native.Mathlib.Omega.{arith}
 use Rattle.crawl_queues.specs.History.{Moment, SubqueueStep, settles, divides, pushes, pops, finds_nothing, takes_in}
 use Rattle.crawl_queues.proofs.Passing as pass
-use Rattle.crawl_tie.specs.Whole.{made}
-use Rattle.crawl_tie.specs.Parts.{IsDivided, IsUnited, LaneMoves, IsMaking, pushing_one, popping_one, counting_one, taking_in_one}
 
 -- a pass that may not do both
 abbrev One : ℕ → PassView → Type 0
@@ -19,10 +13,7 @@ abbrev Both : ℕ → PassView → Type 0
 Both j v = v.sends ≡ v.takes
 
 pub made_divided : (gate : GateId) (workers q : ℕ) → IsDivided (made (home gate workers q))
-made_divided gate workers q =
-    let h = home gate workers q in
-    pass.all_push One (pushing h [] ∷ spent ∷ []) (popping h [] 0) (λ s t. true≢false (sym s))
-    (pass.all_push One (pushing h [] ∷ []) spent (λ s t. true≢false (sym s)) (pass.all_push One [] (pushing h []) (λ s t. true≢false (sym t)) (λ j v at. absurd (some-ne-none v (sym at)))))
+made_divided gate workers q = grind arith
 
 -- a pass of a divided subqueue gets another view with at most one right
 still_one : (m : Moment) (pass_id : ℕ) (w : PassView) → IsDivided m → One pass_id w → (j : ℕ) (u : PassView) → get_elem? (set m.views pass_id w) j ≡ some u → One j u

@@ -1,27 +1,12 @@
 -- Subqueues of the machine and of the running frontier, one by one.
-use Rattle.std.proofs.Common.{◌≡◌, ◌≢◌, ℕ, zero, suc, ◌+◌, Bool, true, cond, ◌||◌, List, [], ◌∷◌, ◌++◌, length, map, set, nat_eq, slice_get, slice_set, Some, None, refl, sym, ap, ◌∙◌, subst, arith, eqb-true}
-use Rattle.std.specs.Str.{bytes_eq}
-use Rattle.std.proofs.lemmas.List.{length-append, map-append, length_push}
+use Rattle.crawl_tie.proofs.Prelude.{◌≡◌, ◌≢◌, ℕ, zero, suc, ◌+◌, true, ◌||◌, List, [], ◌∷◌, ◌++◌, length, map, set, slice_get, slice_set, Some, None, refl, sym, ap, ◌∙◌, arith, eqb-true, bytes_eq, length-append, map-append, length_push, length-map, nil_from_length, some, get_elem?, Subqueue, empty_subqueue, after_accepting, after_taking, set_cases, get_set_same, get_set_other, some_is, GateId, Entry, Message, Home, PassView, has_url, home, pushing, popping, undivided, reunited, spent, plain, no_home, step_moves, Lane, made, fresh_lane, Pushing, Popping, Counting, TakingIn, ShowsLane, HasLists, message_of, slice_get_past}
+use Rattle.std.proofs.lemmas.Bool.Decides.{nat_tests}
+use Rattle.std.proofs.lemmas.Grind.{common_steps}
+use Rattle.crawl_queues.specs.Entries.{count_of}
 use Rattle.std.proofs.lemmas.List.Sums.{sum_by-cons}
-use mathlib.Core.Option.{some}
-use lib.ListN.{get_elem?}
 use Rattle.crawl_core.specs.Messages as core
-use Rattle.crawl_core.specs.Subqueue.{Subqueue, empty_subqueue, after_accepting, after_taking}
-use Rattle.crawl_core.proofs.Places.{set_cases, get_set_same, get_set_other}
-use Rattle.crawl_core.proofs.Sound.{some_is}
-use Rattle.crawl_gate.specs.Seat.{GateId}
-use Rattle.crawl_queues.specs.declared.entry.Entry.{Entry}
-use Rattle.crawl_queues.specs.declared.entry.Message.{Message}
-use Rattle.crawl_queues.specs.declared.rule.Home.{Home}
-use Rattle.crawl_queues.specs.declared.rule.PassView.{PassView}
-use Rattle.crawl_queues.specs.Entries.{has_url, count_of}
-use Rattle.crawl_queues.specs.Rule.{home, pushing, popping, undivided, reunited, spent, plain, no_home}
 use Rattle.crawl_queues.specs.History.{Moment, SubqueueStep, ViewAt, settles, divides, pushes, pops, finds_nothing, takes_in, first_moment}
-use Rattle.crawl_queues.proofs.Histories.{step_moves}
 use Rattle.crawl_queues.proofs.Passing as pass
-use Rattle.crawl_tie.specs.Whole.{Lane, made, fresh_lane}
-use Rattle.crawl_tie.specs.Acts.{Pushing, Popping, Counting, TakingIn}
-use Rattle.crawl_tie.specs.Shows.{ShowsLane, HasLists, message_of}
 
 -- ## The machine's words for a list sent
 
@@ -31,18 +16,7 @@ same_urls (e ∷ es) url = ap (λ b. bytes_eq e.url url || b) (same_urls es url)
 
 pub same_counts : (es : List Entry) (s : ℕ) → core.count_from (map message_of es) s ≡ count_of s es
 same_counts [] s = refl
-same_counts (e ∷ es) s = sum_by-cons (λ (m : core.Message). cond (nat_eq m.sender s) 1 0) (message_of e) (map message_of es) ∙ by_test (nat_eq e.sender s) (same_counts es s)
-  where
-    by_test : (b : Bool) → core.count_from (map message_of es) s ≡ count_of s es → cond b 1 0 + core.count_from (map message_of es) s ≡ cond b 1 0 + count_of s es
-    by_test b e = ap (λ n. cond b 1 0 + n) e
-
-lens_plain : (ms : List Message) → length (map plain ms) ≡ length ms
-lens_plain [] = refl
-lens_plain (m ∷ ms) = ap suc (lens_plain ms)
-
-lens_messages : (es : List Entry) → length (map message_of es) ≡ length es
-lens_messages [] = refl
-lens_messages (e ∷ es) = ap suc (lens_messages es)
+same_counts (e ∷ es) s = grind (arith, nat_tests, common_steps, sum_by-cons, same_counts es s)
 
 get_mid : {A B : Type 0} (f : A → B) (xs : List A) (y : A) (ys : List A) → slice_get (map f (xs ++ y ∷ ys)) (length xs) ≡ Some (f y)
 get_mid f [] y ys = refl
@@ -174,10 +148,7 @@ lists_split gate workers q m sent taken has = sym has.sent_is ∙ (has.kept.spli
 
 -- the entry that is popped is the machine's oldest that was not taken
 pub oldest_is : (gate : GateId) (workers q : ℕ) (s : Subqueue) (l : Lane) (m : Moment) (e : Entry) → ShowsLane gate workers q s l → Popping l.moment m e → slice_get s.accepted s.taken ≡ Some (message_of e)
-oldest_is gate workers q s l m e shows p =
-    let split : shows.sent ≡ shows.taken ++ e ∷ map plain p.rest =
-    lists_split gate workers q l.moment shows.sent shows.taken shows.lists ∙ (ap (λ (ms : List Message). shows.taken ++ map plain ms) p.items ∙ ap (λ x. shows.taken ++ x ∷ map plain p.rest) p.entry_is) in
-    rw (← shows.accepts, ← shows.takes, split) (get_mid message_of shows.taken e (map plain p.rest))
+oldest_is gate workers q s l m e shows p = grind (arith, lists_split, get_mid)
 
 pub popped_lane : (gate : GateId) (workers q : ℕ) (s : Subqueue) (l : Lane) (m : Moment) (e : Entry) → ShowsLane gate workers q s l → Popping l.moment m e → ShowsLane gate workers q (after_taking s) (record { moment = m; fetching = true })
 popped_lane gate workers q s l m e shows p = record {
@@ -202,41 +173,16 @@ abbrev pub AllLanes : GateId → ℕ → List Subqueue → List Lane → Type 0
 AllLanes gate workers queues lanes = (q : ℕ) (l : Lane) → slice_get lanes q ≡ Some l → (s : Subqueue) × (slice_get queues q ≡ Some s) × ShowsLane gate workers q s l
 
 pub lanes_set : (gate : GateId) (workers : ℕ) (queues : List Subqueue) (lanes : List Lane) → AllLanes gate workers queues lanes → (q : ℕ) (s s' : Subqueue) (l l' : Lane) → slice_get queues q ≡ Some s → slice_get lanes q ≡ Some l → ShowsLane gate workers q s' l' → AllLanes gate workers (slice_set queues q s') (slice_set lanes q l')
-lanes_set gate workers queues lanes all q s s' l l' at_s at_l shows there x =
-    set_cases (λ o. o ≡ Some x → (y : Subqueue) × (slice_get (slice_set queues q s') there ≡ Some y) × ShowsLane gate workers there y x) lanes q there l l' at_l
-    (λ here was is.
-    let same : q ≡ there = eqb-true q there here in
-    let at : slice_get (slice_set queues q s') there ≡ Some s' = rw (← same) (get_set_same queues q s s' at_s) in
-    (s', at, subst (λ y. ShowsLane gate workers there s' y) (some_is is) (subst (λ n. ShowsLane gate workers n s' l') same shows)))
-    (λ apart is. let old = all there x is in (old.0, get_set_other queues q there s' apart ∙ old.1, old.2))
-
-get_end : {A : Type 0} (xs : List A) (n : ℕ) → length xs ≡ n → slice_get xs n ≡ None
-get_end [] n e = refl
-get_end (x ∷ xs) zero e = absurd (omega (arith, e))
-get_end (x ∷ xs) (suc n) e = get_end xs n (omega (arith, e))
+lanes_set gate workers queues lanes all q s s' l l' at_s at_l shows there x = grind (arith, set_cases, eqb-true, get_set_same, some_is, get_set_other)
 
 -- how many the machine has accepted: those taken, and those that the queue holds
 lens_of : (gate : GateId) (workers q : ℕ) (s : Subqueue) (l : Lane) → ShowsLane gate workers q s l → length s.accepted ≡ s.taken + length l.moment.items
-lens_of gate workers q s l shows =
-    let split = ap (λ (es : List Entry). length es) (lists_split gate workers q l.moment shows.sent shows.taken shows.lists) in
-    let waits = length-append shows.taken (map plain l.moment.items) in
-    let items = lens_plain l.moment.items in
-    let all = ap (λ (ms : List core.Message). length ms) shows.accepts in
-    let sent = lens_messages shows.sent in
-    let taken = shows.takes in
-    omega (arith, split, waits, items, all, sent, taken)
+lens_of gate workers q s l shows = grind (arith, lists_split, length-append, length-map)
 
 -- where the queue holds nothing, the machine has taken all
 pub none_waits : (gate : GateId) (workers q : ℕ) (s : Subqueue) (l : Lane) → ShowsLane gate workers q s l → l.moment.items ≡ [] → slice_get s.accepted s.taken ≡ None
-none_waits gate workers q s l shows none =
-    let lens = lens_of gate workers q s l shows in
-    let no = ap (λ (ms : List Message). length ms) none in
-    get_end s.accepted s.taken (omega (arith, lens, no))
-
-no_length : {A : Type 0} (xs : List A) → length xs ≡ 0 → xs ≡ []
-no_length [] e = refl
-no_length (x ∷ xs) e = absurd (omega (arith, e))
+none_waits gate workers q s l shows none = grind (arith, nat_tests, common_steps, lens_of, slice_get_past)
 
 -- where the machine has taken all, the queue holds nothing
 pub all_taken : (gate : GateId) (workers q : ℕ) (s : Subqueue) (l : Lane) → ShowsLane gate workers q s l → s.taken ≡ length s.accepted → l.moment.items ≡ []
-all_taken gate workers q s l shows all_are = let lens = lens_of gate workers q s l shows in no_length l.moment.items (omega (arith, lens, all_are))
+all_taken gate workers q s l shows all_are = let lens = lens_of gate workers q s l shows in nil_from_length l.moment.items (omega (arith, lens, all_are))

@@ -1,9 +1,10 @@
+pub mod Closing
 pub mod GateSteps
 pub mod LaneSteps
 pub mod Lanes
-pub mod Owners
-pub mod Steps
 pub mod Lists
-pub mod Closing
-pub mod Shown
+pub mod Owners
+pub mod Prelude
 pub mod Samples
+pub mod Shown
+pub mod Steps

@@ -1,23 +1,6 @@
 -- What a history says of each subqueue: its list sent is what was accepted, its list taken what was delivered.
-use Rattle.std.proofs.Common.{◌≡◌, ℕ, zero, suc, ◌+◌, ◌<◌, ◌≤◌, Bool, true, false, List, [], ◌∷◌, ◌++◌, length, map, nat_eq, slice_get, slice_set, Option, Some, None, refl, sym, ap, ◌∙◌, subst, arith, eqb-true, append_assoc, filter_map}
-use Rattle.std.specs.List.{cons_option}
-use Rattle.std.specs.Option.{option_to_list}
-use Rattle.std.proofs.lemmas.List.{append-nil, length_push}
-use Rattle.std.proofs.lemmas.List.Elements.{filter_map-append}
-use Rattle.std.proofs.lemmas.Option.{slice_get_within}
-use Rattle.crawl_core.specs.Flags.{one_if}
-use Rattle.crawl_core.proofs.Places.{set_cases, length-slice_set}
-use Rattle.crawl_core.proofs.Sound.{some_is}
-use Rattle.crawl_gate.specs.Seat.{GateId}
-use Rattle.crawl_queues.specs.declared.entry.Entry.{Entry}
-use Rattle.crawl_queues.specs.Entries.{KeepsRule}
-use Rattle.crawl_queues.specs.Rule.{plain}
+use Rattle.crawl_tie.proofs.Prelude.{◌≡◌, ℕ, zero, suc, ◌+◌, ◌<◌, ◌≤◌, true, false, List, [], ◌∷◌, ◌++◌, length, map, nat_eq, slice_get, slice_set, Option, Some, None, refl, sym, ap, ◌∙◌, subst, arith, eqb-true, append_assoc, filter_map, ne_eqb, option_to_list, append-nil, length_push, filter_map-append, slice_get_within, one_if, set_cases, length-slice_set, some_is, GateId, Entry, KeepsRule, plain, accepted_lists, Lane, Whole, IsFirst, Act, Splits, Looks, LooksAway, Enters, Loses, LeavesOffer, LeavesSeen, LeavesFetch, LeavesSeeds, Closes, NotClosesClosed, NotClosesPending, Pushes, Pops, PopsNone, FindsNothing, TakesIn, Pushing, Popping, Atomic, History, HasLists, pushed_to, popped_from, fetched_at, accepted, delivered, fetches_done, Delivers, eqb_same}
 use Rattle.crawl_queues.specs.History.{Moment}
-use Rattle.crawl_queues.proofs.Histories.{accepted_lists}
-use Rattle.crawl_tie.specs.Whole.{Lane, Whole, IsFirst}
-use Rattle.crawl_tie.specs.Acts.{Act, Splits, Looks, LooksAway, Enters, Loses, LeavesOffer, LeavesSeen, LeavesFetch, LeavesSeeds, Closes, NotClosesClosed, NotClosesPending, Pushes, Pops, PopsNone, FindsNothing, TakesIn, Pushing, Popping, Atomic, History}
-use Rattle.crawl_tie.specs.Shows.{HasLists}
-use Rattle.crawl_tie.specs.Headline.{pushed_to, popped_from, fetched_at, accepted, delivered, fetches_done, Delivers}
 use Rattle.crawl_tie.proofs.Lanes.{pushed_has, popped_has, counted_has, taken_in_has, made_has, lists_split}
 
 -- of one subqueue after these steps; finished: how many fetches of it
@@ -34,11 +17,7 @@ Grown gate workers q l acts act =
     LaneHas gate workers q l (accepted q acts ++ option_to_list (pushed_to q act)) (delivered q acts ++ option_to_list (popped_from q act)) (length (filter_map (fetched_at q) acts ++ option_to_list (fetched_at q act)))
 
 single : {A B : Type 0} (h : A → Option B) (x : A) → filter_map h (x ∷ []) ≡ option_to_list (h x)
-single h x = by_option (h x)
-  where
-    by_option : {B : Type 0} (o : Option B) → cons_option o [] ≡ option_to_list o
-    by_option None = refl
-    by_option (Some y) = refl
+single h x = grind arith
 
 pushed_more : {A B : Type 0} (h : A → Option B) (xs : List A) (x : A) → filter_map h xs ++ option_to_list (h x) ≡ filter_map h (xs ++ x ∷ [])
 pushed_more h xs x = sym (filter_map-append h xs (x ∷ []) ∙ ap (λ ys. filter_map h xs ++ ys) (single h x))
@@ -62,13 +41,6 @@ at_queue gate workers lanes acts act q l l' all at mine others there x =
     set_cases (λ o. o ≡ Some x → Grown gate workers there x acts act) lanes q there l l' at
     (λ here was is. let same : q ≡ there = eqb-true q there here in subst (λ y. Grown gate workers there y acts act) (some_is is) (subst (λ n. Grown gate workers n l' acts act) same (mine there here)))
     (λ apart is. others there x apart (all there x is))
-
-eqb_same : (n : ℕ) → nat_eq n n ≡ true
-eqb_same n = by_test (nat_eq n n) refl
-  where
-    by_test : (t : Bool) → nat_eq n n ≡ t → t ≡ true
-    by_test true e = refl
-    by_test false e = absurd (grind (arith, e))
 
 pushes_grown : (gate : GateId) (workers : ℕ) (lanes : List Lane) (acts : List Act) (q : ℕ) (e : Entry) (l : Lane) (m : Moment) → AllHave gate workers lanes acts → slice_get lanes q ≡ Some l → Pushing l.moment m e → AllGrown gate workers (slice_set lanes q (record { moment = m; fetching = l.fetching })) acts (Pushes q e)
 pushes_grown gate workers lanes acts q e l m all at p =
@@ -128,11 +100,7 @@ leaves gate workers w v acts act r is quiet =
     reach gate workers w v w.lanes acts act r is refl (λ q l at. let n = quiet q in rw (n.0, n.1, n.2) (still gate workers q l acts (r.all q l at))) (λ q beyond. ((quiet q).0, (quiet q).1))
 
 apart_from : (gate : GateId) (workers : ℕ) (w : Whole) (acts : List Act) → Reached gate workers w acts → (q there : ℕ) (l : Lane) → slice_get w.lanes q ≡ Some l → workers ≤ there → nat_eq q there ≡ false
-apart_from gate workers w acts r q there l at beyond = by_test (nat_eq q there) refl
-  where
-    by_test : (t : Bool) → nat_eq q there ≡ t → t ≡ false
-    by_test true e = let same : q ≡ there = eqb-true q there e in let below = slice_get_within w.lanes q l at in let len = r.len in absurd (omega arith)
-    by_test false e = refl
+apart_from gate workers w acts r q there l at beyond = let below = slice_get_within w.lanes q l at in ne_eqb q there (λ same. omega (arith, same, below, r.len, beyond))
 
 pub reached_step : (gate : GateId) (workers : ℕ) (w v : Whole) (acts : List Act) (act : Act) → Reached gate workers w acts → Atomic w act v → Reached gate workers v (acts ++ act ∷ [])
 reached_step gate workers w v acts Splits r a = leaves gate workers w v acts Splits r (ap (λ (u : Whole). u.lanes) a.2) (λ q. (refl, refl, refl))
@@ -176,11 +144,7 @@ reached_all gate workers w v acts (act ∷ more) r h =
     subst (λ xs. Reached gate workers v xs) (append_assoc acts (act ∷ []) more) (reached_all gate workers h.0 v (acts ++ act ∷ []) more (reached_step gate workers w h.0 acts act r h.1) h.2)
 
 pub reached_first : (gate : GateId) (workers : ℕ) (w : Whole) → IsFirst gate workers w → Reached gate workers w []
-reached_first gate workers w first = record {
-  len = first.len;
-  all = λ q l at. subst (λ x. LaneHas gate workers q x [] [] 0) (sym (first.lanes q l at)) (record { has = made_has gate workers q; fetches = refl });
-  outside = λ q beyond. (refl, refl);
-}
+reached_first gate workers w first = grind (arith, made_has)
 
 pub some_there : {A : Type 0} (xs : List A) (i : ℕ) → i < length xs → (x : A) × (slice_get xs i ≡ Some x)
 some_there [] i lt = absurd (omega arith)

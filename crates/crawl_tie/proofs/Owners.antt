@@ -1,48 +1,18 @@
 -- Whose each unit is, over each kind of step.
-use Rattle.std.proofs.Common.{◌≡◌, ◌≢◌, ◌⊎◌, inl, inr, ⊎_elim, ℕ, zero, suc, ◌+◌, Bool, true, false, ◌||◌, List, [], ◌∷◌, ◌++◌, drop, map, set, slice_get, slice_set, Option, Some, None, refl, sym, ap, ◌∙◌, subst, arith, true≢false}
-use Rattle.std.specs.List.{list_any}
-use Rattle.std.specs.Ordering.{nat_cmp}
-use Rattle.std.specs.BTreeMap.{is_at}
-use Rattle.std.specs.BTreeSet.{insert_key}
-use Rattle.std.specs.Set.{remove_key}
-use Rattle.std.proofs.lemmas.Cmp.{nat_cmp_total, tied_itself}
-use Rattle.std.proofs.lemmas.List.{map-append}
-use mathlib.Core.Option.{some, some-injective, some-ne-none}
-use lib.ListN.{get_elem?}
-use Rattle.crawl_core.proofs.Sets.{list_any-insert_key}
+use Rattle.crawl_tie.proofs.Prelude.{◌≡◌, ◌≢◌, ◌⊎◌, inl, inr, ⊎_elim, ℕ, zero, suc, ◌+◌, Bool, true, false, List, [], ◌∷◌, ◌++◌, drop, map, set, slice_get, slice_set, Option, Some, None, refl, sym, ap, ◌∙◌, subst, arith, true≢false, list_any, nat_cmp, is_at, insert_key, remove_key, nat_cmp_total, tied_itself, map-append, map-set, some, some-injective, some-ne-none, get_elem?, list_any-insert_key, some_is, View, Word, open_at, view_entering, view_leaving, Moment, SeatSteps, GateId, Message, Lane, Whole, Owner, Seeds, Offer, Sent, IsFirst, Splitting, Entering, Leaving, IsOwner, IsUnitOf, is_offering, with_gate, after_splitting, after_entering, after_leaving, after_fetching, after_seeding, after_pushing, UnitsAreOwned, is_owned, or_left, or_right, get_or_from_slice_get}
 use Rattle.crawl_core.proofs.GateHistory.{others_stay}
-use Rattle.crawl_core.proofs.Sound.{some_is}
-use Rattle.crawl_gate.specs.declared.rule.View.{View}
-use Rattle.crawl_gate.specs.Word.{Word, open_at}
-use Rattle.crawl_gate.specs.View.{fresh_view, view_entering, view_leaving}
-use Rattle.crawl_gate.specs.GateInvariant.{Moment}
-use Rattle.crawl_gate.specs.History.{SeatSteps}
-use Rattle.crawl_gate.specs.Seat.{GateId}
-use Rattle.crawl_queues.specs.declared.entry.Message.{Message}
 use Rattle.crawl_queues.specs.History as subqueues
-use Rattle.crawl_tie.specs.Whole.{Lane, Whole, Owner, Seeds, Offer, Sent, IsFirst}
-use Rattle.crawl_tie.specs.Acts.{Splitting, Entering, Leaving, IsOwner, IsUnitOf, is_offering, with_gate, after_splitting, after_entering, after_leaving, after_fetching, after_seeding, after_pushing}
-use Rattle.crawl_tie.specs.Parts.{UnitsAreOwned, is_owned}
+use Rattle.std.proofs.Math.Seq.{map-set_same}
 
 -- ## Indices of two lists at once
 
-map_set : {A : Type 0} (f : A → Bool) (xs : List A) (i : ℕ) (x : A) → map f (set xs i x) ≡ set (map f xs) i (f x)
-map_set f [] i x = refl
-map_set f (y ∷ ys) zero x = refl
-map_set f (y ∷ ys) (suc i) x = ap (λ bs. f y ∷ bs) (map_set f ys i x)
-
 set_both : {A B : Type 0} (f : A → Bool) (g : B → Bool) (xs : List A) (ys : List B) (i : ℕ) (x : A) (y : B) → map f xs ≡ map g ys → f x ≡ g y → map f (set xs i x) ≡ map g (set ys i y)
-set_both f g xs ys i x y e same = map_set f xs i x ∙ (ap (λ bs. set bs i (f x)) e ∙ (ap (λ b. set (map g ys) i b) same ∙ sym (map_set g ys i y)))
+set_both f g xs ys i x y e same = map-set f xs i x ∙ (ap (λ bs. set bs i (f x)) e ∙ (ap (λ b. set (map g ys) i b) same ∙ sym (map-set g ys i y)))
 
 view_set : (f : View → Bool) (xs : List View) (i : ℕ) (v w : View) → get_elem? xs i ≡ some v → f w ≡ f v → map f (set xs i w) ≡ map f xs
 view_set f [] i v w at same = refl
 view_set f (x ∷ xs) zero v w at same = ap (λ b. b ∷ map f xs) (same ∙ ap f (sym (some-injective x v at)))
 view_set f (x ∷ xs) (suc i) v w at same = ap (λ bs. f x ∷ bs) (view_set f xs i v w at same)
-
-owner_set : (f : Option Owner → Bool) (xs : List (Option Owner)) (i : ℕ) (v w : Option Owner) → slice_get xs i ≡ Some v → f w ≡ f v → map f (slice_set xs i w) ≡ map f xs
-owner_set f [] i v w at same = refl
-owner_set f (x ∷ xs) zero v w at same = let here : Some x ≡ Some v = at in ap (λ b. b ∷ map f xs) (same ∙ ap f (sym (some_is here)))
-owner_set f (x ∷ xs) (suc i) v w at same = ap (λ bs. f x ∷ bs) (owner_set f xs i v w at same)
 
 -- what an index has after a write
 after_set : (xs : List (Option Owner)) (i j : ℕ) (y z : Option Owner) → slice_get (slice_set xs i y) j ≡ Some z → ((i ≡ j) × (y ≡ z)) ⊎ ((i ≢ j) × (slice_get xs j ≡ Some z))
@@ -64,14 +34,6 @@ Before w seat other written owner = ((seat ≡ other) × (written ≡ Some owner
 
 -- ## Ids of senders
 
-or_right : (b c : Bool) → c ≡ true → (b || c) ≡ true
-or_right true c e = refl
-or_right false c e = e
-
-or_left : (b c : Bool) → b ≡ true → (b || c) ≡ true
-or_left true c e = refl
-or_left false c e = absurd (true≢false (sym e))
-
 added : (ids : List ℕ) (s other : ℕ) → list_any (is_at (nat_cmp other)) ids ≡ true → list_any (is_at (nat_cmp other)) (insert_key nat_cmp ids s) ≡ true
 added ids s other was = list_any-insert_key nat_cmp_total other s ids ∙ or_right (is_at (nat_cmp other) s) _ was
 
@@ -79,39 +41,21 @@ added_itself : (ids : List ℕ) (s : ℕ) → list_any (is_at (nat_cmp s)) (inse
 added_itself ids s = list_any-insert_key nat_cmp_total s s ids ∙ or_left (is_at (nat_cmp s) s) _ (rw (tied_itself nat_cmp_total s) refl)
 
 offers_same : (s other : ℕ) → Some (Offer s) ≡ Some (Offer other) → s ≡ other
-offers_same s other e = ap id_of e
-  where
-    id_of : Option Owner → ℕ
-    id_of (Some (Offer k)) = k
-    id_of _ = 0
+offers_same s other e = grind arith
 
 -- ## Each kind of step
 
 -- a step that changes no unit
 pub still_owned : (w : Whole) (gate : Moment) (v u : View) (x y : Word) → UnitsAreOwned w → SeatSteps w.gate gate v u x y → u.holds_unit ≡ v.holds_unit → UnitsAreOwned (with_gate w gate)
-still_owned w gate v u x y o s same = record {
-  held = ap (λ (m : Moment). map (λ (z : View). z.holds_unit) m.views) s.next ∙ (view_set (λ (z : View). z.holds_unit) w.gate.views s.seat v u s.view same ∙ o.held);
-  seeds = o.seeds;
-  seeds_once = o.seeds_once;
-  offers = o.offers;
-  offers_once = o.offers_once;
-}
+still_owned w gate v u x y o s same = grind (arith, view_set)
 
 pub split_owned : (w : Whole) (gate : Moment) → UnitsAreOwned w → Splitting w.gate gate → UnitsAreOwned (after_splitting w gate)
-split_owned w gate o s = record {
-  held = ap (λ (m : Moment). map (λ (z : View). z.holds_unit) m.views) s.next
-      ∙ (map-append (λ (z : View). z.holds_unit) w.gate.views (fresh_view s.view.max_pending ∷ []) ∙ (ap (λ bs. bs ++ false ∷ []) o.held ∙ sym (map-append is_owned w.owners (None ∷ []))));
-  seeds = λ seat at. o.seeds seat (in_front w.owners seat Seeds at);
-  seeds_once = λ a b at bt. o.seeds_once a b (in_front w.owners a Seeds at) (in_front w.owners b Seeds bt);
-  offers = λ seat s at. o.offers seat s (in_front w.owners seat (Offer s) at);
-  offers_once = λ a b s at bt. o.offers_once a b s (in_front w.owners a (Offer s) at) (in_front w.owners b (Offer s) bt);
-}
+split_owned w gate o s = grind (arith, map-append, in_front)
 
 -- the views and the owners after a step of a seat that holds a unit from now on, or no more
 held_after : (w : Whole) (gate : Moment) (v u : View) (x y : Word) (owner : Option Owner) → UnitsAreOwned w → (s : SeatSteps w.gate gate v u x y) → u.holds_unit ≡ is_owned owner
     → map (λ (z : View). z.holds_unit) gate.views ≡ map is_owned (slice_set w.owners s.seat owner)
-held_after w gate v u x y owner o s same =
-    ap (λ (m : Moment). map (λ (z : View). z.holds_unit) m.views) s.next ∙ set_both (λ (z : View). z.holds_unit) is_owned w.gate.views w.owners s.seat u owner o.held same
+held_after w gate v u x y owner o s same = grind (arith, set_both)
 
 pub entered_owned : (w : Whole) (gate : Moment) (n s : ℕ) → UnitsAreOwned w → (e : Entering w.gate gate n) → is_offering w s ≡ false → UnitsAreOwned (after_entering w gate e.steps.seat s)
 entered_owned w gate n s o e free = record {
@@ -143,16 +87,7 @@ given w seat s owner = record w { owners = slice_set w.owners seat owner; offeri
 -- the ids and the seats, once the unit of an offer is not its any more
 given_owned : (w : Whole) (seat s : ℕ) (owner : Option Owner) (gate : Moment) → UnitsAreOwned w → Given w seat s owner → map (λ (z : View). z.holds_unit) gate.views ≡ map is_owned (slice_set w.owners seat owner)
     → UnitsAreOwned (record (given w seat s owner) { gate = gate })
-given_owned w seat s owner gate o g held = record {
-  held = held;
-  seeds = λ a at. ⊎_elim (λ p. absurd (g.no_seeds p.1)) (λ p. o.seeds a p.1) (before a Seeds at);
-  seeds_once = λ a b at bt. ⊎_elim (λ p. absurd (g.no_seeds p.1)) (λ p. ⊎_elim (λ r. absurd (g.no_seeds r.1)) (λ r. o.seeds_once a b p.1 r.1) (before b Seeds bt)) (before a Seeds at);
-  offers = λ a k at. ⊎_elim (λ p. absurd (g.no_offer k p.1)) (λ p. others_stay k s w.offering (λ same. p.0 (o.offers_once seat a s g.was (subst (λ i. IsOwner w a (Offer i)) (sym same) p.1))) ∙ o.offers a k p.1) (before a (Offer k) at);
-  offers_once = λ a b k at bt. ⊎_elim (λ p. absurd (g.no_offer k p.1)) (λ p. ⊎_elim (λ r. absurd (g.no_offer k r.1)) (λ r. o.offers_once a b k p.1 r.1) (before b (Offer k) bt)) (before a (Offer k) at);
-}
-  where
-    before : (j : ℕ) (other : Owner) → slice_get (slice_set w.owners seat owner) j ≡ Some (Some other) → Before w seat j owner other
-    before j other at = after_set w.owners seat j owner (Some other) at
+given_owned w seat s owner gate o g held = grind (arith, others_stay, after_set)
 
 pub left_owned : (w : Whole) (gate : Moment) (n s : ℕ) → UnitsAreOwned w → (l : Leaving w.gate gate n) → IsOwner w l.steps.seat (Offer s) → UnitsAreOwned (after_leaving w gate l.steps.seat s)
 left_owned w gate n s o l was =
@@ -160,7 +95,7 @@ left_owned w gate n s o l was =
 
 pub pushed_owned : (w : Whole) (q : ℕ) (l : Lane) (m : subqueues.Moment) (seat s : ℕ) → UnitsAreOwned w → IsOwner w seat (Offer s) → UnitsAreOwned (after_pushing w q l m seat s)
 pushed_owned w q l m seat s o was =
-    let n = given_owned w seat s (Some (Sent q)) w.gate o (record { was = was; no_seeds = λ e. cc (e); no_offer = λ k e. cc (e) }) (o.held ∙ sym (owner_set is_owned w.owners seat (Some (Offer s)) (Some (Sent q)) was refl)) in
+    let n = given_owned w seat s (Some (Sent q)) w.gate o (record { was = was; no_seeds = λ e. cc (e); no_offer = λ k e. cc (e) }) (o.held ∙ sym (map-set_same is_owned w.owners seat (Some (Sent q)) None (ap is_owned (sym (get_or_from_slice_get w.owners seat (Some (Offer s)) None was))))) in
     record { held = n.held; seeds = n.seeds; seeds_once = n.seeds_once; offers = n.offers; offers_once = n.offers_once }
 
 pub fetched_owned : (w : Whole) (gate : Moment) (n q : ℕ) (lane : Lane) → UnitsAreOwned w → (l : Leaving w.gate gate n) → UnitsAreOwned (after_fetching w gate l.steps.seat q lane)
@@ -191,25 +126,7 @@ seeds_owned w gate n o l was = record {
     none j at = ⊎_elim (λ p. cc (p.1)) (λ p. p.0 (o.seeds_once l.steps.seat j was p.1)) (before j Seeds at)
 
 pub first_owned : (gate : GateId) (workers : ℕ) (w : Whole) → IsFirst gate workers w → UnitsAreOwned w
-first_owned gate workers w first = record {
-  held = ap (λ (m : Moment). map (λ (z : View). z.holds_unit) m.views) first.gate_is ∙ sym (ap (map is_owned) first.owners);
-  seeds = λ a at. first.seeding;
-  seeds_once = λ a b at bt. zero_is a Seeds at ∙ sym (zero_is b Seeds bt);
-  offers = λ a k at. absurd (no_offer a k (zero_is a (Offer k) at) at);
-  offers_once = λ a b k at bt. zero_is a (Offer k) at ∙ sym (zero_is b (Offer k) bt);
-}
-  where
-    only : (j : ℕ) (owner : Owner) → slice_get (Some Seeds ∷ []) j ≡ Some (Some owner) → j ≡ 0
-    only zero owner at = refl
-    only (suc j) owner at = absurd (cc (at))
-
-    zero_is : (j : ℕ) (owner : Owner) → IsOwner w j owner → j ≡ 0
-    zero_is j owner at = only j owner (subst (λ os. slice_get os j ≡ Some (Some owner)) first.owners at)
-
-    no_offer : (j k : ℕ) → j ≡ 0 → IsOwner w j (Offer k) → ⊥
-    no_offer j k is at =
-        let here : Some (Some Seeds) ≡ Some (Some (Offer k)) = subst (λ os. slice_get os 0 ≡ Some (Some (Offer k))) first.owners (subst (λ i. IsOwner w i (Offer k)) is at) in
-        cc (here)
+first_owned gate workers w first = grind arith
 
 -- ## The owner of a seat
 
@@ -222,10 +139,7 @@ owner_there : (views : List View) (owners : List (Option Owner)) (i : ℕ) (v : 
 unfolding head_is
 owner_there [] owners i v e at held = absurd (some-ne-none v (sym at))
 owner_there (x ∷ xs) [] i v e at held = absurd (cc (e))
-owner_there (x ∷ xs) (None ∷ os) zero v e at held =
-    let here : x.holds_unit ≡ false = ap (head_is true) e in
-    let same : x ≡ v = some-injective x v at in
-    absurd (true≢false (sym held ∙ (ap (λ (z : View). z.holds_unit) (sym same) ∙ here)))
+owner_there (x ∷ xs) (None ∷ os) zero v e at held = grind arith
 owner_there (x ∷ xs) (Some owner ∷ os) zero v e at held = (owner, refl)
 owner_there (x ∷ xs) (o ∷ os) (suc i) v e at held = owner_there xs os i v (ap (λ bs. drop 1 bs) e) at held
 
@@ -238,10 +152,7 @@ unfolding head_is
 held_there [] owners i v owner e at has = absurd (some-ne-none v (sym at))
 held_there (x ∷ xs) [] i v owner e at has = absurd (cc (has))
 held_there (x ∷ xs) (None ∷ os) zero v owner e at has = let here : Some None ≡ Some (Some owner) = has in absurd (cc (here))
-held_there (x ∷ xs) (Some o ∷ os) zero v owner e at has =
-    let here : x.holds_unit ≡ true = ap (head_is true) e in
-    let same : x ≡ v = some-injective x v at in
-    ap (λ (z : View). z.holds_unit) (sym same) ∙ here
+held_there (x ∷ xs) (Some o ∷ os) zero v owner e at has = grind arith
 held_there (x ∷ xs) (o ∷ os) (suc i) v owner e at has = held_there xs os i v owner (ap (λ bs. drop 1 bs) e) at has
 
 pub pushed_held : (w : Whole) (m : Message) (s : ℕ) → UnitsAreOwned w → IsUnitOf w s m → m.unit.view.holds_unit ≡ true

@@ -1,23 +1,11 @@
 -- A sample history, step by step.
-use Rattle.std.proofs.Common.{◌≡◌, ◌≢◌, ℕ, zero, suc, ◌<◌, Bool, true, false, not, List, [], ◌∷◌, length, slice_get, slice_set, Some, refl, sym, ap, arith, true≢false}
+use Rattle.crawl_tie.proofs.Prelude.{◌≡◌, ◌≢◌, ℕ, zero, suc, ◌<◌, Bool, true, false, not, List, [], ◌∷◌, slice_get, slice_set, Some, refl, sym, ap, arith, true≢false, View, Word, bits, open_at, closed_at, opening_view, fresh_view, view_looking, view_entering, view_losing, view_leaving, view_closing, view_not_closing, first_moment, GateId, Entry, Message, Home, home, pushing, popping, reunited, spent, Lane, Whole, Seeds, IsFirst, fresh_lane, History, with_gate, after_splitting, after_looking, after_entering, after_leaving, after_fetching, after_seeding, after_pushing}
 use Rattle.std.specs.Prelude.{◌%◌}
 use Rattle.std.proofs.Math.Nat.{mod-lt}
-use Rattle.crawl_core.proofs.Sound.{some_is}
 use Rattle.crawl_keys.specs.Assignment.{hash, subqueue_of}
 use Rattle.crawl_keys.specs.HostKey.{host_key}
-use Rattle.crawl_gate.specs.declared.rule.View.{View}
-use Rattle.crawl_gate.specs.Word.{Word, bits, open_at, closed_at}
-use Rattle.crawl_gate.specs.View.{opening_view, fresh_view, view_looking, view_entering, view_losing, view_leaving, view_closing, view_not_closing}
 use Rattle.crawl_gate.specs.GateInvariant as gates
-use Rattle.crawl_gate.specs.History.{first_moment}
-use Rattle.crawl_gate.specs.Seat.{GateId}
-use Rattle.crawl_queues.specs.declared.entry.Entry.{Entry}
-use Rattle.crawl_queues.specs.declared.entry.Message.{Message}
-use Rattle.crawl_queues.specs.declared.rule.Home.{Home}
-use Rattle.crawl_queues.specs.Rule.{home, pushing, popping, reunited, spent}
 use Rattle.crawl_queues.specs.History as subqueues
-use Rattle.crawl_tie.specs.Whole.{Lane, Whole, Seeds, IsFirst, fresh_lane}
-use Rattle.crawl_tie.specs.Acts.{History, with_gate, after_splitting, after_looking, after_entering, after_leaving, after_fetching, after_seeding, after_pushing}
 use Rattle.crawl_tie.specs.Sample.{offers_made, turns_made}
 
 -- ## Which of two subqueues
@@ -32,20 +20,16 @@ both true x y = x ∷ y ∷ []
 both false x y = y ∷ x ∷ []
 
 get_one : {A : Type 0} (b : Bool) (x y : A) → slice_get (both b x y) (queue b) ≡ Some x
-get_one true x y = refl
-get_one false x y = refl
+get_one b x y = grind arith
 
 get_other : {A : Type 0} (b : Bool) (x y : A) → slice_get (both b x y) (queue (not b)) ≡ Some y
-get_other true x y = refl
-get_other false x y = refl
+get_other b x y = grind arith
 
 set_one : {A : Type 0} (b : Bool) (x y z : A) → both b z y ≡ slice_set (both b x y) (queue b) z
-set_one true x y z = refl
-set_one false x y z = refl
+set_one b x y z = grind arith
 
 set_other : {A : Type 0} (b : Bool) (x y z : A) → both b x z ≡ slice_set (both b x y) (queue (not b)) z
-set_other true x y z = refl
-set_other false x y z = refl
+set_other b x y z = grind arith
 
 some_queue : (n : ℕ) → (b : Bool) × (n % 2 ≡ queue b)
 some_queue n = by_rest (n % 2) refl (mod-lt n (omega arith))
@@ -246,28 +230,7 @@ turns : (gate : GateId) (b : Bool) → History (w13 gate b) (turns_made (queue b
 turns gate b = (w14 gate b, (idle (full (at_home gate b) gate), popped (at_home gate b), record { pass = 2; home = at_home gate b; taken = []; empty_pops = 0; message = message gate; rest = []; view = refl; items = refl; entry_is = refl; next = refl }, get_one b (idle (full (at_home gate b) gate)) (fresh_at gate (not b)), refl, ap (λ (ls : List Lane). (let u : Whole = record (w13 gate b) { lanes = ls } in u)) (set_one b (idle (full (at_home gate b) gate)) (fresh_at gate (not b)) (busy (popped (at_home gate b))))), (w15 gate b, ((gate_with (open_at 1) (seeds_left ∷ fresh ∷ fresh ∷ seven_held ∷ nine_left ∷ [])), record { view = seven; steps = record { seat = 3; view = refl; word = refl; small = omega arith; next = refl } }, refl), (w16 gate b, (fresh_at gate (not b), get_other b (busy (popped (at_home gate b))) (fresh_at gate (not b)), refl, refl, refl), (w17 gate b, ((gate_with (open_at 1) (seeds_left ∷ fresh ∷ waiter ∷ seven_held ∷ nine_left ∷ [])), record { view = fresh; holds_none = refl; other = λ e. differ 1 0 (omega arith) e; steps = record { seat = 2; view = refl; word = refl; small = omega arith; next = refl } }, refl), (w18 gate b, (fresh_at gate (not b), found_none (at_home gate (not b)), record { pass = 2; home = at_home gate (not b); taken = []; empty_pops = 0; view = refl; next = refl }, get_other b (busy (popped (at_home gate b))) (fresh_at gate (not b)), ap (λ (ls : List Lane). (let u : Whole = record (w17 gate b) { lanes = ls } in u)) (set_other b (busy (popped (at_home gate b))) (fresh_at gate (not b)) (idle (found_none (at_home gate (not b)))))), (w19 gate b, ((gate_with (open_at 0) (seeds_left ∷ fresh ∷ waiter ∷ seven_left ∷ nine_left ∷ [])), busy (popped (at_home gate b)), record { view = seven_held; holds = refl; steps = record { seat = 3; view = refl; word = refl; small = omega arith; next = refl } }, refl, get_one b (busy (popped (at_home gate b))) (idle (found_none (at_home gate (not b)))), refl, ap (λ (ls : List Lane). (let u : Whole = record (after_fetching (w18 gate b) (gate_with (open_at 0) (seeds_left ∷ fresh ∷ waiter ∷ seven_left ∷ nine_left ∷ [])) 3 (queue b) (busy (popped (at_home gate b)))) { lanes = ls } in u)) (set_one b (busy (popped (at_home gate b))) (idle (found_none (at_home gate (not b)))) (idle (popped (at_home gate b))))), (w20 gate b, (idle (popped (at_home gate b)), get_one b (idle (popped (at_home gate b))) (idle (found_none (at_home gate (not b)))), refl, refl, refl), (w21 gate b, ((gate_with (closed_at 0) (seeds_left ∷ closer ∷ waiter ∷ seven_left ∷ nine_left ∷ [])), record { view = fresh; holds_none = refl; steps = record { seat = 1; view = refl; word = refl; small = omega arith; next = refl } }, refl), (w22 gate b, (idle (popped (at_home gate b)), counted (at_home gate b), record { pass = 2; home = at_home gate b; taken = e ∷ []; empty_pops = 0; view = refl; next = refl }, get_one b (idle (popped (at_home gate b))) (idle (found_none (at_home gate (not b)))), ap (λ (ls : List Lane). (let u : Whole = record (w21 gate b) { lanes = ls } in u)) (set_one b (idle (popped (at_home gate b))) (idle (found_none (at_home gate (not b)))) (idle (counted (at_home gate b))))), (w23 gate b, (idle (found_none (at_home gate (not b))), get_other b (idle (counted (at_home gate b))) (idle (found_none (at_home gate (not b)))), refl, refl, refl), (w24 gate b, ((gate_with (closed_at 0) (seeds_left ∷ closer ∷ told ∷ seven_left ∷ nine_left ∷ [])), record { view = waiter; holds_none = refl; other = λ e. shut_is_not_open e; steps = record { seat = 2; view = refl; word = refl; small = omega arith; next = refl } }, refl), (w25 gate b, (idle (found_none (at_home gate (not b))), found_none_twice (at_home gate (not b)), record { pass = 2; home = at_home gate (not b); taken = []; empty_pops = 1; view = refl; next = refl }, get_other b (idle (counted (at_home gate b))) (idle (found_none (at_home gate (not b)))), ap (λ (ls : List Lane). (let u : Whole = record (w24 gate b) { lanes = ls } in u)) (set_other b (idle (counted (at_home gate b))) (idle (found_none (at_home gate (not b)))) (idle (found_none_twice (at_home gate (not b)))))), (w26 gate b, (idle (counted (at_home gate b)), one_again (at_home gate b), record { pass = 0; home = at_home gate b; sent = e ∷ []; other = 2; home' = at_home gate b; taken = e ∷ []; empty_pops = 1; apart = λ e. absurd (omega (arith, e)); view = refl; view' = refl; next = refl }, get_one b (idle (counted (at_home gate b))) (idle (found_none_twice (at_home gate (not b)))), ap (λ (ls : List Lane). (let u : Whole = record (w25 gate b) { lanes = ls } in u)) (set_one b (idle (counted (at_home gate b))) (idle (found_none_twice (at_home gate (not b)))) (idle (one_again (at_home gate b))))), (w27 gate b, (idle (found_none_twice (at_home gate (not b))), other_again (at_home gate (not b)), record { pass = 0; home = at_home gate (not b); sent = []; other = 2; home' = at_home gate (not b); taken = []; empty_pops = 2; apart = λ e. absurd (omega (arith, e)); view = refl; view' = refl; next = refl }, get_other b (idle (one_again (at_home gate b))) (idle (found_none_twice (at_home gate (not b)))), ap (λ (ls : List Lane). (let u : Whole = record (w26 gate b) { lanes = ls } in u)) (set_other b (idle (one_again (at_home gate b))) (idle (found_none_twice (at_home gate (not b)))) (idle (other_again (at_home gate (not b)))))), refl))))))))))))))
 
 begins : (gate : GateId) (b : Bool) → gate.max_pending ≡ 4 → IsFirst gate 2 (w0 gate b)
-begins gate b four = record {
-  gate_is = ap first_moment (sym four);
-  len = two b;
-  lanes = each b;
-  owners = refl;
-  offering = refl;
-  loaded = refl;
-  seeding = refl;
-  max = sym four;
-}
-  where
-    two : (b : Bool) → length (both b (fresh_at gate b) (fresh_at gate (not b))) ≡ 2
-    two true = refl
-    two false = refl
-
-    each : (b : Bool) (q : ℕ) (l : Lane) → slice_get (both b (fresh_at gate b) (fresh_at gate (not b))) q ≡ Some l → l ≡ fresh_lane gate 2 q
-    each true zero l at = sym (some_is at)
-    each true (suc zero) l at = sym (some_is at)
-    each true (suc (suc q)) l at = absurd (cc (at))
-    each false zero l at = sym (some_is at)
-    each false (suc zero) l at = sym (some_is at)
-    each false (suc (suc q)) l at = absurd (cc (at))
+begins gate b four = grind arith
 
 queues_differ : (b : Bool) → queue b ≢ queue (not b)
 queues_differ true same = omega (arith, same)

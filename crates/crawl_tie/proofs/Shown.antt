@@ -1,44 +1,14 @@
 -- What the machine's invariants say of what a state shows, and the rows of the table.
-use Rattle.std.proofs.Common.{◌≡◌, ℕ, zero, suc, ◌<◌, Bool, true, false, ◌||◌, List, [], ◌∷◌, ◌++◌, take, drop, map, slice_get, Some, refl, sym, ap, ◌∙◌, subst, arith, true≢false, append_assoc}
-use Rattle.std.specs.Str.{bytes_eq}
-use Rattle.std.specs.Option.{option_map}
-use Rattle.std.proofs.lemmas.List.{append-nil}
+use Rattle.crawl_tie.proofs.Prelude.{◌≡◌, ℕ, zero, suc, ◌<◌, Bool, true, false, ◌||◌, List, [], ◌∷◌, ◌++◌, take, drop, map, slice_get, Some, refl, sym, ap, ◌∙◌, subst, arith, true≢false, append_assoc, bytes_eq, option_map, append-nil, Subqueue, State, start, count_of, Run, slice_get-map, slice_get-take, Event, Reply, run_sound, gate_invariant, Moment, GateInvariant, IsMaximum, GateId, Entry, Message, MayFollow, KeepsRule, has_url, Whole, Act, Atomic, UnitsAreOwned, events_of, message_of, ShowsWhole, ShowsGate, ShowsLists, IsPlaced, CountsUnits, ListsKeep}
 use Rattle.std.proofs.lemmas.Slice.Eq.{bytes_eq-Decides}
 use Rattle.crawl_core.specs.Messages.{count_from}
-use Rattle.crawl_core.specs.Subqueue.{Subqueue}
-use Rattle.crawl_core.specs.State.{State, start, count_of}
-use Rattle.crawl_core.specs.Run.{Run}
 use Rattle.crawl_core.specs.Invariants as machine
-use Rattle.crawl_core.proofs.Places.{slice_get-map, slice_get-take}
-use Rattle.crawl_core.specs.declared.event.Event.{Event}
-use Rattle.crawl_core.specs.declared.reply.Reply.{Reply}
-use Rattle.crawl_core.proofs.RunParts.{run_sound}
-use Rattle.crawl_core.proofs.RunLaws.{gate_invariant}
-use Rattle.crawl_gate.specs.Word.{bits}
-use Rattle.crawl_gate.specs.View.{units_held}
-use Rattle.crawl_gate.specs.GateInvariant.{Moment, GateInvariant}
-use Rattle.crawl_gate.specs.GateError.{IsMaximum}
-use Rattle.crawl_gate.specs.Seat.{GateId}
-use Rattle.crawl_queues.specs.declared.entry.Entry.{Entry}
-use Rattle.crawl_queues.specs.declared.entry.Message.{Message}
-use Rattle.crawl_queues.specs.Entries.{MayFollow, KeepsRule, has_url}
-use Rattle.crawl_tie.specs.Whole.{Whole}
-use Rattle.crawl_tie.specs.Acts.{Act, Atomic}
-use Rattle.crawl_tie.specs.Parts.{UnitsAreOwned}
-use Rattle.crawl_tie.specs.Shows.{events_of, message_of, ShowsWhole, ShowsGate, ShowsLists, IsPlaced, CountsUnits, ListsKeep}
 use Rattle.crawl_tie.proofs.Lanes.{same_counts}
 use Rattle.crawl_tie.proofs.Steps.{Ties, step}
 use Rattle.crawl_tie.proofs.Closing.{run_same}
 
 pub counts_units : (state : State) (gate : Moment) → machine.GateInvariant state.gate (count_of state) → ShowsGate state gate → CountsUnits state.gate.max gate
-counts_units state gate inv shows =
-    let same : units_held gate.views ≡ count_of state = shows.units in
-    record {
-      closed = state.gate.closed;
-      word = shows.word ∙ ap (λ n. bits (n, state.gate.closed) ∷ []) (sym same);
-      within = rw same inv.within;
-      empty = λ closed. same ∙ inv.empty closed;
-    }
+counts_units state gate inv shows = grind arith
 
 -- the k-th entry may follow those before it
 rule_from : (n q : ℕ) (before es : List Entry) → ((k : ℕ) (e : Entry) → slice_get es k ≡ Some e → MayFollow n q (before ++ take k es) e) → KeepsRule n q before es

@@ -1,50 +1,22 @@
 -- Each atomic step is the machine's events, and so each history is shown by a run.
-use Rattle.std.proofs.Common.{◌≡◌, ◌≢◌, ◌⊎◌, inl, inr, ⊎_elim, ℕ, zero, suc, ◌+◌, ◌<◌, ◌≤◌, ◌^◌, Bool, true, false, not, ◌&&◌, ◌||◌, List, [], ◌∷◌, ◌++◌, length, map, replicate, nat_eq, slice_get, slice_set, Option, Some, refl, sym, ap, ◌∙◌, subst, arith, eqb-true, true≢false}
-use Rattle.std.specs.Prelude.{slice_index}
+use Rattle.crawl_tie.proofs.Prelude.{◌≡◌, ◌≢◌, ◌⊎◌, inl, inr, ⊎_elim, ℕ, suc, ◌+◌, ◌<◌, ◌≤◌, ◌^◌, Bool, true, false, not, ◌&&◌, ◌||◌, List, [], ◌∷◌, ◌++◌, length, map, replicate, nat_eq, slice_get, slice_set, Option, Some, refl, sym, ap, ◌∙◌, subst, arith, ne_eqb, eq-eqb, list_any, nat_cmp, is_at, insert_entry, insert_key, remove_key, length_push, get_or-replicate, length-replicate, slice_get_within, slice_get-get_or, nat_cmp_total, tied_itself, Event, Look, Enter, Admit, Back, EndSeeds, Take, Done, Close, Reply, one_if, Subqueue, empty_subqueue, unfinished, after_accepting, after_taking, after_finishing, State, start, count_of, word_of, unfinished_in, Run, sum_at, lookup-insert_entry, Sound, GateEffect, gate_effect, length-insert_key, holder_counts, run_sound, start_count, eqb_same, Word, bits, open_at, closed_at, GateInvariant, IsMaximum, GateId, Entry, Lane, Whole, IsFirst, Seeds, Offer, Act, Splits, Looks, LooksAway, Enters, Loses, LeavesOffer, LeavesSeen, LeavesFetch, LeavesSeeds, Closes, NotClosesClosed, NotClosesPending, Pushes, Pops, PopsNone, FindsNothing, TakesIn, Looking, Entering, Losing, Leaving, Pushing, Popping, StandsIn, IsUnitOf, IsOwner, core_word, is_offering, loaded_by, with_gate, with_lane, after_splitting, after_looking, after_entering, after_leaving, after_fetching, after_seeding, after_pushing, Atomic, History, events_of, events, message_of, HasLists, ShowsLane, ShowsWhole, UnitsAreOwned, or_left, or_right}
 use Rattle.std.specs.Bool.{if◌then◌else◌}
-use Rattle.std.specs.List.{list_any}
-use Rattle.std.specs.Ordering.{nat_cmp}
-use Rattle.std.specs.BTreeMap.{is_at, insert_entry}
-use Rattle.std.specs.BTreeSet.{insert_key}
 use Rattle.std.specs.Map.{lookup, remove_entry}
-use Rattle.std.specs.Set.{remove_key}
-use Rattle.std.proofs.lemmas.List.{length_push}
-use Rattle.std.proofs.lemmas.Option.{slice_get_within}
-use Rattle.std.proofs.lemmas.Cmp.{nat_cmp_total, tied_itself}
 use Rattle.crawl_core.specs.declared.word.Word as core
-use Rattle.crawl_core.specs.declared.event.Event.{Event}
-use Rattle.crawl_core.specs.declared.event.Event.TheVariants.{Look, Enter, Admit, Back, EndSeeds, Take, Done, Close}
-use Rattle.crawl_core.specs.declared.reply.Reply.{Reply}
 use Rattle.crawl_core.specs.declared.reply.Reply.TheVariants as told
 use Rattle.crawl_core.specs.declared.reply.Refusal.TheVariants as why
-use Rattle.crawl_core.specs.Flags.{one_if, same_flag}
 use Rattle.crawl_core.specs.Messages.{has_url, count_from}
-use Rattle.crawl_core.specs.Subqueue.{Subqueue, empty_subqueue, unfinished, after_accepting, after_taking, after_finishing}
-use Rattle.crawl_core.specs.GateSide.{holds, remembers, let_go, grant, same_word, turned_away}
-use Rattle.crawl_core.specs.State.{State, start, count_of, word_of, unfinished_in}
-use Rattle.crawl_core.specs.Step.{Turn, turn, by_gate, with_subqueue}
-use Rattle.crawl_core.specs.Run.{Run}
-use Rattle.crawl_core.proofs.Places.{sum_at}
-use Rattle.crawl_core.proofs.Sets.{lookup-insert_entry}
-use Rattle.crawl_core.proofs.Sound.{Sound, GateEffect, gate_effect, length-insert_key, holder_counts, some_is}
-use Rattle.crawl_core.proofs.RunParts.{run_sound, start_count}
-use Rattle.crawl_gate.specs.Word.{Word, bits, open_at, closed_at}
+use Rattle.crawl_core.specs.GateSide.{holds, remembers, let_go, grant, same_word}
+use Rattle.crawl_core.specs.Step.{Turn, turn, with_subqueue}
 use Rattle.crawl_gate.specs.GateInvariant as gates
-use Rattle.crawl_gate.specs.GateInvariant.{GateInvariant}
-use Rattle.crawl_gate.specs.GateError.{IsMaximum}
-use Rattle.crawl_gate.specs.Seat.{GateId}
 use Rattle.crawl_gate.proofs.Histories as gate_words
 use Rattle.crawl_gate.proofs.Histories.{keeps_invariant, first_kept}
-use Rattle.crawl_queues.specs.declared.entry.Entry.{Entry}
 use Rattle.crawl_queues.specs.Entries as entries
 use Rattle.crawl_queues.specs.History as subqueues
-use Rattle.crawl_tie.specs.Whole.{Lane, Whole, IsFirst, Seeds, Offer}
-use Rattle.crawl_tie.specs.Acts.{Act, Splits, Looks, LooksAway, Enters, Loses, LeavesOffer, LeavesSeen, LeavesFetch, LeavesSeeds, Closes, NotClosesClosed, NotClosesPending, Pushes, Pops, PopsNone, FindsNothing, TakesIn, Looking, Entering, Losing, Leaving, Pushing, Popping, StandsIn, IsUnitOf, IsOwner, core_word, is_offering, loaded_by, with_gate, with_lane, after_splitting, after_looking, after_entering, after_leaving, after_fetching, after_seeding, after_pushing, Atomic, History}
-use Rattle.crawl_tie.specs.Shows.{events_of, events, message_of, HasLists, ShowsLane, ShowsWhole}
-use Rattle.crawl_tie.specs.Parts.{UnitsAreOwned}
 use Rattle.crawl_tie.proofs.GateSteps.{Goes, looked, entered, lost, left, closed, not_closed, split_off, entered_below}
 use Rattle.crawl_tie.proofs.Owners.{still_owned, split_owned, entered_owned, left_owned, pushed_owned, fetched_owned, seeds_owned, first_owned}
 use Rattle.crawl_tie.proofs.Lanes.{lanes_set, pushed_lane, popped_lane, same_lane, counted_has, taken_in_has, made_lane, oldest_is, sent_is, same_urls, same_counts, none_waits}
+use Rattle.crawl_queues.proofs.LogLines.{set_same}
 
 -- what holds beside, so that the next step can be shown
 pub record Ties (gate : GateId) (workers : ℕ) (w : Whole) (s : State) : Type 0 where
@@ -87,37 +59,16 @@ one gate workers w w' s ties event t is parts shows =
 
 -- no event
 none : (gate : GateId) (workers : ℕ) (w w' : Whole) (s : State) → Ties gate workers w s → Parts gate w w' → ShowsWhole gate workers s w' → Next gate workers w' s []
-none gate workers w w' s ties parts shows = record {
-  state = s;
-  run = refl;
-  ties = record { shows = shows; owned = parts.owned; keeps = parts.keeps; sound = ties.sound; within = ties.within; max = parts.max ∙ ties.max; fits = ties.fits };
-}
+none gate workers w w' s ties parts shows = grind arith
 
 -- ## Words
 
 -- the word that a step meets is the state's
 pub met : (gate : GateId) (workers : ℕ) (w : Whole) (s : State) → Ties gate workers w s → (x : Word) → w.gate.words ≡ bits x ∷ [] → x.0 < 2 ^ 63 → x ≡ (count_of s, s.gate.closed)
-met gate workers w s ties x at small =
-    let within = ties.within in
-    let limit : s.gate.max ≤ 2 ^ 40 = rw (ties.shows.max, ties.max) ties.fits.1 in
-    gate_words.same_word x (count_of s, s.gate.closed) (ap (λ ws. slice_index ws 0) (sym at ∙ ties.shows.word)) small (omega arith)
+met gate workers w s ties x at small = grind arith
 
 goes_keeps : (gate : GateId) (workers : ℕ) (w : Whole) (s : State) → Ties gate workers w s → (m : gates.Moment) (x y : Word) → Goes w.gate m x y → GateInvariant gate.max_pending m
 goes_keeps gate workers w s ties m x y go = keeps_invariant gate.max_pending w.gate m ties.keeps go.step
-
-differ : (a b : ℕ) → a < b → nat_eq a b ≡ false
-differ a b lt = by_test (nat_eq a b) refl
-  where
-    by_test : (t : Bool) → nat_eq a b ≡ t → t ≡ false
-    by_test true e = let same : a ≡ b = eqb-true a b e in absurd (omega arith)
-    by_test false e = refl
-
-eqb_same : (n : ℕ) → nat_eq n n ≡ true
-eqb_same n = by_test (nat_eq n n) refl
-  where
-    by_test : (t : Bool) → nat_eq n n ≡ t → t ≡ true
-    by_test true e = refl
-    by_test false e = absurd (grind (arith, e))
 
 -- ## Turns
 
@@ -127,13 +78,8 @@ look_turn s id x = record { reply = told.Word x.0 x.1; state = record s { gate =
 abbrev granted : State → ℕ → State
 granted s id = record s { gate = (grant s.gate (unfinished_in s) id).gate }
 
-same_word_is : (s : State) (n : ℕ) → count_of s ≡ n → s.gate.closed ≡ false → same_word (core_word (open_at n)) (word_of s) ≡ true
-same_word_is s n count opened = rw (count, opened, eqb_same n) refl
-
 enter_turn : (s : State) (id n : ℕ) → holds s.gate id ≡ false → remembers s.gate id ≡ Some (core_word (open_at n)) → count_of s ≡ n → s.gate.closed ≡ false → nat_eq (count_of s) s.gate.max ≡ false → turn s (Enter id) ≡ record { reply = told.Entered (suc n); state = granted s id }
-enter_turn s id n free found count opened below =
-    let same = same_word_is s n count opened in
-    rw (free, found, same, opened, below, count) refl
+enter_turn s id n free found count opened below = grind arith
 
 -- ## Each kind of step
 
@@ -173,7 +119,7 @@ enters gate workers w s ties id n m step free loaded =
     let opened : s.gate.closed ≡ false = sym (ap (λ y. y.1) is) in
     let room : n < gate.max_pending = entered_below gate.max_pending w.gate m n ties.keeps step in
     let max : s.gate.max ≡ gate.max_pending = shows.max ∙ ties.max in
-    let below : nat_eq (count_of s) s.gate.max ≡ false = differ (count_of s) s.gate.max (omega (arith, count, room, max)) in
+    let below : nat_eq (count_of s) s.gate.max ≡ false = ne_eqb (count_of s) s.gate.max (λ same. omega (arith, same, count, room, max)) in
     let free' = is_free gate workers w s shows id false free in
     let longer : length (insert_key nat_cmp s.gate.holders id) ≡ suc (length s.gate.holders) = length-insert_key s.gate.holders id free' in
     let more : n + 1 ≡ count_of (granted s id) = omega (arith, count, longer) in
@@ -183,30 +129,14 @@ enters gate workers w s ties id n m step free loaded =
       max = refl;
     } in
     one gate workers w w' s ties (Enter id) (record { reply = told.Entered (suc n); state = granted s id })
-    (enter_turn s id n free' (is_loaded gate workers w s shows id (Some (core_word (open_at n))) loaded) count opened below) parts (record {
-      word = go.to ∙ (ap (λ k. bits (k, false) ∷ []) more ∙ ap (λ b. bits (count_of (granted s id), b) ∷ []) (sym opened));
-      holders = ap (λ ids. insert_key nat_cmp ids id) shows.holders;
-      remembered = ap (λ r. remove_entry (is_at (nat_cmp id)) r) shows.remembered;
-      opening = shows.opening;
-      max = shows.max;
-      lanes = shows.lanes;
-    })
+    (enter_turn s id n free' (is_loaded gate workers w s shows id (Some (core_word (open_at n))) loaded) count opened below) parts (assumption (go.to ∙ (ap (λ k. bits (k, false) ∷ []) more ∙ ap (λ b. bits (count_of (granted s id), b) ∷ []) (sym opened)), ap (λ ids. insert_key nat_cmp ids id) shows.holders, ap (λ r. remove_entry (is_at (nat_cmp id)) r) shows.remembered))
 
 -- the same state and another moment of the gate, whose word is the same
 shows_still : (gate : GateId) (workers : ℕ) (w : Whole) (s : State) → ShowsWhole gate workers s w → (m : gates.Moment) → m.words ≡ bits (count_of s, s.gate.closed) ∷ [] → ShowsWhole gate workers s (with_gate w m)
-shows_still gate workers w s shows m word = record {
-  word = word;
-  holders = shows.holders;
-  remembered = shows.remembered;
-  opening = shows.opening;
-  max = shows.max;
-  lanes = shows.lanes;
-}
+shows_still gate workers w s shows m word = grind arith
 
 other_word : (s : State) (n c : ℕ) (b : Bool) → (same : Bool) → nat_eq n c ≡ same → ((c, b) ≡ open_at n → ⊥) → (nat_eq n c && not b) ≡ false
-other_word s n c true true e apart = rw e refl
-other_word s n c false true e apart = let is : n ≡ c = eqb-true n c e in absurd (apart (ap (λ k. open_at k) (sym is)))
-other_word s n c b false e apart = rw e refl
+other_word s n c b same e apart = grind arith
 
 loses : (gate : GateId) (workers : ℕ) (w : Whole) (s : State) → Ties gate workers w s → (id n : ℕ) (x : Word) (m : gates.Moment) → Losing w.gate m n x → is_offering w id ≡ false → loaded_by w id ≡ Some (core_word (open_at n)) → Next gate workers (with_gate w m) s ((Enter id, told.Lost) ∷ [])
 loses gate workers w s ties id n x m step free loaded =
@@ -251,20 +181,11 @@ pushes gate workers w s ties q e l m p at unit =
     let longer : length (queue.accepted ++ message_of e ∷ []) ≡ length queue.accepted + 1 = length_push queue.accepted (message_of e) in
     let same : count_of after ≡ count_of s = omega (arith, fewer, sum, longer, inv.within) in
     let parts : Parts gate w w' = record { owned = pushed_owned w q l m seat e.sender ties.owned unit.owner; keeps = ties.keeps; max = refl } in
-    one gate workers w w' s ties (Admit e.sender e.url q) (put_turn e.number) (turned ∙ ap put_turn (sym number)) parts (record {
-      word = shows.word ∙ ap (λ k. bits (k, s.gate.closed) ∷ []) (sym same);
-      holders = ap (λ ids. remove_key (is_at (nat_cmp e.sender)) ids) shows.holders;
-      remembered = shows.remembered;
-      opening = shows.opening;
-      max = shows.max;
-      lanes = lanes_set gate workers s.subqueues w.lanes shows.lanes q queue next l (record { moment = m; fetching = l.fetching }) there.1 at (pushed_lane gate workers q queue l m e there.2 p);
-    })
+    one gate workers w w' s ties (Admit e.sender e.url q) (put_turn e.number) (turned ∙ ap put_turn (sym number)) parts (assumption (shows.word ∙ ap (λ k. bits (k, s.gate.closed) ∷ []) (sym same), ap (λ ids. remove_key (is_at (nat_cmp e.sender)) ids) shows.holders, lanes_set gate workers s.subqueues w.lanes shows.lanes q queue next l (record { moment = m; fetching = l.fetching }) there.1 at (pushed_lane gate workers q queue l m e there.2 p)))
 
 -- a step that changes the subqueues alone
 same_parts : (gate : GateId) (workers : ℕ) (w : Whole) (s : State) → Ties gate workers w s → (q : ℕ) (l : Lane) → Parts gate w (with_lane w q l)
-same_parts gate workers w s ties q l =
-    let o = ties.owned in
-    record { owned = record { held = o.held; seeds = o.seeds; seeds_once = o.seeds_once; offers = o.offers; offers_once = o.offers_once }; keeps = ties.keeps; max = refl }
+same_parts gate workers w s ties q l = grind arith
 
 pops : (gate : GateId) (workers : ℕ) (w : Whole) (s : State) → Ties gate workers w s → (q : ℕ) (e : Entry) (l : Lane) (m : subqueues.Moment) → Popping l.moment m e → slice_get w.lanes q ≡ Some l → l.fetching ≡ false → Next gate workers (with_lane w q (record { moment = m; fetching = true })) s ((Take q, told.Taken e.url) ∷ [])
 pops gate workers w s ties q e l m p at idle =
@@ -280,14 +201,7 @@ pops gate workers w s ties q e l m p at idle =
     let was_idle : one_if queue.busy ≡ 0 = ap one_if idle' in
     let sum = sum_at unfinished s.subqueues q queue next there.1 in
     let same : count_of (with_subqueue s q next) ≡ count_of s = omega (arith, sum, was_idle, below) in
-    one gate workers w (with_lane w q l') s ties (Take q) (record { reply = told.Taken e.url; state = with_subqueue s q next }) turned (same_parts gate workers w s ties q l') (record {
-      word = shows.word ∙ ap (λ k. bits (k, s.gate.closed) ∷ []) (sym same);
-      holders = shows.holders;
-      remembered = shows.remembered;
-      opening = shows.opening;
-      max = shows.max;
-      lanes = lanes_set gate workers s.subqueues w.lanes shows.lanes q queue next l l' there.1 at (popped_lane gate workers q queue l m e there.2 p);
-    })
+    one gate workers w (with_lane w q l') s ties (Take q) (record { reply = told.Taken e.url; state = with_subqueue s q next }) turned (same_parts gate workers w s ties q l') (assumption (shows.word ∙ ap (λ k. bits (k, s.gate.closed) ∷ []) (sym same), lanes_set gate workers s.subqueues w.lanes shows.lanes q queue next l l' there.1 at (popped_lane gate workers q queue l m e there.2 p)))
 
 pops_none : (gate : GateId) (workers : ℕ) (w : Whole) (s : State) → Ties gate workers w s → (q : ℕ) (l : Lane) → slice_get w.lanes q ≡ Some l → l.moment.items ≡ [] → l.fetching ≡ false → Next gate workers w s ((Take q, told.Empty) ∷ [])
 pops_none gate workers w s ties q l at empty idle =
@@ -297,11 +211,6 @@ pops_none gate workers w s ties q l at empty idle =
     let nothing = none_waits gate workers q queue l there.2 empty in
     let turned : turn s (Take q) ≡ record { reply = told.Empty; state = s } = rw (there.1, idle', nothing) refl in
     one gate workers w w s ties (Take q) (record { reply = told.Empty; state = s }) turned (record { owned = ties.owned; keeps = ties.keeps; max = refl }) ties.shows
-
-same_at : {A : Type 0} (xs : List A) (i : ℕ) (x : A) → slice_get xs i ≡ Some x → slice_set xs i x ≡ xs
-same_at [] i x at = refl
-same_at (y ∷ ys) zero x at = let here : Some y ≡ Some x = at in ap (λ z. z ∷ ys) (sym (some_is here))
-same_at (y ∷ ys) (suc i) x at = ap (λ zs. y ∷ zs) (same_at ys i x at)
 
 -- a step of a subqueue that leaves its lists as they were
 keeps_lists : (gate : GateId) (workers : ℕ) (w : Whole) (s : State) → Ties gate workers w s → (q : ℕ) (l : Lane) (m : subqueues.Moment) → slice_get w.lanes q ≡ Some l
@@ -313,14 +222,7 @@ keeps_lists gate workers w s ties q l m at same =
     let l' : Lane = record { moment = m; fetching = l.fetching } in
     let lane = there.2 in
     let all = lanes_set gate workers s.subqueues w.lanes shows.lanes q queue queue l l' there.1 at (same_lane gate workers q queue l m lane (same lane.sent lane.taken lane.lists)) in
-    none gate workers w (with_lane w q l') s ties (same_parts gate workers w s ties q l') (record {
-      word = shows.word;
-      holders = shows.holders;
-      remembered = shows.remembered;
-      opening = shows.opening;
-      max = shows.max;
-      lanes = subst (λ queues. (k : ℕ) (x : Lane) → slice_get (slice_set w.lanes q l') k ≡ Some x → (y : Subqueue) × (slice_get queues k ≡ Some y) × ShowsLane gate workers k y x) (same_at s.subqueues q queue there.1) all;
-    })
+    none gate workers w (with_lane w q l') s ties (same_parts gate workers w s ties q l') (assumption (subst (λ queues. (k : ℕ) (x : Lane) → slice_get (slice_set w.lanes q l') k ≡ Some x → (y : Subqueue) × (slice_get queues k ≡ Some y) × ShowsLane gate workers k y x) (set_same s.subqueues q queue there.1) all))
 
 leaves_offer : (gate : GateId) (workers : ℕ) (w : Whole) (s : State) → Ties gate workers w s → (id n : ℕ) (m : gates.Moment) → (step : Leaving w.gate m n) → IsOwner w step.steps.seat (Offer id) → Next gate workers (after_leaving w m step.steps.seat id) s ((Back id, told.Count n) ∷ [])
 leaves_offer gate workers w s ties id n m step owner =
@@ -337,14 +239,7 @@ leaves_offer gate workers w s ties id n m step owner =
     let turned : turn s (Back id) ≡ record { reply = told.Count (count_of after); state = after } = rw held refl in
     let parts : Parts gate w w' = record { owned = left_owned w m n id ties.owned step owner; keeps = goes_keeps gate workers w s ties m (open_at (n + 1)) (open_at n) go; max = refl } in
     one gate workers w w' s ties (Back id) (record { reply = told.Count n; state = after })
-    (turned ∙ ap (λ k. (let t : Turn = record { reply = told.Count k; state = after } in t)) (sym less)) parts (record {
-      word = go.to ∙ (ap (λ k. bits (k, false) ∷ []) less ∙ ap (λ b. bits (count_of after, b) ∷ []) opened);
-      holders = ap (λ ids. remove_key (is_at (nat_cmp id)) ids) shows.holders;
-      remembered = shows.remembered;
-      opening = shows.opening;
-      max = shows.max;
-      lanes = shows.lanes;
-    })
+    (turned ∙ ap (λ k. (let t : Turn = record { reply = told.Count k; state = after } in t)) (sym less)) parts (assumption (go.to ∙ (ap (λ k. bits (k, false) ∷ []) less ∙ ap (λ b. bits (count_of after, b) ∷ []) opened), ap (λ ids. remove_key (is_at (nat_cmp id)) ids) shows.holders))
 
 seen_turn : (s : State) (id q : ℕ) (url : List ℕ) (queue : Subqueue) → slice_get s.subqueues q ≡ Some queue → holds s.gate id ≡ true → has_url queue.accepted url ≡ true → turn s (Admit id url q) ≡ record { reply = told.Seen; state = s }
 seen_turn s id q url queue at held seen = rw (at, held, seen) refl
@@ -386,14 +281,7 @@ leaves_fetch gate workers w s ties q n m l step at busy =
     let shown_lane : ShowsLane gate workers q next l' = record { sent = lane.sent; taken = lane.taken; lists = lane.lists; accepts = lane.accepts; takes = lane.takes; busy = refl } in
     let parts : Parts gate w w' = record { owned = fetched_owned w m n q l ties.owned step; keeps = goes_keeps gate workers w s ties m (open_at (n + 1)) (open_at n) go; max = refl } in
     one gate workers w w' s ties (Done q) (record { reply = told.Count n; state = after })
-    (turned ∙ ap (λ k. (let t : Turn = record { reply = told.Count k; state = after } in t)) (sym less)) parts (record {
-      word = go.to ∙ (ap (λ k. bits (k, false) ∷ []) less ∙ ap (λ b. bits (count_of after, b) ∷ []) opened);
-      holders = shows.holders;
-      remembered = shows.remembered;
-      opening = shows.opening;
-      max = shows.max;
-      lanes = lanes_set gate workers s.subqueues w.lanes shows.lanes q queue next l l' there.1 at shown_lane;
-    })
+    (turned ∙ ap (λ k. (let t : Turn = record { reply = told.Count k; state = after } in t)) (sym less)) parts (assumption (go.to ∙ (ap (λ k. bits (k, false) ∷ []) less ∙ ap (λ b. bits (count_of after, b) ∷ []) opened), lanes_set gate workers s.subqueues w.lanes shows.lanes q queue next l l' there.1 at shown_lane))
 
 leaves_seeds : (gate : GateId) (workers : ℕ) (w : Whole) (s : State) → Ties gate workers w s → (n : ℕ) (m : gates.Moment) → (step : Leaving w.gate m n) → IsOwner w step.steps.seat Seeds → Next gate workers (after_seeding w m step.steps.seat) s ((EndSeeds, told.Count n) ∷ [])
 leaves_seeds gate workers w s ties n m step owner =
@@ -410,14 +298,7 @@ leaves_seeds gate workers w s ties n m step owner =
     let turned : turn s EndSeeds ≡ record { reply = told.Count (count_of after); state = after } = rw out refl in
     let parts : Parts gate w w' = record { owned = seeds_owned w m n ties.owned step owner; keeps = goes_keeps gate workers w s ties m (open_at (n + 1)) (open_at n) go; max = refl } in
     one gate workers w w' s ties EndSeeds (record { reply = told.Count n; state = after })
-    (turned ∙ ap (λ k. (let t : Turn = record { reply = told.Count k; state = after } in t)) (sym less)) parts (record {
-      word = go.to ∙ (ap (λ k. bits (k, false) ∷ []) less ∙ ap (λ b. bits (count_of after, b) ∷ []) opened);
-      holders = shows.holders;
-      remembered = shows.remembered;
-      opening = refl;
-      max = shows.max;
-      lanes = shows.lanes;
-    })
+    (turned ∙ ap (λ k. (let t : Turn = record { reply = told.Count k; state = after } in t)) (sym less)) parts (assumption (go.to ∙ (ap (λ k. bits (k, false) ∷ []) less ∙ ap (λ b. bits (count_of after, b) ∷ []) opened)))
 
 abbrev shut : State → State
 shut s = record s { gate = record s.gate { closed = true } }
@@ -432,31 +313,7 @@ closes gate workers w s ties m x go owned zero_is may =
     let is = met gate workers w s ties x go.from go.small in
     let count : 0 ≡ count_of s = sym zero_is ∙ ap (λ y. y.0) is in
     let parts : Parts gate w (with_gate w m) = record { owned = owned; keeps = goes_keeps gate workers w s ties m x (closed_at 0) go; max = refl } in
-    one gate workers w (with_gate w m) s ties Close (record { reply = told.Closed; state = shut s }) (closing_turn s (may is)) parts (record {
-      word = go.to ∙ ap (λ k. bits (k, true) ∷ []) count;
-      holders = shows.holders;
-      remembered = shows.remembered;
-      opening = shows.opening;
-      max = shows.max;
-      lanes = shows.lanes;
-    })
-
-or_right : (b : Bool) (k : ℕ) → k ≡ 0 → (b || nat_eq k 0) ≡ true
-or_right b k e = rw e (by_flag b)
-  where
-    by_flag : (b : Bool) → (b || true) ≡ true
-    by_flag true = refl
-    by_flag false = refl
-
-or_left : (b c : Bool) → b ≡ true → (b || c) ≡ true
-or_left b c e = rw e refl
-
-not_zero : (n : ℕ) → (n ≡ 0 → ⊥) → nat_eq n 0 ≡ false
-not_zero n some = by_test (nat_eq n 0) refl
-  where
-    by_test : (t : Bool) → nat_eq n 0 ≡ t → t ≡ false
-    by_test true e = absurd (some (eqb-true n 0 e))
-    by_test false e = refl
+    one gate workers w (with_gate w m) s ties Close (record { reply = told.Closed; state = shut s }) (closing_turn s (may is)) parts (assumption (go.to ∙ ap (λ k. bits (k, true) ∷ []) count))
 
 pends : (gate : GateId) (workers : ℕ) (w : Whole) (s : State) → Ties gate workers w s → (n : ℕ) (m : gates.Moment) → open_at n ≢ open_at 0 → Goes w.gate m (open_at n) (open_at n) → UnitsAreOwned (with_gate w m) → Next gate workers (with_gate w m) s ((Close, told.Pending n) ∷ [])
 pends gate workers w s ties n m some go owned =
@@ -464,7 +321,7 @@ pends gate workers w s ties n m some go owned =
     let is = met gate workers w s ties (open_at n) go.from go.small in
     let count : count_of s ≡ n = sym (ap (λ y. y.0) is) in
     let opened : s.gate.closed ≡ false = sym (ap (λ y. y.1) is) in
-    let may : (s.gate.closed || nat_eq (count_of s) 0) ≡ false = rw opened (not_zero (count_of s) (λ zero_is. some (ap (λ k. open_at k) (sym count ∙ zero_is)))) in
+    let may : (s.gate.closed || nat_eq (count_of s) 0) ≡ false = rw opened (ne_eqb (count_of s) 0 (λ zero_is. some (ap (λ k. open_at k) (sym count ∙ zero_is)))) in
     let turned : turn s Close ≡ record { reply = told.Pending (count_of s); state = s } = rw may refl in
     let parts : Parts gate w (with_gate w m) = record { owned = owned; keeps = goes_keeps gate workers w s ties m (open_at n) (open_at n) go; max = refl } in
     one gate workers w (with_gate w m) s ties Close (record { reply = told.Pending n; state = s })
@@ -472,19 +329,7 @@ pends gate workers w s ties n m some go owned =
     (shows_still gate workers w s shows m (go.to ∙ ap (λ y. bits y ∷ []) is))
 
 refused_turn : (s : State) (id : ℕ) → holds s.gate id ≡ false → remembers s.gate id ≡ Some (word_of s) → (s.gate.closed ≡ true) ⊎ (nat_eq (count_of s) s.gate.max ≡ true) → turn s (Enter id) ≡ record { reply = told.Refused (if s.gate.closed then why.Closed else why.Full); state = s }
-refused_turn s id free found away =
-    let same : same_word (word_of s) (word_of s) ≡ true = itself (count_of s) s.gate.closed in
-    rw (free, found, same) (ap (by_gate s) (by_flag s.gate.closed (nat_eq (count_of s) s.gate.max) away))
-  where
-    itself : (n : ℕ) (b : Bool) → (nat_eq n n && same_flag b b) ≡ true
-    itself n true = rw (eqb_same n) refl
-    itself n false = rw (eqb_same n) refl
-
-    by_flag : (b full : Bool) → (b ≡ true) ⊎ (full ≡ true) → (if b then turned_away s.gate why.Closed else if full then turned_away s.gate why.Full else grant s.gate (unfinished_in s) id) ≡ turned_away s.gate (if b then why.Closed else why.Full)
-    by_flag true full away = refl
-    by_flag false true away = refl
-    by_flag false false (inl e) = absurd (true≢false (sym e))
-    by_flag false false (inr e) = absurd (true≢false (sym e))
+refused_turn s id free found away = grind arith
 
 looks_away : (gate : GateId) (workers : ℕ) (w : Whole) (s : State) → Ties gate workers w s → (id : ℕ) (x : Word) (m : gates.Moment) → Looking w.gate m x → is_offering w id ≡ false → (x.1 ≡ true) ⊎ (x.0 ≡ w.max) → Next gate workers (after_looking w m id x) s ((Look id, told.Word x.0 x.1) ∷ (Enter id, told.Refused (if x.1 then why.Closed else why.Full)) ∷ [])
 unfolding loads one
@@ -524,7 +369,7 @@ step gate workers w v s ties (LeavesSeen id q url n) a = moved gate workers w _ 
 step gate workers w v s ties (LeavesFetch q n) a = moved gate workers w _ v s _ a.6 (leaves_fetch gate workers w s ties q n a.0 a.1 a.2 a.4 a.5)
 step gate workers w v s ties (LeavesSeeds n) a = moved gate workers w _ v s _ a.3 (leaves_seeds gate workers w s ties n a.0 a.1 a.2)
 step gate workers w v s ties Closes a =
-    moved gate workers w _ v s _ a.2 (closes gate workers w s ties a.0 (open_at 0) (closed w.gate a.0 a.1) (still_owned w a.0 a.1.view _ (open_at 0) (closed_at 0) ties.owned a.1.steps refl) refl (λ is. or_right s.gate.closed (count_of s) (sym (ap (λ y. y.0) is))))
+    moved gate workers w _ v s _ a.2 (closes gate workers w s ties a.0 (open_at 0) (closed w.gate a.0 a.1) (still_owned w a.0 a.1.view _ (open_at 0) (closed_at 0) ties.owned a.1.steps refl) refl (λ is. or_right s.gate.closed (nat_eq (count_of s) 0) (eq-eqb (count_of s) 0 (sym (ap (λ y. y.0) is)))))
 step gate workers w v s ties NotClosesClosed a =
     moved gate workers w _ v s _ a.2 (closes gate workers w s ties a.0 (closed_at 0) (not_closed w.gate a.0 (closed_at 0) a.1) (still_owned w a.0 a.1.view _ (closed_at 0) (closed_at 0) ties.owned a.1.steps refl) refl (λ is. or_left s.gate.closed (nat_eq (count_of s) 0) (sym (ap (λ y. y.1) is))))
 step gate workers w v s ties (NotClosesPending n) a =
@@ -541,11 +386,6 @@ runs gate workers (act ∷ acts) w v s ties h =
     let first = step gate workers w h.0 s ties act h.1 in
     then_next gate workers h.0 v s (events_of act) (events acts) first (runs gate workers acts h.0 v first.state first.ties h.2)
 
-replicated : {A : Type 0} (n : ℕ) (x : A) (i : ℕ) → i < n → slice_get (replicate n x) i ≡ Some x
-replicated zero x i lt = absurd (omega arith)
-replicated (suc n) x zero lt = refl
-replicated (suc n) x (suc i) lt = replicated n x i (omega arith)
-
 pub first_ties : (gate : GateId) (workers : ℕ) (w : Whole) → IsMaximum gate.max_pending → IsFirst gate workers w → Ties gate workers w (start workers gate.max_pending)
 first_ties gate workers w fits first =
     let max = gate.max_pending in
@@ -560,7 +400,7 @@ first_ties gate workers w fits first =
         lanes = λ q l at.
             let below = slice_get_within w.lanes q l at in
             let len = first.len in
-            (empty_subqueue, replicated workers empty_subqueue q (omega (arith, below, len)), subst (λ x. ShowsLane gate workers q empty_subqueue x) (sym (first.lanes q l at)) (made_lane gate workers q));
+            (empty_subqueue, slice_get-get_or (replicate workers empty_subqueue) q empty_subqueue (rw length-replicate (omega (arith, below, len))) ∙ ap Some (get_or-replicate workers q empty_subqueue empty_subqueue (omega (arith, below, len))), subst (λ x. ShowsLane gate workers q empty_subqueue x) (sym (first.lanes q l at)) (made_lane gate workers q));
       };
       owned = first_owned gate workers w first;
       keeps = subst (GateInvariant max) (sym first.gate_is) (first_kept max fits);
