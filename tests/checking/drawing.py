@@ -69,7 +69,7 @@ LINKED = ["linked", "linked.html", "linked.html", "index.html", "sub/linked", "a
 
 
 def spelled(draw: Random, name: str) -> str:
-    """A name with its special characters, and some others, as percent-escapes."""
+    """A name with its special characters, and some others, as percent-escapes, and seldom with other slashes."""
     share = draw.choice([0, 0, 0.1, 0.5])
     special = draw.choice(["%?#", "%?#\\ ", "%?#\\\"<>`{}^ "])
     letters = []
@@ -77,6 +77,8 @@ def spelled(draw: Random, name: str) -> str:
         if letter in special or not letter.isprintable() or letter != "/" and draw.random() < share:
             escapes = (draw.choice(["%{:02x}", "%{:02X}"]).format(byte) for byte in letter.encode("utf-8", "surrogateescape"))
             letters.append("".join(escapes))
+        elif letter == "/" and draw.random() < 0.04:
+            letters.append(draw.choice(["%2F", "%2f", "//"]))
         else:
             letters.append(letter)
     return "".join(letters)
