@@ -6,7 +6,7 @@ use crate::site::{Rules, Site};
 use crate::site_input::SiteInput;
 use crawl_keys::{Base, CanonUrl};
 use document_links::{LINK_FRONT, LinkTexts, base_of, fits, resolved};
-use memchr::{memchr, memchr3, memmem};
+use memchr::{memchr, memchr_iter, memchr3};
 use std::alloc::{AllocError, Global};
 
 /// A URL, and the number of the page that a server returns for it.
@@ -62,13 +62,17 @@ pub(crate) fn can_spell(input: SiteInput<'_>, text: &str) -> bool {
     !input.rules.exact && (memchr3(b'?', b'%', b'\\', bytes).is_some() || has_empty_name(bytes))
 }
 
-/// Whether a text has two slashes in a row, in addition to those of a host.
+/// Whether a text has two slashes in a row, in addition to those of a host: its first slashes, at its beginning or after a colon.
 fn has_empty_name(text: &[u8]) -> bool {
-    let Some(at) = memmem::find(text, b"//") else {
-        return false;
-    };
-    let is_host = at == 0 || text[at - 1] == b':' && memchr(b'/', &text[..at]).is_none();
-    !is_host || memmem::find(&text[at + 2..], b"//").is_some()
+    let mut is_first = true;
+    for at in memchr_iter(b'/', text) {
+        let is_host = is_first && matches!(text.get(at.wrapping_sub(1)), None | Some(b':'));
+        if !is_host && text.get(at.wrapping_add(1)) == Some(&b'/') {
+            return true;
+        }
+        is_first = false;
+    }
+    false
 }
 
 /// The last text that was resolved.
