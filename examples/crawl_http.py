@@ -109,7 +109,7 @@ class Receiver(io.RawIOBase):
         return self.end.recv_into(buffer)
 
     def makefile(self, mode: str) -> io.BufferedReader:
-        """Return the reader that an HTTPResponse wants of a socket."""
+        """Return the reader that an HTTPResponse takes from a socket."""
         return io.BufferedReader(self)
 
 

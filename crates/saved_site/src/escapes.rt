@@ -87,7 +87,7 @@ pub(crate) fn push_respelled(
 
 /// Appends the path below the top that a server looks up for a path below the top: without empty names, and with an escaped slash as a
 /// slash. So consecutive slashes are one. The escapes are those of a file's page. `false`, and part of the path, if it leads above the top:
-/// a dot behind an escaped slash is not resolved when the URL is parsed.
+/// a dot after an escaped slash is not resolved when the URL is parsed.
 pub(crate) fn push_looked_up(
     alloc: Global,
     below: &str,
