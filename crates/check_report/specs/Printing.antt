@@ -26,8 +26,8 @@ abbrev pub printed : Form → Bool → Contents → Findings → List ℕ
 printed how all contents f = flat_map (bytes_of how) (rows_of all contents f)
 
 -- as text, with three locations of each target or with all, and with or without colour
-abbrev pub printed_text : Bool → Bool → Contents → Findings → List ℕ
-printed_text all colour contents f = printed (form.Text colour) all contents f
+abbrev pub printed_text : Bool → Contents → Findings → List ℕ
+printed_text colour contents f = printed (form.Text colour) contents.lists.all contents f
 
 -- as JSON, with all locations
 abbrev pub printed_json : Contents → Findings → List ℕ

@@ -1,5 +1,6 @@
 -- The rows of a report, in order.
 use Rattle.std.specs.Prelude.{ℕ, ◌-◌, Bool, true, false, List, [], ◌∷◌, ◌++◌, length, map, take, nat_lt, String, string_bytes, if◌then◌else◌, Option, None, Some}
+use Rattle.std.specs.Borrow.{Bor}
 use Rattle.std.specs.List.{flat_map}
 use Rattle.std.specs.Option.{option_map}
 use Rattle.std.specs.declared.alloc.Global.{Global}
@@ -7,6 +8,7 @@ use Rattle.check_report.specs.declared.value.Broken.{Broken}
 use Rattle.check_report.specs.declared.value.External.{External}
 use Rattle.check_report.specs.declared.value.FileCount.{FileCount}
 use Rattle.check_report.specs.declared.value.Findings.{Findings}
+use Rattle.check_report.specs.declared.value.Lists.{Lists}
 use Rattle.check_report.specs.declared.value.Place.{Place}
 use Rattle.check_report.specs.declared.value.Redirect.{Redirect}
 use Rattle.check_report.specs.declared.value.Contents.{Contents}
@@ -100,10 +102,22 @@ name_part of_part texts = in_part of_part (length texts) (map (λ text. name of_
 abbrev pub external_part : List External → List Line
 external_part urls = in_part part.External (length urls) (map external urls)
 
--- the names if they are listed, otherwise none
-abbrev pub if_listed : Bool → List (String Global) → List (String Global)
-if_listed true names = names
-if_listed false names = []
+-- the rows if they are listed, otherwise none
+abbrev pub if_listed : {T : Type 0} → Bool → Bor (List T) → Bor (List T)
+if_listed true rows = rows
+if_listed false rows = record { ref_ptr = rows.ref_ptr; now = [] }
+
+-- the findings with the lists that a report has; the others are empty
+abbrev pub listed : Lists → Findings → Findings
+listed lists f = record {
+  base = f.base;
+  totals = f.totals;
+  broken = f.broken;
+  worst = f.worst;
+  redirects = f.redirects;
+  unreached = if_listed lists.unreached f.unreached;
+  unused_ignores = f.unused_ignores;
+}
 
 abbrev pub count_if : Bool → ℕ → Option ℕ
 count_if true count = Some count
@@ -111,7 +125,7 @@ count_if false count = None
 
 -- the optional counts: those of the lists that the report has
 abbrev pub counts_of : Contents → Findings → Counts
-counts_of contents f = record { unreached = count_if contents.unreached (length f.unreached.now); external = option_map (λ urls. length urls.now) contents.external }
+counts_of contents f = record { unreached = count_if contents.lists.unreached (length f.unreached.now); external = option_map (λ urls. length urls.now) contents.external }
 
 abbrev pub or_none : Option (List External) → List External
 or_none None = []
@@ -120,7 +134,11 @@ or_none (Some urls) = urls
 abbrev pub external_of : Contents → List External
 external_of contents = or_none (option_map (λ urls. urls.now) contents.external)
 
+-- the sections of these findings and external links
+abbrev pub sections_of : Bool → List External → Findings → List Line
+sections_of all urls f =
+    broken_part all f.broken.now ++ worst_part f.worst.now ++ redirect_part f.redirects.now ++ name_part part.Unreached f.unreached.now
+    ++ external_part urls ++ name_part part.Unused f.unused_ignores.now ++ last ∷ []
+
 abbrev pub rows_of : Bool → Contents → Findings → List Line
-rows_of all contents f =
-    total f.base.now f.totals (counts_of contents f) ∷ broken_part all f.broken.now ++ worst_part f.worst.now ++ redirect_part f.redirects.now
-    ++ name_part part.Unreached (if_listed contents.unreached f.unreached.now) ++ external_part (external_of contents) ++ name_part part.Unused f.unused_ignores.now ++ last ∷ []
+rows_of all contents f = total f.base.now f.totals (counts_of contents f) ∷ sections_of all (external_of contents) (listed contents.lists f)

@@ -16,4 +16,6 @@ mod value;
 
 pub use printing::{print_annotations, print_json, print_page, print_text};
 pub use put::NoMemory;
-pub use value::{Broken, Contents, External, FileCount, Findings, Kind, Place, Redirect, Totals};
+pub use value::{
+    Broken, Contents, External, FileCount, Findings, Kind, Lists, Place, Redirect, Totals,
+};

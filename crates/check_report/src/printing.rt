@@ -2,7 +2,7 @@
 ghost use Rattle.std.specs.Prelude.{◌≡◌, [], ◌∷◌, IfOk, map, string_bytes};
 ghost use Rattle.check_report.specs.Printing.{Adds, printed, printed_annotations, printed_json, printed_page, printed_text};
 ghost use Rattle.check_report.specs.Rows as line;
-ghost use Rattle.check_report.specs.Rows.{line_of, broken_lines, broken_part, counts_of, edge, external_of, external_part, if_listed, left_out, name_part, place_lines, redirect_part, shown_places, target_lines, worst_part};
+ghost use Rattle.check_report.specs.Rows.{line_of, broken_lines, broken_part, counts_of, edge, external_of, external_part, if_listed, left_out, listed, name_part, place_lines, redirect_part, shown_places, target_lines, worst_part};
 
 use crate::as_annotations::put_annotation;
 use crate::as_json::with_json;
@@ -11,14 +11,14 @@ use crate::as_text::put_text;
 use crate::form::Form;
 use crate::put::NoMemory;
 use crate::row::{Counts, Part, Row};
-use crate::value::{Broken, Contents, External, FileCount, Findings, Place, Redirect};
+use crate::value::{Broken, Contents, External, FileCount, Findings, Lists, Place, Redirect};
 use std::alloc::Global;
 
 /// The number of locations of a target that a report lists if it does not list all.
 const PLACES_LIMIT: usize = 3;
 
 /// Prints a report as text: the totals, the broken links, the files with the most of them, and the other sections that have rows.
-/// It lists three locations of each target, or all of them. Colour is ANSI escape codes.
+/// Colour is ANSI escape codes.
 ///
 /// # Errors
 /// Out of memory.
@@ -26,12 +26,17 @@ pub fn print_text(
     alloc: Global,
     findings: &Findings<'_>,
     contents: Contents<'_>,
-    all: bool,
     colour: bool,
 ) -> Result<Vec<u8>, NoMemory>
-    ensures { IfOk result (λ text. text.items ≡ printed_text all colour contents.entry findings.now) }
+    ensures { IfOk result (λ text. text.items ≡ printed_text colour contents.entry findings.now) }
 {
-    print(alloc, findings, contents, all, Form::Text(colour))
+    print(
+        alloc,
+        findings,
+        contents,
+        contents.lists.all,
+        Form::Text(colour),
+    )
 }
 
 /// Prints a report as JSON, one object per line.
@@ -92,14 +97,14 @@ fn print(
 ) -> Result<Vec<u8>, NoMemory>
     ensures { IfOk result (λ text. text.items ≡ printed form.entry all contents.entry findings.now) }
 {
+    let shown = listed(findings, contents.lists);
     let begun = with(Vec::new(alloc), form, total_of(findings, contents))?;
-    let broken = with_broken(begun, form, findings.broken, all)?;
-    let worst = with_worst(broken, form, findings.worst)?;
-    let redirects = with_redirects(worst, form, findings.redirects)?;
-    let names = if_listed(contents.unreached, findings.unreached);
-    let unreached = with_names(redirects, form, Part::Unreached, names)?;
+    let broken = with_broken(begun, form, shown.broken, all)?;
+    let worst = with_worst(broken, form, shown.worst)?;
+    let redirects = with_redirects(worst, form, shown.redirects)?;
+    let unreached = with_names(redirects, form, Part::Unreached, shown.unreached)?;
     let external = with_external(unreached, form, external_of(contents))?;
-    let unused = with_names(external, form, Part::Unused, findings.unused_ignores)?;
+    let unused = with_names(external, form, Part::Unused, shown.unused_ignores)?;
     let all = with(unused, form, Row::Last)?;
     Ok(all)
 }
@@ -119,7 +124,7 @@ fn counts_of(findings: &Findings<'_>, contents: Contents<'_>) -> Counts
     ensures { result ≡ counts_of contents.entry findings.now }
 {
     Counts {
-        unreached: if contents.unreached {
+        unreached: if contents.lists.unreached {
             Some(findings.unreached.len())
         } else {
             None
@@ -131,11 +136,25 @@ fn counts_of(findings: &Findings<'_>, contents: Contents<'_>) -> Counts
     }
 }
 
-/// The names if they are listed, otherwise none.
-fn if_listed(listed: bool, names: &[String]) -> &[String]
-    ensures { result.now ≡ if_listed listed names.now }
+/// The findings with the lists that the report has; the others are empty.
+fn listed<'r>(findings: &Findings<'r>, lists: Lists) -> Findings<'r>
+    ensures broken { result.broken.now ≡ (listed lists findings.now).broken.now }
+    ensures worst { result.worst.now ≡ (listed lists findings.now).worst.now }
+    ensures redirects { result.redirects.now ≡ (listed lists findings.now).redirects.now }
+    ensures unreached { result.unreached.now ≡ (listed lists findings.now).unreached.now }
+    ensures unused { result.unused_ignores.now ≡ (listed lists findings.now).unused_ignores.now }
 {
-    if listed { names } else { &[] }
+    Findings {
+        unreached: if_listed(lists.unreached, findings.unreached),
+        ..*findings
+    }
+}
+
+/// The rows if they are listed, otherwise none.
+fn if_listed<T>(listed: bool, rows: &[T]) -> &[T]
+    ensures { result.now ≡ (if_listed listed rows.entry).now }
+{
+    if listed { rows } else { &[] }
 }
 
 fn external_of(contents: Contents<'_>) -> &[External]

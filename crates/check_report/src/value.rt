@@ -18,11 +18,19 @@ pub struct Findings<'a> {
     pub unused_ignores: &'a [String],
 }
 
+/// What a report lists.
+#[derive(Clone, Copy, Debug, Default)]
+pub struct Lists {
+    /// Whether a report as text lists all locations of a broken link, not only three. The other forms list all.
+    pub all: bool,
+    /// Whether the report counts and lists unreached files.
+    pub unreached: bool,
+}
+
 /// The optional contents of a report.
 #[derive(Clone, Copy)]
 pub struct Contents<'a> {
-    /// Whether the report counts and lists unreached files.
-    pub unreached: bool,
+    pub lists: Lists,
     /// The external links, if the report counts and lists them.
     pub external: Option<&'a [External]>,
     /// The folder that annotations put before a file's name; empty for none.

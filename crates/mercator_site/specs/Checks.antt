@@ -31,11 +31,11 @@ use Rattle.site_check.specs.Totals.{totals_of}
 use Rattle.site_check.specs.declared.check.Checked.{Checked}
 
 -- the results in a form, with the optional lists
-abbrev pub printed_check : CheckForm → Bool → Contents → Findings → List ℕ
-printed_check (form.Text colour) all contents f = printed_text all colour contents f
-printed_check form.Json all contents f = printed_json contents f
-printed_check form.Annotations all contents f = printed_annotations contents f
-printed_check form.Page all contents f = printed_page contents f
+abbrev pub printed_check : CheckForm → Contents → Findings → List ℕ
+printed_check (form.Text colour) contents f = printed_text colour contents f
+printed_check form.Json contents f = printed_json contents f
+printed_check form.Annotations contents f = printed_annotations contents f
+printed_check form.Page contents f = printed_page contents f
 
 -- without links the crawl starts at the empty link, which leads to the top itself
 abbrev pub starts : List (List ℕ) → List (List ℕ)
@@ -73,10 +73,10 @@ pub record IsReport (checked : Checked) (others : Option (List Row)) (name : Lis
   pub unused : found.unused_ignores.now ≡ checked.unused_ignores.items
   pub is_broken : broken ≡ not (length checked.broken.items == 0)
   pub contents : Contents
-  pub unreached : contents.unreached ≡ asks.report.unreached
+  pub lists : contents.lists ≡ asks.report.lists
   pub folder : contents.folder.now ≡ asks.folder
   pub others_listed : other_rows contents ≡ others
-  pub written : text ≡ printed_check asks.report.form asks.report.all contents found
+  pub written : text ≡ printed_check asks.report.form contents found
 
 -- the text reports the missing pages and the redirects of such a crawl below the top, each with the number of pages that link
 -- to it, and the entries that match nothing. Its totals count the pages at the own URLs of files, their links, the pages at these
@@ -97,10 +97,10 @@ pub record IsCheck (top web : List ℕ) (aliases : List Alias) (asks : Asks) (br
   pub unused : AreUnused asks.front asks.entries own (parts_in found.broken.now) (map string_bytes found.unused_ignores.now)
   pub is_broken : broken ≡ not (length found.broken.now == 0)
   pub contents : Contents
-  pub unreached : contents.unreached ≡ asks.report.unreached
+  pub lists : contents.lists ≡ asks.report.lists
   pub folder : contents.folder.now ≡ asks.folder
   pub others : AreOthersListed asks.report.external crawled.url own (other_rows contents)
-  pub written : text ≡ printed_check asks.report.form asks.report.all contents found
+  pub written : text ≡ printed_check asks.report.form contents found
 
 -- the same, and the site has this name in the text
 pub record IsNamedCheck (name top web : List ℕ) (aliases : List Alias) (asks : Asks) (broken : Bool) (text : List ℕ) : Type 0 where

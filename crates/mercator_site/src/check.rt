@@ -198,7 +198,7 @@ fn input_of<'a>(
         aliases,
         anchors,
         places,
-        unreached: settings.report.unreached,
+        unreached: settings.report.lists.unreached,
     }
 }
 
@@ -213,12 +213,12 @@ fn report_of(
 {
     let options = settings.report;
     let contents = Contents {
-        unreached: options.unreached,
+        lists: options.lists,
         external: slice_of(others),
         folder: settings.folder,
     };
     let findings = checked.findings(settings.name);
-    let text = print_check(alloc, &findings, contents, options.form, options.all)?;
+    let text = print_check(alloc, &findings, contents, options.form)?;
     Ok(CheckReport {
         text,
         is_broken: checked.is_broken(),

@@ -1,4 +1,5 @@
 //! The settings of a saved web of a folder and of its check.
+use check_report::Lists;
 
 /// The form of a report.
 #[derive(Clone, Copy, Debug, PartialEq, Eq)]
@@ -26,10 +27,7 @@ impl Default for CheckForm {
 #[derive(Clone, Copy, Debug, Default)]
 pub struct ReportOptions {
     pub form: CheckForm,
-    /// Whether all locations of a broken link are listed, not only three.
-    pub all: bool,
-    /// Whether unreached files are listed.
-    pub unreached: bool,
+    pub lists: Lists,
     /// Whether external links are listed.
     pub external: bool,
 }

@@ -6,7 +6,7 @@ use crate::options::CheckForm;
 use check_report::{Contents, Findings, print_annotations, print_json, print_page, print_text};
 use std::alloc::{AllocError, Global};
 
-/// Prints the results and the optional lists, with three locations of each target or with all.
+/// Prints the results and the optional lists.
 ///
 /// # Errors
 /// Out of memory.
@@ -15,12 +15,11 @@ pub(crate) fn print_check(
     findings: &Findings<'_>,
     contents: Contents<'_>,
     form: CheckForm,
-    all: bool,
 ) -> Result<Vec<u8>, AllocError>
-    ensures { IfOk result (λ text. text.items ≡ printed_check form all contents.entry findings.now) }
+    ensures { IfOk result (λ text. text.items ≡ printed_check form contents.entry findings.now) }
 {
     match form {
-        CheckForm::Text { colour } => print_text(alloc, findings, contents, all, colour),
+        CheckForm::Text { colour } => print_text(alloc, findings, contents, colour),
         CheckForm::Json => print_json(alloc, findings, contents),
         CheckForm::Annotations => print_annotations(alloc, findings, contents),
         CheckForm::Page => print_page(alloc, findings, contents),

@@ -1,7 +1,7 @@
 //! The forms of a report. The expected bytes are written by hand.
 use check_report::{
-    Broken, Contents, External, FileCount, Findings, Kind, NoMemory, Place, Redirect, Totals,
-    print_annotations, print_json, print_page, print_text,
+    Broken, Contents, External, FileCount, Findings, Kind, Lists, NoMemory, Place, Redirect,
+    Totals, print_annotations, print_json, print_page, print_text,
 };
 use std::alloc::Global;
 
@@ -297,7 +297,7 @@ const FORMS: [&str; 4] = ["text", "JSON", "annotations", "end of the HTML page"]
 /// Which forms are printed as expected.
 fn forms(alloc: Global, findings: &Findings<'_>, contents: Contents<'_>) -> [bool; 4] {
     [
-        is(print_text(alloc, findings, contents, false, false), TEXT),
+        is(print_text(alloc, findings, contents, false), TEXT),
         is(print_json(alloc, findings, contents), JSON),
         is(print_annotations(alloc, findings, contents), ANNOTATIONS),
         ends(print_page(alloc, findings, contents), PAGE),
@@ -327,7 +327,10 @@ fn printed(alloc: Global) -> Option<[bool; 4]> {
         unused_ignores: &unused,
     };
     let contents = Contents {
-        unreached: true,
+        lists: Lists {
+            unreached: true,
+            ..Lists::default()
+        },
         external: Some(&others),
         folder: "s:te",
     };
@@ -347,11 +350,11 @@ fn nothing(alloc: Global) -> Option<bool> {
         unused_ignores: &[],
     };
     let contents = Contents {
-        unreached: false,
+        lists: Lists::default(),
         external: None,
         folder: "",
     };
-    let text = print_text(alloc, &findings, contents, false, true).ok()?;
+    let text = print_text(alloc, &findings, contents, true).ok()?;
     Some(text.as_slice() == NOTHING.as_bytes())
 }
 
@@ -367,7 +370,7 @@ fn annotated(alloc: Global, folder: &str) -> Option<Vec<u8>> {
         unused_ignores: &[],
     };
     let contents = Contents {
-        unreached: false,
+        lists: Lists::default(),
         external: None,
         folder,
     };
@@ -404,11 +407,11 @@ fn seen(alloc: Global, row: &Seen) -> Option<[bool; 3]> {
         unused_ignores: &unused,
     };
     let contents = Contents {
-        unreached: false,
+        lists: Lists::default(),
         external: None,
         folder: "",
     };
-    let text = print_text(alloc, &findings, contents, false, false).ok()?;
+    let text = print_text(alloc, &findings, contents, false).ok()?;
     let page = print_page(alloc, &findings, contents).ok()?;
     let command = print_annotations(alloc, &findings, contents).ok()?;
     Some([
@@ -443,12 +446,12 @@ fn is_headed(alloc: Global, row: &Heading) -> Option<bool> {
         unused_ignores: &[],
     };
     let contents = Contents {
-        unreached: false,
+        lists: Lists::default(),
         external: None,
         folder: "",
     };
     let page = print_page(alloc, &findings, contents).ok()?;
-    let text = print_text(alloc, &findings, contents, false, true).ok()?;
+    let text = print_text(alloc, &findings, contents, true).ok()?;
     let is_red = str::from_utf8(text.as_slice())
         .ok()?
         .contains("\x1b[31mbroken");

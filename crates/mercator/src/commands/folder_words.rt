@@ -5,7 +5,7 @@ use crate::commands::arguments::{
     Flag, Valued, command_with, option, push, push_flags, push_options, values_of, word, workers,
 };
 use clap::{Arg, ArgAction, ArgGroup, ArgMatches, Command};
-use mercator_site::{CheckForm, CheckOptions, ReportOptions, SiteOptions};
+use mercator_site::{CheckForm, CheckOptions, Lists, ReportOptions, SiteOptions};
 use std::alloc::{AllocError, Global};
 
 /// The URL of the top if no BASE is given.
@@ -177,9 +177,15 @@ pub fn check_options(
 fn report_options(found: &ArgMatches<'_>) -> ReportOptions {
     ReportOptions {
         form: form_of(found),
+        lists: lists_of(found),
+        external: found.get_flag("external"),
+    }
+}
+
+fn lists_of(found: &ArgMatches<'_>) -> Lists {
+    Lists {
         all: found.get_flag("all-sources"),
         unreached: found.get_flag("unreached"),
-        external: found.get_flag("external"),
     }
 }
 

@@ -10,8 +10,8 @@ returns c = record {
   ways = c.findings-findings.ensures.redirects;
   unused = c.findings-findings.ensures.unused_ignores;
   is_broken = c.is_broken.ensures;
-  contents = record { unreached = c.args.settings.report.unreached; external = c.slice_of.result; folder = c.args.settings.folder };
-  unreached = refl;
+  contents = record { lists = c.args.settings.report.lists; external = c.slice_of.result; folder = c.args.settings.folder };
+  lists = refl;
   folder = refl;
   others_listed = c.slice_of.ensures;
   written = c.in_ok-text.ensures;

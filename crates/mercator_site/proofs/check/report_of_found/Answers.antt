@@ -60,7 +60,7 @@ returns-clause-named g c = λ web crawled.
             (subst (λ f. AreUnused f (map string_bytes input.ignores.now) pages (parts_in checked.broken.items) (map string_bytes checked.unused_ignores.items)) same_front c.in_ok-checked.ensures.ignores)));
         is_broken = report.is_broken ∙ ap (λ bs. not (length bs == 0)) (sym report.rows);
         contents = report.contents;
-        unreached = report.unreached;
+        lists = report.lists;
         folder = report.folder;
         others = subst (λ rows. AreOthersListed external crawl.url pages rows) (sym report.others_listed) d;
         written = report.written;
