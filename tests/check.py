@@ -28,14 +28,14 @@ from concurrent.futures import ProcessPoolExecutor
 from functools import lru_cache, partial
 from pathlib import Path
 from random import Random
-from typing import Dict, List, NamedTuple, Optional, Tuple
+from typing import Any, Dict, List, NamedTuple, Optional, Tuple
 from urllib.parse import quote, unquote_to_bytes
 
 import drawn
 from checking import drawing, forms, loading, samples
 from checking.documents import TOOL
 from checking.known import KNOWN, Known, To, Zeros
-from checking.model import Model, Moved, Row, Settings, is_short
+from checking.model import FLAGS, Model, Moved, Row, Settings, is_short
 from checking.tags import start_tags
 from checking.webs import Converter, first_difference, model_fault
 
@@ -51,13 +51,8 @@ LEAST = 5
 def arguments(settings: Settings, folder: str, scratch: str, form: str = "--json") -> List[str]:
     """The arguments of the command."""
     words = ["check", form] if form else ["check"]
-    words += [] if settings.anchors else ["--no-anchors"]
-    words += ["--unreached"] if settings.unreached else []
-    words += ["--external"] if settings.external else []
+    words += [flag.option for flag in FLAGS if getattr(settings, flag.setting) == flag.value(True)]
     words += [f"--seed={seed}" for seed in settings.seeds]
-    words += ["--exact"] if settings.exact else []
-    words += ["--follow"] if settings.follow else []
-    words += ["--queries"] if settings.queries else []
     words += [f"--workers={settings.workers}"] if settings.workers > 1 else []
     if settings.ignores:
         entries = Path(scratch, "ignores")
@@ -204,11 +199,8 @@ def random_settings(draw: Random) -> Settings:
     base = draw.choice((BASE, BASE, BASE + "manual/"))
     ignores = draw.choice([(), (), (base + "gone",), (base + "a", "x", base + "sub/#")])
     seeds = draw.choice([(), (), (), ("sub/",), ("#x", "a.html?b", "gone/../b.html"), ("?", "index.html", "%61.html?x", "a?y"), ("./", "s%75b")])
-    return Settings(
-        base, ignores=ignores, anchors=draw.random() < 0.8, unreached=draw.random() < 0.5, exact=draw.random() < 0.2,
-        external=draw.random() < 0.5, follow=draw.random() < 0.3, queries=draw.random() < 0.15, seeds=seeds,
-        workers=draw.choice((1, 1, 2, 4, 64)),
-    )
+    flags: Dict[str, Any] = {flag.setting: flag.value(draw.random() < flag.share) for flag in FLAGS}
+    return Settings(base, ignores=ignores, seeds=seeds, workers=draw.choice((1, 1, 2, 4, 64)))._replace(**flags)
 
 
 class Drawn(NamedTuple):

@@ -19,10 +19,10 @@ The model reads URLs by the URL Standard, as far as this needs no tables; other 
 by new random ones. With a COUNT of at least 10,000, each error, reply and line of a report must
 occur at least 5 times in its kind; otherwise the test fails.
 
-The inputs depend only on the seed. The first differences are printed, each with a command that
-shows it, its input in a file that is kept, and a diff. The environment variable PROGRAM is the path
-of the program [default: the built one]. The last line is `N passed, M failed`; the exit status is 1
-if any failed.
+The inputs depend only on the seed, and those of the kind "command line" also on the options in the
+program's help. The first differences are printed, each with a command that shows it, its input in a
+file that is kept, and a diff. The environment variable PROGRAM is the path of the program [default:
+the built one]. The last line is `N passed, M failed`; the exit status is 1 if any failed.
 """
 
 from __future__ import annotations
@@ -44,6 +44,8 @@ from pathlib import Path
 from random import Random
 from typing import NamedTuple, Optional
 from urllib.parse import unquote_to_bytes
+
+from manual_page import described_by_help, help_of
 
 ROOT = Path(__file__).resolve().parent.parent
 BUILT = ROOT / "crates/mercator_cli/out/mercator_cli"
@@ -968,25 +970,19 @@ def script_pieces(draw: Random) -> list[Case]:
     return [script_case(header + body)]
 
 
-# For each command its options, and the values of each operand
+# For each command the values of each operand
 COMMANDS: dict[str, tuple[str, ...]] = {
-    "crawl": (
-        "--workers=3 --max-pending=9 --within=a.test --queues --sources --all-sources --moved "
-        f"--unreached --json --explain --progress --seeds={LIST}",
-        f"- - {LIST} none", "http://a.test/ http://b.test/ mailto:x x",
-    ),
-    "check": (
-        "--workers=2 --json --html --annotations --all-sources --unreached --external --no-anchors "
-        f"--ignore={LIST} --seed=./ --seed=.. --exact --queries --follow",
-        f". . . none {LIST}", "http://a.test/ http://b.test/x/ ftp://x",
-    ),
-    "site": ("--exact --queries --follow", ". . none", "http://a.test/ http://b.test/x x"),
-    "replay": ("", f"- - {LIST} none"),
-    "key": ("--workers=2", "http://a.test/ http://é.test x"),
-    "serve": (
-        "--workers=2 --max-pending=3 --within=a.test --log=log --log=. --sync --compact=new "
-        "--part=0/2 --part=2/2",
-    ),
+    "crawl": (f"- - {LIST} none", "http://a.test/ http://b.test/ mailto:x x"),
+    "check": (f". . . none {LIST}", "http://a.test/ http://b.test/x/ ftp://x"),
+    "site": (". . none", "http://a.test/ http://b.test/x x"),
+    "replay": (f"- - {LIST} none",),
+    "key": ("http://a.test/ http://é.test x",),
+    "serve": (),
+}
+# The values of each option that has one
+VALUES = {
+    "workers": "2", "max-pending": "9", "within": "a.test", "seeds": LIST, "ignore": LIST,
+    "seed": "./ ..", "log": "log .", "compact": "new", "part": "0/2 2/2",
 }
 ARGUMENTS = (
     *COMMANDS, "help", "play", "-", "--", "", "=", "-x", "-h", "--help", "--version", "--workers",
@@ -997,11 +993,21 @@ ARGUMENTS = (
 MESSAGE = re.compile(r"mercator: [^\n]+\n")
 
 
+@lru_cache(maxsize=None)
+def options_of(command: str) -> list[str]:
+    """The options in the help of a command, once with each value."""
+    words = []
+    for option in described_by_help(help_of(PROGRAM, command)).options:
+        values = VALUES[option.name].split() if option.value else []
+        words += [f"--{option.name}={value}" for value in values] or [f"--{option.name}"]
+    return words
+
+
 def command_lines(draw: Random) -> list[Case]:
     command = draw.choice([*COMMANDS])
-    options, *operands = [value.split() for value in COMMANDS[command]]
+    options = options_of(command)
     words = draw.sample(options, min(len(options), draw.randrange(4)))
-    words += [draw.choice(values) for values in operands]
+    words += [draw.choice(values.split()) for values in COMMANDS[command]]
     draw.shuffle(words)
     words.insert(0, command)
     if draw.randrange(3) == 0:

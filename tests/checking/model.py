@@ -79,6 +79,28 @@ class Settings(NamedTuple):
     fallback: bool = False  # a file is also found without its suffix .html
 
 
+class Flag(NamedTuple):
+    """An option without a value. It turns a setting from its default to the other value."""
+
+    setting: str
+    option: str
+    share: float  # of random folders, how many have it
+
+    def value(self, is_given: bool) -> bool:
+        """The value of its setting."""
+        return bool(Settings._field_defaults[self.setting]) != is_given
+
+
+FLAGS = (
+    Flag("anchors", "--no-anchors", 0.2),
+    Flag("unreached", "--unreached", 0.5),
+    Flag("exact", "--exact", 0.2),
+    Flag("external", "--external", 0.5),
+    Flag("follow", "--follow", 0.3),
+    Flag("queries", "--queries", 0.15),
+)
+
+
 def url_of(text: str, base: drawn.Url) -> Optional[str]:
     """The URL of a link without its fragment, or None if it is not http or https."""
     text, mark, _ = TOOL.cleaned(text).partition("#")
