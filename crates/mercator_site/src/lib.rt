@@ -12,8 +12,8 @@ mod own;
 mod print;
 mod start;
 
-pub use check_report::Lists;
 pub use check::{CheckReport, CheckSettings, Files, report_of_files, report_of_pages};
+pub use check_report::Lists;
 pub use fault::SiteFault;
 pub use folder::{report_of_folder, web_of_folder};
 pub use notices::Notice;
