@@ -1,4 +1,3 @@
 mod OwnPages
-mod Reports
 mod Runs
 mod TopCrawls

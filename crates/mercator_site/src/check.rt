@@ -1,14 +1,14 @@
 //! Checks a site: from its files to the report.
-ghost use Rattle.std.specs.Prelude.{◌≡◌, ℕ, List, IfErr, IfOk, map, string_bytes, false, true};
+ghost use Rattle.std.specs.Prelude.{◌≡◌, ℕ, List, IfErr, IfOk, map, string_bytes, true};
 ghost use Rattle.std.specs.Option.{option_map};
 ghost use Rattle.mercator_site.specs.Asks.{asks_in};
-ghost use Rattle.mercator_site.specs.Checks.{AreOthersListed, IsCheck, IsNamedCheck, IsNamedSiteCheck, IsReport, IsSiteCheck, IsSiteCheckAt, IsTopCrawl};
+ghost use Rattle.mercator_site.specs.Checks.{AreOthersListed, IsNamedCheck, IsNamedSiteCheck, IsReport, IsSiteCheckAt};
 ghost use Rattle.mercator_site.specs.External.{row_of};
 ghost use Rattle.mercator_site.specs.Faults.{IsTopIncomplete, is_unfinished};
 ghost use Rattle.mercator_site.specs.Sources.{IsSourceOf};
 ghost use Rattle.saved_site.specs.Linked.{page_at};
 
-use crate::crawl::{crawl_source, host_of};
+use crate::crawl::{crawl_source, top_url};
 use crate::external::external_links;
 use crate::fault::SiteFault;
 use crate::options::ReportOptions;
@@ -17,11 +17,7 @@ use crate::print::print_check;
 use check_report::{Contents, External};
 use crawl_keys::CanonUrl;
 use crawl_pages::PageResult;
-use crawl_run::Crawled;
-use saved_site::{
-    Alias, FileBytes, InMemory, LinkPlaces, LinkedSite, PageAnchors, Rules, SiteFiles, SiteNames,
-    site_pages,
-};
+use saved_site::{FileBytes, InMemory, LinkedSite, Rules, SiteFiles, SiteNames, site_pages};
 use site_check::{CheckInput, Checked, check_site};
 use std::alloc::{AllocError, Global};
 use std::mem::forget;
@@ -61,15 +57,6 @@ pub struct CheckReport {
     pub is_broken: bool,
 }
 
-/// The crawl of a site, its aliases, and the anchors and link locations of its documents.
-#[derive(Drop)]
-struct FoundSite {
-    crawled: Crawled,
-    aliases: Vec<Alias>,
-    anchors: Vec<PageAnchors>,
-    places: Vec<LinkPlaces>,
-}
-
 /// Checks a site whose files are in memory.
 ///
 /// # Errors
@@ -82,7 +69,6 @@ pub fn report_of_files<R: Threads + Wait + Sync>(
     rules: &Rules,
     settings: CheckSettings<'_>,
 ) -> Result<CheckReport, SiteFault>
-    ensures done { IfOk result (λ report. IsSiteCheck (asks_in settings.entry) report.is_broken report.text.items) }
     ensures named { IfOk result (λ report. IsNamedSiteCheck settings.entry.name.now (asks_in settings.entry) report.is_broken report.text.items) }
     ensures below { IfOk result (λ report. IsSiteCheckAt base.now (asks_in settings.entry) report.is_broken report.text.items) }
 {
@@ -114,90 +100,42 @@ pub fn report_of_pages<R: Threads + Wait + Sync, B: FileBytes + Sync>(
     bytes: &B,
     settings: CheckSettings<'_>,
 ) -> Result<CheckReport, SiteFault>
-    ensures done { (web : List ℕ) → IsSourceOf (page_at site.pages) web → IfOk result (λ report. IsCheck (string_bytes files.now.site.top) web site.aliases.items (asks_in settings.entry) report.is_broken report.text.items) }
     ensures named { (web : List ℕ) → IsSourceOf (page_at site.pages) web → IfOk result (λ report. IsNamedCheck settings.entry.name.now (string_bytes files.now.site.top) web site.aliases.items (asks_in settings.entry) report.is_broken report.text.items) }
     ensures incomplete { (web : List ℕ) → IsSourceOf (page_at site.pages) web → IfErr result (λ fault. is_unfinished fault ≡ true → IsTopIncomplete (string_bytes files.now.site.top) web (map string_bytes settings.entry.seeds.now) settings.entry.workers) }
 {
-    let LinkedSite {
-        pages,
-        aliases,
-        anchors,
-        places,
-        ..
-    } = site;
+    let top = top_url(alloc, files.top())?;
     let crawled = crawl_source(
         rt,
         alloc,
-        &pages,
-        files.top(),
+        &site.pages,
+        &top,
         settings.seeds,
         settings.workers,
     )?;
-    // Not freed: the process exits soon, and the system frees everything faster.
-    forget(pages);
-    let found = FoundSite {
-        crawled,
-        aliases,
-        anchors,
-        places,
-    };
-    report_of_found(rt, alloc, found, files, bytes, settings)
-}
-
-/// Checks a site by the results of its crawl.
-fn report_of_found<R: Threads + Wait + Sync, B: FileBytes + Sync>(
-    rt: &R,
-    alloc: Global,
-    found: FoundSite,
-    files: &SiteFiles<'_>,
-    bytes: &B,
-    settings: CheckSettings<'_>,
-) -> Result<CheckReport, SiteFault>
-    ensures named { (web : List ℕ) → IsTopCrawl (string_bytes files.now.site.top) web (map string_bytes settings.entry.seeds.now) found.crawled.result → IfOk result (λ report. IsNamedCheck settings.entry.name.now (string_bytes files.now.site.top) web found.aliases.items (asks_in settings.entry) report.is_broken report.text.items) }
-    ensures plain { IfErr result (λ fault. is_unfinished fault ≡ false) }
-{
-    let FoundSite {
-        crawled,
-        aliases,
-        anchors,
-        places,
-    } = found;
-    let url = host_of(alloc, files.top())?;
-    let pages = own_results(&url, crawled.result.pages());
-    let others = others_listed(alloc, settings.report.external, &url, pages)?;
-    let input = input_of(
-        settings,
-        aliases.as_slice(),
-        anchors.as_slice(),
-        places.as_slice(),
-    );
-    let checked = check_site(rt, alloc, pages, files, bytes, input)?;
+    let results = own_results(&top, crawled.result.pages());
+    let others = others_listed(alloc, settings.report.external, &top, results)?;
+    let input = input_of(&site, settings);
+    let checked = check_site(rt, alloc, results, files, bytes, input)?;
     let report = report_of(alloc, &checked, &others, settings)?;
+    // Not freed: the process exits soon, and the system frees everything faster.
+    forget(site);
     forget(crawled);
-    forget(aliases);
-    forget(anchors);
-    forget(places);
     forget(checked);
     Ok(report)
 }
 
 /// The settings of the check of the results, with what is known of the site.
-fn input_of<'a>(
-    settings: CheckSettings<'a>,
-    aliases: &'a [Alias],
-    anchors: &'a [PageAnchors],
-    places: &'a [LinkPlaces],
-) -> CheckInput<'a>
+fn input_of<'a>(site: &'a LinkedSite, settings: CheckSettings<'a>) -> CheckInput<'a>
     ensures front { result.front.now ≡ settings.entry.front.now }
     ensures ignores { result.ignores.now ≡ settings.entry.ignores.now }
-    ensures aliases { result.aliases.now ≡ aliases.now }
+    ensures aliases { result.aliases.now ≡ site.now.aliases.items }
 {
     CheckInput {
         front: settings.front,
         ignores: settings.ignores,
-        aliases,
-        anchors,
-        places,
+        aliases: site.aliases.as_slice(),
+        anchors: site.anchors.as_slice(),
+        places: site.places.as_slice(),
         unreached: settings.report.lists.unreached,
     }
 }

@@ -20,16 +20,15 @@ pub(crate) fn crawl_source<F: SessionFetch + Sync, R: Threads + Wait + Sync>(
     rt: &R,
     alloc: Global,
     source: &F,
-    top: &str,
+    top: &CanonUrl,
     links: &[String],
     workers: u32,
 ) -> Result<Crawled, SiteFault>
-    ensures found { (web : List ℕ) → IsSourceOf (F.meaning source.now) web → IfOk result (λ found. IsTopCrawl top.now web (map string_bytes links.now) found.result) }
-    ensures incomplete { (web : List ℕ) → IsSourceOf (F.meaning source.now) web → IfErr result (λ fault. is_unfinished fault ≡ true → IsTopIncomplete top.now web (map string_bytes links.now) workers) }
+    ensures found { (base web : List ℕ) → canonical base ≡ Ok top.now → IsSourceOf (F.meaning source.now) web → IfOk result (λ found. IsTopCrawl base web (map string_bytes links.now) found.result) }
+    ensures incomplete { (base web : List ℕ) → canonical base ≡ Ok top.now → IsSourceOf (F.meaning source.now) web → IfErr result (λ fault. is_unfinished fault ≡ true → IsTopIncomplete base web (map string_bytes links.now) workers) }
 {
-    let host = host_of(alloc, top)?;
-    let filter = host_filter(alloc, host.host_key())?;
-    let seeds = starts(alloc, &host, links)?;
+    let filter = host_filter(alloc, top.host_key())?;
+    let seeds = starts(alloc, top, links)?;
     let settings = CrawlSettings {
         workers,
         max_pending: PENDING_LIMIT,
@@ -42,7 +41,8 @@ pub(crate) fn crawl_source<F: SessionFetch + Sync, R: Threads + Wait + Sync>(
     }
 }
 
-pub(crate) fn host_of(alloc: Global, top: &str) -> Result<CanonUrl, SiteFault>
+/// The URL of the top with this text.
+pub(crate) fn top_url(alloc: Global, top: &str) -> Result<CanonUrl, SiteFault>
     ensures canon { IfOk result (λ url. canonical top.now ≡ Ok url) }
     ensures plain { IfErr result (λ fault. is_unfinished fault ≡ false) }
 {

@@ -12,8 +12,8 @@ use crate::fault::SiteFault;
 use crate::notices::{Notice, push_notes};
 use crate::options::{CheckOptions, SiteOptions};
 use saved_site::{
-    FolderNames, OnDisk, Rules, SiteFiles, SiteNames, Web, WebText, folder_names, folder_web,
-    site_pages,
+    FolderNames, OnDisk, Rules, SiteFiles, SiteNames, Web, WebText, folder_names, site_pages,
+    site_web,
 };
 use site_check::read_ignores;
 use std::alloc::{AllocError, Global};
@@ -58,13 +58,22 @@ pub fn web_of_folder<R: Files<File: Send, Dir: Send> + Threads + Sync>(
     ensures plain { IfErr result (λ fault. is_unfinished fault ≡ false) }
 {
     let rules = rules_of(alloc, options)?;
-    let web = folder_web(
-        rt,
-        alloc,
-        options.folder.as_str(),
-        options.base.as_str(),
-        &rules,
-    )?;
+    let folder = options.folder.as_str();
+    let FolderNames {
+        names,
+        links,
+        notes,
+    } = folder_names(rt, alloc, folder, &rules)?;
+    let input = SiteNames {
+        names: names.as_slice(),
+        links: links.as_slice(),
+        base: options.base.as_str(),
+        rules: &rules,
+        seeds: &[],
+    };
+    let files = SiteFiles::new(alloc, input)?;
+    let bytes = OnDisk { rt, alloc, folder };
+    let web = site_web(rt, &files, &[], notes, &bytes)?;
     push_notes(alloc, notices, "", web.notes.as_slice())?;
     let Web { text, .. } = web;
     Ok(text)
@@ -88,11 +97,13 @@ pub fn report_of_folder<R: Files<File: Send, Dir: Send> + Threads + Wait + Sync>
 {
     let known = read_ignores(alloc, ignores)?;
     let rules = check_rules(alloc, options)?;
+    let folder = options.site.folder.as_str();
     let FolderNames {
         names,
         links,
         notes,
-    } = folder_names(rt, alloc, options.site.folder.as_str(), &rules)?;
+    } = folder_names(rt, alloc, folder, &rules)?;
+    push_notes(alloc, notices, "", notes.as_slice())?;
     let input = SiteNames {
         names: names.as_slice(),
         links: links.as_slice(),
@@ -100,29 +111,13 @@ pub fn report_of_folder<R: Files<File: Send, Dir: Send> + Threads + Wait + Sync>
         rules: &rules,
         seeds: options.seeds.as_slice(),
     };
-    push_notes(alloc, notices, "", notes.as_slice())?;
-    report_of_names(rt, alloc, options, input, known.as_slice(), notices)
-}
-
-fn report_of_names<R: Files<File: Send, Dir: Send> + Threads + Wait + Sync>(
-    rt: &R,
-    alloc: Global,
-    options: &CheckOptions,
-    input: SiteNames<'_>,
-    known: &[String],
-    notices: &mut Vec<Notice>,
-) -> Result<CheckReport, SiteFault>
-    ensures folder { (ignores : List ℕ) → map string_bytes known.now ≡ entries_in ignores → input.entry.base.now ≡ string_bytes options.now.site.base → IfOk result (λ report. IsFolderCheck options.now ignores report.is_broken report.text.items) }
-    ensures incomplete { IfErr result (λ fault. is_unfinished fault ≡ true → IsSiteIncomplete options.now) }
-{
-    let folder = options.site.folder.as_str();
     let files = SiteFiles::new(alloc, input)?;
     let bytes = OnDisk { rt, alloc, folder };
     let site = site_pages(rt, &files, input.seeds, Vec::new(alloc), &bytes)?;
     let front = front_of(options.paths, files.top());
     push_notes(alloc, notices, front, site.notes.as_slice())?;
     push_no_index(alloc, notices, input)?;
-    let settings = settings_of(options, files.top(), known);
+    let settings = settings_of(options, files.top(), known.as_slice());
     let report = report_of_pages(rt, alloc, site, &files, &bytes, settings)?;
     Ok(report)
 }

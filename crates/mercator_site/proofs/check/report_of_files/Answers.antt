@@ -1,6 +1,6 @@
 use Rattle.std.proofs.Common.{ℕ, List, Result, Ok, Err, IfOk}
 use Rattle.mercator_site.specs.Asks.{Asks}
-use Rattle.mercator_site.specs.Checks.{AreAliasesIn, IsCheck, IsNamedCheck, IsNamedSiteCheck, IsSiteCheck, IsSiteCheckAt}
+use Rattle.mercator_site.specs.Checks.{AreAliasesIn, IsNamedCheck, IsNamedSiteCheck, IsSiteCheckAt}
 use Rattle.mercator_site.specs.declared.check.CheckReport.{CheckReport}
 use Rattle.mercator_site.specs.declared.fault.SiteFault.{SiteFault}
 use Rattle.mercator_site.proofs.TopCrawls.{aliases_in, source_of}
@@ -18,20 +18,11 @@ returns-clause-named g c =
     let source = c.in_ok-site.ensures.source in
     named_site c.report_of_pages.result _ _ _ _ _ source.web (aliases_in c.in_ok-site.site.pages source.bytes c.in_ok-site.site.aliases.items (source_of _ _ source) c.in_ok-site.ensures.aliases) (c.report_of_pages.ensures.named source.bytes (source_of _ _ source))
 
-checked_site : (answer : Result CheckReport SiteFault) (top web : List ℕ) (aliases : List Alias) (asks : Asks) → IsSiteWeb web → AreAliasesIn web aliases → IfOk answer (λ report. IsCheck top web aliases asks report.is_broken report.text.items) → IfOk answer (λ report. IsSiteCheck asks report.is_broken report.text.items)
-checked_site (Ok report) top web aliases asks made are is = record { top = top; web = web; made = made; aliases = aliases; are_aliases = are; checked = is }
-checked_site (Err fault) top web aliases asks made are is = tt
-
-pub returns-clause-done : goal.returns-clause-done
-returns-clause-done g c =
-    let source = c.in_ok-site.ensures.source in
-    checked_site c.report_of_pages.result _ _ _ _ source.web (aliases_in c.in_ok-site.site.pages source.bytes c.in_ok-site.site.aliases.items (source_of _ _ source) c.in_ok-site.ensures.aliases) (c.report_of_pages.ensures.done source.bytes (source_of _ _ source))
-
-site_at : (answer : Result CheckReport SiteFault) (base top web : List ℕ) (aliases : List Alias) (asks : Asks) → IsSiteWeb web → AreAliasesIn web aliases → IsTop base top → IsWebBelow top web → IfOk answer (λ report. IsCheck top web aliases asks report.is_broken report.text.items) → IfOk answer (λ report. IsSiteCheckAt base asks report.is_broken report.text.items)
-site_at (Ok report) base top web aliases asks made are is_top below is = record { site = record { top = top; web = web; made = made; aliases = aliases; are_aliases = are; checked = is }; is_top = is_top; below = below }
-site_at (Err fault) base top web aliases asks made are is_top below is = tt
+site_at : (answer : Result CheckReport SiteFault) (name base top web : List ℕ) (aliases : List Alias) (asks : Asks) → IsSiteWeb web → AreAliasesIn web aliases → IsTop base top → IsWebBelow top web → IfOk answer (λ report. IsNamedCheck name top web aliases asks report.is_broken report.text.items) → IfOk answer (λ report. IsSiteCheckAt base asks report.is_broken report.text.items)
+site_at (Ok report) name base top web aliases asks made are is_top below is = record { site = record { top = top; web = web; made = made; aliases = aliases; are_aliases = are; checked = is.check }; is_top = is_top; below = below }
+site_at (Err fault) name base top web aliases asks made are is_top below is = tt
 
 pub returns-clause-below : goal.returns-clause-below
 returns-clause-below g c =
     let source = c.in_ok-site.ensures.source in
-    site_at c.report_of_pages.result c.args.base.now _ _ _ _ source.web (aliases_in c.in_ok-site.site.pages source.bytes c.in_ok-site.site.aliases.items (source_of _ _ source) c.in_ok-site.ensures.aliases) c.in_ok-pages.ensures.top source.below (c.report_of_pages.ensures.done source.bytes (source_of _ _ source))
+    site_at c.report_of_pages.result _ c.args.base.now _ _ _ _ source.web (aliases_in c.in_ok-site.site.pages source.bytes c.in_ok-site.site.aliases.items (source_of _ _ source) c.in_ok-site.ensures.aliases) c.in_ok-pages.ensures.top source.below (c.report_of_pages.ensures.named source.bytes (source_of _ _ source))

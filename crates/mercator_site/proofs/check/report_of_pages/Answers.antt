@@ -1,28 +1,79 @@
-use Rattle.std.proofs.Common.{ℕ, List, map, subst, string_bytes}
+use Rattle.std.proofs.Common.{ℕ, List, map, Vec, Global, refl, sym, ap, subst, ◌∙◌, ◌≡◌, ◌==◌, not, length, string_bytes}
+use Rattle.std.specs.Option.{option_map}
 use Rattle.std.proofs.lemmas.Result.{err_from_is_err_and}
-use Rattle.mercator_site.specs.Checks.{IsTopCrawl}
+use Rattle.check_report.specs.declared.value.External.{External}
+use Rattle.crawl_keys.specs.CanonicalText.{canonical}
+use Rattle.crawl_pages.specs.declared.page.PageResult.{PageResult}
+use Rattle.site_check.specs.Broken.{broken_of, redirects_of}
+use Rattle.site_check.specs.Ignored.{AreUnused, parts_in}
+use Rattle.site_check.specs.Names.{AreNamed}
+use Rattle.site_check.specs.Told.{rows_in, way_of}
+use Rattle.site_check.specs.Totals.{totals_of}
+use Rattle.mercator_site.specs.Checks.{AreOthersListed, IsTopCrawl}
+use Rattle.mercator_site.specs.External.{row_of}
+use Rattle.mercator_site.specs.Own.{own_of}
+use Rattle.mercator_site.proofs.TopCrawls.{same_url}
 use Rattle.mercator_site.specs.Faults.{IsTopIncomplete}
-use Rattle.mercator_site.proofs.Reports.{not_incomplete, unnamed}
 use Rattle.mercator_site.proofs.check.report_of_pages.Goals as goal
 
 pub returns-clause-named : goal.returns-clause-named
 returns-clause-named g c = λ web source.
+    let base = string_bytes c.args.files.now.site.top in
+    let canon : canonical base ≡ Ok c.in_ok-top.top = ap canonical (sym c.top.ensures) ∙ c.in_ok-top.ensures.canon in
     let links = map string_bytes c.args.settings.seeds.now in
-    let A : List ℕ → Type 0 = λ t. IsTopCrawl t web links c.in_ok-crawled.crawled.result in
-    c.report_of_found.ensures.named web (subst A c.top.ensures (c.in_ok-crawled.ensures.found web source))
-
-pub returns-clause-done : goal.returns-clause-done
-unfolding returns-clause-named
-returns-clause-done g c = λ web source. unnamed c.report_of_found.result _ _ _ _ _ (returns-clause-named g c web source)
-
-pub returns-clause-incomplete : goal.returns-clause-incomplete
-returns-clause-incomplete g c = λ web source. not_incomplete _ c.report_of_found.result c.report_of_found.ensures.plain
+    let external = c.args.settings.report.external in
+    let all = c.pages.result.now in
+    let pages = c.own_results-results.result.now in
+    let C : List PageResult → Type 0 = λ ps. IsTopCrawl base web links ps in
+    let crawl = subst C (sym c.pages.ensures) (c.in_ok-crawled.ensures.found base web canon source) in
+    let same_top : c.in_ok-top.top ≡ crawl.url = same_url _ _ _ canon crawl.canon in
+    let others = option_map (λ (urls : Vec External Global). map row_of urls.items) c.in_ok-others.others in
+    let D : List ℕ → Type 0 = λ o. AreOthersListed external o pages others in
+    let d = subst D same_top c.in_ok-others.ensures in
+    let front = c.args.settings.front.now in
+    let entries = map string_bytes c.args.settings.ignores.now in
+    let input = c.input_of-input.result in
+    let same_front = c.input_of-input.ensures.front in
+    let same_entries = ap (map string_bytes) c.input_of-input.ensures.ignores in
+    let checked = c.in_ok-checked.checked in
+    let report = c.in_ok-report.ensures in
+    let aliases = c.args.site.aliases.items in
+    let same_aliases = c.input_of-input.ensures.aliases in
+    record {
+      check = record {
+        pages = all;
+        crawled = crawl;
+        own = pages;
+        are_own = c.own_results-results.ensures crawl.found.ascends ∙ ap (λ o. own_of o all) same_top;
+        found = report.found;
+        rows =
+            ap rows_in report.rows ∙ c.in_ok-checked.ensures.broken ∙ ap (λ f. broken_of f (map string_bytes input.ignores.now) pages) same_front
+            ∙ ap (λ es. broken_of front es pages) same_entries;
+        ways = ap (map way_of) report.ways ∙ c.in_ok-checked.ensures.redirects ∙ ap (λ f. redirects_of f pages) same_front;
+        totals =
+            report.totals ∙ c.in_ok-checked.ensures.totals ∙ ap (λ named. totals_of named pages checked.broken.items checked.redirects.items) same_aliases ∙ ap (λ bs. totals_of aliases pages bs checked.redirects.items) (sym report.rows)
+            ∙ ap (λ ws. totals_of aliases pages report.found.broken.now ws) (sym report.ways);
+        site = c.args.files.now;
+        site_top = refl;
+        names = subst (λ bs. AreNamed front c.args.files.now bs) (sym report.rows) (subst (λ f. AreNamed f c.args.files.now checked.broken.items) same_front c.in_ok-checked.ensures.names);
+        unused =
+            subst (λ us. AreUnused front entries pages (parts_in report.found.broken.now) (map string_bytes us)) (sym report.unused)
+            (subst (λ bs. AreUnused front entries pages (parts_in bs) (map string_bytes checked.unused_ignores.items)) (sym report.rows)
+            (subst (λ es. AreUnused front es pages (parts_in checked.broken.items) (map string_bytes checked.unused_ignores.items)) same_entries
+            (subst (λ f. AreUnused f (map string_bytes input.ignores.now) pages (parts_in checked.broken.items) (map string_bytes checked.unused_ignores.items)) same_front c.in_ok-checked.ensures.ignores)));
+        is_broken = report.is_broken ∙ ap (λ bs. not (length bs == 0)) (sym report.rows);
+        contents = report.contents;
+        lists = report.lists;
+        folder = report.folder;
+        others = subst (λ rows. AreOthersListed external crawl.url pages rows) (sym report.others_listed) d;
+        written = report.written;
+      };
+      base = report.base;
+    }
 
 pub returns-in_err-crawled-clause-incomplete : goal.returns-in_err-crawled-clause-incomplete
 returns-in_err-crawled-clause-incomplete g c =
-    let links = map string_bytes c.args.settings.seeds.now in
-    let workers = c.args.settings.workers in
     let r = c.from_residual in
     let same = err_from_is_err_and r.result r.ensures.1 in
     rw (same.1, same.2) (λ web source two.
-    subst (λ t. IsTopIncomplete t web links workers) c.top.ensures (c.in_err-crawled.ensures.incomplete web source two))
+    c.in_err-crawled.ensures.incomplete (string_bytes c.args.files.now.site.top) web (ap canonical (sym c.top.ensures) ∙ c.in_ok-top.ensures.canon) source two)

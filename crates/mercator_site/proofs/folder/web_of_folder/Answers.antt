@@ -1,7 +1,12 @@
-use Rattle.std.proofs.Common.{ℕ, List, rules, subst}
-use Rattle.saved_site.specs.Below.{IsWebAt}
+use Rattle.std.proofs.Common.{string_bytes, rules, subst}
+use Rattle.saved_site.specs.Below.{IsTop}
 use Rattle.mercator_site.proofs.folder.web_of_folder.Goals as goal
 
 pub returns-clause-below : goal.returns-clause-below
 returns-clause-below g c =
-    let P : List ℕ → Type 0 = λ base. IsWebAt base c.in_ok-web.web.text in subst P (search rules) c.in_ok-web.ensures.below
+    let top = string_bytes c.in_ok-files.files.site.top in
+    record {
+      top = top;
+      is_top = subst (λ b. IsTop b top) (search rules) c.in_ok-files.ensures.top;
+      below = c.in_ok-web.ensures.below;
+    }
