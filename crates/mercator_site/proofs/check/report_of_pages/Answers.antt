@@ -1,4 +1,4 @@
-use Rattle.std.proofs.Common.{ℕ, List, map, Vec, Global, refl, sym, ap, subst, ◌∙◌, ◌≡◌, ◌==◌, not, length, string_bytes}
+use Rattle.std.proofs.Common.{ℕ, List, map, Ok, Vec, Global, refl, sym, ap, subst, ◌∙◌, ◌≡◌, ◌==◌, not, length, string_bytes}
 use Rattle.std.specs.Option.{option_map}
 use Rattle.std.proofs.lemmas.Result.{err_from_is_err_and}
 use Rattle.check_report.specs.declared.value.External.{External}
@@ -73,7 +73,7 @@ returns-clause-named g c = λ web source.
 
 pub returns-in_err-crawled-clause-incomplete : goal.returns-in_err-crawled-clause-incomplete
 returns-in_err-crawled-clause-incomplete g c =
-    let r = c.from_residual in
+    let r = c.from_residual-in_err-crawled in
     let same = err_from_is_err_and r.result r.ensures.1 in
     rw (same.1, same.2) (λ web source two.
     c.in_err-crawled.ensures.incomplete (string_bytes c.args.files.now.site.top) web (ap canonical (sym c.top.ensures) ∙ c.in_ok-top.ensures.canon) source two)
