@@ -654,6 +654,8 @@ class Documents(Converting):
             '<a href=a\u00a0b>': ["a\u00a0b"],
             '&#<a href="x">&#; &#65a<a href="y">': ["x", "y"],
             '<link rel="stylesheet" href="x"><link rel="preconnect" href="//y">': ["x"],
+            '<template><a href="x"><template></template></template></template><a href="y">': ["y"],
+            '<p><template shadowrootmode="open"><a href="x"><template/><a href="z"></template></template><a href="y">': ["x", "y"],
             '<link rel="prev DNS-Prefetch" href="//y"><link href="x">': ["x"],
             '<script src="x"></script><iframe src="y"></iframe><area href="z">': ["x", "y", "z"],
             '<video src="x" poster="y"><source src="z"><track src="t"></video>': ["x", "y", "z", "t"],
