@@ -33,12 +33,13 @@ BETWEEN = "\x1d"  # ends a document, and the links of a document
 BEHIND = "\x1e"  # ends a link
 
 TAGS = """a area audio body embed frame image img input link object source table td th track use video base meta p div
-svg option br a img link meta a img source template template input button iframe param param meta""".split()
+svg option br a img link meta a img source template template input button iframe param param meta tr thead tbody tfoot""".split()
 TEXT_TAGS = "script style title textarea xmp iframe noembed noframes plaintext".split()
 OWN = {
     "a": "href xlink:href", "img": "src srcset longdesc", "source": "src srcset", "link": "href imagesrcset rel",
     "input": "type src formaction", "button": "type formaction", "iframe": "src longdesc", "param": "name value",
-    "meta": "http-equiv content property name", "video": "src poster", "object": "data", "area": "href", "use": "href", "td": "background",
+    "meta": "http-equiv content property name", "video": "src poster", "object": "data", "area": "href", "use": "href",
+    **dict.fromkeys("td tr thead tbody tfoot".split(), "background"),
     "template": "shadowrootmode",
 }
 VALUES = [
@@ -47,7 +48,7 @@ VALUES = [
     "&", "&;", "&#", "&#x", "&CounterClockwiseContourIntegral;", "&frac12", "&there4;", "&bne;", "&acE;", "&nosuch;", "&lt&gt;",
     "&#1;", "&#xFFFE;", "a.png 1x, b.png 2x", "a.png, b.png,, c.png 3w,", "a(,b) 2x, c (d, e) f, g", ",,,", "a,b c,d",
     "0; url=n.html", "5;URL='q.html'", " 3 r.html", '1,"s.html', "0;url = t.html", " 5x", ".;v", "refresh", "REFRESH",
-    "preconnect", "DNS-Prefetch icon", "open", "Closed",
+    "preconnect", "DNS-Prefetch icon", " DNS-Prefetch \n preconnect", "open", "Closed",
     "image", "IMAGE", "submit", "reset", "&#98;utton", "text", "movie", "Data", "og:image", "og:image:url", "OG:image",
     "twitter:player", "og:&#117;rl", "\u00fc?\u00fc", "\u20ac", "\0",
 ]

@@ -79,8 +79,8 @@ pages of a WARC: the response, resource and revisit records of http and https UR
 links: the URLs in elements that load or lead to another document (a, area, img,
   script, link, iframe and others), in srcset, in a meta refresh and in a meta such
   as og:image, but not those in a template, in the order of
-  the document. Not read are `link` with rel preconnect or dns-prefetch (which name
-  only a host), forms, quotations, and what scripts create. A link is written as it
+  the document. Not read are `link` whose rel has only preconnect or dns-prefetch (which
+  name a host), forms, quotations, and what scripts create. A link is written as it
   is in the document, with its character references decoded, except that
   - tabs, line breaks, and spaces at both ends are removed, as URL parsers do;
   - in a page with an encoding that Python does not know, only ASCII is read: a link
@@ -144,8 +144,12 @@ LINKS = {
     "script": ("src",),
     "source": ("src", "srcset"),
     "table": ("background",),
+    "tbody": ("background",),
     "td": ("background",),
+    "tfoot": ("background",),
     "th": ("background",),
+    "thead": ("background",),
+    "tr": ("background",),
     "track": ("src",),
     "use": ("href", "xlink:href"),
     "video": ("src", "poster"),
@@ -457,7 +461,7 @@ def is_link(tag: str, name: str, found: dict[str, str]) -> bool:
     """Return whether an attribute of an element is a link, by the other attributes."""
     kind = found.get("type", "").lower()
     if tag == "link":
-        return HOST_HINTS.isdisjoint(re.split("[\t\n\f\r ]", found.get("rel", "").lower()))
+        return "rel" not in found or not set(re.split("[\t\n\f\r ]", found["rel"].lower())) <= {"", *HOST_HINTS}
     if tag == "input":
         return kind == "image" or name == "formaction" and kind == "submit"
     if tag == "button":

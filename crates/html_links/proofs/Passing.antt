@@ -39,7 +39,8 @@ usual_element name usual =
     (otherwise _ element.Source _ _ (unlike (codes "source") refl)
     (otherwise _ element.Embedded _ _
     (neither _ _ (neither _ _ (neither _ _ (unlike (codes "audio") refl) (unlike (codes "embed") refl)) (unlike (codes "script") refl)) (unlike (codes "track") refl))
-    (otherwise _ element.Background _ _ (neither _ _ (neither _ _ (neither _ _ (unlike (codes "body") refl) (unlike (codes "table") refl)) (unlike (codes "td") refl)) (unlike (codes "th") refl))
+    (otherwise _ element.Background _ _ (neither _ _ (neither _ _ (neither _ _ (neither _ _ (neither _ _ (neither _ _ (neither _ _ (unlike (codes "body") refl) (unlike (codes "table") refl)) (unlike (codes "td") refl)) (unlike (codes "th") refl))
+    (unlike (codes "tr") refl)) (unlike (codes "thead") refl)) (unlike (codes "tbody") refl)) (unlike (codes "tfoot") refl))
     (otherwise _ element.Area _ _ (unlike (codes "area") refl)
     (otherwise _ element.Base _ _ (unlike (codes "base") refl)
     (otherwise _ element.Link _ _ (unlike (codes "link") refl)

@@ -13,7 +13,9 @@ abbrev pub is_anchor : List ℕ → Bool
 is_anchor name = bytes_eq name (codes "a") || bytes_eq name (codes "image") || bytes_eq name (codes "use")
 
 abbrev pub is_background : List ℕ → Bool
-is_background name = bytes_eq name (codes "body") || bytes_eq name (codes "table") || bytes_eq name (codes "td") || bytes_eq name (codes "th")
+is_background name =
+    bytes_eq name (codes "body") || bytes_eq name (codes "table") || bytes_eq name (codes "td") || bytes_eq name (codes "th")
+    || bytes_eq name (codes "tr") || bytes_eq name (codes "thead") || bytes_eq name (codes "tbody") || bytes_eq name (codes "tfoot")
 
 abbrev pub is_embedded : List ℕ → Bool
 is_embedded name =

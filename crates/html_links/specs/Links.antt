@@ -28,19 +28,21 @@ abbrev pub value_links : Form → Option (List ℕ) → List (List ℕ)
 value_links form None = []
 value_links form (Some value) = text_links form (text_of value)
 
-abbrev pub is_host_hint : List ℕ → Bool
-is_host_hint word = same_name word (codes "preconnect") || same_name word (codes "dns-prefetch")
+-- A keyword of a `rel` makes a link to a document or a resource: any but the two that name a host. The Standard ignores keywords
+-- that are not registered. Here they count, since the register grows.
+abbrev pub is_link_type : List ℕ → Bool
+is_link_type word = not (same_name word [] || same_name word (codes "preconnect") || same_name word (codes "dns-prefetch"))
 
--- a word between white space is a hint, after these bytes of a word
-abbrev pub hints_behind : List ℕ → List ℕ → Bool
-hints_behind word [] = is_host_hint word
-hints_behind word (c ∷ rest) =
-    if is_space c then (if is_host_hint word then true else hints_behind [] rest) else hints_behind (word ++ c ∷ []) rest
+-- some keyword between white space makes a link, after these bytes of a keyword
+abbrev pub types_behind : List ℕ → List ℕ → Bool
+types_behind word [] = is_link_type word
+types_behind word (c ∷ rest) =
+    if is_space c then (if is_link_type word then true else types_behind [] rest) else types_behind (word ++ c ∷ []) rest
 
--- the `rel` of a `link` says that it names a host and no document
-abbrev pub names_host : Option (List ℕ) → Bool
-names_host None = false
-names_host (Some rel) = hints_behind [] (text_of rel)
+-- the `rel` of a `link` makes it a link to a document. A `link` without `rel` counts, since it may have an `itemprop`.
+abbrev pub is_related : Option (List ℕ) → Bool
+is_related None = true
+is_related (Some rel) = types_behind [] (text_of rel)
 
 -- the value of an enumerated attribute is this keyword, in any case
 abbrev pub is_keyword : List ℕ → Option (List ℕ) → Bool
@@ -88,7 +90,7 @@ meta_form v = if is_keyword (codes "refresh") v.second then form.Refresh else if
 abbrev pub first_form : Element → Values → Form
 first_form element.Base v = form.Nothing
 first_form element.Meta v = meta_form v
-first_form element.Link v = form_if (not (names_host v.third)) form.Link
+first_form element.Link v = form_if (is_related v.third) form.Link
 first_form element.Input v = form_if (is_keyword (codes "image") v.third) form.Link
 first_form element.Button v = form_if (not (submits_nothing v.third)) form.Link
 first_form element.Param v = form_if (names_data v.name) form.Link
@@ -98,7 +100,7 @@ first_form _ v = form.Link
 abbrev pub second_form : Element → Values → Form
 second_form element.Base v = form.Nothing
 second_form element.Meta v = form.Nothing
-second_form element.Link v = form_if (not (names_host v.third)) form.List
+second_form element.Link v = form_if (is_related v.third) form.List
 second_form element.Image v = form.List
 second_form element.Source v = form.List
 second_form element.Input v = form_if (submits v.third) form.Link

@@ -56,6 +56,10 @@ fn is_background(name: &[u8]) -> bool
         || same_name(name, b"table")
         || same_name(name, b"td")
         || same_name(name, b"th")
+        || same_name(name, b"tr")
+        || same_name(name, b"thead")
+        || same_name(name, b"tbody")
+        || same_name(name, b"tfoot")
 }
 
 fn is_embedded(name: &[u8]) -> bool

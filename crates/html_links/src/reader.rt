@@ -5,7 +5,7 @@ ghost use Rattle.html_links.specs.Comments.{bytes_at};
 ghost use Rattle.html_links.specs.Tags.{lower};
 ghost use Rattle.html_links.specs.References.{text_of};
 ghost use Rattle.html_links.specs.Values.{values_at};
-ghost use Rattle.html_links.specs.Links.{value_links, text_links, is_host_hint, hints_behind, names_host, is_keyword, submits, submits_nothing, is_open_graph, is_card, names_url, is_data, names_data, form_if, meta_form, first_form, second_form, first_links, second_links, third_links, links_with, links_of, ids_with, anchors_with, ids_of, base_of, base_with, or_later};
+ghost use Rattle.html_links.specs.Links.{value_links, text_links, is_link_type, types_behind, is_related, is_keyword, submits, submits_nothing, is_open_graph, is_card, names_url, is_data, names_data, form_if, meta_form, first_form, second_form, first_links, second_links, third_links, links_with, links_of, ids_with, anchors_with, ids_of, base_of, base_with, or_later};
 ghost use Rattle.html_links.specs.Reads.{base_at};
 
 use crate::bytes::parts;
@@ -239,7 +239,7 @@ fn first_form(
     match element {
         Element::Base => Ok(Form::Nothing),
         Element::Meta => meta_form(values, decoded),
-        Element::Link => Ok(form_if(!names_host(values.third, decoded)?, Form::Link)),
+        Element::Link => Ok(form_if(is_related(values.third, decoded)?, Form::Link)),
         Element::Input => Ok(form_if(is_keyword(b"image", values.third, decoded)?, Form::Link)),
         Element::Button => Ok(form_if(!submits_nothing(values.third, decoded)?, Form::Link)),
         Element::Param => Ok(form_if(names_data(values.name, decoded)?, Form::Link)),
@@ -258,7 +258,7 @@ fn second_form(
 {
     match element {
         Element::Base | Element::Meta => Ok(Form::Nothing),
-        Element::Link => Ok(form_if(!names_host(values.third, decoded)?, Form::List)),
+        Element::Link => Ok(form_if(is_related(values.third, decoded)?, Form::List)),
         Element::Image | Element::Source => Ok(Form::List),
         Element::Input => Ok(form_if(submits(values.third, decoded)?, Form::Link)),
         _ => Ok(Form::Link),
@@ -379,16 +379,16 @@ fn is_data(name: &[u8]) -> bool
         || same_name(name, b"url")
 }
 
-/// Whether the `rel` of a `link` says that it names a host and no document.
-fn names_host(rel: Option<&[u8]>, decoded: &mut Vec<u8>) -> Result<bool, AllocError>
-    ensures { IfOk result (λ names. names ≡ names_host (bytes_at rel.entry)) }
+/// Whether the `rel` of a `link` makes it a link to a document.
+fn is_related(rel: Option<&[u8]>, decoded: &mut Vec<u8>) -> Result<bool, AllocError>
+    ensures { IfOk result (λ is. is ≡ is_related (bytes_at rel.entry)) }
 {
     let Some(value) = rel else {
-        return Ok(false);
+        return Ok(true);
     };
     decoded.clear();
     decode(value, decoded)?;
-    Ok(has_host_hint(decoded.as_slice()))
+    Ok(has_link_type(decoded.as_slice()))
 }
 
 /// Passes on the links of a value. Most values are absent, which is tested inline.
@@ -438,19 +438,21 @@ fn push_text<L: Links>(form: Form, text: &[u8], links: &mut L) -> Result<(), All
     }
 }
 
-fn is_host_hint(word: &[u8]) -> bool
-    ensures { result ≡ is_host_hint word.now }
+/// Whether a keyword of a `rel` makes a link to a document. A keyword that names a host does not.
+fn is_link_type(word: &[u8]) -> bool
+    ensures { result ≡ is_link_type word.now }
 {
-    same_name(word, b"preconnect") || same_name(word, b"dns-prefetch")
+    !(same_name(word, b"") || same_name(word, b"preconnect") || same_name(word, b"dns-prefetch"))
 }
 
-fn has_host_hint(rel: &[u8]) -> bool
-    ensures { result ≡ hints_behind [] rel.now }
+/// Whether some keyword of a `rel` makes a link to a document.
+fn has_link_type(rel: &[u8]) -> bool
+    ensures { result ≡ types_behind [] rel.now }
 {
     let mut rest = rel;
     'words: loop {
         let (word, spaced) = split_unspaced(rest);
-        if is_host_hint(word) {
+        if is_link_type(word) {
             return true;
         }
         let Some((_, more)) = parts(spaced) else {
