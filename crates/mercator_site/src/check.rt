@@ -18,11 +18,9 @@ use check_report::{Contents, External};
 use crawl_keys::CanonUrl;
 use crawl_pages::PageResult;
 use crawl_run::Crawled;
-use saved_site::{
-    Alias, FileBytes, InMemory, LinkPlaces, LinkedSite, PageAnchors, Rules, SiteFiles, SiteNames,
-    site_pages,
-};
+use saved_site::{Alias, FileBytes, InMemory, LinkPlaces, LinkedSite, PageAnchors, site_pages};
 use site_check::{CheckInput, Checked, check_site};
+use site_files::{Rules, SiteFiles, SiteNames};
 use std::alloc::{AllocError, Global};
 use std::mem::forget;
 use std::sync::Wait;

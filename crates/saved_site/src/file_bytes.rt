@@ -1,17 +1,7 @@
 //! The bytes of a site's files.
 use crate::body::Body;
-use crate::notes::Left;
+use site_files::{Left, SiteFile};
 use std::alloc::AllocError;
-
-/// A file of a site.
-#[derive(Clone, Copy)]
-pub struct SiteFile<'a> {
-    /// Its index among the names of the site.
-    pub index: usize,
-    pub name: &'a str,
-    /// Whether it is known to be a document. Otherwise it is read only if its first bytes are those of a document.
-    pub is_document: bool,
-}
 
 /// Reads the files of a site, for several threads at the same time.
 pub trait FileBytes {

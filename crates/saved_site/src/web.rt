@@ -1,13 +1,11 @@
 //! The pages of a site, as a saved web and as a source for a crawl, and what is known of them.
-use crate::folder_links::FolderLink;
 use crate::linked::LinkedPages;
-use crate::notes::Note;
 use crate::page::SitePage;
-use crate::site::Rules;
 use crate::targets::Target;
 use crate::web_text::WebText;
 use crawl_keys::CanonUrl;
 use document_links::{Anchors, LinkCounts};
+use site_files::Note;
 
 /// A saved web and what is known of its pages.
 #[derive(Drop)]
@@ -74,18 +72,6 @@ pub struct Summary {
     pub aliases: u64,
     /// The links.
     pub links: LinkCounts,
-}
-
-/// The names of a site's files, the URL of its top, and the rules. A name that ends with a slash is a folder.
-#[derive(Clone, Copy)]
-pub struct SiteNames<'a> {
-    pub names: &'a [String],
-    /// The folders among them that are listed by another name.
-    pub links: &'a [FolderLink],
-    pub base: &'a str,
-    pub rules: &'a Rules,
-    /// Links on the top at which a crawl starts. Like links in documents, they can have another spelling or a query.
-    pub seeds: &'a [String],
 }
 
 impl Summary {

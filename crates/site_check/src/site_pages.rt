@@ -2,7 +2,8 @@
 use crawl_keys::CanonUrl;
 use crawl_pages::{NoMemory, Page, PageResult};
 use page_anchors::is_indicated;
-use saved_site::{Alias, PageAnchors, SiteFiles, Target};
+use saved_site::{Alias, PageAnchors, Target};
+use site_files::SiteFiles;
 use std::alloc::Global;
 
 /// The results of a crawl of a site, and its files.

@@ -4,7 +4,8 @@ use Rattle.mercator_site.specs.Checks.{AreAliasesIn, IsCheck, IsNamedCheck, IsNa
 use Rattle.mercator_site.specs.declared.check.CheckReport.{CheckReport}
 use Rattle.mercator_site.specs.declared.fault.SiteFault.{SiteFault}
 use Rattle.mercator_site.proofs.TopCrawls.{aliases_in, source_of}
-use Rattle.saved_site.specs.Below.{IsTop, IsWebBelow}
+use Rattle.site_files.specs.Below.{IsTop}
+use Rattle.saved_site.specs.Below.{IsWebBelow}
 use Rattle.saved_site.specs.Meaning.{IsSiteWeb}
 use Rattle.saved_site.specs.declared.web.Alias.{Alias}
 use Rattle.mercator_site.proofs.check.report_of_files.Goals as goal

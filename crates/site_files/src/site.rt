@@ -3,8 +3,8 @@ ghost use Rattle.std.specs.Prelude.{◌≡◌, ◌++◌, ◌∷◌, ℕ, List, [
 ghost use Rattle.std.specs.List.{list_any};
 ghost use Rattle.crawl_keys.specs.CanonicalText.{canonical};
 ghost use Rattle.percent_encoding.specs.Percent.{percent_decode};
-ghost use Rattle.saved_site.specs.Below.{IsTop, is_mark, without_slashes};
-ghost use Rattle.saved_site.specs.Errors.{IsOfFiles};
+ghost use Rattle.site_files.specs.Below.{IsTop, is_mark, without_slashes};
+ghost use Rattle.site_files.specs.Errors.{IsOfFiles};
 
 use crate::below::is_slashed;
 use crate::error::SiteError;
@@ -69,12 +69,12 @@ pub(crate) struct Site {
     /// The scheme and the authority of all URLs.
     pub(crate) origin: String,
     /// The URL of the top, with a slash at its end.
-    top: String,
+    pub(crate) top: String,
     /// The same as that of a page.
-    top_url: CanonUrl,
+    pub(crate) top_url: CanonUrl,
     pub(crate) entries: Vec<Entry>,
     /// The number of the page at the own URL of each file, by the index of the file.
-    own: Vec<Option<usize>>,
+    pub(crate) own: Vec<Option<usize>>,
     /// The folders to which symbolic links lead.
     pub(crate) linked: LinkedFolders,
 }
@@ -245,42 +245,6 @@ impl Site {
             push_query(alloc, query, &mut url)?;
         }
         Ok(url)
-    }
-
-    /// The URL of the top as that of a page.
-    pub(crate) fn top_url(&self) -> &CanonUrl {
-        &self.top_url
-    }
-
-    /// The URL of the top.
-    pub(crate) fn top(&self) -> &str
-        ensures { result.now ≡ string_bytes self.now.top }
-    {
-        self.top.as_str()
-    }
-
-    /// The own URL of the file of the page with this number, or `None` for a redirect.
-    pub(crate) fn own_url(&self, number: usize) -> Option<&CanonUrl> {
-        let entry = self.entries.get(number)?;
-        match &entry.source {
-            Source::File(_) => Some(&entry.url),
-            Source::Index(index) => self.own_url_of(*index),
-            Source::Moved(_) => None,
-        }
-    }
-
-    /// The own URL of the file with this index.
-    fn own_url_of(&self, index: usize) -> Option<&CanonUrl> {
-        let number = self.own.get(index).copied()??;
-        Some(&self.entries.get(number)?.url)
-    }
-
-    /// The page with this URL, by its index.
-    pub(crate) fn find(&self, url: &str) -> Option<usize> {
-        self.entries
-            .as_slice()
-            .binary_search_by(|entry| entry.url.as_str().cmp(url))
-            .ok()
     }
 }
 

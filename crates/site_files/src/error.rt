@@ -35,7 +35,7 @@ impl fmt::Display for SiteError {
 
 impl From<AllocError> for SiteError {
     ghost use Rattle.std.specs.Prelude.{◌≡◌};
-    ghost use Rattle.saved_site.specs.declared.error.SiteError.TheVariants.{NoMemory};
+    ghost use Rattle.site_files.specs.declared.error.SiteError.TheVariants.{NoMemory};
 
     ghost from_gives = { λ _ error. error ≡ NoMemory };
 
@@ -46,7 +46,7 @@ impl From<AllocError> for SiteError {
 
 impl<T: Drop> From<AllocFailed<T>> for SiteError {
     ghost use Rattle.std.specs.Prelude.{◌≡◌};
-    ghost use Rattle.saved_site.specs.declared.error.SiteError.TheVariants.{NoMemory};
+    ghost use Rattle.site_files.specs.declared.error.SiteError.TheVariants.{NoMemory};
 
     ghost from_gives = { λ _ error. error ≡ NoMemory };
 

@@ -1,6 +1,6 @@
 use Rattle.std.proofs.Common.{◌≡◌, sym, ◌∙◌}
-use Rattle.saved_site.proofs.Slashes.{one_less, stays}
-use Rattle.saved_site.proofs.below.without_slashes.Goals as goal
+use Rattle.site_files.proofs.Slashes.{one_less, stays}
+use Rattle.site_files.proofs.below.without_slashes.Goals as goal
 
 pub slashes-preserved : goal.slashes-preserved
 slashes-preserved c =

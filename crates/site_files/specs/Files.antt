@@ -1,10 +1,10 @@
 -- The pages of a site, and the files that they are made of.
 use Rattle.std.specs.Prelude.{ℕ, List, map, Option, Some, None, slice_get, string_bytes}
 use Rattle.std.specs.Option.{option_map}
-use Rattle.saved_site.specs.declared.files.SiteFiles.{SiteFiles}
-use Rattle.saved_site.specs.declared.site.Entry.{Entry}
-use Rattle.saved_site.specs.declared.site.Source.{Source}
-use Rattle.saved_site.specs.declared.site.Source.TheVariants.{File, Index, Moved}
+use Rattle.site_files.specs.declared.files.SiteFiles.{SiteFiles}
+use Rattle.site_files.specs.declared.site.Entry.{Entry}
+use Rattle.site_files.specs.declared.site.Source.{Source}
+use Rattle.site_files.specs.declared.site.Source.TheVariants.{File, Index, Moved}
 
 -- a page's URL, and the index of its file among the names; a redirect has no file
 pub record PageFile : Type 0 where

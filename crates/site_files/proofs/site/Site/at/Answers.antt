@@ -1,6 +1,6 @@
 use Rattle.std.proofs.Common.{ℕ, List, rules, subst}
-use Rattle.saved_site.specs.Below.{IsTop}
-use Rattle.saved_site.proofs.site.Site.at.Goals as goal
+use Rattle.site_files.specs.Below.{IsTop}
+use Rattle.site_files.proofs.site.Site.at.Goals as goal
 
 pub returns-clause-top : goal.returns-clause-top
 returns-clause-top c =

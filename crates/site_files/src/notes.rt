@@ -67,7 +67,10 @@ pub struct Note {
 
 impl Note {
     /// A note about a URL.
-    pub(crate) fn at(alloc: Global, left: Left, url: &CanonUrl) -> Result<Note, AllocError> {
+    ///
+    /// # Errors
+    /// Out of memory.
+    pub fn at(alloc: Global, left: Left, url: &CanonUrl) -> Result<Note, AllocError> {
         let place = String::from_str(alloc, url.as_str())?;
         Ok(Note { left, place })
     }

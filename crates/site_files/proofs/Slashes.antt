@@ -3,7 +3,7 @@ use Rattle.std.proofs.Common.{◌≡◌, ℕ, ◌==◌, Bool, true, false, ◌&&
 use Rattle.std.specs.List.{list_all}
 use Rattle.std.proofs.lemmas.Bool.{and_parts, and_from, cases_Bool, cond-true, cond-false}
 use Rattle.std.proofs.lemmas.List.Folds.{list_all-append}
-use Rattle.saved_site.specs.Below.{is_slash, without_slashes}
+use Rattle.site_files.specs.Below.{is_slash, without_slashes}
 
 and_true : (x y : Bool) → y ≡ true → (x && y) ≡ x
 and_true true y e = e

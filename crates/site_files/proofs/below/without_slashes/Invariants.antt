@@ -1,6 +1,6 @@
 use Rattle.std.proofs.Common.{◌≡◌, length}
-use Rattle.saved_site.specs.Below.{without_slashes}
-use Rattle.saved_site.proofs.below.without_slashes.Given as goal
+use Rattle.site_files.specs.Below.{without_slashes}
+use Rattle.site_files.proofs.below.without_slashes.Given as goal
 
 abbrev pub decreases-slashes : goal.decreases-slashes
 decreases-slashes l = length l.rest

@@ -1,7 +1,7 @@
 use Rattle.std.proofs.Common.{◌≡◌, ℕ, List, Ok, ap, sym, ◌∙◌}
 use Rattle.crawl_keys.specs.CanonicalText.{canonical}
-use Rattle.saved_site.proofs.BelowTop.{top_of}
-use Rattle.saved_site.proofs.site.top_at.Goals as goal
+use Rattle.site_files.proofs.Tops.{top_of}
+use Rattle.site_files.proofs.site.top_at.Goals as goal
 
 pub returns-then-is_top-clause-top : goal.returns-then-is_top-clause-top
 returns-then-is_top-clause-top c = λ base canon.

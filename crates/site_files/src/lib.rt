@@ -1,0 +1,22 @@
+//! Which file of a folder each URL of a site is, from the names of the files: what a plain static server returns.
+#![tactic(auto)]
+
+mod below;
+mod error;
+mod escapes;
+mod files;
+mod folder;
+mod folder_links;
+mod kinds;
+mod notes;
+mod site;
+mod spellings;
+mod walk;
+
+pub use below::is_below;
+pub use error::SiteError;
+pub use files::{SiteFile, SiteFiles, SiteNames};
+pub use folder_links::FolderLink;
+pub use notes::{Left, Note};
+pub use site::Rules;
+pub use walk::{FolderNames, folder_names};
