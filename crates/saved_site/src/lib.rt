@@ -4,8 +4,6 @@
 
 mod aliases;
 mod below;
-mod body;
-mod file_bytes;
 mod line_text;
 mod linked;
 mod new_page;
@@ -25,13 +23,10 @@ mod web;
 mod web_maker;
 mod web_text;
 
-pub use body::Body;
-pub use file_bytes::{FileBytes, InMemory};
 pub use line_text::LineText;
 pub use linked::LinkedPages;
 pub use on_disk::{OnDisk, folder_web};
 pub use page::{SitePage, Under};
-pub use targets::Target;
-pub use web::{Alias, LinkPlaces, LinkedSite, PageAnchors, Summary, Web};
+pub use web::{LinkedSite, Summary, Web};
 pub use web_maker::{site_pages, site_web};
 pub use web_text::WebText;

@@ -2,13 +2,13 @@
 use crate::line_text::LineText;
 use crate::page::{SitePage, Under};
 use crate::spellings::{link_spellings, text_spelling};
-use crate::targets::{Target, targets_at};
+use crate::targets::targets_at;
 use crate::task::Task;
 use crate::web_text::WEB_LIMIT;
 use crawl_keys::CanonUrl;
 use document_links::{
     AnchorTargets, Anchors, Document, LINK_FRONT, LinkCounts, LinkTexts, RawLinks, ReadOptions,
-    fits, is_document, read_document,
+    Target, fits, is_document, read_document,
 };
 use site_files::{Left, Note, SiteFiles};
 use std::alloc::{AllocError, Global};

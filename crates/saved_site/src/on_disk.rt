@@ -4,13 +4,12 @@ ghost use Rattle.std.specs.Prelude.{◌≡◌, IfOk, alloc_error};
 ghost use Rattle.saved_site.specs.Below.{IsWebAt};
 ghost use Rattle.saved_site.specs.Meaning.{IsSiteWeb};
 
-use crate::body::Body;
-use crate::file_bytes::FileBytes;
 use crate::web::Web;
 use crate::web_maker::site_web;
 use document_links::{START_LENGTH, is_document};
 use site_files::{
-    FolderNames, Left, Rules, SiteError, SiteFile, SiteFiles, SiteNames, folder_names,
+    Body, FileBytes, FolderNames, Left, Rules, SiteError, SiteFile, SiteFiles, SiteNames,
+    folder_names,
 };
 use std::alloc::{AllocError, Global};
 use std::io::{ErrorKind, Read};

@@ -1,13 +1,11 @@
 //! Makes pages in threads, each of which reads the files of its pages.
-use crate::body::Body;
-use crate::file_bytes::FileBytes;
 use crate::new_page::{NewPage, page_of};
 use crate::page::SitePage;
 use crate::page_sink::PageSink;
 use crate::task::Task;
 use crate::web::Summary;
 use document_links::{LinkCounts, RawLinks};
-use site_files::{Note, SiteFiles};
+use site_files::{Body, FileBytes, Note, SiteFiles};
 use std::alloc::{AllocError, Global};
 use std::sync::atomic::{AtomicUsize, Ordering};
 use std::thread;

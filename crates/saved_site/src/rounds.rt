@@ -2,13 +2,12 @@
 ghost use Rattle.std.specs.Prelude.{IfErr};
 ghost use Rattle.saved_site.specs.Errors.{IsOfWeb};
 
-use crate::file_bytes::FileBytes;
 use crate::page_maker::{Batch, next_batch};
 use crate::page_sink::PageSink;
 use crate::site_data::SiteData;
 use crate::task::Task;
 use crate::task_queue::TaskQueue;
-use site_files::{SiteError, SiteFiles};
+use site_files::{FileBytes, SiteError, SiteFiles};
 use std::alloc::AllocError;
 use std::thread;
 use std::thread::Threads;

@@ -2,9 +2,10 @@
 use crate::new_page::{NewPage, SiteAnchors};
 use crate::page_maker::PageMaker;
 use crate::page_sink::PageSink;
-use crate::web::{Alias, LinkPlaces, PageAnchors, Summary};
+use crate::web::Summary;
 use crawl_keys::CanonUrl;
-use site_files::Note;
+use document_links::{LinkPlaces, PageAnchors};
+use site_files::{Alias, Note};
 use std::alloc::{AllocError, Global};
 use std::mem;
 

@@ -1,16 +1,8 @@
 //! The pages of a site to which links lead.
 use crawl_keys::CanonUrl;
+use document_links::Target;
 use site_files::SiteFiles;
 use std::alloc::AllocError;
-
-/// The target of a link.
-#[derive(Drop)]
-pub enum Target {
-    /// The page of the site with this number.
-    Page(usize),
-    /// A URL that is not a page of the site.
-    Other(CanonUrl),
-}
 
 /// The targets at these URLs, in the same order.
 pub(crate) fn targets_at(

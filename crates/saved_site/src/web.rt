@@ -1,11 +1,9 @@
 //! The pages of a site, as a saved web and as a source for a crawl, and what is known of them.
 use crate::linked::LinkedPages;
 use crate::page::SitePage;
-use crate::targets::Target;
 use crate::web_text::WebText;
-use crawl_keys::CanonUrl;
-use document_links::{Anchors, LinkCounts};
-use site_files::Note;
+use document_links::{LinkCounts, LinkPlaces, PageAnchors};
+use site_files::{Alias, Note};
 
 /// A saved web and what is known of its pages.
 #[derive(Drop)]
@@ -35,32 +33,6 @@ pub struct LinkedSite {
     pub aliases: Vec<Alias>,
     pub anchors: Vec<PageAnchors>,
     pub places: Vec<LinkPlaces>,
-}
-
-/// Another URL for which a server returns a file: it has another spelling or query, the name of an index file, or that of a symbolic
-/// link to a folder. The only link of its page is the file's own URL.
-#[derive(Drop)]
-pub struct Alias {
-    pub url: CanonUrl,
-    /// The file's own URL, whose page has the links of the file. For an index file it is that of the folder.
-    pub own: CanonUrl,
-}
-
-/// The positions of the links in the document at a URL.
-#[derive(Drop)]
-pub struct LinkPlaces {
-    pub url: CanonUrl,
-    /// The positions in the document's text at which the values of its links start, in order, for links with a canonical URL.
-    pub indices: Vec<u32>,
-}
-
-/// The anchors of the document at a URL.
-#[derive(Drop)]
-pub struct PageAnchors {
-    pub url: CanonUrl,
-    pub anchors: Anchors,
-    /// The targets of its links to anchors; `Anchors::links_to` takes their indices.
-    pub targets: Vec<Target>,
 }
 
 /// The counts of a saved web.

@@ -7,7 +7,6 @@ ghost use Rattle.saved_site.specs.Linked.{IsSiteSource};
 ghost use Rattle.saved_site.specs.Meaning.{IsSiteWeb};
 
 use crate::aliases::aliases_among;
-use crate::file_bytes::FileBytes;
 use crate::linked::LinkedPages;
 use crate::page_sink::PageSink;
 use crate::rounds::make_all;
@@ -15,7 +14,7 @@ use crate::site_data::SiteData;
 use crate::task_queue::TaskQueue;
 use crate::web::{LinkedSite, Web};
 use crate::web_text::WebText;
-use site_files::{Note, SiteError, SiteFiles};
+use site_files::{FileBytes, Note, SiteError, SiteFiles};
 use std::thread::Threads;
 
 /// Makes the saved web of a site from the bytes of its files. `seeds` are those of `SiteNames`. The notes come before those about pages.

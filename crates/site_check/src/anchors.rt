@@ -13,8 +13,7 @@ use crate::shown::shown;
 use crate::site_pages::{DocumentUrl, Pages};
 use check_report::{Broken, Kind, Place};
 use crawl_pages::NoMemory;
-use document_links::{AnchorLink, Anchors};
-use saved_site::PageAnchors;
+use document_links::{AnchorLink, Anchors, PageAnchors};
 use site_files::SiteFiles;
 use std::alloc::Global;
 

@@ -29,8 +29,7 @@ use crate::unreached::unreached;
 use crate::worst::worst;
 use check_report::{Broken, FileCount, Findings, Redirect, Totals};
 use crawl_pages::{NoMemory, PageResult};
-use saved_site::FileBytes;
-use site_files::SiteFiles;
+use site_files::{FileBytes, SiteFiles};
 use std::alloc::Global;
 use std::thread::{Threads, join};
 

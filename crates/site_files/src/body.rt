@@ -67,7 +67,7 @@ impl Body {
     }
 
     /// Reads the first `length` bytes of a file, or all if there are fewer, into an empty body.
-    pub(crate) fn read_start<I: Read>(&mut self, input: &mut I, length: usize) -> io::Result<()> {
+    pub fn read_start<I: Read>(&mut self, input: &mut I, length: usize) -> io::Result<()> {
         for _ in 0..length {
             if self.used >= length || !self.read_some(input, length)? {
                 break;

@@ -1,6 +1,7 @@
 //! The bytes of a site's files.
 use crate::body::Body;
-use site_files::{Left, SiteFile};
+use crate::files::SiteFile;
+use crate::notes::Left;
 use std::alloc::AllocError;
 
 /// Reads the files of a site, for several threads at the same time.
