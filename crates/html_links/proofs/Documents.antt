@@ -3,6 +3,7 @@ use Rattle.std.proofs.Common.{◌≡◌, ℕ, ◌+◌, ◌-◌, ◌<◌, ◌≤�
 use Rattle.std.specs.Prelude.{codes}
 use Rattle.std.specs.List.{take_while}
 use Rattle.std.proofs.lemmas.List.{take_rest, map-append}
+use Rattle.std.proofs.lemmas.Slice.Eq.{bytes_eq-Decides}
 use Rattle.html_links.specs.declared.bytes.Class.{Class}
 use Rattle.html_links.specs.declared.bytes.Class.TheVariants.{Space, Slash, Greater}
 use Rattle.html_links.specs.declared.document.Opening.TheVariants as opening
@@ -19,8 +20,8 @@ use Rattle.html_links.specs.declared.script.Next as nexts
 use Rattle.html_links.specs.declared.script.Next.TheVariants as next
 use Rattle.html_links.specs.Script as scripts
 use Rattle.html_links.proofs.Scripts.{left}
-use Rattle.html_links.specs.Document.{State, Data, TagOpen, EndTagOpen, TagName, InTag, MarkupDeclaration, MarkupDash, Bogus, InComment, InRaw, behind_start, behind_tag, content_of, raw_step, InScript, InPlain, script_step, Next, Go, StartTag, emitted, open_step, end_open_step, opening_of, name_step, tag_step, comment_step, step, follow, read}
-use Rattle.html_links.specs.Markup.{in_tag_name, led_front, led_behind, rest_of, read_rest, RestLeaves, start_tag_at}
+use Rattle.html_links.specs.Document.{State, Data, TagOpen, EndTagOpen, TagName, InTag, MarkupDeclaration, MarkupDash, Bogus, InComment, InRaw, behind_start, behind_tag, content_of, raw_step, InScript, InPlain, script_step, Next, Go, StartTag, Token, Start, TemplateEnd, is_template, end_tag, start_tags, tags_of, emitted, open_step, end_open_step, opening_of, name_step, tag_step, comment_step, step, follow, read}
+use Rattle.html_links.specs.Markup.{in_tag_name, led_front, led_behind, rest_of, read_rest, ended_rest, RestLeaves, start_tag_at}
 use Rattle.html_links.specs.declared.document.StartTagAt.{StartTagAt}
 use Rattle.std.specs.Borrow.{Bor}
 use Rattle.html_links.specs.Comments.{bytes_at, comment_rest}
@@ -131,7 +132,7 @@ letter_opens_end first letter = ap (λ k. end_open_step k first) (sym letter)
 
 -- a whole tag
 
-abbrev pub tag_then : Bool → List ℕ → Option Tag → List StartTag
+abbrev pub tag_then : Bool → List ℕ → Option Tag → List Token
 tag_then ends name None = []
 tag_then ends name (Some t) = emitted ends name t.attributes t.self_closing ++ read (behind_tag ends name) t.rest
 
@@ -146,7 +147,7 @@ in_tag ends name s all (c ∷ rest) = in_tag_at ends name (tags.step s (class_of
 
 -- a whole comment
 
-abbrev pub comment_then : Option (List ℕ) → List StartTag
+abbrev pub comment_then : Option (List ℕ) → List Token
 comment_then None = []
 comment_then (Some rest) = read Data rest
 
@@ -193,33 +194,33 @@ tag_less s all (c ∷ rest) t e =
 
 -- the loop over a document
 
-pub nothing_more : (found whole : List StartTag) (rest : List ℕ) → found ++ read Data rest ≡ whole → read Data rest ≡ [] → found ≡ whole
-nothing_more found whole rest inv none = sym (append-nil found) ∙ ap (λ more. found ++ more) (sym none) ∙ inv
+pub nothing_more : (found whole : List StartTag) (rest : List ℕ) → found ++ tags_of rest ≡ whole → read Data rest ≡ [] → found ≡ whole
+nothing_more found whole rest inv none = sym (append-nil found) ∙ ap (λ more. found ++ start_tags more) (sym none) ∙ inv
 
-pub goes_on : (found whole : List StartTag) (rest left : List ℕ) → found ++ read Data rest ≡ whole → read Data rest ≡ read Data left → found ++ read Data left ≡ whole
+pub goes_on : (found whole : List StartTag) (rest left : List ℕ) → found ++ tags_of rest ≡ whole → tags_of rest ≡ tags_of left → found ++ tags_of left ≡ whole
 goes_on found whole rest left inv same = ap (λ more. found ++ more) (sym same) ∙ inv
 
-pub one_more : (items new : List StartTagAt) (one : StartTagAt) (whole more : List StartTag) (rest : List ℕ) → map start_tag_at items ++ read Data rest ≡ whole → new ≡ items ++ one ∷ [] →
-    read Data rest ≡ start_tag_at one ∷ more → map start_tag_at new ++ more ≡ whole
+pub one_more : (items new : List StartTagAt) (one : StartTagAt) (whole : List StartTag) (more : List Token) (rest : List ℕ) → map start_tag_at items ++ tags_of rest ≡ whole → new ≡ items ++ one ∷ [] →
+    read Data rest ≡ Start (start_tag_at one) ∷ more → map start_tag_at new ++ start_tags more ≡ whole
 one_more items new one whole more rest inv pushed same =
-    ap (λ (xs : List StartTagAt). map start_tag_at xs ++ more) pushed
-    ∙ ap (λ xs. xs ++ more) (map-append start_tag_at items (one ∷ []))
-    ∙ append_assoc (map start_tag_at items) (start_tag_at one ∷ []) more
-    ∙ ap (λ m. map start_tag_at items ++ m) (sym same) ∙ inv
+    ap (λ (xs : List StartTagAt). map start_tag_at xs ++ start_tags more) pushed
+    ∙ ap (λ xs. xs ++ start_tags more) (map-append start_tag_at items (one ∷ []))
+    ∙ append_assoc (map start_tag_at items) (start_tag_at one ∷ []) (start_tags more)
+    ∙ ap (λ m. map start_tag_at items ++ start_tags m) (sym same) ∙ inv
 
-pub last_one : (found whole more : List StartTag) → found ++ more ≡ whole → more ≡ [] → found ≡ whole
-last_one found whole more inv none = sym (append-nil found) ∙ ap (λ m. found ++ m) (sym none) ∙ inv
+pub last_one : (found whole : List StartTag) (more : List Token) → found ++ start_tags more ≡ whole → more ≡ [] → found ≡ whole
+last_one found whole more inv none = sym (append-nil found) ∙ ap (λ m. found ++ start_tags m) (sym none) ∙ inv
 
-end_then : (name : List ℕ) (o : Option Tag) (left : List ℕ) → Some left ≡ rest_of o → tag_then true name o ≡ read Data left
+pub end_then : (name : List ℕ) (o : Option Tag) (left : List ℕ) → Some left ≡ rest_of o → tag_then true name o ≡ end_tag name ++ read Data left
 end_then name None left e = absurd (cc)
-end_then name (Some t) left e = let same : t.rest ≡ left = cc in ap (read Data) same
+end_then name (Some t) left e = let same : t.rest ≡ left = cc in ap (λ rest. end_tag name ++ read Data rest) same
 
 end_none : (name : List ℕ) (o : Option Tag) → None ≡ rest_of o → tag_then true name o ≡ []
 end_none name None e = refl
 end_none name (Some t) e = absurd (cc)
 
 pub read_end_tag : (rest opened name more left : List ℕ) → 60 ∷ opened ≡ behind (λ c. not (c == 60)) rest → read TagOpen opened ≡ read (InTag true name BeforeName []) more → Some left ≡ rest_of (tag_of more) →
-    read Data rest ≡ read Data left
+    read Data rest ≡ end_tag name ++ read Data left
 read_end_tag rest opened name more left cut reads ends = read_less rest opened cut ∙ reads ∙ in_tag true name BeforeName [] more ∙ end_then name (tag_of more) left ends
 
 pub read_open_end_tag : (rest opened name more : List ℕ) → 60 ∷ opened ≡ behind (λ c. not (c == 60)) rest → read TagOpen opened ≡ read (InTag true name BeforeName []) more → None ≡ rest_of (tag_of more) →
@@ -227,7 +228,7 @@ pub read_open_end_tag : (rest opened name more : List ℕ) → 60 ∷ opened ≡
 read_open_end_tag rest opened name more cut reads ends = read_less rest opened cut ∙ reads ∙ in_tag true name BeforeName [] more ∙ end_none name (tag_of more) ends
 
 pub read_start_tag : (rest opened name more : List ℕ) (t : Tag) → 60 ∷ opened ≡ behind (λ c. not (c == 60)) rest → read TagOpen opened ≡ read (InTag false name BeforeName []) more → Some t ≡ tag_of more →
-    read Data rest ≡ record { name = name; attributes = t.attributes; self_closing = t.self_closing } ∷ read (behind_tag false name) t.rest
+    read Data rest ≡ Start (record { name = name; attributes = t.attributes; self_closing = t.self_closing }) ∷ read (behind_tag false name) t.rest
 read_start_tag rest opened name more t cut reads ends = read_less rest opened cut ∙ reads ∙ in_tag false name BeforeName [] more ∙ ap (tag_then false name) (sym ends)
 
 pub read_open_start_tag : (rest opened name more : List ℕ) → 60 ∷ opened ≡ behind (λ c. not (c == 60)) rest → read TagOpen opened ≡ read (InTag false name BeforeName []) more → None ≡ tag_of more →
@@ -244,6 +245,9 @@ rest_less : (o : Option Tag) (more left : List ℕ) → ((t : Tag) → o ≡ Som
 rest_less None more left less e = absurd (cc)
 rest_less (Some t) more left less e = let same : t.rest ≡ left = cc in let l : length t.rest ≡ length left = ap length same in omega (arith, less t refl)
 
+pub tag_rest_less : (bytes left : List ℕ) → Some left ≡ rest_of (tag_of bytes) → length left < length bytes
+tag_rest_less bytes left ends = rest_less (tag_of bytes) bytes left (λ t e. tag_less BeforeName [] bytes t e) ends
+
 pub end_less : (rest opened more left : List ℕ) → 60 ∷ opened ≡ behind (λ c. not (c == 60)) rest → length more ≤ length opened → Some left ≡ rest_of (tag_of more) → length left < length rest
 end_less rest opened more left cut leaves ends =
     let a : length opened < length rest = cut_shorter (λ c. not (c == 60)) rest opened 60 cut in
@@ -252,7 +256,7 @@ end_less rest opened more left cut leaves ends =
 
 -- a whole raw text
 
-abbrev pub raw_then : List ℕ → Option (List ℕ) → List StartTag
+abbrev pub raw_then : List ℕ → Option (List ℕ) → List Token
 raw_then name None = []
 raw_then name (Some here) = read (InTag true name BeforeName []) here
 
@@ -304,11 +308,11 @@ in_script s (c ∷ rest) = in_script_at c (scripts.step s c) rest (λ s. in_scri
 pub to_script : (name bytes : List ℕ) → content.Script ≡ content_of name → read (behind_tag false name) bytes ≡ read (InScript script.Text) bytes
 to_script name bytes e = ap (λ k. read (behind_start k name) bytes) (sym e)
 
-end_rest : (name : List ℕ) (o : Option Tag) (r : Option (Bor (List ℕ))) → bytes_at r ≡ rest_of o → tag_then true name o ≡ read_rest r
+end_rest : (name : List ℕ) (o : Option Tag) (r : Option (Bor (List ℕ))) → bytes_at r ≡ rest_of o → tag_then true name o ≡ ended_rest name r
 end_rest name o None e = end_none name o e
 end_rest name o (Some left) e = end_then name o left.now e
 
-pub read_raw : (name bytes more : List ℕ) (r : Option (Bor (List ℕ))) → Some more ≡ raw.run name raw.Text bytes → bytes_at r ≡ rest_of (tag_of more) → read (InRaw name raw.Text) bytes ≡ read_rest r
+pub read_raw : (name bytes more : List ℕ) (r : Option (Bor (List ℕ))) → Some more ≡ raw.run name raw.Text bytes → bytes_at r ≡ rest_of (tag_of more) → read (InRaw name raw.Text) bytes ≡ ended_rest name r
 read_raw name bytes more r ends tag_ends = in_raw name raw.Text bytes ∙ ap (raw_then name) (sym ends) ∙ in_tag true name BeforeName [] more ∙ end_rest name (tag_of more) r tag_ends
 
 pub read_open_raw : (name bytes : List ℕ) → None ≡ raw.run name raw.Text bytes → read (InRaw name raw.Text) bytes ≡ []
@@ -321,11 +325,36 @@ raw_leaves name bytes more (Some left) ends tag_ends =
     let b : length left.now < length more = rest_less (tag_of more) more left.now (λ t e. tag_less BeforeName [] more t e) tag_ends in
     omega arith
 
+-- an end tag that is not of a template
+
+pub not_ended : (name : List ℕ) (r : Option (Bor (List ℕ))) → is_template name ≡ false → ended_rest name r ≡ read_rest r
+not_ended name None other = refl
+not_ended name (Some rest) other = ap (λ (b : Bool). cond b (TemplateEnd ∷ []) [] ++ read Data rest.now) other
+
+raw_at : (name : List ℕ) (b : Bool) → b ≡ is_template name → content.Raw ≡ content_of name → b ≡ false
+raw_at name true e raw = let same : name ≡ codes "template" = (bytes_eq-Decides name (codes "template")).0 (sym e) in let none : content_of name ≡ content.Markup = ap content_of same in absurd (cc)
+raw_at name false e raw = refl
+
+pub no_template : (name : List ℕ) → content.Raw ≡ content_of name → is_template name ≡ false
+no_template name raw = raw_at name (is_template name) refl raw
+
+script_rest : (r : Option (Bor (List ℕ))) → ended_rest (codes "script") r ≡ read_rest r
+script_rest None = refl
+script_rest (Some rest) = refl
+
+start_tags_end : (b : Bool) (more : List Token) → start_tags (cond b (TemplateEnd ∷ []) [] ++ more) ≡ start_tags more
+start_tags_end true more = refl
+start_tags_end false more = refl
+
+-- an end tag is no start tag
+pub end_tags : (name : List ℕ) (more : List Token) → start_tags (end_tag name ++ more) ≡ start_tags more
+end_tags name more = start_tags_end (is_template name) more
+
 -- a whole script
 
 pub read_script : (bytes more : List ℕ) (r : Option (Bor (List ℕ))) → Some more ≡ scripts.run script.Text bytes → bytes_at r ≡ rest_of (tag_of more) → read (InScript script.Text) bytes ≡ read_rest r
 read_script bytes more r ends tag_ends =
-    in_script script.Text bytes ∙ ap (raw_then (codes "script")) (sym ends) ∙ in_tag true (codes "script") BeforeName [] more ∙ end_rest (codes "script") (tag_of more) r tag_ends
+    in_script script.Text bytes ∙ ap (raw_then (codes "script")) (sym ends) ∙ in_tag true (codes "script") BeforeName [] more ∙ end_rest (codes "script") (tag_of more) r tag_ends ∙ script_rest r
 
 pub read_open_script : (bytes : List ℕ) → None ≡ scripts.run script.Text bytes → read (InScript script.Text) bytes ≡ []
 read_open_script bytes ends = in_script script.Text bytes ∙ ap (raw_then (codes "script")) (sym ends)

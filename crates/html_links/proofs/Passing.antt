@@ -12,10 +12,10 @@ use Rattle.html_links.specs.declared.reader.Form.TheVariants as form
 use Rattle.html_links.specs.Tags.{lower, tag_of, BeforeName}
 use Rattle.html_links.specs.Lengths.{may_be}
 use Rattle.html_links.specs.Elements.{element_of, wanted_of, is_usual}
-use Rattle.html_links.specs.Document.{Data, TagOpen, InTag, content_of, read}
+use Rattle.html_links.specs.Document.{Data, TagOpen, InTag, Token, TemplateEnd, is_template, end_tag, content_of, read}
 use Rattle.html_links.specs.Shown.{behind}
 use Rattle.html_links.specs.Values.{Values, tag_with, values_in}
-use Rattle.html_links.specs.Seen.{Seen, seen_of, seen_with, seen_in}
+use Rattle.html_links.specs.Seen.{Seen, seen_with, seen_within, seen_in}
 use Rattle.html_links.specs.Links.{links_in, ids_in, base_in, value_links, anchors_with}
 use Rattle.html_links.specs.Passed.{is_absent, name_nothing, styled_in, Has, Steps, StepsTag}
 use Rattle.html_links.proofs.Documents.{to_markup, read_less, cut_shorter}
@@ -35,17 +35,23 @@ pub usual_element : (name : List ℕ) → is_usual name ≡ true → element_of 
 usual_element name usual =
     let unlike = usual_not name usual in
     otherwise _ element.Anchor _ _ (neither _ _ (neither _ _ (unlike (codes "a") refl) (unlike (codes "image") refl)) (unlike (codes "use") refl))
-    (otherwise _ element.Image _ _ (neither _ _ (unlike (codes "img") refl) (unlike (codes "source") refl))
+    (otherwise _ element.Image _ _ (unlike (codes "img") refl)
+    (otherwise _ element.Source _ _ (unlike (codes "source") refl)
     (otherwise _ element.Embedded _ _
-    (neither _ _ (neither _ _ (neither _ _ (neither _ _ (neither _ _ (neither _ _ (unlike (codes "audio") refl) (unlike (codes "embed") refl)) (unlike (codes "frame") refl)) (unlike (codes "iframe") refl)) (unlike (codes "input") refl))
-    (unlike (codes "script") refl)) (unlike (codes "track") refl))
-    (otherwise _ element.Background _ _ (neither _ _ (neither _ _ (neither _ _ (unlike (codes "body") refl) (unlike (codes "table") refl)) (unlike (codes "td") refl)) (unlike (codes "th") refl))
+    (neither _ _ (neither _ _ (neither _ _ (unlike (codes "audio") refl) (unlike (codes "embed") refl)) (unlike (codes "script") refl)) (unlike (codes "track") refl))
+    (otherwise _ element.Background _ _ (neither _ _ (neither _ _ (neither _ _ (neither _ _ (neither _ _ (neither _ _ (neither _ _ (unlike (codes "body") refl) (unlike (codes "table") refl)) (unlike (codes "td") refl)) (unlike (codes "th") refl))
+    (unlike (codes "tr") refl)) (unlike (codes "thead") refl)) (unlike (codes "tbody") refl)) (unlike (codes "tfoot") refl))
     (otherwise _ element.Area _ _ (unlike (codes "area") refl)
     (otherwise _ element.Base _ _ (unlike (codes "base") refl)
     (otherwise _ element.Link _ _ (unlike (codes "link") refl)
     (otherwise _ element.Meta _ _ (unlike (codes "meta") refl)
     (otherwise _ element.Object _ _ (unlike (codes "object") refl)
-    (otherwise _ element.Video _ _ (unlike (codes "video") refl) refl)))))))))
+    (otherwise _ element.Video _ _ (unlike (codes "video") refl)
+    (otherwise _ element.Template _ _ (unlike (codes "template") refl)
+    (otherwise _ element.Frame _ _ (neither _ _ (unlike (codes "frame") refl) (unlike (codes "iframe") refl))
+    (otherwise _ element.Input _ _ (unlike (codes "input") refl)
+    (otherwise _ element.Button _ _ (unlike (codes "button") refl)
+    (otherwise _ element.Param _ _ (unlike (codes "param") refl) refl)))))))))))))))
 
 pub usual_content : (name : List ℕ) → is_usual name ≡ true → content_of (map lower name) ≡ content.Markup
 usual_content name usual = no_text LENGTHS name (refl, refl, refl, refl, refl, refl, refl, refl, refl) (not_so (may_be LENGTHS name) usual)
@@ -53,14 +59,14 @@ usual_content name usual = no_text LENGTHS name (refl, refl, refl, refl, refl, r
 -- such a tag as it is seen
 
 pub usual_seen : (name more last : List ℕ) (v : Values) → is_usual name ≡ true → Some (tag_with v last) ≡ values_in (wanted_of element.Other) (tag_of more) →
-    map seen_of (read (InTag false (map lower name) BeforeName []) more) ≡ seen_with (map lower name) element.Other v ∷ seen_in last
+    seen_within 0 (read (InTag false (map lower name) BeforeName []) more) ≡ seen_with (map lower name) element.Other v ∷ seen_in last
 usual_seen name more last v usual found =
     seen_start (map lower name) more element.Other (wanted_of element.Other) v last (read Data last) (sym (usual_element name usual)) refl found
     (to_markup (map lower name) last (sym (usual_content name usual)))
 
 -- an `a` as it is seen
 pub anchor_seen : (name more last : List ℕ) (v : Values) → bytes_eq (map lower name) (codes "a") ≡ true → Some (tag_with v last) ≡ values_in (wanted_of element.Anchor) (tag_of more) →
-    map seen_of (read (InTag false (map lower name) BeforeName []) more) ≡ seen_with (map lower name) element.Anchor v ∷ seen_in last
+    seen_within 0 (read (InTag false (map lower name) BeforeName []) more) ≡ seen_with (map lower name) element.Anchor v ∷ seen_in last
 anchor_seen name more last v is found =
     let same : map lower name ≡ codes "a" = (bytes_eq-Decides (map lower name) (codes "a")).0 is in
     let an_anchor : element_of (map lower name) ≡ element.Anchor = ap element_of same in
@@ -100,8 +106,8 @@ passed name v rest usual nothing =
     let no_sheet : bytes_eq (map lower name) (codes "style") ≡ false = usual_not name usual (codes "style") refl in
     record {
       links =
-          ap (λ (o : Option (List ℕ)). (value_links form.Link o ++ value_links form.Link v.second) ++ links_in rest) none
-          ∙ ap (λ (o : Option (List ℕ)). value_links form.Link o ++ links_in rest) none_too;
+          ap (λ (o : Option (List ℕ)). (value_links form.Link o ++ value_links form.Link v.second ++ []) ++ links_in rest) none
+          ∙ ap (λ (o : Option (List ℕ)). (value_links form.Link o ++ []) ++ links_in rest) none_too;
       ids =
           ap (λ (o : Option (List ℕ)). (value_links form.Link o ++ anchors_with (map lower name) v) ++ ids_in rest) no_id
           ∙ ap (λ (b : Bool). cond b (value_links form.Link v.name) [] ++ ids_in rest) no_anchor;
@@ -125,11 +131,19 @@ sought_on bytes rest more so_far has less = record { has = has_then (seen_in byt
 
 -- bytes that are read as those behind them
 pub passes : (rest more : List ℕ) → read Data rest ≡ read Data more → Has (seen_in rest) (seen_in more)
-passes rest more reads = has_same (seen_in rest) (seen_in more) (ap (map seen_of) reads)
+passes rest more reads = has_same (seen_in rest) (seen_in more) (ap (seen_within 0) reads)
+
+end_seen : (b : Bool) (more : List Token) → seen_within 0 (cond b (TemplateEnd ∷ []) [] ++ more) ≡ seen_within 0 more
+end_seen true more = refl
+end_seen false more = refl
+
+-- an end tag
+pub passes_end : (rest more name : List ℕ) → read Data rest ≡ end_tag name ++ read Data more → Has (seen_in rest) (seen_in more)
+passes_end rest more name reads = has_same (seen_in rest) (seen_in more) (ap (seen_within 0) reads ∙ end_seen (is_template name) (read Data more))
 
 -- a tag that names nothing
 pub passes_tag : (name more last : List ℕ) (v : Values) → is_usual name ≡ true → name_nothing v ≡ true → Some (tag_with v last) ≡ values_in (wanted_of element.Other) (tag_of more) →
-    Has (map seen_of (read (InTag false (map lower name) BeforeName []) more)) (seen_in last)
+    Has (seen_within 0 (read (InTag false (map lower name) BeforeName []) more)) (seen_in last)
 passes_tag name more last v usual nothing found =
     has_then _ (seen_with (map lower name) element.Other v ∷ seen_in last) (seen_in last) (has_same _ _ (usual_seen name more last v usual found)) (passed name v (seen_in last) usual nothing)
 
@@ -139,10 +153,10 @@ pub steps_from : (s : Step) (v : Values) (rest opened name more : List ℕ) → 
 steps_from (step.Pass last) v rest opened name more cut reads le steps =
     let a : length opened < length rest = cut_shorter (λ c. not (c == 60)) rest opened 60 cut in
     let b : length last.now < length more = steps.1 in
-    (has_then _ _ _ (has_same (seen_in rest) _ (ap (map seen_of) (read_less rest opened cut ∙ reads))) steps.0, omega arith)
+    (has_then _ _ _ (has_same (seen_in rest) _ (ap (seen_within 0) (read_less rest opened cut ∙ reads))) steps.0, omega arith)
 steps_from (step.Take t) v rest opened name more cut reads le steps =
     let a : length opened < length rest = cut_shorter (λ c. not (c == 60)) rest opened 60 cut in
     let b : length t.rest.now < length more = steps.1 in
-    (has_then _ _ _ (has_same (seen_in rest) _ (ap (map seen_of) (read_less rest opened cut ∙ reads))) steps.0, omega arith)
+    (has_then _ _ _ (has_same (seen_in rest) _ (ap (seen_within 0) (read_less rest opened cut ∙ reads))) steps.0, omega arith)
 steps_from step.End v rest opened name more cut reads le steps =
-    has_then _ _ _ (has_same (seen_in rest) _ (ap (map seen_of) (read_less rest opened cut ∙ reads))) steps
+    has_then _ _ _ (has_same (seen_in rest) _ (ap (seen_within 0) (read_less rest opened cut ∙ reads))) steps

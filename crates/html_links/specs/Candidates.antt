@@ -1,4 +1,4 @@
--- The URLs of a `srcset`, as the HTML Standard parses it (4.8.4.3.10), also of a candidate whose descriptors it refuses.
+-- The URLs of a `srcset`, as the HTML Standard parses a srcset attribute, also of a candidate whose descriptors it rejects.
 use Rattle.std.specs.Prelude.{ℕ, ◌==◌, ◌||◌, nat_lt, not, Bool, true, false, if◌then◌else◌, List, [], ◌∷◌, ◌++◌, length}
 use Rattle.html_links.specs.Shown.{is_space}
 

@@ -1,5 +1,5 @@
--- Comments from behind `<!--`, as the tokenizer of the HTML Standard reads them (13.2.5.43 to 13.2.5.52):
--- each state is one constructor, each transition one equation of `step`.
+-- Comments, from the bytes after `<!--`, as the tokenizer of the HTML Standard reads them, in its states from comment start to
+-- comment end bang: each state is one constructor, each transition one equation of `step`.
 use Rattle.std.specs.Prelude.{ℕ, ◌==◌, if◌then◌else◌, List, [], ◌∷◌, Option, None, Some}
 use Rattle.std.specs.Borrow.{Bor}
 

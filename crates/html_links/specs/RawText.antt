@@ -1,5 +1,5 @@
 -- Raw text, as in `style` or `title`, to its end tag, as the tokenizer of the HTML Standard reads it
--- (13.2.5.2 and 13.2.5.3 with 13.2.5.9 to 13.2.5.14; RCDATA and RAWTEXT differ in character references alone).
+-- in its RCDATA and RAWTEXT states, which differ only in character references.
 use Rattle.std.specs.Prelude.{ℕ, ◌==◌, Bool, true, false, if◌then◌else◌, List, [], ◌∷◌, ◌++◌, map, Option, None, Some}
 use Rattle.std.specs.Str.{bytes_eq}
 use Rattle.html_links.specs.declared.bytes.Class.{Class}

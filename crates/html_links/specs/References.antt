@@ -1,7 +1,7 @@
--- The text of an attribute's value, as the tokenizer of the HTML Standard reads it: its character references
--- (13.2.5.72 to 13.2.5.80), and U+FFFD for each NUL (13.2.5.36 to 13.2.5.38). What is no reference stands for itself.
--- In a value a name without `;` counts only where neither a letter or digit nor `=` is behind it,
--- so the longest name that counts is all letters and digits, with the `;` behind them where there is one.
+-- The text of an attribute's value, as the tokenizer of the HTML Standard reads it: its character references, by the states from
+-- character reference to numeric character reference end, and U+FFFD for each NUL, by the attribute value states. What is no
+-- reference stays as it is. In a value, a name without `;` counts only if neither a letter or digit nor `=` follows it,
+-- so the longest name that counts is all letters and digits, with the `;` after them if there is one.
 use Rattle.std.specs.Prelude.{ℕ, ◌+◌, ◌-◌, ◌*◌, ◌==◌, ◌||◌, nat_lt, Bool, true, false, if◌then◌else◌, List, [], ◌∷◌, ◌++◌, Option, None, Some, slice_index}
 use Rattle.std.specs.Char.{is_ascii_alphanumeric, is_digit, digit_value, encode_utf8}
 use Rattle.std.specs.Int.{is_in_range}

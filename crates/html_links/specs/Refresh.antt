@@ -1,4 +1,4 @@
--- The target of a refresh, as the HTML Standard's shared declarative refresh steps find it (4.2.5.3).
+-- The target of a refresh, as the HTML Standard's shared declarative refresh steps find it.
 -- An empty target names the document itself, and counts as none.
 use Rattle.std.specs.Prelude.{ℕ, ◌==◌, ◌||◌, ◌&&◌, nat_le, not, Bool, if◌then◌else◌, List, [], ◌∷◌, Option, None, Some}
 use Rattle.std.specs.Char.{to_ascii_lowercase}

@@ -1,5 +1,5 @@
--- The text of a script to its end tag, as the tokenizer of the HTML Standard reads it (13.2.5.4 and 13.2.5.15 to 13.2.5.31).
--- In place of the temporary buffer stands how many letters of `script` it has, and 7 where it has others.
+-- The text of a script to its end tag, as the tokenizer of the HTML Standard reads it in its script data states.
+-- In place of the temporary buffer is the number of letters of `script` in it, or 7 if it has others.
 use Rattle.std.specs.Prelude.{ℕ, ◌==◌, if◌then◌else◌, List, [], ◌∷◌, Option, None, Some}
 use Rattle.std.specs.Char.{to_ascii_lowercase}
 use Rattle.html_links.specs.declared.script.State.{State}

@@ -1,4 +1,5 @@
--- Start tags from behind their name, as the tokenizer of the HTML Standard reads them (13.2.5.32 to 13.2.5.40).
+-- Start tags, from the bytes after their name, as the tokenizer of the HTML Standard reads them, in its states from before
+-- attribute name to self-closing start tag.
 -- Each state is one constructor, each transition one equation of `step`. Carriage returns count as white space,
 -- since the Standard makes line feeds of them first. NUL stays NUL, and character references stay as they are.
 use Rattle.std.specs.Prelude.{ℕ, ◌==◌, ◌||◌, ◌&&◌, nat_le, Bool, true, false, if◌then◌else◌, List, [], ◌∷◌, ◌++◌, reverse, Option, None, Some}

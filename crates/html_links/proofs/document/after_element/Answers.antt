@@ -1,6 +1,6 @@
 use Rattle.std.proofs.Common.{◌∙◌, map, refl, sym}
 use Rattle.html_links.specs.Tags.{lower}
-use Rattle.html_links.proofs.Documents.{raw_named, to_raw, to_script, to_plain, to_markup}
+use Rattle.html_links.proofs.Documents.{raw_named, not_ended, no_template, to_raw, to_script, to_plain, to_markup}
 use Rattle.html_links.specs.declared.document.TheConstants.{TEXTS}
 use Rattle.html_links.proofs.Telling.{no_text}
 use Rattle.html_links.proofs.document.after_element.Goals as goal
@@ -14,7 +14,9 @@ pub after_raw-requires : goal.after_raw-requires
 after_raw-requires c = raw_named c.args.name.now c.in-Raw.ensures
 
 pub returns-in-Raw-clause-reads : goal.returns-in-Raw-clause-reads
-returns-in-Raw-clause-reads c = to_raw (map lower c.args.name.now) c.args.bytes.now c.in-Raw.ensures ∙ c.after_raw.ensures.reads
+returns-in-Raw-clause-reads c =
+    to_raw (map lower c.args.name.now) c.args.bytes.now c.in-Raw.ensures ∙ c.after_raw.ensures.reads
+    ∙ not_ended (map lower c.args.name.now) c.after_raw.result (no_template (map lower c.args.name.now) c.in-Raw.ensures)
 
 pub returns-in-Script-clause-reads : goal.returns-in-Script-clause-reads
 returns-in-Script-clause-reads c = to_script (map lower c.args.name.now) c.args.bytes.now c.in-Script.ensures ∙ c.after_whole_script.ensures.reads

@@ -1,9 +1,9 @@
 use Rattle.std.proofs.Common.{◌∷◌, ◌∙◌, ◌<◌, ◌==◌, ap, arith, length, map, not, sym}
 use Rattle.html_links.specs.Tags.{lower}
-use Rattle.html_links.specs.Document.{tags_of}
+use Rattle.html_links.specs.Document.{Data, Start, read, start_tags, tags_of}
 use Rattle.html_links.specs.Shown.{tag_at}
 use Rattle.html_links.specs.Markup.{start_tag_at}
-use Rattle.html_links.proofs.Documents.{nothing_more, goes_on, one_more, last_one, read_text, read_less, read_end_tag, read_open_end_tag, read_start_tag, read_open_start_tag, start_less, end_less, cut_shorter}
+use Rattle.html_links.proofs.Documents.{nothing_more, goes_on, one_more, last_one, read_text, read_less, end_tags, read_end_tag, read_open_end_tag, read_start_tag, read_open_start_tag, start_less, end_less, cut_shorter}
 use Rattle.html_links.proofs.document.tags.Goals as goal
 
 pub returns-in_default : goal.returns-in_default
@@ -17,7 +17,7 @@ returns-in-Unfinished c =
 pub markup-preserved : goal.markup-preserved
 markup-preserved c =
     goes_on (map start_tag_at c.markup.tags.items) (tags_of c.args.bytes.now) c.markup.rest.now c.in-Other.more.now c.markup.invariant
-    (read_less c.markup.rest.now c.in-Some.opened.now c.in-Some.ensures.1 ∙ c.in-Other.ensures.reads)
+    (ap start_tags (read_less c.markup.rest.now c.in-Some.opened.now c.in-Some.ensures.1 ∙ c.in-Other.ensures.reads))
 
 pub markup-smaller : goal.markup-smaller
 markup-smaller c =
@@ -32,7 +32,8 @@ returns-in_default-after_tag c =
 pub markup-preserved-in-End : goal.markup-preserved-in-End
 markup-preserved-in-End c =
     goes_on (map start_tag_at c.markup.tags.items) (tags_of c.args.bytes.now) c.markup.rest.now c.in-Some-after_tag.last.now c.markup.invariant
-    (read_end_tag c.markup.rest.now c.in-Some.opened.now _ c.in-End.more.now c.in-Some-after_tag.last.now c.in-Some.ensures.1 c.in-End.ensures.reads c.in-Some-after_tag.ensures)
+    (ap start_tags (read_end_tag c.markup.rest.now c.in-Some.opened.now _ c.in-End.more.now c.in-Some-after_tag.last.now c.in-Some.ensures.1 c.in-End.ensures.reads c.in-Some-after_tag.ensures)
+    ∙ end_tags (map lower c.in-End.field-0.now) (read Data c.in-Some-after_tag.last.now))
 
 pub markup-smaller-in-End : goal.markup-smaller-in-End
 markup-smaller-in-End c =
@@ -53,7 +54,7 @@ pub markup-preserved-in-Start : goal.markup-preserved-in-Start
 markup-preserved-in-Start c =
     one_more c.markup.tags.items c.push.new.self.items _ (tags_of c.args.bytes.now) _ c.markup.rest.now c.markup.invariant c.in_ok-push-in-Start.ensures.items
     (read_start_tag c.markup.rest.now c.in-Some.opened.now (map lower c.in-Start.name.now) c.in-Start.more.now _ c.in-Some.ensures.1 c.in-Start.ensures.reads (ap tag_at (sym c.in-Some-2.is) ∙ c.in_ok-found-in-Start.ensures)
-    ∙ ap (λ more. start_tag_at (record { name = c.in-Start.name; attributes = c.in-Some-2.found.attributes; self_closing = c.in-Some-2.found.self_closing }) ∷ more) c.in-Some-after_element.ensures.reads)
+    ∙ ap (λ more. Start (start_tag_at (record { name = c.in-Start.name; attributes = c.in-Some-2.found.attributes; self_closing = c.in-Some-2.found.self_closing })) ∷ more) c.in-Some-after_element.ensures.reads)
 
 pub returns-in_default-after_element : goal.returns-in_default-after_element
 returns-in_default-after_element c =

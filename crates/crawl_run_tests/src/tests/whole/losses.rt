@@ -1,6 +1,6 @@
 //! The losses of incomplete crawls, by cause.
-use crate::tests::sources::WithoutHost;
-use crate::tests::webs::RING;
+use crate::tests::whole::sources::WithoutHost;
+use crate::tests::whole::webs::RING;
 use crawl_keys::{CanonUrl, Filter, canonical};
 use crawl_run::{CrawlSettings, Mode, crawl_with};
 use crawl_workers::Losses;

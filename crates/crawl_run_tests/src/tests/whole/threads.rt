@@ -1,6 +1,6 @@
 //! Calls of `crawl` with sources that fail, wait, or are defined here.
-use crate::tests::sources::{FirstWaits, OneLink, ThirdFails, WithoutHost};
-use crate::tests::webs::{RING, RING_REPORT};
+use crate::tests::whole::sources::{FirstWaits, OneLink, ThirdFails, WithoutHost};
+use crate::tests::whole::webs::{RING, RING_REPORT};
 use crawl_certificate::CertError;
 use crawl_keys::{CanonUrl, Filter, canonical};
 use crawl_pages::Fetch;

@@ -1,6 +1,5 @@
 //! Crawls of saved webs, with workers in turn and in threads, and with settings that no command line can give.
-use crate::tests::runs::words;
-use crate::tests::webs::{NOTHING, RING, RING_REPORT, TWO_LINKS, TWO_LINKS_REPORT};
+use crate::tests::whole::webs::{NOTHING, RING, RING_REPORT, TWO_LINKS, TWO_LINKS_REPORT};
 use crawl_certificate::CertError;
 use crawl_frontier::FrontierError;
 use crawl_keys::{CanonUrl, Filter, canonical};
@@ -142,11 +141,13 @@ fn are_counts(found: &[u64], counts: &[(usize, u64)]) -> bool {
     true
 }
 
-/// The canonical URLs of these texts.
-fn urls_of(alloc: Global, texts: &[String]) -> Option<Vec<CanonUrl>> {
+/// The canonical URLs in a text, with a space between two of them.
+fn urls_of(alloc: Global, text: &str) -> Option<Vec<CanonUrl>> {
     let mut urls = Vec::new(alloc);
-    for text in texts {
-        urls.push(canonical(alloc, text.as_str()).ok()?).ok()?;
+    for word in text.split(' ') {
+        if !word.is_empty() {
+            urls.push(canonical(alloc, word).ok()?).ok()?;
+        }
     }
     Some(urls)
 }
@@ -172,8 +173,7 @@ fn result_of<R: Threads + Wait + Sync>(
     row: &Row,
     mode: Mode,
 ) -> Option<Result<Crawled, CrawlError>> {
-    let texts = words(alloc, row.seeds).ok()?;
-    let seeds = urls_of(alloc, &texts)?;
+    let seeds = urls_of(alloc, row.seeds)?;
     result_from(rt, alloc, row, &seeds, mode)
 }
 
@@ -244,11 +244,7 @@ const REPORT_OF_BOTH: &str = "ok 3 1 http://a.test/\n\
     total 5 ok 3 missing 2\n";
 
 /// The pages of a crawl of the ring from a file of seeds and those given.
-fn crawled_from<R: Threads + Wait + Sync>(
-    rt: &R,
-    alloc: Global,
-    given: &[String],
-) -> Option<Crawled> {
+fn crawled_from<R: Threads + Wait + Sync>(rt: &R, alloc: Global, given: &str) -> Option<Crawled> {
     let every = Filter::new(alloc, &[]).ok()?;
     let web = SavedWeb::read(alloc, RING.as_bytes()).ok()?;
     let mut seeds = read_seeds(alloc, LISTED.as_bytes()).ok()?;
@@ -259,9 +255,6 @@ fn crawled_from<R: Threads + Wait + Sync>(
 
 #[test]
 fn seeds_of_a_file_before_those_given(rt: HostRuntime) {
-    let found = match words(rt.alloc(), "http://x.test/") {
-        Ok(given) => crawled_from(&rt, rt.alloc(), &given),
-        Err(_) => None,
-    };
+    let found = crawled_from(&rt, rt.alloc(), "http://x.test/");
     assert!(rt; found.is_some_and(|found| has_report(rt.alloc(), &found, REPORT_OF_BOTH)));
 }
