@@ -80,7 +80,7 @@ abbrev pub follow : Next → (State → Option (List ℕ)) → List ℕ → Opti
 follow (Go state) on rest = on state
 follow Emit on rest = Some rest
 
--- what is behind the comment; nothing where the file ends within it
+-- the bytes after the comment, if it ends
 abbrev pub run : State → List ℕ → Option (List ℕ)
 run state [] = None
 run state (c ∷ rest) = follow (step state (mark_of c)) (λ state. run state rest) rest

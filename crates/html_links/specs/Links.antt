@@ -96,7 +96,7 @@ first_form element.Button v = form_if (not (submits_nothing v.third)) form.Link
 first_form element.Param v = form_if (names_data v.name) form.Link
 first_form _ v = form.Link
 
--- how the second does
+-- and how the second does
 abbrev pub second_form : Element → Values → Form
 second_form element.Base v = form.Nothing
 second_form element.Meta v = form.Nothing

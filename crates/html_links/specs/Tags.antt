@@ -94,7 +94,7 @@ step SelfClosing Space c all = Go BeforeName all
 step SelfClosing Slash c all = Go SelfClosing all
 step SelfClosing _ c all = Go Name (start c all)
 
--- A tag that was emitted: its attributes in order, and the bytes behind it.
+-- A tag that was emitted: its attributes in order, and the bytes after it.
 pub record Tag : Type 0 where
   pub attributes : List Attribute
   pub self_closing : Bool
@@ -109,6 +109,6 @@ abbrev pub run : State → List Attribute → List ℕ → Option Tag
 run state all [] = None
 run state all (c ∷ rest) = follow (step state (class_of c) c all) (λ state all. run state all rest) rest
 
--- the tag that begins with these bytes behind its name
+-- the tag that has these bytes after its name
 abbrev pub tag_of : List ℕ → Option Tag
 tag_of bytes = run BeforeName [] bytes
