@@ -8,6 +8,7 @@ mod cleaning;
 mod document;
 mod document_start;
 mod document_text;
+pub mod laws;
 mod line_text;
 mod link_texts;
 mod link_writer;
