@@ -1,4 +1,6 @@
 pub mod Behind
 pub mod Fitting
+pub mod Parsing
 pub mod Plain
+pub mod Trimming
 pub mod WindowsBytes

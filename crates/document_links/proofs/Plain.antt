@@ -1,14 +1,19 @@
--- Texts of visible bytes of ASCII stand in a line.
-use Rattle.std.proofs.Common.{◌≡◌, ℕ, ◌+◌, ◌<◌, ◌≤◌, true, List, [], ◌∷◌, length, refl, arith}
+-- Texts of visible bytes of ASCII fit in a line, and a URL parser drops nothing of them.
+use Rattle.std.proofs.Common.{◌≡◌, ◌∙◌, ℕ, ◌+◌, ◌-◌, ◌<◌, ◌≤◌, true, false, not, List, [], ◌∷◌, length, take, drop, filter, get_or, refl, ap, arith}
 use Rattle.std.specs.Prelude.{nat_le}
-use Rattle.std.specs.List.{list_all}
+use Rattle.std.specs.List.{AllPass, list_all, prefix_len, suffix_len}
 use Rattle.std.specs.Str.{is_utf8, IsAscii}
-use Rattle.std.proofs.lemmas.Bool.{and_parts, and_from, le-leb}
+use Rattle.std.proofs.lemmas.Bool.{and_parts, and_from, cond-true, le-leb}
 use Rattle.std.proofs.lemmas.Bool.Decides.{nat_tests}
+use Rattle.std.proofs.lemmas.List.{take_all}
+use Rattle.std.proofs.lemmas.List.Sums.{AllPass-from_list_all, suffix_len_is}
 use Rattle.std.proofs.lemmas.Str.{is_utf8-from_IsUtf8, IsUtf8-from_ascii}
 use Rattle.std.proofs.lemmas.Str.Ascii.{IsAscii-nil, IsAscii-cons}
 use Rattle.crawl_limits.specs.Limits.{line_limit}
+use Rattle.url.specs.Input.{is_c0_control_or_space, is_tab_or_new_line, strip_tabs_and_new_lines, trim_c0_control_and_space, trim_end, trim_start}
+use Rattle.url.proofs.InputLemmas.{prefix_len_is}
 use Rattle.document_links.specs.Texts.{fits, is_inner, is_plain}
+use Rattle.document_links.specs.Written.{clean, shortened, without_fragment, written}
 
 below : (b : ℕ) → is_plain b ≡ true → b < 128
 below b plain = grind (arith, nat_tests)
@@ -32,3 +37,39 @@ pub plain_fits : (text : List ℕ) → 5 + length text ≤ line_limit → list_a
 plain_fits text short plain =
     and_from (nat_le (5 + length text) line_limit) _ (le-leb (5 + length text) line_limit short)
     (and_from (is_utf8 text) (list_all is_inner text) (is_utf8-from_IsUtf8 text (IsUtf8-from_ascii text (ascii text plain))) (all_inner text plain))
+
+-- ---- what a URL parser drops
+
+not_trimmed : (b : ℕ) → is_plain b ≡ true → is_c0_control_or_space b ≡ false
+not_trimmed b plain = grind (arith, nat_tests)
+
+not_dropped : (b : ℕ) → is_plain b ≡ true → not (is_tab_or_new_line b) ≡ true
+not_dropped b plain = grind (arith, nat_tests)
+
+all_kept : (text : List ℕ) → list_all is_plain text ≡ true → filter (λ b. not (is_tab_or_new_line b)) text ≡ text
+all_kept [] plain = refl
+all_kept (b ∷ rest) plain =
+    let both = and_parts (is_plain b) (list_all is_plain rest) plain in
+    cond-true (not (is_tab_or_new_line b)) _ _ (not_dropped b both.0) ∙ ap (λ l. b ∷ l) (all_kept rest both.1)
+
+plain_trim : (text : List ℕ) → list_all is_plain text ≡ true → trim_end is_c0_control_or_space (trim_start is_c0_control_or_space text) ≡ text
+plain_trim text plain =
+    let trims = is_c0_control_or_space in
+    let each : AllPass is_plain text = AllPass-from_list_all is_plain text plain in
+    let first : prefix_len trims text ≡ 0 =
+    prefix_len_is trims text 0 (omega arith) (λ k below. absurd (omega arith)) (λ inside. not_trimmed (get_or text 0 0) (each 0 0 inside)) in
+    let last : suffix_len trims text ≡ length text - length text =
+    suffix_len_is trims text (length text) 0 (omega arith) (λ k low high. absurd (omega arith))
+    (λ some. not_trimmed (get_or text (length text - 1) 0) (each (length text - 1) 0 (omega arith))) in
+    let start : trim_start trims text ≡ text = ap (λ n. drop n text) first in
+    let end : trim_end trims text ≡ text =
+    ap (λ n. take (length text - n) text) last ∙ take_all (length text - (length text - length text)) text (omega arith) in
+    ap (trim_end trims) start ∙ end
+
+pub plain_clean : (text : List ℕ) → list_all is_plain text ≡ true → clean text ≡ text
+unfolding trim_c0_control_and_space strip_tabs_and_new_lines
+plain_clean text plain = ap (filter (λ b. not (is_tab_or_new_line b))) (plain_trim text plain) ∙ all_kept text plain
+
+-- such a text is written as it is
+pub plain_written : (text : List ℕ) → list_all is_plain text ≡ true → fits 5 text ≡ true → written text ≡ text
+plain_written text plain fit = ap shortened (plain_clean text plain) ∙ cond-true (fits 5 text) text (without_fragment text) fit

@@ -1,4 +1,5 @@
-pub mod Pieces
+pub mod Encoding
 pub mod Places
 pub mod Texts
 pub mod Windows
+pub mod Written

@@ -1,7 +1,7 @@
 //! The anchors of a document, and its links to anchors.
 use crate::cleaning::{push_without_breaks, trimmed_end};
 use crate::link_writer::LinkWriter;
-use crate::raw_links::{Piece, RawLinks};
+use crate::raw_links::RawLinks;
 use crate::targets::Targets;
 use crawl_keys::CanonUrl;
 use memchr::memchr;
@@ -98,8 +98,8 @@ impl Anchors {
     ) -> Result<bool, AllocError> {
         let begin = self.links.len();
         for link in links {
-            let fragment = trimmed_end(raw.text(link.fragment));
-            self.push_link(fragment, link.fragment.index, is_own)?;
+            let fragment = trimmed_end(fragment_of(raw, *link));
+            self.push_link(fragment, raw.position(link.link), is_own)?;
         }
         let end = self.links.len();
         if begin < end {
@@ -200,11 +200,20 @@ impl AnchorTargets {
     }
 }
 
-/// The number of a link's target, and the text after its first `#`.
+/// A link with a `#`: the number of its target, its index among the links, and where the text after the `#` begins.
 #[derive(Clone, Copy)]
 struct Numbered {
     number: usize,
-    fragment: Piece,
+    link: usize,
+    begin: usize,
+}
+
+/// The text after the first `#` of a link.
+fn fragment_of(raw: &RawLinks, link: Numbered) -> &[u8] {
+    if link.link >= raw.len() {
+        return &[];
+    }
+    raw.text(link.link).get(link.begin..).unwrap_or(&[])
 }
 
 /// The first links with this number, and the others.
@@ -223,12 +232,16 @@ fn by_target<'t>(
     targets: &mut Targets<'t>,
 ) -> Result<Vec<Numbered>, AllocError> {
     let mut all: Vec<Numbered> = Vec::new(alloc);
-    for piece in &raw.pieces {
-        let text = raw.text(*piece);
+    for link in 0..raw.len() {
+        let text = raw.text(link);
         if let Some(mark) = memchr(b'#', text) {
-            let number = targets.number_of(&text[..mark + 1])?;
-            let fragment = piece.behind(mark + 1);
-            all.push(Numbered { number, fragment })?;
+            let begin = mark + 1;
+            let number = targets.number_of(&text[..begin])?;
+            all.push(Numbered {
+                number,
+                link,
+                begin,
+            })?;
         }
     }
     all.sort_by(|a: &Numbered, b: &Numbered| a.number.cmp(&b.number))?;

@@ -1,7 +1,9 @@
 //! The encoding of a document.
 ghost use Rattle.std.specs.Prelude.{◌≡◌, ◌≢◌, ℕ, ◌≤◌, ◌<◌, length, true, IsAscii, IfOk, IfSome, IsNone};
+ghost use Rattle.document_links.specs.Encoding.{has_mark};
 ghost use Rattle.document_links.specs.Places.{keeps_ascii};
 ghost use Rattle.document_links.specs.Windows.{character_of, likely_byte};
+ghost use Rattle.document_links.specs.Written.{is_unicode};
 
 use crate::cleaning::trimmed;
 use crate::document_start::{behind_first, behind_front, start_of};
@@ -29,14 +31,17 @@ pub(crate) enum Charset {
 
 impl Charset {
     /// Whether the queries of links are in UTF-8.
-    pub(crate) fn is_unicode(self) -> bool {
+    pub(crate) fn is_unicode(self) -> bool
+        ensures { result ≡ is_unicode self }
+    {
         !matches!(self, Charset::Windows1252 | Charset::Other)
     }
 }
 
 /// Finds the encoding of a document, by its first bytes, its head, and whether it is UTF-8.
 pub(crate) fn charset_of(body: &[u8]) -> Charset
-    ensures { IsAscii body.now → keeps_ascii result ≡ true }
+    ensures ascii { IsAscii body.now → keeps_ascii result ≡ true }
+    ensures marked { has_mark body.now ≡ true → result ≡ Charset.Utf8 }
 {
     match body {
         [0xef, 0xbb, 0xbf, ..] => Charset::Utf8,

@@ -1,4 +1,10 @@
 //! Reads a document.
+ghost use Rattle.std.specs.Prelude.{◌≡◌, ◌++◌, [], true, IfOk, OnOk, None};
+ghost use Rattle.html_links.specs.Links.{base_of, links_of};
+ghost use Rattle.html_links.specs.Reads.{base_at};
+ghost use Rattle.document_links.specs.Encoding.{HasLinks, HasLinkTexts};
+ghost use Rattle.document_links.specs.Written.{AreWritten, HasTexts, is_unicode};
+
 use crate::anchors::{AnchorTargets, anchors_of};
 use crate::charset::{Charset, charset_of, declared};
 use crate::document_start::{start_of, without_mark};
@@ -58,14 +64,31 @@ pub fn read_document(
     url: &CanonUrl,
     options: ReadOptions,
     room: &mut RawLinks,
-) -> Result<Document, AllocError> {
+) -> Result<Document, AllocError>
+    // In a Unicode encoding and without `base`: one text for each link, in order.
+    ensures { IfOk result (λ document. HasLinkTexts body.now options.byte_limit document.links) }
+{
     let charset = charset_of(body);
-    let mut document = match utf8_text(alloc, body, charset)? {
-        Some(text) => text_document(alloc, text.as_slice(), charset, url, options, room)?,
-        None => text_document(alloc, without_mark(body), charset, url, options, room)?,
-    };
+    let mut document = document_in(alloc, body, charset, url, options, room)?;
     document.encoding = unknown_encoding(alloc, body, charset)?;
     Ok(document)
+}
+
+/// Reads a document in this encoding.
+fn document_in(
+    alloc: Global,
+    body: &[u8],
+    charset: Charset,
+    url: &CanonUrl,
+    options: ReadOptions,
+    room: &mut RawLinks,
+) -> Result<Document, AllocError>
+    ensures { IfOk result (λ document. HasLinks charset body.now options.byte_limit document.links) }
+{
+    match utf8_text(alloc, body, charset)? {
+        Some(text) => text_document(alloc, text.as_slice(), charset, url, options, room),
+        None => text_document(alloc, without_mark(body), charset, url, options, room),
+    }
 }
 
 /// The name of a document's encoding, if that is not a known one.
@@ -91,14 +114,14 @@ fn text_document(
     url: &CanonUrl,
     options: ReadOptions,
     raw: &mut RawLinks,
-) -> Result<Document, AllocError> {
+) -> Result<Document, AllocError>
+    ensures { IfOk result (λ document. HasTexts charset text.now options.byte_limit document.links) }
+{
     let mut ids = RawIds::new(alloc);
-    raw.clear();
+    raw.clear()?;
     let base = read_known(alloc, text, charset, options, raw, &mut ids)?;
     // The base also applies to the links before it, so all were found first.
-    let mut writer = LinkWriter::new(alloc, charset, base, url)?;
-    writer.make_room(url, raw, options.places)?;
-    writer.push_all(raw, options.byte_limit)?;
+    let mut writer = written_links(alloc, charset, base, url, options, raw)?;
     let links = writer.take_links();
     let positions = writer.take_positions();
     let counts = writer.counts;
@@ -117,6 +140,23 @@ fn text_document(
     })
 }
 
+/// Writes the texts of these links of a page with this base.
+fn written_links(
+    alloc: Global,
+    charset: Charset,
+    base: Base,
+    url: &CanonUrl,
+    options: ReadOptions,
+    raw: &RawLinks,
+) -> Result<LinkWriter, AllocError>
+    ensures { is_unicode charset ≡ true → base_at base ≡ None → IfOk result (λ writer. AreWritten [] raw.now.texts writer.links options.byte_limit) }
+{
+    let mut writer = LinkWriter::new(alloc, charset, base, url)?;
+    writer.make_room(url, raw, options.places)?;
+    writer.push_all(raw, options.byte_limit)?;
+    Ok(writer)
+}
+
 /// Finds the known links of a document, and its known ids if the options ask for anchors.
 fn read_known(
     alloc: Global,
@@ -125,7 +165,10 @@ fn read_known(
     options: ReadOptions,
     raw: &mut RawLinks,
     ids: &mut RawIds,
-) -> Result<Base, AllocError> {
+) -> Result<Base, AllocError>
+    ensures links { is_unicode charset ≡ true → OnOk result (raw.new.texts ≡ raw.old.texts ++ links_of text.now) }
+    ensures base { is_unicode charset ≡ true → IfOk result (λ base. base_at base ≡ base_of text.now) }
+{
     let base = read_all(alloc, text, options, raw, ids)?;
     match charset {
         Charset::Other => {
@@ -143,7 +186,10 @@ fn read_all(
     options: ReadOptions,
     raw: &mut RawLinks,
     ids: &mut RawIds,
-) -> Result<Base, AllocError> {
+) -> Result<Base, AllocError>
+    ensures links { OnOk result (raw.new.texts ≡ raw.old.texts ++ links_of text.now) }
+    ensures base { IfOk result (λ base. base_at base ≡ base_of text.now) }
+{
     if options.anchors {
         read_page(alloc, text, raw, ids)
     } else if options.places {

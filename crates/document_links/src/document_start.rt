@@ -1,5 +1,6 @@
 //! The first bytes of a document.
 ghost use Rattle.std.specs.Prelude.{◌≡◌, ◌≤◌, ◌<◌, length, IfSome, IsAscii};
+ghost use Rattle.document_links.specs.Encoding.{without_mark};
 
 use memchr::{memchr, memmem};
 
@@ -33,7 +34,8 @@ pub fn is_document(body: &[u8]) -> bool {
 
 /// The document without the byte order mark of UTF-8.
 pub(crate) fn without_mark(body: &[u8]) -> &[u8]
-    ensures { IsAscii body.now → result.now ≡ body.now }
+    ensures ascii { IsAscii body.now → result.now ≡ body.now }
+    ensures mark { result.now ≡ without_mark body.now }
 {
     match body {
         [0xef, 0xbb, 0xbf, behind @ ..] => behind,

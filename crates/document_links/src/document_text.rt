@@ -1,6 +1,8 @@
 //! The text of a document in UTF-8, whatever its encoding.
-ghost use Rattle.std.specs.Prelude.{◌≡◌, true, IsAscii, IfOk, IfSome};
+ghost use Rattle.std.specs.Prelude.{◌≡◌, true, IsAscii, IfOk, IfSome, MatchOption};
+ghost use Rattle.document_links.specs.Encoding.{IsTextIn, text_in};
 ghost use Rattle.document_links.specs.Places.{keeps_ascii};
+ghost use Rattle.std.specs.Str.Lossy.{utf8_lossy};
 
 use crate::charset::{Charset, from_utf16, from_windows};
 use crate::document_start::without_mark;
@@ -13,7 +15,8 @@ pub(crate) fn utf8_text(
     body: &[u8],
     charset: Charset,
 ) -> Result<Option<Vec<u8>>, AllocError>
-    ensures { IsAscii body.now → keeps_ascii charset ≡ true → IfOk result (λ new. IfSome new (λ text. text.items ≡ body.now)) }
+    ensures ascii { IsAscii body.now → keeps_ascii charset ≡ true → IfOk result (λ new. IfSome new (λ text. text.items ≡ body.now)) }
+    ensures text { IfOk result (λ new. IsTextIn charset body.now (text_in body.now new)) }
 {
     match charset {
         Charset::Utf8 => mended(alloc, without_mark(body)),
@@ -38,7 +41,8 @@ fn wide_text(alloc: Global, body: &[u8], is_little: bool) -> Result<Option<Vec<u
 
 /// The bytes with U+FFFD in place of what is not UTF-8, or `None` if all is UTF-8.
 fn mended(alloc: Global, bytes: &[u8]) -> Result<Option<Vec<u8>>, AllocError>
-    ensures { IsAscii bytes.now → IfOk result (λ new. IfSome new (λ text. text.items ≡ bytes.now)) }
+    ensures ascii { IsAscii bytes.now → IfOk result (λ new. IfSome new (λ text. text.items ≡ bytes.now)) }
+    ensures text { IfOk result (λ new. MatchOption new (bytes.now ≡ utf8_lossy bytes.now) (λ text. text.items ≡ utf8_lossy bytes.now)) }
 {
     if simdutf8::is_utf8(bytes) {
         return Ok(None);

@@ -2,11 +2,13 @@
 #![tactic(auto)]
 
 mod anchors;
+mod at_url;
 mod charset;
 mod cleaning;
 mod document;
 mod document_start;
 mod document_text;
+pub mod laws;
 mod line_text;
 mod link_texts;
 mod link_writer;
@@ -19,6 +21,7 @@ mod targets;
 mod unknown;
 
 pub use anchors::{AnchorLink, AnchorTargets, Anchors};
+pub use at_url::{LinkPlaces, PageAnchors, Target};
 pub use document::{Document, ReadOptions, read_document};
 pub use document_start::{START_LENGTH, is_document};
 pub use line_text::{LINK_FRONT, fits};

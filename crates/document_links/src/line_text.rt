@@ -41,7 +41,8 @@ fn is_inner(byte: u8) -> bool
 /// Whether the text fits in the line of a link, is ASCII, and has no byte that ends a scheme or that a URL parser drops. Most texts
 /// are like this, and are read only once.
 pub(crate) fn fits_plainly(text: &[u8]) -> bool
-    ensures { result ≡ true → fits 5 text.now ≡ true }
+    ensures fit { result ≡ true → fits 5 text.now ≡ true }
+    ensures plain { result ≡ true → list_all is_plain text.now ≡ true }
 {
     text.len() <= TEXT_LIMIT && is_plain(text)
 }

@@ -1,6 +1,8 @@
 //! The texts of a document's links, as a crawl reads them.
-ghost use Rattle.std.specs.Prelude.{◌≡◌, true};
+ghost use Rattle.std.specs.Prelude.{◌≡◌, ◌∷◌, ◌++◌, ◌≤◌, [], true, IfOk, OnOk, None};
+ghost use Rattle.html_links.specs.Reads.{base_at};
 ghost use Rattle.document_links.specs.Texts.{fits};
+ghost use Rattle.document_links.specs.Written.{AreWritten, can_write, has_no_base, has_room, keeps_links, shortened, written};
 
 use crate::charset::Charset;
 use crate::cleaning::{
@@ -62,7 +64,11 @@ impl LinkWriter {
         charset: Charset,
         base: Base,
         url: &CanonUrl,
-    ) -> Result<LinkWriter, AllocError> {
+    ) -> Result<LinkWriter, AllocError>
+        ensures charset { IfOk result (λ writer. writer.charset ≡ charset) }
+        ensures unbased { base_at base ≡ None → IfOk result (λ writer. has_no_base writer.base ≡ true) }
+        ensures links { IfOk result (λ writer. writer.links ≡ []) }
+    {
         let base = match base {
             Some(base) => page_base(alloc, base.as_slice(), url)?,
             None => PageBase::None,
@@ -83,9 +89,13 @@ impl LinkWriter {
         url: &CanonUrl,
         raw: &RawLinks,
         places: bool,
-    ) -> Result<(), AllocError> {
-        let count = raw.pieces.len();
-        self.links = LinkTexts::with_room(self.alloc, count, raw.texts.len())?;
+    ) -> Result<(), AllocError>
+        ensures base { self.new.base ≡ self.old.base }
+        ensures charset { self.new.charset ≡ self.old.charset }
+        ensures links { OnOk result (self.new.links ≡ []) }
+    {
+        let count = raw.len();
+        self.links = LinkTexts::with_room(self.alloc, count, raw.byte_count())?;
         if places {
             self.positions = Some(Positions::new(self.alloc, url, count)?);
         }
@@ -93,15 +103,17 @@ impl LinkWriter {
     }
 
     /// Appends these links, up to the one with which the texts have more than `limit` bytes.
-    pub(crate) fn push_all(&mut self, raw: &RawLinks, limit: usize) -> Result<(), AllocError> {
-        for piece in &raw.pieces {
+    pub(crate) fn push_all(&mut self, raw: &RawLinks, limit: usize) -> Result<(), AllocError>
+        ensures { keeps_links self.old.base self.old.charset ≡ true → OnOk result (AreWritten self.old.links raw.now.texts self.new.links limit) }
+    {
+        for index in 0..raw.len() {
             if self.links.byte_count() > limit {
-                break;
+                return Ok(());
             }
             if let Some(positions) = &mut self.positions {
-                positions.begin_at(piece.index);
+                positions.begin_at(raw.position(index));
             }
-            self.push(raw.text(*piece))?;
+            self.push(raw.text(index))?;
         }
         Ok(())
     }
@@ -115,7 +127,9 @@ impl LinkWriter {
     }
 
     /// Takes the texts of the links.
-    pub(crate) fn take_links(&mut self) -> LinkTexts {
+    pub(crate) fn take_links(&mut self) -> LinkTexts
+        ensures { result ≡ self.old.links }
+    {
         mem::replace(&mut self.links, LinkTexts::new(self.alloc))
     }
 
@@ -131,7 +145,11 @@ impl LinkWriter {
     }
 
     /// Appends the next link.
-    fn push(&mut self, text: &[u8]) -> Result<(), AllocError> {
+    fn push(&mut self, text: &[u8]) -> Result<(), AllocError>
+        ensures base { self.new.base ≡ self.old.base }
+        ensures charset { self.new.charset ≡ self.old.charset }
+        ensures written { keeps_links self.old.base self.old.charset ≡ true → can_write text.now ≡ true → OnOk result (self.new.links ≡ self.old.links ++ written text.now ∷ []) }
+    {
         if matches!(self.base, PageBase::None) && fits_plainly(text) {
             return self.push_plain(text);
         }
@@ -147,7 +165,11 @@ impl LinkWriter {
     }
 
     /// Appends a link without breaks. Letters in its query are escaped in the page's encoding.
-    fn push_clean(&mut self, text: &[u8]) -> Result<(), AllocError> {
+    fn push_clean(&mut self, text: &[u8]) -> Result<(), AllocError>
+        ensures base { self.new.base ≡ self.old.base }
+        ensures charset { self.new.charset ≡ self.old.charset }
+        ensures written { keeps_links self.old.base self.old.charset ≡ true → has_room text.now ≡ true → OnOk result (self.new.links ≡ self.old.links ++ shortened text.now ∷ []) }
+    {
         if self.charset.is_unicode() || text.is_ascii() {
             return self.push_meant(text);
         }
@@ -157,7 +179,11 @@ impl LinkWriter {
     }
 
     /// Appends the meaning of a link with the page's base.
-    fn push_meant(&mut self, text: &[u8]) -> Result<(), AllocError> {
+    fn push_meant(&mut self, text: &[u8]) -> Result<(), AllocError>
+        ensures base { self.new.base ≡ self.old.base }
+        ensures charset { self.new.charset ≡ self.old.charset }
+        ensures written { has_no_base self.old.base ≡ true → has_room text.now ≡ true → OnOk result (self.new.links ≡ self.old.links ++ shortened text.now ∷ []) }
+    {
         match meaning_of(self.alloc, &self.base, text)? {
             LinkMeaning::Same => self.push_short(text),
             LinkMeaning::Url(url) => self.push_short(url.as_str().as_bytes()),
@@ -166,7 +192,11 @@ impl LinkWriter {
     }
 
     /// Appends a link. If it does not fit in a line, appends a shorter one with the same meaning.
-    fn push_short(&mut self, text: &[u8]) -> Result<(), AllocError> {
+    fn push_short(&mut self, text: &[u8]) -> Result<(), AllocError>
+        ensures base { self.new.base ≡ self.old.base }
+        ensures charset { self.new.charset ≡ self.old.charset }
+        ensures written { has_room text.now ≡ true → OnOk result (self.new.links ≡ self.old.links ++ shortened text.now ∷ []) }
+    {
         if fits(LINK_FRONT, text) {
             return self.push_text(text);
         }
@@ -179,7 +209,10 @@ impl LinkWriter {
     }
 
     /// Appends the start of a long link with another scheme, which a crawl skips.
-    fn push_cut(&mut self, text: &[u8]) -> Result<(), AllocError> {
+    fn push_cut(&mut self, text: &[u8]) -> Result<(), AllocError>
+        ensures base { self.new.base ≡ self.old.base }
+        ensures charset { self.new.charset ≡ self.old.charset }
+    {
         let front = cut(text, TEXT_LIMIT);
         if !is_web(scheme_of(text)) && fits(LINK_FRONT, front) {
             self.counts.cut = self.counts.cut.saturating_add(1);
@@ -192,6 +225,9 @@ impl LinkWriter {
     /// Appends a text without a colon.
     fn push_plain(&mut self, text: &[u8]) -> Result<(), AllocError>
         requires { fits 5 text.now ≡ true }
+        ensures base { self.new.base ≡ self.old.base }
+        ensures charset { self.new.charset ≡ self.old.charset }
+        ensures links { OnOk result (self.new.links ≡ self.old.links ++ text.now ∷ []) }
     {
         self.counts.links = self.counts.links.saturating_add(1);
         if let Some(positions) = &mut self.positions {
@@ -202,6 +238,9 @@ impl LinkWriter {
 
     fn push_text(&mut self, text: &[u8]) -> Result<(), AllocError>
         requires { fits 5 text.now ≡ true }
+        ensures base { self.new.base ≡ self.old.base }
+        ensures charset { self.new.charset ≡ self.old.charset }
+        ensures links { OnOk result (self.new.links ≡ self.old.links ++ text.now ∷ []) }
     {
         self.counts.links = self.counts.links.saturating_add(1);
         if let Some(positions) = &mut self.positions {

@@ -1,5 +1,6 @@
 //! What links mean on a page with a `base`.
-ghost use Rattle.std.specs.Prelude.{◌≡◌, IfOk};
+ghost use Rattle.std.specs.Prelude.{◌≡◌, true, IfOk};
+ghost use Rattle.document_links.specs.Written.{has_no_base};
 
 use crate::cleaning::{is_web, scheme_of, trimmed, without_breaks};
 use crawl_keys::{Base, CanonUrl, KeyError};
@@ -71,7 +72,9 @@ pub(crate) fn meaning_of(
     alloc: Global,
     base: &PageBase,
     text: &[u8],
-) -> Result<LinkMeaning, AllocError> {
+) -> Result<LinkMeaning, AllocError>
+    ensures { has_no_base base.now ≡ true → IfOk result (λ meaning. meaning ≡ LinkMeaning.Same) }
+{
     match base {
         PageBase::Url(url) => Ok(match resolved(alloc, url, text)? {
             Some(url) => LinkMeaning::Url(url),

@@ -1,76 +1,82 @@
 //! The links and ids of a document, as `html_links` finds them.
-ghost use Rattle.std.specs.Prelude.{◌≡◌, ◌∷◌, ◌++◌, [], OnOk, reverse};
-ghost use Rattle.document_links.specs.Pieces.{texts_before};
+ghost use Rattle.std.specs.Prelude.{◌≡◌, ◌<◌, ◌∷◌, ◌++◌, [], OnOk, length, slice_index_or};
 
 use html_links::{Links, PlacedLinks};
 use page_anchors::Ids;
 use std::alloc::{AllocError, Global};
 
-/// The range of a link's text among the texts of its document, and the position of its value in the document.
-#[derive(Clone, Copy)]
-pub(crate) struct Piece {
-    pub(crate) begin: usize,
-    pub(crate) end: usize,
-    pub(crate) index: usize,
-}
-
-impl Piece {
-    /// The piece with only its first bytes.
-    pub(crate) fn front(self, count: usize) -> Piece {
-        Piece {
-            begin: self.begin,
-            end: self.begin.saturating_add(count),
-            index: self.index,
-        }
-    }
-
-    /// The piece without its first bytes.
-    pub(crate) fn behind(self, count: usize) -> Piece {
-        Piece {
-            begin: self.begin.saturating_add(count),
-            end: self.end,
-            index: self.index,
-        }
-    }
-}
-
-/// The texts of a document's links, one after another, and the positions of their values.
+/// The texts of a document's links, and the positions of their values in the document.
 #[derive(Drop)]
 pub struct RawLinks {
+    /// The position of the next link's value.
     index: usize,
-    pub(crate) texts: Vec<u8>,
-    pub(crate) pieces: Vec<Piece>,
+    pub(crate) texts: Ids,
+    positions: Vec<usize>,
 }
 
 impl RawLinks {
-    pub fn new(alloc: Global) -> RawLinks {
+    pub fn new(alloc: Global) -> RawLinks
+        ensures { result.texts ≡ [] }
+    {
         RawLinks {
             index: 0,
-            texts: Vec::new(alloc),
-            pieces: Vec::new(alloc),
+            texts: Ids::new(alloc),
+            positions: Vec::new(alloc),
         }
     }
 
-    /// Removes the links. Their memory is kept.
-    pub(crate) fn clear(&mut self) {
-        self.texts.clear();
-        self.pieces.clear();
+    /// Removes the links. As much memory as they had is there for the next ones.
+    pub(crate) fn clear(&mut self) -> Result<(), AllocError>
+        ensures { OnOk result (self.new.texts ≡ []) }
+    {
+        self.positions.clear();
+        self.texts = Ids::with_room(self.allocator(), self.texts.len(), self.texts.byte_count())?;
+        Ok(())
     }
 
-    /// The text of a link.
-    pub(crate) fn text(&self, piece: Piece) -> &[u8] {
-        self.texts
-            .as_slice()
-            .get(piece.begin..piece.end)
-            .unwrap_or(&[])
+    /// The number of links.
+    pub(crate) fn len(&self) -> usize
+        ensures { result ≡ length self.now.texts }
+    {
+        self.texts.len()
+    }
+
+    pub(crate) fn allocator(&self) -> Global {
+        *self.positions.allocator()
+    }
+
+    /// The number of bytes of all texts.
+    pub(crate) fn byte_count(&self) -> usize {
+        self.texts.byte_count()
+    }
+
+    /// The text of the link with this index.
+    pub(crate) fn text(&self, index: usize) -> &[u8]
+        requires { index < length self.now.texts }
+        ensures { result.now ≡ slice_index_or self.now.texts index [] }
+    {
+        self.texts.id(index)
+    }
+
+    /// The position of the link with this index.
+    pub(crate) fn position(&self, index: usize) -> usize {
+        self.positions.get(index).copied().unwrap_or(0)
+    }
+
+    /// Appends a link whose value is at this position.
+    pub(crate) fn push_at(&mut self, position: usize, text: &[u8]) -> Result<(), AllocError>
+        ensures { OnOk result (self.new.texts ≡ self.old.texts ++ text.now ∷ []) }
+    {
+        self.positions.push(position)?;
+        self.texts.push(text)
     }
 }
 
 impl Links for RawLinks {
-    ghost texts = { λ found. texts_before found.texts.items (reverse found.pieces.items) };
+    ghost texts = { λ found. found.texts };
 
     fn push(&mut self, text: &[u8]) -> Result<(), AllocError> {
-        push_piece(text, self.index, &mut self.texts, &mut self.pieces)
+        self.push_at(self.index, text)
     }
 }
 
@@ -78,21 +84,6 @@ impl PlacedLinks for RawLinks {
     fn begin_at(&mut self, index: usize) {
         self.index = index;
     }
-}
-
-fn push_piece(
-    text: &[u8],
-    index: usize,
-    texts: &mut Vec<u8>,
-    pieces: &mut Vec<Piece>,
-) -> Result<(), AllocError>
-    ensures { OnOk result (texts_before texts.new.items (reverse pieces.new.items) ≡ texts_before texts.old.items (reverse pieces.old.items) ++ text.now ∷ []) }
-{
-    let begin = texts.len();
-    texts.extend_from_slice(text)?;
-    let end = texts.len();
-    pieces.push(Piece { begin, end, index })?;
-    Ok(())
 }
 
 /// The ids of a document, in order.
@@ -104,7 +95,9 @@ pub(crate) struct RawIds {
 }
 
 impl RawIds {
-    pub(crate) fn new(alloc: Global) -> RawIds {
+    pub(crate) fn new(alloc: Global) -> RawIds
+        ensures { result.ids ≡ [] }
+    {
         RawIds {
             ids: Ids::new(alloc),
             has_unknown: false,

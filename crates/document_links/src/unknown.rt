@@ -2,7 +2,7 @@
 ghost use Rattle.std.specs.Prelude.{◌≡◌, ◌<◌, ◌≤◌, IsAscii, IfOk};
 
 use crate::cleaning::{before_fragment, is_web, names_host, scheme_of, trimmed};
-use crate::raw_links::{Piece, RawLinks};
+use crate::raw_links::RawLinks;
 use html_links::Base;
 use memchr::{memchr, memmem};
 use page_anchors::Ids;
@@ -48,8 +48,8 @@ pub(crate) fn has_unknown(ids: &Ids) -> bool {
 /// same with every base.
 pub(crate) fn keep_known(base: Base, raw: &mut RawLinks) -> Result<Base, AllocError> {
     let has_base = is_base_known(&base);
-    let known = known_pieces(raw, has_base)?;
-    raw.pieces = known;
+    let known = known_links(raw, has_base)?;
+    *raw = known;
     if has_base { Ok(base) } else { Ok(None) }
 }
 
@@ -60,26 +60,28 @@ fn is_base_known(base: &Base) -> bool {
     }
 }
 
-fn known_pieces(raw: &RawLinks, has_base: bool) -> Result<Vec<Piece>, AllocError> {
-    let mut known = Vec::new(*raw.pieces.allocator());
-    for piece in &raw.pieces {
-        let text = raw.text(*piece);
+fn known_links(raw: &RawLinks, has_base: bool) -> Result<RawLinks, AllocError> {
+    let mut known = RawLinks::new(raw.allocator());
+    for index in 0..raw.len() {
+        let text = raw.text(index);
         if has_base || is_absolute(text) {
-            push_known(*piece, text, &mut known)?;
+            push_known(raw.position(index), text, &mut known)?;
         }
     }
     Ok(known)
 }
 
 /// Appends the known part of a link with this text: all of it, or up to its `#` if only the fragment is unknown.
-fn push_known(piece: Piece, text: &[u8], known: &mut Vec<Piece>) -> Result<(), AllocError> {
+fn push_known(position: usize, text: &[u8], known: &mut RawLinks) -> Result<(), AllocError> {
     let front = before_fragment(text);
     if is_known(text) {
-        known.push(piece)?;
+        known.push_at(position, text)
     } else if is_known(front) {
-        known.push(piece.front(front.len().saturating_add(1)))?;
+        let marked = text.get(..front.len().saturating_add(1)).unwrap_or(text);
+        known.push_at(position, marked)
+    } else {
+        Ok(())
     }
-    Ok(())
 }
 
 /// Whether a link means the same with every base: it has a scheme, and after http or https also a host.

@@ -1,5 +1,5 @@
 use Rattle.std.proofs.Common.{string_bytes, rules, subst}
-use Rattle.saved_site.specs.Below.{IsTop}
+use Rattle.site_files.specs.Below.{IsTop}
 use Rattle.mercator_site.proofs.folder.web_of_folder.Goals as goal
 
 pub returns-clause-below : goal.returns-clause-below
