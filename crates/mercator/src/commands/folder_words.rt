@@ -182,6 +182,7 @@ fn report_options(found: &ArgMatches<'_>) -> ReportOptions {
     }
 }
 
+/// What the report lists.
 fn lists_of(found: &ArgMatches<'_>) -> Lists {
     Lists {
         all: found.get_flag("all-sources"),
