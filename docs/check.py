@@ -1,5 +1,5 @@
 #!/usr/bin/env python3
-"""Check the repository's documents, and the English of its pages and messages.
+"""Check the repository's documents, and the English of its pages, messages and comments.
 
   docs/check.py                     check everything, and exit with status 1 if a check fails
   docs/check.py --words [FILE ..]   list each phrase to avoid in these files, or in all
@@ -16,11 +16,12 @@ Each document is checked for:
 - dates: only the figures and the change log say when something was so.
 - size: README is at most README_BYTES long, an entry of DECISIONS at most ENTRY_WORDS.
 
-Three groups of files (see GROUPS) are searched for phrases that a reader has to translate (see
-PHRASES). In documents they are also searched for table cells of more than CELL_WORDS words, and
-sentences of more than SENTENCE_WORDS; code in backticks counts as one word. Phrases in quotation
-marks do not count. The table CEILINGS has the most that a group may have of each. These numbers may
-be lowered, but not raised.
+Groups of files (see GROUPS) are searched for phrases that a reader has to translate (see PHRASES).
+In documents they are also searched for table cells of more than CELL_WORDS words, and sentences of
+more than SENTENCE_WORDS; code in backticks counts as one word. Phrases in quotation marks do not
+count. In Rattle sources comments are searched, and functions without one are counted, but for tests.
+The table CEILINGS has the most that a group may have of each. These numbers may be lowered, but not
+raised.
 
 The last line is `N passed, M failed`. The commands that the pages show are run by `tests/cases.py`.
 """
@@ -110,6 +111,10 @@ class Unit(NamedTuple):
 
 
 ITEM = re.compile(r"\s*(?:[-*#>]+|\d+\.)\s+")
+# The code before a comment, and its text: `//`, `///` and `//!` in sources, `--` in definitions.
+COMMENT = re.compile(r"\s*(.*?)\s*(?<![^\s])(?://[/!]?|--)(?:\s+(.*))?$")
+TESTS = re.compile(r"/tests\b|_tests/|crates/library_calls/")
+FUNCTION = re.compile(r"\s*(?:pub(?:\([^)]*\))? )?(?:const |ghost |unsafe )*fn (\w+)")
 PLACEHOLDER = re.compile(r"\{[\w:?.#<>]*\}")
 SCRIPT_OF_PAGE = "'use strict'"
 ROFF_TEXT = re.compile(r"\.(?:B|I|BR|RB|BI|IB|IR|RI|SM|SB) (.*)")
@@ -180,6 +185,36 @@ def units_of_rattle(text: str) -> Iterator[Unit]:
         said = PLACEHOLDER.sub("X", said)
         line = text.count("\n", 0, token.start()) + 1
         yield from (Unit(line, paragraph) for paragraph in said.split("\n\n") if paragraph.strip())
+
+
+def units_of_comments(text: str) -> Iterator[Unit]:
+    """The comments of a Rattle source, definition or proof, without the code in them."""
+    pieces: list[str] = []
+    first = 0
+    is_fenced = False
+    for number, line in enumerate((text + "\n\n").splitlines(), 1):
+        comment = COMMENT.match(line)
+        said = (comment[2] or "") if comment else ""
+        if pieces and (not said or comment and comment[1]):
+            yield Unit(first, " ".join(pieces))
+            pieces = []
+        is_fenced = comment is not None and is_fenced != said.startswith("```")
+        if said and not is_fenced and not said.startswith("```"):
+            first = first if pieces else number
+            pieces.append(TICKED.sub("code", said))
+
+
+def functions_without_comment(text: str) -> Iterator[tuple[int, str]]:
+    """The functions that no comment is written above, with their lines, but for a trait's methods
+    in an implementation: the trait has the comment."""
+    is_said = is_of_trait = False
+    for number, line in enumerate(text.splitlines(), 1):
+        if re.match(r"\S", line):
+            is_of_trait = re.match(r"(?:unsafe )?impl\b.* for ", line) is not None
+        function = FUNCTION.match(line)
+        if function is not None and not is_said and not is_of_trait:
+            yield number, function[1]
+        is_said = line.lstrip().startswith("//") or is_said and line.lstrip().startswith("#[")
 
 
 def units_of_python(text: str) -> Iterator[Unit]:
@@ -302,7 +337,8 @@ PHRASES = (
 )
 CELLS = f"cells over {CELL_WORDS} words"
 SENTENCES = f"sentences over {SENTENCE_WORDS} words"
-ALL_NAMES = (*(it.name for it in PHRASES), CELLS, SENTENCES)
+NO_COMMENT = "functions without a comment"
+ALL_NAMES = (*(it.name for it in PHRASES), CELLS, SENTENCES, NO_COMMENT)
 
 # An answer is right in what speaks of requests to `mercator serve` or to a server.
 OF_SESSIONS = re.compile(r"docs/(?:SESSION|SCALE|FORMATS)\.md|clients/.*|crates/crawl_session/.*")
@@ -319,6 +355,11 @@ class Group(NamedTuple):
     files: re.Pattern[str]
     # Phrases that this group may have.
     without: frozenset[str] = frozenset()
+    # Reads the texts of a file that this group is about, if not all texts of its kind.
+    reader: Optional[Callable[[str], Iterator[Unit]]] = None
+
+    def units_of(self, name: str, text: str) -> list[Unit]:
+        return sorted(self.reader(text)) if self.reader is not None else units_of(name, text)
 
 
 GROUPS = (
@@ -327,10 +368,12 @@ GROUPS = (
         r"|docs/(?:GUIDE|MANUAL|SESSION|FORMATS|SCALE|GLOSSARY)\.md|clients/python/README\.md")),
     Group("help", re.compile(
         r"crates/mercator/src/commands/.*\.rt"
-        r"|crates/(?:check_report|mercator_cli|mercator_site|saved_site)/src/.*\.rt"
+        r"|crates/(?:check_report|mercator_cli|mercator_site|saved_site|site_files)/src/.*\.rt"
         r"|(?:examples|clients|tools)/.*\.(?:py|sh)|(?:try|install)\.sh")),
     Group("others", re.compile(r".*\.md"), frozenset({"subqueue"})),
+    Group("comments", re.compile(r".*\.(?:rt|antt)"), frozenset({"subqueue"}), units_of_comments),
 )
+ANY_FILE = Group("any", re.compile(r".*"))
 
 
 class Found(NamedTuple):
@@ -342,8 +385,11 @@ class Found(NamedTuple):
     context: str
 
 
-def group_of(name: str) -> Optional[Group]:
-    return next((group for group in GROUPS if group.files.fullmatch(name)), None)
+def groups_of(name: str) -> list[Group]:
+    """The first group of this file that is about all its texts, and each that has a reader."""
+    found = [group for group in GROUPS if group.files.fullmatch(name)]
+    whole = [group for group in found if group.reader is None]
+    return whole[:1] + [group for group in found if group.reader is not None]
 
 
 def is_meant(it: Phrase, file: str, unit: Unit) -> bool:
@@ -357,17 +403,23 @@ def is_meant(it: Phrase, file: str, unit: Unit) -> bool:
     return False
 
 
-def phrases_in(file: str, text: str) -> Iterator[Found]:
-    for unit in units_of(file, text):
+def phrases_in(group: Group, file: str, text: str) -> Iterator[Found]:
+    for unit in group.units_of(file, text):
         said = re.sub(r"\s+", " ", unit.text)
-        searched = QUOTATION.sub('""', said) if file.endswith(".md") else said
+        is_quoting = file.endswith(".md") or group.reader is not None
+        searched = QUOTATION.sub('""', said) if is_quoting else said
         for it in PHRASES:
+            if it.name in group.without:
+                continue
             for match in it.pattern.finditer(searched):
                 if not is_meant(it, file, unit):
                     around = searched[max(0, match.start() - 40):match.end() + 40]
                     yield Found(file, unit.line, it.name, around.strip())
         if file.endswith((".md", ".1")):
             yield from too_long(file, unit, said)
+    if group.reader is units_of_comments and file.endswith(".rt") and not TESTS.search(file):
+        for line, function in functions_without_comment(text):
+            yield Found(file, line, NO_COMMENT, function)
 
 
 def too_long(file: str, unit: Unit, said: str) -> Iterator[Found]:
@@ -389,48 +441,47 @@ def counts_of(files: Files) -> Counts:
     """How often each group of files has each phrase."""
     counts: Counts = {name: [0] * len(GROUPS) for name in ALL_NAMES}
     for name, text in files.texts.items():
-        group = group_of(name)
-        if group is not None:
-            for found in phrases_in(name, text):
-                if found.name not in group.without:
-                    counts[found.name][GROUPS.index(group)] += 1
+        for group in groups_of(name):
+            for found in phrases_in(group, name, text):
+                counts[found.name][GROUPS.index(group)] += 1
     return counts
 
 
 # The most that each group of files may have of each phrase. Run `docs/check.py --ceilings` to print
 # this table with the counts as they are now.
 CEILINGS: Counts = {
-    "tell": [0, 0, 0],
-    "stand": [0, 0, 0],
-    "want": [0, 0, 0],
-    "answer (of a function)": [2, 0, 2],
-    "asked": [0, 0, 0],
-    "go on": [0, 0, 0],
-    "mend": [0, 0, 0],
-    "where (condition)": [1, 0, 1],
-    "behind": [0, 0, 0],
-    "beside": [0, 0, 0],
-    "at once": [0, 0, 0],
-    "growth": [0, 0, 0],
-    "wrong body": [0, 0, 0],
-    "not taken": [0, 0, 0],
-    "drawn": [0, 0, 0],
-    "reckon": [0, 0, 0],
-    "of processor, of clock": [0, 0, 0],
-    "fault": [0, 0, 1],
-    "words (arguments)": [0, 1, 0],
-    "in hand": [0, 0, 0],
-    "strangers": [0, 0, 0],
-    "kit": [0, 0, 0],
-    "plain texts": [0, 0, 0],
-    "worked row": [0, 0, 0],
-    "subqueue": [0, 1, 0],
-    "one a line": [0, 0, 0],
-    "alone (only)": [0, 0, 0],
-    "so many, as many": [0, 1, 0],
-    "the same of": [0, 0, 0],
-    "cells over 25 words": [0, 0, 0],
-    "sentences over 35 words": [0, 0, 0],
+    "tell": [0, 0, 0, 116],
+    "stand": [0, 0, 0, 269],
+    "want": [0, 0, 0, 35],
+    "answer (of a function)": [2, 0, 2, 85],
+    "asked": [0, 0, 0, 20],
+    "go on": [0, 0, 0, 22],
+    "mend": [0, 0, 0, 0],
+    "where (condition)": [1, 0, 1, 383],
+    "behind": [0, 0, 0, 302],
+    "beside": [0, 0, 0, 37],
+    "at once": [0, 0, 0, 10],
+    "growth": [0, 0, 0, 22],
+    "wrong body": [0, 0, 0, 0],
+    "not taken": [0, 0, 0, 9],
+    "drawn": [0, 0, 0, 0],
+    "reckon": [0, 0, 0, 0],
+    "of processor, of clock": [0, 0, 0, 0],
+    "fault": [0, 0, 1, 122],
+    "words (arguments)": [0, 1, 0, 16],
+    "in hand": [0, 0, 0, 1],
+    "strangers": [0, 0, 0, 4],
+    "kit": [0, 0, 0, 0],
+    "plain texts": [0, 0, 0, 8],
+    "worked row": [0, 0, 0, 1],
+    "subqueue": [0, 1, 0, 0],
+    "one a line": [0, 0, 0, 5],
+    "alone (only)": [0, 0, 0, 59],
+    "so many, as many": [0, 1, 0, 128],
+    "the same of": [0, 0, 0, 26],
+    "cells over 25 words": [0, 0, 0, 0],
+    "sentences over 35 words": [0, 0, 0, 0],
+    "functions without a comment": [0, 0, 0, 535],
 }
 
 
@@ -576,14 +627,11 @@ def print_words(root: Path, paths: Iterable[str]) -> None:
     count = 0
     for name, text in (chosen or texts).items():
         inside = name_in_repository(Path(name)) if chosen else name
-        group = group_of(inside)
-        if not chosen and group is None:
-            continue
-        for found in phrases_in(inside, text):
-            if group is None or found.name not in group.without:
-                count += 1
-                advice = f" ({known[found.name]})" if found.name in known else ""
-                print(f"{name}:{found.line}: {found.name}{advice}: {found.context}")
+        groups = groups_of(inside) or ([ANY_FILE] if chosen else [])
+        for found in (it for group in groups for it in phrases_in(group, inside, text)):
+            count += 1
+            advice = f" ({known[found.name]})" if found.name in known else ""
+            print(f"{name}:{found.line}: {found.name}{advice}: {found.context}")
     print(f"{count} found")
 
 

@@ -36,7 +36,7 @@ from checking import drawing, forms, loading, samples
 from checking.documents import TOOL
 from checking.known import KNOWN, Known, To, Zeros
 from checking.model import Model, Moved, Row, Settings, is_short
-from checking.tags import start_tags
+from checking.tags import document_tags
 from checking.webs import Converter, first_difference, model_fault
 
 BASE = "http://docs.test/"
@@ -415,7 +415,8 @@ def compare_tags(count: int, seed: int) -> None:
     series, draw = Series("tags of documents"), Random(seed)
     for number in range(count):
         text = links.drawn_document(draw, number % 2 == 1)
-        ours = [(tag.name, {one.name: one.value for one in reversed(tag.attributes)}) for tag in start_tags(text)]
+        tags = (tag for tag in document_tags(text) if not tag.is_end)
+        ours = [(tag.name, {one.name: one.value for one in reversed(tag.attributes)}) for tag in tags]
         series.add(repr(text), None if ours == theirs(text) else f"model {ours}, expected {theirs(text)}")
     series.end()
 

@@ -33,11 +33,14 @@ BETWEEN = "\x1d"  # ends a document, and the links of a document
 BEHIND = "\x1e"  # ends a link
 
 TAGS = """a area audio body embed frame image img input link object source table td th track use video base meta p div
-svg option br a img link meta a img source""".split()
+svg option br a img link meta a img source template template input button iframe param param meta tr thead tbody tfoot""".split()
 TEXT_TAGS = "script style title textarea xmp iframe noembed noframes plaintext".split()
 OWN = {
-    "a": "href xlink:href", "img": "src srcset", "source": "src srcset", "link": "href imagesrcset rel",
-    "meta": "http-equiv content", "video": "src poster", "object": "data", "area": "href", "use": "href", "td": "background",
+    "a": "href xlink:href", "img": "src srcset longdesc", "source": "src srcset", "link": "href imagesrcset rel",
+    "input": "type src formaction", "button": "type formaction", "iframe": "src longdesc", "param": "name value",
+    "meta": "http-equiv content property name", "video": "src poster", "object": "data", "area": "href", "use": "href",
+    **dict.fromkeys("td tr thead tbody tfoot".split(), "background"),
+    "template": "shadowrootmode",
 }
 VALUES = [
     "x", "a b", "../y?q=1&r=2", "", " \t pad \n", "&amp;", "&amp", "&ampx", "&amp=1", "&copy=1", "&copy;", "&copyx", "&notit;",
@@ -45,7 +48,9 @@ VALUES = [
     "&", "&;", "&#", "&#x", "&CounterClockwiseContourIntegral;", "&frac12", "&there4;", "&bne;", "&acE;", "&nosuch;", "&lt&gt;",
     "&#1;", "&#xFFFE;", "a.png 1x, b.png 2x", "a.png, b.png,, c.png 3w,", "a(,b) 2x, c (d, e) f, g", ",,,", "a,b c,d",
     "0; url=n.html", "5;URL='q.html'", " 3 r.html", '1,"s.html', "0;url = t.html", " 5x", ".;v", "refresh", "REFRESH",
-    "preconnect", "DNS-Prefetch icon", "\u00fc?\u00fc", "\u20ac", "\0",
+    "preconnect", "DNS-Prefetch icon", " DNS-Prefetch \n preconnect", "open", "Closed",
+    "image", "IMAGE", "submit", "reset", "&#98;utton", "text", "movie", "Data", "og:image", "og:image:url", "OG:image",
+    "twitter:player", "og:&#117;rl", "\u00fc?\u00fc", "\u20ac", "\0",
 ]
 PIECES = [
     "<", "<<", ">", "</", "</>", "</ >", "</3>", "<?", "<!", "<!>", "<!DOCTYPE html>", "<!doctype html PUBLIC \">\" '>'>",
@@ -53,7 +58,7 @@ PIECES = [
     "<!---->", "<!-----x-->", "<!--!>", "--!>", "-->", "--", "-", "!", "&", "\n", "\f", "\0", "'", '"', "=", "/", "</p>",
     "</a href='>'>", "</script>", "</style>", "</title>", "</script >", "</ script>", "</SCRIPT\n>", "</scripty>", "</script",
     "<!--<script>", "<script>", "<script ", "<script/>", "<style/>", "<title/>", "script", "a", "href=", "src=x",
-    "<style>p{background:url(s.png)}</style>", "<textarea><a href=in></textarea>",
+    "<style>p{background:url(s.png)}</style>", "<textarea><a href=in></textarea>", "<template>", "</template>", "</Template >",
 ]
 PROGRAM = """//! Prints the links of the documents in a file.
 #![tactic(auto)]
@@ -119,12 +124,19 @@ class Reader(TOOL.LinkReader):  # type: ignore[misc, name-defined]
         """Return the links of a document."""
         tokens = _tokenizer.HTMLTokenizer(text)
         self.in_style = None
+        inside = 0  # the number of open templates, from the first that is no shadow root
         for token in tokens:
             if token["type"] == tokenTypes["StartTag"]:
-                self.read_tag(token["name"], dict(reversed(token["data"].items())), tokens)
+                found = dict(reversed(token["data"].items()))
+                if not inside:
+                    self.read_tag(token["name"], found)
+                if token["name"] == "template" and (inside or not is_shadow(found)):
+                    inside += 1
+                set_state(token["name"], tokens)
             elif token["type"] == tokenTypes["EndTag"]:
                 self.flush(self.in_style)
                 self.in_style = None
+                inside = max(0, inside - (token["name"] == "template"))
             elif token["type"] in (tokenTypes["Characters"], tokenTypes["SpaceCharacters"]) and self.in_style is not None:
                 self.in_style += token["data"]
         self.flush(self.in_style)
@@ -137,8 +149,6 @@ class Reader(TOOL.LinkReader):  # type: ignore[misc, name-defined]
 
     def read_refresh(self, found: dict[str, str]) -> None:
         """Add the target of a refresh, by the steps of the HTML Standard."""
-        if found.get("http-equiv", "").lower() != "refresh":
-            return
         time = REFRESH.match(found.get("content", ""))
         if time:
             target = re.sub(r"\A[uU][rR][lL][\t\n\f\r ]*=[\t\n\f\r ]*", "", time[1])
@@ -146,23 +156,32 @@ class Reader(TOOL.LinkReader):  # type: ignore[misc, name-defined]
                 target = target[1:].split(target[0])[0]
             self.links += [target] if target else []
 
-    def read_tag(self, tag: str, found: dict[str, str], tokens: Any) -> None:
-        """Add the links of a start tag, and set the state of the tokenizer after it."""
+    def read_tag(self, tag: str, found: dict[str, str]) -> None:
+        """Add the links of a start tag."""
         if "style" in found:
             self.links += TOOL.links_of_style(found["style"])
-        if tag == "meta":
+        if tag == "meta" and found.get("http-equiv", "").lower() == "refresh":
             self.read_refresh(found)
-        elif tag in TOOL.LINKS and (tag != "link" or not TOOL.HOST_HINTS & set(found.get("rel", "").lower().split())):
-            self.read_links(TOOL.LINKS[tag], found)
-        if tag in ("title", "textarea"):
-            tokens.state = tokens.rcdataState
-        elif tag in ("style", "xmp", "iframe", "noembed", "noframes"):
-            tokens.state = tokens.rawtextState
-        elif tag == "script":
-            tokens.state = tokens.scriptDataState
-        elif tag == "plaintext":
-            tokens.state = tokens.plaintextState
+        elif tag in TOOL.LINKS:
+            self.read_links(tuple(name for name in TOOL.LINKS[tag] if TOOL.is_link(tag, name, found)), found)
         self.in_style = "" if tag == "style" else None
+
+
+def is_shadow(found: dict[str, str]) -> bool:
+    """Return whether a template with these attributes becomes a shadow root."""
+    return found.get("shadowrootmode", "").lower() in ("open", "closed")
+
+
+def set_state(tag: str, tokens: Any) -> None:
+    """Set the state of the tokenizer after a start tag."""
+    if tag in ("title", "textarea"):
+        tokens.state = tokens.rcdataState
+    elif tag in ("style", "xmp", "iframe", "noembed", "noframes"):
+        tokens.state = tokens.rawtextState
+    elif tag == "script":
+        tokens.state = tokens.scriptDataState
+    elif tag == "plaintext":
+        tokens.state = tokens.plaintextState
 
 
 def drawn_tag(draw: random.Random) -> str:

@@ -77,9 +77,10 @@ pages of a WARC: the response, resource and revisit records of http and https UR
   than 2^20 bytes of headers is an error; a response with so many is not a page.
 
 links: the URLs in elements that load or lead to another document (a, area, img,
-  script, link, iframe and others), in srcset and in a meta refresh, in the order of
-  the document. Not read are `link` with rel preconnect or dns-prefetch (which name
-  only a host), forms, quotations, and what scripts create. A link is written as it
+  script, link, iframe and others), in srcset, in a meta refresh and in a meta such
+  as og:image, but not those in a template, in the order of
+  the document. Not read are `link` whose rel has only preconnect or dns-prefetch (which
+  name a host), forms, quotations, and what scripts create. A link is written as it
   is in the document, with its character references decoded, except that
   - tabs, line breaks, and spaces at both ends are removed, as URL parsers do;
   - in a page with an encoding that Python does not know, only ASCII is read: a link
@@ -129,24 +130,37 @@ LINKS = {
     "area": ("href",),
     "audio": ("src",),
     "body": ("background",),
+    "button": ("formaction",),
     "embed": ("src",),
-    "frame": ("src",),
-    "iframe": ("src",),
+    "frame": ("src", "longdesc"),
+    "iframe": ("src", "longdesc"),
     "image": ("href", "xlink:href"),
-    "img": ("src", "srcset"),
-    "input": ("src",),
+    "img": ("src", "srcset", "longdesc"),
+    "input": ("src", "formaction"),
     "link": ("href", "imagesrcset"),
+    "meta": ("content",),
     "object": ("data",),
+    "param": ("value",),
     "script": ("src",),
     "source": ("src", "srcset"),
     "table": ("background",),
+    "tbody": ("background",),
     "td": ("background",),
+    "tfoot": ("background",),
     "th": ("background",),
+    "thead": ("background",),
+    "tr": ("background",),
     "track": ("src",),
     "use": ("href", "xlink:href"),
     "video": ("src", "poster"),
 }
 HOST_HINTS = {"preconnect", "dns-prefetch"}  # the values of rel with which a link names only a host
+# The values of property or name with which the content of a meta is a URL
+URL_NAMES = {
+    "og:url", "twitter:image", "twitter:image:src", "twitter:player", "twitter:player:stream",
+    *(f"og:{kind}{part}" for kind in ("image", "video", "audio") for part in ("", ":url", ":secure_url")),
+}
+DATA_NAMES = {"data", "movie", "src", "url"}  # the names with which the value of a param is a URL
 
 
 class Fault(Exception):
@@ -443,6 +457,22 @@ def links_of_style(text: str) -> list[str]:
     return ["".join(found) for found in STYLE_URL.findall(text)]
 
 
+def is_link(tag: str, name: str, found: dict[str, str]) -> bool:
+    """Return whether an attribute of an element is a link, by the other attributes."""
+    kind = found.get("type", "").lower()
+    if tag == "link":
+        return "rel" not in found or not set(re.split("[\t\n\f\r ]", found["rel"].lower())) <= {"", *HOST_HINTS}
+    if tag == "input":
+        return kind == "image" or name == "formaction" and kind == "submit"
+    if tag == "button":
+        return kind not in ("reset", "button")
+    if tag == "param":
+        return found.get("name", "").lower() in DATA_NAMES
+    if tag == "meta":
+        return not URL_NAMES.isdisjoint((found.get("property"), found.get("name")))
+    return True
+
+
 class LinkReader(html.parser.HTMLParser):
     """Collects the link texts of a document in order, and the text of its base."""
 
@@ -454,6 +484,7 @@ class LinkReader(html.parser.HTMLParser):
         self.links: list[str] = []
         self.base: Optional[str] = None
         self.styles, self.in_style = styles, False
+        self.templates = 0  # the number of open templates, from the first that is no shadow root
 
     def parse_comment(self, begin: int, report: int = True) -> int:
         """Return the end of a comment by the HTML Standard; Python's own rules depend on its version."""
@@ -484,33 +515,45 @@ class LinkReader(html.parser.HTMLParser):
 
     def handle_endtag(self, tag: str) -> None:
         self.in_style = False
+        if tag == "template" and self.templates:
+            self.templates -= 1
 
     def handle_data(self, data: str) -> None:
         if self.in_style:
             self.links += links_of_style(data)
 
     def handle_starttag(self, tag: str, attrs: list[tuple[str, Optional[str]]]) -> None:
+        if not self.templates:
+            self.read_tag(tag, attrs)
+        if tag == "template" and (self.templates or not self.is_shadow_root()):
+            self.templates += 1
+
+    def is_shadow_root(self) -> bool:
+        """Return whether the last start tag, of a template, makes a shadow root of it."""
+        return attributes(self.get_starttag_text() or "").get("shadowrootmode", "").lower() in ("open", "closed")
+
+    def read_tag(self, tag: str, attrs: list[tuple[str, Optional[str]]]) -> None:
+        """Add the links of a start tag that is not in a template."""
         if self.styles:
             self.in_style = tag == "style"
             for name, value in attrs:
                 if name == "style" and value:
                     self.links += links_of_style(value)
-        if tag not in LINKS and tag not in ("base", "meta"):
+        if tag not in LINKS and tag != "base":
             return
         found = attributes(self.get_starttag_text() or "")
         if tag == "base":
             if self.base is None:
                 self.base = found.get("href")
-        elif tag == "meta":
+        elif tag == "meta" and found.get("http-equiv", "").lower() == "refresh":
             self.read_refresh(found)
-        elif tag != "link" or not HOST_HINTS & set(found.get("rel", "").lower().split()):
-            self.read_links(LINKS[tag], found)
+        else:
+            self.read_links(tuple(name for name in LINKS[tag] if is_link(tag, name, found)), found)
 
     def read_refresh(self, found: dict[str, str]) -> None:
         """Add the target of a meta refresh."""
-        if found.get("http-equiv", "").lower() == "refresh":
-            refresh = REFRESH.match(found.get("content", ""))
-            self.links += [part for part in refresh.groups() if part] if refresh else []
+        refresh = REFRESH.match(found.get("content", ""))
+        self.links += [part for part in refresh.groups() if part] if refresh else []
 
     def read_links(self, names: tuple[str, ...], found: dict[str, str]) -> None:
         """Add the link texts of the attributes with these names."""

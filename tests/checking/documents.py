@@ -8,7 +8,7 @@ from typing import Any, Dict, FrozenSet, List, NamedTuple, Optional, Set, Tuple
 from urllib.parse import quote
 
 from checking import loading
-from checking.tags import SPACE, Attribute, Tag, start_tags
+from checking.tags import Attribute, Tag, page_tags
 
 TOOL: Any = loading.script("site_to_web", "tools/site_to_web.py")
 REFRESH = re.compile(r"[\t\n\f\r ]*[0-9.]+(?=[;,\t\n\f\r ])[\t\n\f\r ]*[;,]?[\t\n\f\r ]*(.*)", re.DOTALL)
@@ -112,11 +112,6 @@ def firsts(tag: Tag) -> Dict[str, Attribute]:
     return found
 
 
-def words_of(text: str) -> List[str]:
-    """The words of a list in lower case."""
-    return [word.lower() for word in re.split(f"[{SPACE}]+", text) if word]
-
-
 def target_of(text: str) -> List[str]:
     """The target of a refresh, by the steps of the HTML Standard."""
     time = REFRESH.match(text)
@@ -128,16 +123,12 @@ def target_of(text: str) -> List[str]:
 
 def texts_of(tag: str, found: Dict[str, Attribute]) -> List[Link]:
     """The links of a start tag."""
-    if tag == "meta":
-        content = found.get("content")
-        if content is None or found.get("http-equiv", content).value.lower() != "refresh" or "http-equiv" not in found:
-            return []
-        return [Link(text, content.at) for text in target_of(content.value)]
-    if tag == "link" and TOOL.HOST_HINTS & set(words_of(found["rel"].value if "rel" in found else "")):
-        return []
+    values = {name: attribute.value for name, attribute in found.items()}
+    if tag == "meta" and values.get("http-equiv", "").lower() == "refresh":
+        return [Link(text, found["content"].at) for text in target_of(values.get("content", ""))]
     links = []
     for name in TOOL.LINKS.get(tag, ()):
-        if name in found:
+        if name in found and TOOL.is_link(tag, name, values):
             value = found[name]
             texts = TOOL.candidates(value.value) if name.endswith("srcset") else [value.value]
             links += [Link(text, value.at) for text in texts]
@@ -149,7 +140,7 @@ def read_tags(text: str) -> Tuple[List[Link], Optional[str], Set[str]]:
     links: List[Link] = []
     ids: Set[str] = set()
     base = None
-    for tag in start_tags(text):
+    for tag in page_tags(text):
         found = firsts(tag)
         if tag.name == "base" and base is None and "href" in found:
             base = found["href"].value

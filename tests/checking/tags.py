@@ -1,4 +1,4 @@
-"""The start tags of an HTML document by the HTML Standard's tokenizer, each value with its position."""
+"""The start tags of an HTML page by the HTML Standard's tokenizer, each value with its position."""
 
 from __future__ import annotations
 
@@ -12,7 +12,7 @@ BETWEEN = re.compile(r"[\t\n\f\r /]*")
 SPACES = re.compile(r"[\t\n\f\r ]*")
 ATTRIBUTE_NAME = re.compile(r"[^\t\n\f\r />][^\t\n\f\r />=]*")
 UNQUOTED = re.compile(r"[^\t\n\f\r >]*")
-PLAIN_END = re.compile(r"/[A-Za-z][^\t\n\f\r />]*>")
+PLAIN_END = re.compile(r"/(?!template>)[A-Za-z][^\t\n\f\r />]*>", re.I)
 LETTERS = frozenset("abcdefghijklmnopqrstuvwxyzABCDEFGHIJKLMNOPQRSTUVWXYZ")
 COMMENT_END = re.compile(r"-?>|[\s\S]*?--!?>")
 SCRIPT_MARK = re.compile(r"<!--|-->|<(/?)script(?=[\t\n\f\r />])", re.I)
@@ -36,6 +36,12 @@ class Attribute(NamedTuple):
 class Tag(NamedTuple):
     name: str
     attributes: Tuple[Attribute, ...]
+    is_end: bool = False
+
+    def is_shadow(self) -> bool:
+        """Whether a template with these attributes becomes a shadow root. Character references are not read."""
+        modes = [attribute.value.lower() for attribute in self.attributes if attribute.name == "shadowrootmode"]
+        return modes[:1] in (["open"], ["closed"])
 
 
 def lower(text: str) -> str:
@@ -141,8 +147,21 @@ def content_end(name: str, text: str, at: int) -> int:
     return at
 
 
-def start_tags(text: str) -> Iterator[Tag]:
-    """The start tags of a document, in order."""
+def page_tags(text: str) -> Iterator[Tag]:
+    """The start tags of the page, in order: those that are not in the contents of a template."""
+    inside = 0  # the number of templates that are open, from the first that is no shadow root
+    for tag in document_tags(text):
+        if not inside and not tag.is_end:
+            yield tag
+        if tag.name == "template":
+            if tag.is_end:
+                inside = max(inside - 1, 0)
+            elif inside or not tag.is_shadow():
+                inside += 1
+
+
+def document_tags(text: str) -> Iterator[Tag]:
+    """The start tags of a document and the end tags of templates, in order."""
     at = 0
     while True:
         at = text.find("<", at) + 1
@@ -163,7 +182,9 @@ def start_tags(text: str) -> Iterator[Tag]:
             name = NAME.match(text, at + (begins == "/"))
             assert name is not None
             found, at = attributes_from(text, name.end())
-            if at <= len(text) and begins != "/":
+            if at <= len(text) and begins == "/" and lower(name[0]) == "template":
+                yield Tag("template", (), is_end=True)
+            elif at <= len(text) and begins != "/":
                 yield Tag(lower(name[0]), found)
                 at = content_end(lower(name[0]), text, at)
             if at > len(text):

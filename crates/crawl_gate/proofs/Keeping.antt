@@ -1,5 +1,5 @@
--- Each kind of step keeps the gate's invariant, and tells its seat what `specs/Steps.antt` says.
-use Rattle.std.proofs.Common.{◌≡◌, ◌≢◌, ℕ, ◌+◌, ◌-◌, ◌%◌, ◌^◌, ◌<◌, ◌≤◌, Bool, true, false, true≢false, eqb, List, [], ◌∷◌, ◌++◌, set, sym, refl, ap, ◌∙◌, subst, ◌⊎◌, inl, inr, ⊎_elim, arith, eq-eqb, ne_eqb}
+-- Each kind of step keeps the gate's invariant, and its seat learns what `specs/Steps.antt` states.
+use Rattle.std.proofs.Common.{◌≡◌, ◌≢◌, ℕ, ◌+◌, ◌-◌, ◌%◌, ◌^◌, ◌<◌, ◌≤◌, Bool, true, false, true≢false, eqb, List, [], ◌∷◌, ◌++◌, set, sym, refl, ap, ◌∙◌, subst, ◌⊎◌, ⊎_elim, arith, eq-eqb, ne_eqb}
 use Rattle.std.specs.Prelude.{slice_index}
 use mathlib.Core.Logic.{dite}
 use mathlib.Core.Option.{none, some, some-injective}
@@ -10,7 +10,7 @@ use Rattle.atomic_table.specs.Table.{step, keeps, stepped, Allows, Splits}
 use Rattle.atomic_table.proofs.Lists.{at_set, at_snoc, at_longer, set_else, set_again}
 use Rattle.crawl_gate.specs.declared.rule.View.{View}
 use Rattle.crawl_gate.specs.declared.step_kind.StepKind.{StepKind}
-use Rattle.crawl_gate.specs.declared.step_kind.StepKind.TheVariants.{Load, EnterWon, EnterLost, Leave, CloseWon, CloseLost}
+use Rattle.crawl_gate.specs.declared.step_kind.StepKind.TheVariants.{Load, EnterWon, EnterLost, Leave, CloseLost}
 use Rattle.crawl_gate.specs.Word.{Word, bits, closed_bit, open_at, closed_at}
 use Rattle.crawl_gate.specs.View.{units_of, units_held, knows_closed, fresh_view, view_meeting, view_looking, view_entering, view_losing, view_leaving, view_closing, view_not_closing}
 use Rattle.crawl_gate.specs.GateInvariant.{Moment, HasCloser, GateInvariant, MayMeet}
@@ -22,7 +22,7 @@ use Rattle.crawl_gate.proofs.Knowing.{knows_closed-before}
 abbrev pub word_of : (max : ℕ) (gate : Moment) → GateInvariant max gate → Word
 word_of max gate k = (units_held gate.views, k.closed)
 
--- what is owed of a step by which a seat's view goes from v to w, and which leaves the word x
+-- what must be shown of a step that changes a seat's view from v to w and leaves the word x
 pub record Owed (max : ℕ) (gate : Moment) (k : GateInvariant max gate) (v w : View) (x : Word) : Type 0 where
   pub counted : x.0 + units_of v.holds_unit ≡ units_held gate.views + units_of w.holds_unit
   pub within : x.0 ≤ max
@@ -33,7 +33,7 @@ pub record Owed (max : ℕ) (gate : Moment) (k : GateInvariant max gate) (v w : 
   pub known : knows_closed w ≡ true → x.1 ≡ true
   pub keeps_closer : v.closed_gate ≡ true → w.closed_gate ≡ true
 
--- who has closed the gate has closed it after a step of its own, and after a step of another seat
+-- a seat that has closed the gate has still closed it after a step, its own or another seat's
 pub still_closer : (views : List View) (seat : ℕ) (v w : View) → get_elem? views seat ≡ some v → (v.closed_gate ≡ true → w.closed_gate ≡ true)
     → HasCloser views → HasCloser (set views seat w)
 still_closer views seat v w at stays by = dite (ℕ_discrete by.0 seat)
@@ -42,7 +42,7 @@ still_closer views seat v w at stays by = dite (ℕ_discrete by.0 seat)
     (seat, w, at_itself views seat v w at, stays (subst (λ (u : View). u.closed_gate ≡ true) (sym is) by.3)))
     (λ other. (by.0, by.1, set_else views seat by.0 w other ∙ by.2, by.3))
 
--- a step that does what is owed keeps the invariant
+-- a step that meets `Owed` keeps the invariant
 pub kept : (max : ℕ) (gate : Moment) (k : GateInvariant max gate) (seat : ℕ) (m : Sitting) (w : View) (x : Word) → get_elem? gate.views seat ≡ some m.0
     → Owed max gate k m.0 w x → GateInvariant max (stepped gate 0 (bits x) seat m.1 w keeps)
 kept max gate k seat m w x at o =
@@ -65,55 +65,28 @@ kept max gate k seat m w x at o =
           (at_set gate.views seat other w u e);
     }
 
--- a step that meets the word and leaves it as it is
+-- a step that reads the word and does not change it
 pub owed_meeting : (max : ℕ) (gate : Moment) (k : GateInvariant max gate) (seat : ℕ) (v : View) (kind : StepKind) → get_elem? gate.views seat ≡ some v
     → Owed max gate k v (view_meeting v kind (word_of max gate k)) (word_of max gate k)
-owed_meeting max gate k seat v kind at = record {
-  counted = refl;
-  within = k.within;
-  empty = k.empty;
-  stays = λ e. e;
-  closer = λ e. inl e;
-  same_max = refl;
-  known = λ e. ⊎_elim (k.seats seat v at).1 (λ closed. closed) (knows_closed-before v kind (word_of max gate k) e);
-  keeps_closer = λ e. e;
-}
+owed_meeting max gate k seat v kind at = grind (arith, knows_closed-before)
 
--- a step that finds the gate open and leaves it open, with one unit more or less
+-- a step that finds the gate open and leaves it open, with one unit more or one unit fewer
 pub owed_moving : (max : ℕ) (gate : Moment) (k : GateInvariant max gate) (seat : ℕ) (v w : View) (kind : StepKind) (n : ℕ) → get_elem? gate.views seat ≡ some v
     → k.closed ≡ false → n + units_of v.holds_unit ≡ units_held gate.views + units_of w.holds_unit → n ≤ max
     → w.max_pending ≡ v.max_pending → w.closed_gate ≡ v.closed_gate → (knows_closed w ≡ true → knows_closed (view_meeting v kind (word_of max gate k)) ≡ true)
     → Owed max gate k v w (open_at n)
-owed_moving max gate k seat v w kind n at is_open counted within same_max same_closed knew = record {
-  counted = counted;
-  within = within;
-  empty = λ e. absurd (true≢false (sym e));
-  stays = λ e. sym is_open ∙ e;
-  closer = λ e. absurd (true≢false (sym e));
-  same_max = same_max;
-  known = λ e. ⊎_elim (λ knows. sym is_open ∙ (k.seats seat v at).1 knows) (λ closed. sym is_open ∙ closed) (knows_closed-before v kind (word_of max gate k) (knew e));
-  keeps_closer = λ e. same_closed ∙ e;
-}
+owed_moving max gate k seat v w kind n at is_open counted within same_max same_closed knew = grind (arith, knows_closed-before)
 
 -- a step that finds no unit held and closes the gate
 pub owed_closing : (max : ℕ) (gate : Moment) (k : GateInvariant max gate) (v : View) (x : Word) → units_held gate.views ≡ 0
     → Owed max gate k v (view_closing v x) (closed_at 0)
-owed_closing max gate k v x none_held = record {
-  counted = omega (arith, none_held);
-  within = omega arith;
-  empty = λ _. refl;
-  stays = λ _. refl;
-  closer = λ _. inr refl;
-  same_max = refl;
-  known = λ _. refl;
-  keeps_closer = λ _. refl;
-}
+owed_closing max gate k v x none_held = grind arith
 
 -- the number that a step finds
 found : (max : ℕ) (gate : Moment) (k : GateInvariant max gate) → slice_index gate.words 0 ≡ bits (word_of max gate k)
 found max gate k = ap (λ ws. slice_index ws 0) k.word
 
--- what any seat may rely on at that word
+-- what every seat may assume at that word
 pub may_meet : (max : ℕ) (gate : Moment) (k : GateInvariant max gate) (seat : ℕ) (v : View) → get_elem? gate.views seat ≡ some v → MayMeet v (word_of max gate k)
 may_meet max gate k seat v at =
     let mine = k.seats seat v at in
@@ -132,7 +105,7 @@ may_meet max gate k seat v at =
     stays_open true one empty = absurd (omega (arith, empty refl))
     stays_open false one empty = refl
 
--- the invariant after such steps, as a step of the word sees them
+-- the invariant after such steps, stated for the word
 unmoved : (max : ℕ) (gate : Moment) (k : GateInvariant max gate) (seat : ℕ) (m : Sitting) (kind : StepKind) → get_elem? gate.views seat ≡ some m.0
     → GateInvariant max (stepped gate 0 (slice_index gate.words 0) seat m.1 (view_meeting m.0 kind (word_of max gate k)) keeps)
 unmoved max gate k seat m kind at =
@@ -178,10 +151,9 @@ splits max seat v gate k at =
           (at_snoc (set gate.views seat v) new u other e);
     }
 
--- a number at most the maximum is the word of an open gate
+-- a number of at most the maximum is the word of an open gate
 pub is_open_at : (count n max : ℕ) (closed : Bool) → max < 2 ^ 63 → n ≤ max → count + closed_bit closed ≡ n → (closed ≡ false) × (count ≡ n)
-is_open_at count n max true small within e = absurd (omega arith)
-is_open_at count n max false small within e = (refl, omega arith)
+is_open_at count n max closed small within e = grind arith
 
 pub takes_unit : (max slots seat : ℕ) (m : Sitting) (n : ℕ) → m.0.holds_unit ≡ false → n < m.0.max_pending
     → Allows (GateInvariant max) slots seat m 0 (λ r. either (eqb r n) (n + 1) r) (Enters (step slots 0 n (n + 1) none) m)
@@ -215,11 +187,10 @@ takes_unit max slots seat m n holds_none below gate k _ at _ =
       (holds_none, below, x, may, is, (λ hit. absurd (miss hit)), (λ _. refl), refl),
     ))
 
--- the subtraction of 1 from an open word with a unit held, as the machine makes it
+-- the machine's subtraction of 1 from an open word, when a unit is held
 one_less : (count max : ℕ) (closed : Bool) → count ≤ max → max < 2 ^ 63 → 0 < count → closed ≡ false
     → (count + closed_bit closed + (2 ^ 64 - 1)) % 2 ^ 64 ≡ bits (count - 1, false)
-one_less count max true within small more e = absurd (true≢false e)
-one_less count max false within small more e = omega arith
+one_less count max closed within small more e = grind arith
 
 pub gives_back : (max slots seat : ℕ) (m : Sitting) → m.0.holds_unit ≡ true
     → Allows (GateInvariant max) slots seat m 0 (λ r. (r + (2 ^ 64 - 1)) % 2 ^ 64) (Leaves (step slots 0 1 0 none) m)

@@ -1,5 +1,5 @@
--- When a seat that meets one word more knows the gate closed.
-use Rattle.std.proofs.Common.{◌≡◌, ◌⊎◌, ℕ, Bool, true, false, true≢false, List, [], ◌∷◌, ◌++◌, sym, refl, subst, inl, inr}
+-- When a seat knows that the gate is closed, after it has read one more word.
+use Rattle.std.proofs.Common.{◌≡◌, ◌⊎◌, ℕ, Bool, true, false, true≢false, List, [], ◌∷◌, ◌++◌, sym, refl, subst, inl, inr, arith}
 use Rattle.std.specs.Prelude.{◌||◌}
 use Rattle.crawl_gate.specs.declared.rule.View.{View}
 use Rattle.crawl_gate.specs.declared.step_kind.StepKind.{StepKind}
@@ -23,25 +23,22 @@ any_closed-last ((k, (m, true)) ∷ ms) kind n = refl
 any_closed-last ((k, (m, false)) ∷ ms) kind n = any_closed-last ms kind n
 
 before : (closed : Bool) (ms : List Met) (kind : StepKind) (x : Word) → (closed || any_closed (ms ++ (kind, x) ∷ [])) ≡ true → ((closed || any_closed ms) ≡ true) ⊎ (x.1 ≡ true)
-before true ms kind x e = inl refl
-before false ms kind x e = any_closed-before ms kind x e
+before closed ms kind x e = grind (arith, any_closed-before)
 
 still : (closed : Bool) (ms : List Met) (kind : StepKind) (x : Word) → (closed || any_closed ms) ≡ true → (closed || any_closed (ms ++ (kind, x) ∷ [])) ≡ true
-still true ms kind x e = refl
-still false ms kind x e = any_closed-still ms kind x e
+still closed ms kind x e = grind (arith, any_closed-still)
 
 last : (closed : Bool) (ms : List Met) (kind : StepKind) (n : ℕ) → (closed || any_closed (ms ++ (kind, (n, true)) ∷ [])) ≡ true
-last true ms kind n = refl
-last false ms kind n = any_closed-last ms kind n
+last closed ms kind n = grind (arith, any_closed-last)
 
 -- it knew before, or the word is closed
 pub knows_closed-before : (v : View) (kind : StepKind) (x : Word) → knows_closed (view_meeting v kind x) ≡ true → (knows_closed v ≡ true) ⊎ (x.1 ≡ true)
 knows_closed-before v kind x e = before v.closed_gate v.met kind x e
 
--- what it knew it still knows
+-- a seat that knew it still knows it
 pub knows_closed-still : (v : View) (kind : StepKind) (x : Word) → knows_closed v ≡ true → knows_closed (view_meeting v kind x) ≡ true
 knows_closed-still v kind x e = still v.closed_gate v.met kind x e
 
--- a closed word tells it
+-- a seat that reads a closed word knows it
 pub knows_closed-last : (v : View) (kind : StepKind) (x : Word) → x.1 ≡ true → knows_closed (view_meeting v kind x) ≡ true
 knows_closed-last v kind x e = subst (λ (b : Bool). knows_closed (view_meeting v kind (x.0, b)) ≡ true) (sym e) (last v.closed_gate v.met kind x.0)

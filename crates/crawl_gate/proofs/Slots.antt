@@ -1,7 +1,6 @@
 -- A seat that begins and ends a step with no slot leaves the slots of a table as they are.
-use Rattle.std.proofs.Common.{◌≡◌, ℕ, zero, suc, List, [], ◌∷◌, set, sym, refl, ap, ◌∙◌, subst}
+use Rattle.std.proofs.Common.{◌≡◌, ℕ, zero, suc, List, [], ◌∷◌, set, refl, ap, ◌∙◌, arith}
 use mathlib.Core.Option.{Option, none, some}
-use lib.ListN.{get_elem?}
 use Rattle.atomic_table.specs.Table.{Act, keeps, takes, gives, chain, Valid, homes_after, carried_after}
 use Rattle.atomic_table.proofs.Lists.{set_again}
 
@@ -16,7 +15,7 @@ set_twice [] i a b = refl
 set_twice (x ∷ xs) zero a b = refl
 set_twice (x ∷ xs) (suc i) a b = ap (λ l. x ∷ l) (set_twice xs i a b)
 
--- the homes once the seat has given all back
+-- the homes after the seat has given all its slots back
 abbrev restored : Homes → Carried → Homes
 restored homes [] = homes
 restored homes (c ∷ cs) = restored (set homes c.0 (some c.1)) cs
@@ -31,5 +30,4 @@ same_restored homes carried (chain a b) valid =
     same_restored (homes_after homes carried a) (carried_after carried a) b valid.1 ∙ same_restored homes carried a valid.0
 
 pub homes_stay : (homes : Homes) (act : Act (Unit {0})) → Valid homes [] act → carried_after [] act ≡ [] → homes_after homes [] act ≡ homes
-homes_stay homes act valid none_left =
-    subst (λ cs. restored (homes_after homes [] act) cs ≡ homes) none_left (same_restored homes [] act valid)
+homes_stay homes act valid none_left = grind (arith, same_restored)

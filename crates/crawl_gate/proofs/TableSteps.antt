@@ -1,11 +1,11 @@
--- The steps of a history are the steps that the gate's table lets its plays and its split make.
-use Rattle.std.proofs.Common.{◌≡◌, ◌≢◌, ℕ, ◌+◌, ◌-◌, ◌<◌, ◌^◌, Bool, true, false, true≢false, List, [], ◌∷◌, ◌++◌, set, sym, refl, ap, ◌∙◌, subst, ⊎_elim, arith}
+-- The steps of a history are the steps that the gate's table allows for its plays and its split.
+use Rattle.std.proofs.Common.{◌≡◌, ℕ, ◌+◌, ◌-◌, ◌<◌, ◌^◌, Bool, true, List, [], ◌∷◌, ◌++◌, set, sym, refl, ap, ◌∙◌, subst, arith}
 use Rattle.std.specs.Prelude.{slice_index, ◌||◌}
 use mathlib.Core.Logic.{dite}
 use mathlib.Core.Option.{none, some}
 use native.Mathlib.Decide.{ℕ_discrete}
 use lib.ListN.{get_elem?}
-use Rattle.atomic_table.specs.Table.{Step, step, Act, keeps, carried_after, stepped}
+use Rattle.atomic_table.specs.Table.{Step, step, keeps, carried_after}
 use Rattle.atomic_table.proofs.Lists.{at_set, set_again}
 use Rattle.crawl_gate.specs.declared.rule.View.{View}
 use Rattle.crawl_gate.specs.Word.{Word, bits, open_at, closed_at}
@@ -18,39 +18,31 @@ use Rattle.crawl_gate.specs.History.{SeatSteps, GateStep}
 use Rattle.crawl_gate.specs.History.GateStep.{splits, looks, enters, loses, leaves, closes, not_closes}
 use Rattle.crawl_gate.proofs.Units.{at_itself, units_held-set}
 use Rattle.crawl_gate.proofs.Slots.{homes_stay}
-use Rattle.crawl_gate.proofs.Keeping.{word_of, still_closer, may_meet, is_open_at}
-use Rattle.crawl_gate.proofs.Histories.{same_word, word_found, keeps_invariant}
+use Rattle.crawl_gate.proofs.Keeping.{word_of, still_closer, may_meet}
+use Rattle.crawl_gate.proofs.Histories.{word_found, keeps_invariant}
 
 -- ## Every play is a step
 
--- the moment after a step in which a seat's view went from v to w, whatever was written
+-- the moment after a step that changed a seat's view from v to w, for any written number
 abbrev Wrote : Moment → Moment → ℕ → View → Type 0
 Wrote gate gate' seat w = (written : ℕ) × (gate' ≡ record { words = set gate.words 0 written; homes = gate.homes; views = set gate.views seat w })
 
 wrote : (told : Sitting → ℕ → Sitting → Type 0) (gate gate' : Moment) (p : PlayMade told gate gate') → carried_after [] p.act ≡ [] → (w : View) → p.after ≡ w
     → Wrote gate gate' p.seat w
-wrote told gate gate' p none_left w is = (
-  p.written,
-  p.next ∙ (λ i. (let m : Moment = record { words = set gate.words 0 p.written; homes = homes_stay gate.homes p.act p.valid none_left i; views = set gate.views p.seat (is i) } in m)),
-)
+wrote told gate gate' p none_left w is = grind (arith, homes_stay)
 
--- who has closed the gate after a step that closes nothing has closed it before
+-- a seat that has closed the gate after a step that closes nothing had closed it before
 closer_before : (views : List View) (seat : ℕ) (v w : View) → get_elem? views seat ≡ some v → w.closed_gate ≡ v.closed_gate
     → HasCloser (set views seat w) → HasCloser views
-closer_before views seat v w at same by = ⊎_elim
-    (λ (mine : (by.0 ≡ seat) × (w ≡ by.1)). (seat, v, at, sym same ∙ ap (λ (u : View). u.closed_gate) mine.1 ∙ by.3))
-    (λ (other : (by.0 ≢ seat) × (get_elem? views by.0 ≡ some by.1)). (by.0, by.1, other.1, by.3))
-    (at_set views seat by.0 w by.1 by.2)
+closer_before views seat v w at same by = grind (arith, get_elem?, some, at_set)
 
 knows_closer : (v : View) → v.closed_gate ≡ true → knows_closed v ≡ true
 knows_closer v e = subst (λ (b : Bool). (b || any_closed v.met) ≡ true) (sym e) refl
 
 both : (b b' : Bool) → (b ≡ true → b' ≡ true) → (b' ≡ true → b ≡ true) → b' ≡ b
-both true b' there back = there refl
-both false true there back = sym (back refl)
-both false false there back = refl
+both b b' there back = grind arith
 
--- what is closed and what is open stays so at a step that closes nothing
+-- a step that closes nothing keeps a closed gate closed and an open gate open
 closed_stays : (max : ℕ) (gate gate' : Moment) (k : GateInvariant max gate) (k' : GateInvariant max gate') (seat : ℕ) (v w : View) → get_elem? gate.views seat ≡ some v
     → gate'.views ≡ set gate.views seat w → w.closed_gate ≡ v.closed_gate → k'.closed ≡ k.closed
 closed_stays max gate gate' k k' seat v w at views same = both k.closed k'.closed
@@ -61,17 +53,10 @@ closed_stays max gate gate' k k' seat v w at views same = both k.closed k'.close
     let by = closer_before gate.views seat v w at same (subst HasCloser views (k'.closer is)) in
     (k.seats by.0 by.1 by.2).1 (knows_closer by.1 by.3))
 
--- such a step goes from the word found to the word of the invariant after it
+-- such a step goes from the word that it found to the word of the invariant after it
 seat_steps : (max : ℕ) (gate gate' : Moment) (k' : GateInvariant max gate') (seat : ℕ) (v w : View) (x y : Word) → get_elem? gate.views seat ≡ some v
     → gate.words ≡ bits x ∷ [] → x.0 < 2 ^ 63 → Wrote gate gate' seat w → word_of max gate' k' ≡ y → SeatSteps gate gate' v w x y
-seat_steps max gate gate' k' seat v w x y at word small made is = record {
-  seat = seat;
-  view = at;
-  word = word;
-  small = small;
-  next = subst (λ ws. gate' ≡ (let m : Moment = record { words = ws; homes = gate.homes; views = set gate.views seat w } in m))
-      (sym (ap (λ (m : Moment). m.words) made.1) ∙ k'.word ∙ ap (λ z. bits z ∷ []) is) made.1;
-}
+seat_steps max gate gate' k' seat v w x y at word small made is = grind arith
 
 views_after : (gate gate' : Moment) (seat : ℕ) (w : View) → Wrote gate gate' seat w → gate'.views ≡ set gate.views seat w
 views_after gate gate' seat w made = ap (λ (m : Moment). m.views) made.1
@@ -79,20 +64,16 @@ views_after gate gate' seat w made = ap (λ (m : Moment). m.views) made.1
 -- the units after such a step
 units_after : (gate gate' : Moment) (seat : ℕ) (v w : View) → get_elem? gate.views seat ≡ some v → Wrote gate gate' seat w
     → units_held gate'.views + units_of v.holds_unit ≡ units_held gate.views + units_of w.holds_unit
-units_after gate gate' seat v w at made =
-    subst (λ vs. units_held vs + units_of v.holds_unit ≡ units_held gate.views + units_of w.holds_unit) (sym (views_after gate gate' seat w made)) (units_held-set gate.views seat v w at)
+units_after gate gate' seat v w at made = grind (arith, views_after, units_held-set)
 
--- the word that a play met is that of the invariant
+-- the word that a play found is the invariant's word
 met_is : (max : ℕ) (gate : Moment) (k : GateInvariant max gate) (x : Word) → slice_index gate.words 0 ≡ bits x → x.0 < 2 ^ 63 → word_of max gate k ≡ x
-met_is max gate k x found small =
-    let within = k.within in
-    let limit = k.small in
-    same_word (word_of max gate k) x (sym (ap (λ ws. slice_index ws 0) k.word) ∙ found) (omega arith) small
+met_is max gate k x found small = grind arith
 
 word_met : (max : ℕ) (gate : Moment) (k : GateInvariant max gate) (x : Word) → word_of max gate k ≡ x → gate.words ≡ bits x ∷ []
 word_met max gate k x is = k.word ∙ ap (λ z. bits z ∷ []) is
 
--- a step that changes nothing but what its seat has met
+-- a step that changes only what its seat has read
 meeting : (max : ℕ) (gate gate' : Moment) (k : GateInvariant max gate) (k' : GateInvariant max gate') (seat : ℕ) (v w : View) (x : Word) → get_elem? gate.views seat ≡ some v
     → slice_index gate.words 0 ≡ bits x → x.0 < 2 ^ 63 → Wrote gate gate' seat w → w.holds_unit ≡ v.holds_unit → w.closed_gate ≡ v.closed_gate
     → SeatSteps gate gate' v w x x
@@ -117,8 +98,7 @@ moving max gate gate' k k' seat v w m n at found small made counts same_closed =
     seat_steps max gate gate' k' seat v w (open_at m) (open_at n) at (word_met max gate k (open_at m) is) small made (λ i. (count i, closed i))
 
 open_word : (x : Word) (n : ℕ) → bits x ≡ n → n < 2 ^ 63 → x ≡ open_at n
-open_word (m, true) n e small = absurd (omega arith)
-open_word (m, false) n e small = let same : m ≡ n = omega arith in ap open_at same
+open_word x n e small = grind arith
 
 look_is : (max : ℕ) (gate gate' : Moment) → GateInvariant max gate → GateInvariant max gate' → (s : Step (Unit {0})) → PlayMade (Looks s) gate gate' → GateStep gate gate'
 look_is max gate gate' k k' s p =
@@ -190,7 +170,7 @@ play_is_step max gate gate' k k' (by_split v seat at next) = splits v seat at
 
 -- ## Every step is a play
 
--- the play of a step by which a seat's view goes from v to w
+-- the play of a step that changes a seat's view from v to w
 play_of : (told : Sitting → ℕ → Sitting → Type 0) (gate gate' : Moment) (v w : View) (x y : Word) (s : SeatSteps gate gate' v w x y) → told (v, []) (bits x) (w, []) → PlayMade told gate gate'
 play_of told gate gate' v w x y s telling = record {
   seat = s.seat;
@@ -204,7 +184,7 @@ play_of told gate gate' v w x y s telling = record {
   next = s.next ∙ ap (λ ws. (let m : Moment = record { words = set ws 0 (bits y); homes = gate.homes; views = set gate.views s.seat w } in m)) (sym s.word);
 }
 
--- what the seat of a step may rely on
+-- what the seat of a step may assume
 may : (max : ℕ) (gate gate' : Moment) (k : GateInvariant max gate) (v w : View) (x y : Word) → SeatSteps gate gate' v w x y → MayMeet v x
 may max gate gate' k v w x y s = subst (MayMeet v) (sym (word_found max gate gate' k v w x y s)) (may_meet max gate k s.seat v s.view)
 

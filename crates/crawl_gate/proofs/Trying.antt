@@ -1,9 +1,9 @@
--- What a seat has met over several tries, and the closed word that a closing call finds.
-use Rattle.std.proofs.Common.{◌≡◌, ◌≢◌, ℕ, ◌<◌, ◌^◌, true, false, List, [], ◌∷◌, ◌++◌, sym, refl, ap, ◌∙◌, subst, arith}
+-- What a seat has read after several tries, and the closed word that a call of `try_close` finds.
+use Rattle.std.proofs.Common.{◌≡◌, ◌≢◌, ℕ, ◌<◌, ◌^◌, true, List, [], ◌∷◌, ◌++◌, sym, refl, ap, ◌∙◌, subst, arith}
 use Rattle.crawl_gate.specs.declared.rule.View.{View}
 use Rattle.crawl_gate.specs.declared.step_kind.StepKind.TheVariants.{Load, EnterLost}
 use Rattle.crawl_gate.specs.declared.gate.enter.Enter.{Enter}
-use Rattle.crawl_gate.specs.declared.gate.enter.Enter.TheVariants.{Entered, Closed, Full, Lost}
+use Rattle.crawl_gate.specs.declared.gate.enter.Enter.TheVariants.{Lost}
 use Rattle.crawl_gate.specs.Word.{Word, bits, open_at, closed_at}
 use Rattle.crawl_gate.specs.View.{knows_closed, view_looking, view_losing}
 use Rattle.crawl_gate.specs.Seat.{GateId, SeatId, IsSeatOf, with_view}
@@ -11,10 +11,7 @@ use Rattle.crawl_gate.specs.Enter.{LostTry, AllLost, TriesToEnter, TriesToEnterB
 use Rattle.crawl_gate.proofs.Knowing.{knows_closed-still}
 
 pub not_lost : (answer : Enter) → ((back : SeatId) → answer ≡ Lost back → ⊥) → ¬ IsLost answer
-not_lost (Entered unit) other = λ never. never
-not_lost (Closed back) other = λ never. never
-not_lost (Full back) other = λ never. never
-not_lost (Lost back) other = λ _. other back refl
+not_lost answer other = grind arith
 
 AllLost-append : (max : ℕ) (ts : List LostTry) (t : LostTry) → AllLost max ts → t.0 < max → t.1 ≢ open_at t.0 → AllLost max (ts ++ t ∷ [])
 AllLost-append max [] t all room other = (room, other, tt)
@@ -50,7 +47,7 @@ view_exchanging-append : (v : View) (ts : List LostTry) (t : LostTry) → view_e
 view_exchanging-append v [] t = refl
 view_exchanging-append v (u ∷ ts) t = view_exchanging-append (view_losing v u.1) ts t
 
--- the tries of a pass so far, all lost, and the pass as it is now
+-- the tries of a pass so far, which all failed, and the pass as it is now
 abbrev pub LostSoFar : SeatId → SeatId → Type 0
 LostSoFar pass now = (ts : List LostTry) × AllLost pass.view.max_pending ts × (now ≡ after_trying pass ts)
 
@@ -58,8 +55,7 @@ pub none_lost : (pass : SeatId) → LostSoFar pass pass
 none_lost pass = ([], tt, refl)
 
 pub lost_of : (gate : GateId) (pass now : SeatId) → LostSoFar pass now → IsSeatOf gate pass → IsSeatOf gate now
-lost_of gate pass now so_far of =
-    (ap (λ s. s.table) so_far.2 ∙ of.0, ap (λ s. s.view.max_pending) so_far.2 ∙ view_trying-max pass.view so_far.0 ∙ of.1)
+lost_of gate pass now so_far of = grind (arith, view_trying-max)
 
 pub lost_knows : (pass now : SeatId) → LostSoFar pass now → knows_closed pass.view ≡ true → knows_closed now.view ≡ true
 lost_knows pass now so_far e = ap (λ (s : SeatId). knows_closed s.view) so_far.2 ∙ view_trying-knows pass.view so_far.0 e
@@ -76,17 +72,14 @@ one_more_lost pass now next so_far tries =
 pub at_last : (pass now : SeatId) (answer : Enter) → LostSoFar pass now → TriesToEnter now answer → ¬ IsLost answer → EntersAtLast pass answer
 at_last pass now answer so_far tries not = (so_far.0, so_far.1, subst (λ (s : SeatId). TriesToEnter s answer) so_far.2 tries, not)
 
--- the tries of a pass beside a unit so far, all lost, and both as they are now
+-- the same for a pass that is used next to a unit, with both as they are now
 abbrev pub LostSoFarBeside : SeatId → SeatId → SeatId → SeatId → Type 0
 LostSoFarBeside held held' pass now =
     (ts : List LostTry) × AllLost pass.view.max_pending ts × (held' ≡ after_loading held ts) × (now ≡ after_exchanging pass ts)
 
 pub lost_of_beside : (gate : GateId) (held held' pass now : SeatId) → LostSoFarBeside held held' pass now
     → IsSeatOf gate held → IsSeatOf gate pass → IsSeatOf gate held' × IsSeatOf gate now
-lost_of_beside gate held held' pass now so_far held_of pass_of = (
-  (ap (λ s. s.table) so_far.2 ∙ held_of.0, ap (λ s. s.view.max_pending) so_far.2 ∙ view_loading-max held.view so_far.0 ∙ held_of.1),
-  (ap (λ s. s.table) so_far.3 ∙ pass_of.0, ap (λ s. s.view.max_pending) so_far.3 ∙ view_exchanging-max pass.view so_far.0 ∙ pass_of.1),
-)
+lost_of_beside gate held held' pass now so_far held_of pass_of = grind (arith, view_loading-max, view_exchanging-max)
 
 pub one_more_lost_beside : (held held' held'' pass now next : SeatId) → LostSoFarBeside held held' pass now
     → TriesToEnterBeside held' held'' now (Lost next) → LostSoFarBeside held held'' pass next
@@ -101,10 +94,8 @@ one_more_lost_beside held held' held'' pass now next so_far tries =
 
 pub at_last_beside : (held held' held'' pass now : SeatId) (answer : Enter) → LostSoFarBeside held held' pass now
     → TriesToEnterBeside held' held'' now answer → ¬ IsLost answer → EntersAtLastBeside held held'' pass answer
-at_last_beside held held' held'' pass now answer so_far tries not =
-    (so_far.0, so_far.1, subst (λ (s : SeatId × SeatId). TriesToEnterBeside s.0 held'' s.1 answer) (λ i. (so_far.2 i, so_far.3 i)) tries, not)
+at_last_beside held held' held'' pass now answer so_far tries not = grind arith
 
--- a number of 2^63 and more is the word of a closed gate, whose count is 0
+-- a number of at least 2^63 is the word of a closed gate, whose count is 0
 pub closed_word : (x : Word) (r count : ℕ) → r ≡ bits x → bits (count, true) ≡ r → x.0 < 2 ^ 63 → (x.1 ≡ true → x.0 ≡ 0) → x ≡ closed_at 0
-closed_word (m, true) r count is shown small empty = ap (λ n. closed_at n) (empty refl)
-closed_word (m, false) r count is shown small empty = absurd (omega arith)
+closed_word x r count is shown small empty = grind arith

@@ -76,6 +76,7 @@ impl Gate {
     }
 
     /// A new pass of the gate, split off a pass, which stays as it is.
+    #[tactic(auto, using(crate::proofs::Keeping::splits))]
     pub fn split(&self, pass: &mut Pass) -> Pass
         requires { IsSeatOf self.now pass.old }
         ensures same { pass.new ≡ pass.old }
@@ -87,6 +88,7 @@ impl Gate {
     }
 
     /// A new pass of the gate, split off a unit, which stays as it is.
+    #[tactic(auto, using(crate::proofs::Keeping::splits))]
     pub fn split_unit(&self, unit: &mut Unit) -> Pass
         requires { IsSeatOf self.now unit.old }
         ensures same { unit.new ≡ unit.old }

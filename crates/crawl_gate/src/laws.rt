@@ -9,6 +9,7 @@ ghost use Rattle.crawl_gate.specs.TableStep.{TableStep};
 
 /// The gate's invariant holds at the moment at which a gate is made, and at every later moment of a history
 /// from there, or from any other moment that keeps it.
+#[tactic(auto, using(crate::proofs::Histories::first_kept, crate::proofs::Histories::later_kept))]
 pub fn invariant_in_histories()
     ensures first { (max : ℕ) → IsMaximum max → GateInvariant max (first_moment max) }
     ensures later { (max : ℕ) (gate : Moment) (moments : List Moment) → GateInvariant max gate → IsHistory gate moments
@@ -30,6 +31,7 @@ pub fn steps_are_those_of_the_table()
 {}
 
 /// After a gate is closed, no step changes its word. So its count stays 0, and nobody enters.
+#[tactic(auto, using(crate::proofs::Histories::shut_for_good))]
 pub fn closed_for_good()
     ensures { (gate : Moment) (moments : List Moment) → gate.words ≡ bits (closed_at 0) ∷ [] → IsHistory gate moments
         → All (λ later. later.words ≡ bits (closed_at 0) ∷ []) moments }

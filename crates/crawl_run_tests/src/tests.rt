@@ -8,3 +8,4 @@ mod runs;
 mod sessions;
 mod sources;
 mod threads;
+mod whole;

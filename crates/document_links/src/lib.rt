@@ -2,6 +2,7 @@
 #![tactic(auto)]
 
 mod anchors;
+mod at_url;
 mod charset;
 mod cleaning;
 mod document;
@@ -20,6 +21,7 @@ mod targets;
 mod unknown;
 
 pub use anchors::{AnchorLink, AnchorTargets, Anchors};
+pub use at_url::{LinkPlaces, PageAnchors, Target};
 pub use document::{Document, ReadOptions, read_document};
 pub use document_start::{START_LENGTH, is_document};
 pub use line_text::{LINK_FRONT, fits};

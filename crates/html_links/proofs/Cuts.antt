@@ -1,34 +1,29 @@
 -- The runs that the code cuts by a length are `front` and `behind`.
+use Rattle.std.proofs.lemmas.Bool.Decides.{nat_tests}
+use Rattle.std.proofs.lemmas.Grind.{common_steps}
 use Rattle.std.proofs.Common.{◌≡◌, ℕ, zero, suc, ◌+◌, ◌-◌, ◌==◌, ⊎_elim, slice_index, subst, Option, Bool, true, false, not, cond, List, [], ◌∷◌, length, take, drop, get_or, Some, None, refl, ap, sym, ◌∙◌, arith}
 use Rattle.std.specs.Prelude.{MatchOption, IfSome}
 use Rattle.std.specs.List.{prefix_len, position_or_len, take_while}
 use Rattle.std.proofs.lemmas.List.Folds.{length-prefix_len}
 use Rattle.std.proofs.lemmas.List.Sums.{position_or_len_is}
 use Rattle.std.proofs.lemmas.List.{take_rest, drop_all}
-use Rattle.std.proofs.lemmas.Bool.{eqb-true, cases_eq}
+use Rattle.std.proofs.lemmas.Bool.{eqb-true, cases_eq, false_from_ne_true}
 use Rattle.std.proofs.Math.Seq.{drop-cons}
 use Rattle.memchr.specs.Find.{IsFirstByte, is_byte, Nowhere, NoneBefore, Passes, places_from, places, TakesFirst}
 use Rattle.html_links.specs.Shown.{front, behind, in_name, BeginsName, name_front, name_behind}
 
-refuted : (b : Bool) → (b ≡ true → ⊥) → b ≡ false
-refuted true never = absurd (never refl)
-refuted false never = refl
-
 pub if_some : {T : Type 0} (o : Option T) (P : Type 0) (Q : T → Type 0) → MatchOption o P Q → IfSome o Q
-if_some None P Q is = tt
-if_some (Some x) P Q is = is
+if_some o P Q is = grind arith
 
 front_at : (b : Bool) (c : ℕ) (rest tail : List ℕ) (n : ℕ) → tail ≡ take n rest → cond b (c ∷ tail) [] ≡ take (cond b (1 + n) 0) (c ∷ rest)
-front_at true c rest tail n e = let more : 1 + n ≡ suc n = omega arith in rw more (ap (λ t. c ∷ t) e)
-front_at false c rest tail n e = refl
+front_at b c rest tail n e = grind arith
 
 front_prefix : (test : ℕ → Bool) (bytes : List ℕ) → front test bytes ≡ take (prefix_len test bytes) bytes
 front_prefix test [] = refl
 front_prefix test (c ∷ rest) = front_at (test c) c rest (front test rest) (prefix_len test rest) (front_prefix test rest)
 
 behind_at : (b : Bool) (c : ℕ) (rest tail : List ℕ) (n : ℕ) → tail ≡ drop n rest → cond b tail (c ∷ rest) ≡ drop (cond b (1 + n) 0) (c ∷ rest)
-behind_at true c rest tail n e = let more : 1 + n ≡ suc n = omega arith in rw more e
-behind_at false c rest tail n e = refl
+behind_at b c rest tail n e = grind arith
 
 behind_prefix : (test : ℕ → Bool) (bytes : List ℕ) → behind test bytes ≡ drop (prefix_len test bytes) bytes
 behind_prefix test [] = refl
@@ -49,36 +44,26 @@ tail_behind c rest n = let more : 1 + n ≡ suc n = omega arith in rw more refl
 -- a name, by the length of what follows its first byte
 pub name_cut : (bytes : List ℕ) (n : ℕ) → BeginsName bytes → n ≡ length (take_while in_name (take (length bytes - 1) (drop 1 bytes))) →
     (take (1 + n) bytes ≡ name_front bytes) × (drop (1 + n) bytes ≡ name_behind bytes)
-name_cut [] n begins len = absurd begins
-name_cut (c ∷ rest) n begins len =
-    let all : take (length (c ∷ rest) - 1) (drop 1 (c ∷ rest)) ≡ rest = take_rest (c ∷ rest) 1 in
-    let short : n ≡ length (take_while in_name rest) = len ∙ ap (λ xs. length (take_while in_name xs)) all in
-    rw short (tail_front c rest _ ∙ ap (λ t. c ∷ t) (front_cut in_name rest), tail_behind c rest _ ∙ behind_cut in_name rest)
+name_cut bytes n begins len = grind (arith, nat_tests, common_steps, take_rest, tail_front, front_cut, tail_behind, behind_cut)
 
--- the first byte that passes a test, by its place
+-- the first byte that passes a test, by its position
 pub first_cut : (test : ℕ → Bool) (bytes : List ℕ) (end : ℕ) → IsFirstByte test bytes (Some end) →
     (take end bytes ≡ front (λ c. not (test c)) bytes) × (drop end bytes ≡ behind (λ c. not (test c)) bytes)
-first_cut test bytes end first =
-    let high = first.0.high in
-    let there : position_or_len test bytes ≡ end =
-    position_or_len_is test bytes end 0 (omega (arith, high)) (λ k below. refuted (test (get_or bytes k 0)) (first.0.before k (omega arith) below)) (λ inside. first.1) in (
-      sym (front_prefix (λ c. not (test c)) bytes ∙ ap (λ n. take n bytes) there),
-      sym (behind_prefix (λ c. not (test c)) bytes ∙ ap (λ n. drop n bytes) there),
-    )
+first_cut test bytes end first = grind (arith, position_or_len_is, false_from_ne_true, front_prefix, behind_prefix)
 
 pub no_first : (test : ℕ → Bool) (bytes : List ℕ) → IsFirstByte test bytes None → behind (λ c. not (test c)) bytes ≡ []
 no_first test bytes nowhere =
     let none : position_or_len test bytes ≡ length bytes =
-    position_or_len_is test bytes (length bytes) 0 (omega arith) (λ k below. refuted (test (get_or bytes k 0)) (nowhere k (omega arith) below)) (λ inside. absurd (omega (arith, inside))) in
+    position_or_len_is test bytes (length bytes) 0 (omega arith) (λ k below. false_from_ne_true (test (get_or bytes k 0)) (nowhere k (omega arith) below)) (λ inside. absurd (omega (arith, inside))) in
     behind_prefix (λ c. not (test c)) bytes ∙ ap (λ n. drop n bytes) none ∙ drop_all (length bytes) bytes (omega arith)
 
--- the first quote, by its place
+-- the first quote, by its position
 pub quote_cut : (quote : ℕ) (bytes : List ℕ) (end : ℕ) → IsFirstByte (is_byte quote) bytes (Some end) →
     (take end bytes ≡ front (λ c. not (c == quote)) bytes) × (quote ∷ drop (end + 1) bytes ≡ behind (λ c. not (c == quote)) bytes)
 quote_cut quote bytes end first =
     let high = first.0.high in
     let there : position_or_len (is_byte quote) bytes ≡ end =
-    position_or_len_is (is_byte quote) bytes end 0 (omega (arith, high)) (λ k below. refuted (is_byte quote (get_or bytes k 0)) (first.0.before k (omega arith) below)) (λ inside. first.1) in
+    position_or_len_is (is_byte quote) bytes end 0 (omega (arith, high)) (λ k below. false_from_ne_true (is_byte quote (get_or bytes k 0)) (first.0.before k (omega arith) below)) (λ inside. first.1) in
     let here : get_or bytes end 0 ≡ quote = eqb-true _ _ first.1 in
     let cut : drop end bytes ≡ get_or bytes end 0 ∷ drop (suc end) bytes = drop-cons bytes end 0 high in
     let after : end + 1 ≡ suc end = omega arith in (
@@ -89,10 +74,10 @@ quote_cut quote bytes end first =
 pub no_quote : (quote : ℕ) (bytes : List ℕ) → IsFirstByte (is_byte quote) bytes None → behind (λ c. not (c == quote)) bytes ≡ []
 no_quote quote bytes nowhere =
     let none : position_or_len (is_byte quote) bytes ≡ length bytes =
-    position_or_len_is (is_byte quote) bytes (length bytes) 0 (omega arith) (λ k below. refuted (is_byte quote (get_or bytes k 0)) (nowhere k (omega arith) below)) (λ inside. absurd (omega (arith, inside))) in
+    position_or_len_is (is_byte quote) bytes (length bytes) 0 (omega arith) (λ k below. false_from_ne_true (is_byte quote (get_or bytes k 0)) (nowhere k (omega arith) below)) (λ inside. absurd (omega (arith, inside))) in
     behind_prefix (λ c. not (c == quote)) bytes ∙ ap (λ n. drop n bytes) none ∙ drop_all (length bytes) bytes (omega arith)
 
--- the first of the places where a test holds, by the list of them all
+-- the first of the positions at which a test holds, by the list of them all
 module _ (test : ℕ → Bool) (hay : List ℕ) where
   none_at : (b : Bool) (i n : ℕ) (later : List ℕ) → test (slice_index hay i) ≡ b → cond b (i ∷ later) later ≡ [] →
       (later ≡ [] → Nowhere (Passes test hay) (i + 1) (i + 1 + n)) → Nowhere (Passes test hay) i (i + suc n)

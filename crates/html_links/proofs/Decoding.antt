@@ -1,5 +1,8 @@
 -- The machine of character references over runs of bytes.
+use Rattle.std.proofs.lemmas.Bool.Decides.{nat_tests}
+use Rattle.std.proofs.lemmas.Grind.{common_steps}
 use Rattle.std.proofs.Common.{◌≡◌, ℕ, ◌==◌, ◌||◌, Bool, true, false, not, cond, List, [], ◌∷◌, ◌++◌, None, Some, ◌<◌, ◌≤◌, length, refl, ap, sym, ◌∙◌, append_assoc, append-nil, arith}
+use Rattle.std.proofs.lemmas.Bool.{cond-true, cond-false}
 use Rattle.std.specs.Char.{is_ascii_alphanumeric, encode_utf8}
 use Rattle.html_links.specs.Shown.{front, behind, Stopped}
 use Rattle.html_links.specs.Names.{named}
@@ -7,14 +10,6 @@ use Rattle.html_links.specs.References.{Text, Reference, Name, Next, Go, text_st
 use Rattle.html_links.specs.Decoding.{is_plain}
 use Rattle.html_links.proofs.Jumps.{shorter}
 use Rattle.html_links.proofs.Sources.{front_all}
-
-if_true : (b : Bool) (x y : Next) → b ≡ true → cond b x y ≡ x
-if_true true x y e = refl
-if_true false x y e = absurd (cc)
-
-if_false : (b : Bool) (x y : Next) → b ≡ false → cond b x y ≡ y
-if_false true x y e = absurd (cc)
-if_false false x y e = refl
 
 abbrev on : List ℕ → Next → List ℕ
 on rest next = follow next (λ s. read s rest)
@@ -25,9 +20,7 @@ abbrev text_if : Bool → Bool → List ℕ → ℕ → Next
 text_if amp nul before c = cond amp (Go before Reference) (cond nul (Go (before ++ encode_utf8 65533) Text) (Go (before ++ c ∷ []) Text))
 
 behind_if : (amp nul : Bool) (before : List ℕ) (c : ℕ) (rest : List ℕ) → on rest (text_if amp nul before c) ≡ before ++ on rest (text_if amp nul [] c)
-behind_if true nul before c rest = refl
-behind_if false true before c rest = append_assoc before (encode_utf8 65533) (read Text rest)
-behind_if false false before c rest = append_assoc before (c ∷ []) (read Text rest)
+behind_if amp nul before c rest = grind (arith, nat_tests, common_steps)
 
 pub text_behind : (before : List ℕ) (c : ℕ) (rest : List ℕ) → on rest (text_step before c) ≡ before ++ read Text (c ∷ rest)
 text_behind before c rest = behind_if (c == 38) (c == 0) before c rest
@@ -35,14 +28,11 @@ text_behind before c rest = behind_if (c == 38) (c == 0) before c rest
 -- runs of plain bytes
 
 plain_if : (amp nul : Bool) (c : ℕ) → not (amp || nul) ≡ true → text_if amp nul [] c ≡ Go (c ∷ []) Text
-plain_if true nul c is = absurd (cc)
-plain_if false true c is = absurd (cc)
-plain_if false false c is = refl
+plain_if amp nul c is = grind arith
 
 mark_at : (b : Bool) (c : ℕ) (rest some more : List ℕ) → (b ≡ true → step Text c ≡ Go (c ∷ []) Text) → read Text rest ≡ some ++ read Text more →
     read Text (c ∷ rest) ≡ cond b (c ∷ some) [] ++ read Text (cond b more (c ∷ rest))
-mark_at true c rest some more stays later = ap (on rest) (stays refl) ∙ ap (λ t. c ∷ t) later
-mark_at false c rest some more stays later = refl
+mark_at b c rest some more stays later = grind arith
 
 pub to_mark : (bytes : List ℕ) → read Text bytes ≡ front is_plain bytes ++ read Text (behind is_plain bytes)
 to_mark [] = refl
@@ -58,23 +48,14 @@ text_cut rest plain marked some more = to_mark rest ∙ ap (λ p. p ++ read Text
 
 pub decoded_all : (old new rest plain marked all : List ℕ) → plain ≡ front is_plain rest → marked ≡ behind is_plain rest → new ≡ old ++ plain → marked ≡ [] →
     old ++ read Text rest ≡ all → new ≡ all
-decoded_all old new rest plain marked all some more written none so_far =
-    written ∙ ap (λ p. old ++ p) (sym (append-nil plain)) ∙ ap (λ m. old ++ (plain ++ read Text m)) (sym none) ∙ ap (λ t. old ++ t) (sym (text_cut rest plain marked some more)) ∙ so_far
+decoded_all old new rest plain marked all some more written none so_far = grind (arith, append-nil, text_cut)
 
 pub decoded_more : (old new last rest plain marked text more all : List ℕ) → plain ≡ front is_plain rest → marked ≡ behind is_plain rest → new ≡ old ++ plain →
     read Text marked ≡ text ++ read Text more → last ≡ new ++ text → old ++ read Text rest ≡ all → last ++ read Text more ≡ all
-decoded_more old new last rest plain marked text more all some left written reads wrote so_far =
-    ap (λ l. l ++ read Text more) (wrote ∙ ap (λ n. n ++ text) written)
-    ∙ append_assoc (old ++ plain) text (read Text more)
-    ∙ append_assoc old plain (text ++ read Text more)
-    ∙ ap (λ t. old ++ (plain ++ t)) (sym reads)
-    ∙ ap (λ t. old ++ t) (sym (text_cut rest plain marked some left))
-    ∙ so_far
+decoded_more old new last rest plain marked text more all some left written reads wrote so_far = grind (arith, nat_tests, common_steps, text_cut)
 
 pub mark_less : (rest marked more : List ℕ) → marked ≡ behind is_plain rest → length more < length marked → length more < length rest
-mark_less rest marked more cut less =
-    let same : length marked ≡ length (behind is_plain rest) = ap length cut in
-    omega (arith, less, shorter is_plain rest)
+mark_less rest marked more cut less = grind (arith, shorter)
 
 -- names
 
@@ -88,23 +69,20 @@ pub name_run : (name bytes : List ℕ) → read (Name name) bytes ≡ read (Name
 name_run name [] = ap (λ n. read (Name n) []) (sym (append-nil name))
 name_run name (c ∷ rest) =
     name_at (is_ascii_alphanumeric c) name c rest (front is_ascii_alphanumeric rest) (behind is_ascii_alphanumeric rest)
-    (if_true (is_ascii_alphanumeric c) (Go [] (Name (name ++ c ∷ []))) (name_end name c)) (name_run (name ++ c ∷ []) rest)
+    (cond-true (is_ascii_alphanumeric c) (Go [] (Name (name ++ c ∷ []))) (name_end name c)) (name_run (name ++ c ∷ []) rest)
 
 pub read_name : (bytes name rest : List ℕ) → name ≡ front is_ascii_alphanumeric bytes → rest ≡ behind is_ascii_alphanumeric bytes → read (Name []) bytes ≡ read (Name name) rest
 read_name bytes name rest some more = name_run [] bytes ∙ ap (λ n. read (Name n) (behind is_ascii_alphanumeric bytes)) (sym some) ∙ ap (read (Name name)) (sym more)
 
 pub name_less : (bytes rest : List ℕ) → rest ≡ behind is_ascii_alphanumeric bytes → length rest ≤ length bytes
-name_less bytes rest more =
-    let same : length rest ≡ length (behind is_ascii_alphanumeric bytes) = ap length more in
-    omega (arith, shorter is_ascii_alphanumeric bytes)
+name_less bytes rest more = grind (arith, shorter)
 
 -- a name with `;`
 pub closed_name : (name rest last text : List ℕ) → rest ≡ 59 ∷ last → Some text ≡ named true name → read (Name name) rest ≡ text ++ read Text last
 closed_name name rest last text is found = ap (read (Name name)) is ∙ ap (λ o. on last (closed_at name o)) (sym found)
 
 pub closed_itself : (name rest last : List ℕ) → rest ≡ 59 ∷ last → None ≡ named true name → read (Name name) rest ≡ (38 ∷ name) ++ read Text rest
-closed_itself name rest last is none =
-    ap (read (Name name)) is ∙ ap (λ o. on last (closed_at name o)) (sym none) ∙ text_behind (38 ∷ name) 59 last ∙ ap (λ r. (38 ∷ name) ++ read Text r) (sym is)
+closed_itself name rest last is none = grind (arith, nat_tests, common_steps, text_behind)
 
 -- one before `=`
 pub name_equals : (name rest last : List ℕ) → rest ≡ 61 ∷ last → read (Name name) rest ≡ (38 ∷ name) ++ read Text rest
@@ -113,9 +91,4 @@ name_equals name rest last is = ap (read (Name name)) is ∙ text_behind (38 ∷
 -- and one before anything else
 pub open_name : (name rest : List ℕ) → Stopped is_ascii_alphanumeric rest → Stopped (λ c. c == 59) rest → Stopped (λ c. c == 61) rest →
     read (Name name) rest ≡ name_text name ++ read Text rest
-open_name name [] letter semicolon equals = sym (append-nil (name_text name))
-open_name name (c ∷ rest) letter semicolon equals =
-    ap (on rest) (if_false (is_ascii_alphanumeric c) (Go [] (Name (name ++ c ∷ []))) (name_end name c) letter
-    ∙ if_false (c == 59) (closed_at name (named true name)) _ semicolon
-    ∙ if_false (c == 61) (text_step (38 ∷ name) c) (text_step (name_text name) c) equals)
-    ∙ text_behind (name_text name) c rest
+open_name name rest letter semicolon equals = grind (arith, nat_tests, common_steps, append-nil, cond-false, text_behind)

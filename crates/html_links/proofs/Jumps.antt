@@ -17,7 +17,7 @@ jump_at : (s : State) (write : ℕ → List Attribute → List Attribute) (b : B
 jump_at s write true c all rest some more stays later = ap (λ n. follow n (λ state all. run state all rest) rest) (stays refl) ∙ later
 jump_at s write false c all rest some more stays later = refl
 
--- where it stays in s over bytes that pass a test, it jumps over them
+-- while it stays in s over bytes that pass a test, it jumps over them
 pub jump : (s : State) (test : ℕ → Bool) (write : ℕ → List Attribute → List Attribute) →
     ((c : ℕ) (all : List Attribute) → test c ≡ true → step s (class_of c) c all ≡ Go s (write c all)) →
     (all : List Attribute) (bytes : List ℕ) → run s all bytes ≡ run s (written write all (front test bytes)) (behind test bytes)
@@ -29,10 +29,9 @@ jump s test write stays all (c ∷ rest) =
 pub same_at : (s t : State) (c : ℕ) (rest : List ℕ) (all : List Attribute) → step s (class_of c) c all ≡ step t (class_of c) c all → run s all (c ∷ rest) ≡ run t all (c ∷ rest)
 same_at s t c rest all same = ap (λ n. follow n (λ state all. run state all rest) rest) same
 
--- what is behind a run does not pass
+-- the first byte after a run does not pass
 stopped_at : (test : ℕ → Bool) (b : Bool) (c : ℕ) (rest more : List ℕ) → test c ≡ b → Stopped test more → Stopped test (cond b more (c ∷ rest))
-stopped_at test true c rest more is later = later
-stopped_at test false c rest more is later = is
+stopped_at test b c rest more is later = grind arith
 
 pub stopped : (test : ℕ → Bool) (bytes : List ℕ) → Stopped test (behind test bytes)
 stopped test [] = tt
@@ -41,12 +40,10 @@ stopped test (c ∷ rest) = stopped_at test (test c) c rest (behind test rest) r
 -- two states that do the same where a run has stopped
 pub same_stopped : (s t : State) (test : ℕ → Bool) → ((c : ℕ) (all : List Attribute) → test c ≡ false → step s (class_of c) c all ≡ step t (class_of c) c all) →
     (all : List Attribute) (bytes : List ℕ) → Stopped test bytes → run s all bytes ≡ run t all bytes
-same_stopped s t test same all [] ends = refl
-same_stopped s t test same all (c ∷ rest) ends = same_at s t c rest all (same c all ends)
+same_stopped s t test same all bytes ends = grind (arith, same_at)
 
 shorter_at : (b : Bool) (c : ℕ) (rest more : List ℕ) → length more ≤ length rest → length (cond b more (c ∷ rest)) ≤ length (c ∷ rest)
-shorter_at true c rest more le = omega (arith, le)
-shorter_at false c rest more le = omega arith
+shorter_at b c rest more le = grind arith
 
 pub shorter : (test : ℕ → Bool) (bytes : List ℕ) → length (behind test bytes) ≤ length bytes
 shorter test [] = omega arith
@@ -66,16 +63,13 @@ abbrev spaces : Class → Bool
 spaces k = elim k [ Space ↦ true | _ ↦ false ]
 
 space_before_name : (k : Class) (c : ℕ) (all : List Attribute) → spaces k ≡ true → step BeforeName k c all ≡ Go BeforeName all
-space_before_name Space c all is = refl
-space_before_name _ c all is = absurd (cc)
+space_before_name k c all is = grind arith
 
 space_after_name : (k : Class) (c : ℕ) (all : List Attribute) → spaces k ≡ true → step AfterName k c all ≡ Go AfterName all
-space_after_name Space c all is = refl
-space_after_name _ c all is = absurd (cc)
+space_after_name k c all is = grind arith
 
 space_before_value : (k : Class) (c : ℕ) (all : List Attribute) → spaces k ≡ true → step BeforeValue k c all ≡ Go BeforeValue all
-space_before_value Space c all is = refl
-space_before_value _ c all is = absurd (cc)
+space_before_value k c all is = grind arith
 
 pub skip_before_name : (all : List Attribute) (bytes : List ℕ) → run BeforeName all bytes ≡ run BeforeName all (behind is_space bytes)
 skip_before_name = skip BeforeName (λ c all. space_before_name (class_of c) c all)
@@ -92,31 +86,20 @@ abbrev names : Class → Bool
 names k = elim k [ Space ↦ false | Slash ↦ false | Greater ↦ false | Equals ↦ false | _ ↦ true ]
 
 name_stays : (k : Class) (c : ℕ) (all : List Attribute) → names k ≡ true → step Name k c all ≡ Go Name (to_name c all)
-name_stays Space c all is = absurd (cc)
-name_stays Slash c all is = absurd (cc)
-name_stays Greater c all is = absurd (cc)
-name_stays Equals c all is = absurd (cc)
-name_stays _ c all is = refl
+name_stays k c all is = grind arith
 
 name_ends : (k : Class) (c : ℕ) (all : List Attribute) → names k ≡ false → step Name k c all ≡ step AfterName k c all
-name_ends Space c all is = refl
-name_ends Slash c all is = refl
-name_ends Greater c all is = refl
-name_ends Equals c all is = refl
-name_ends _ c all is = absurd (cc)
+name_ends k c all is = grind arith
 
 name_begins : (k : Class) (c : ℕ) (all : List Attribute) → begins k ≡ true → step BeforeName k c all ≡ Go Name (start c all)
-name_begins Space c all is = absurd (cc)
-name_begins Slash c all is = absurd (cc)
-name_begins Greater c all is = absurd (cc)
-name_begins _ c all is = refl
+name_begins k c all is = grind arith
 
 name_written : (name value : List ℕ) (all : List Attribute) (run : List ℕ) →
     written to_name (record { name = name; value = value } ∷ all) run ≡ record { name = name ++ map lower run; value = value } ∷ all
 name_written name value all [] = ap (λ n. record { name = n; value = value } ∷ all) (sym (append-nil name))
 name_written name value all (c ∷ rest) = name_written (name ++ lower c ∷ []) value all rest ∙ ap (λ n. record { name = n; value = value } ∷ all) (append_assoc name (lower c ∷ []) (map lower rest))
 
--- an attribute's name, and the white space behind it
+-- an attribute's name, and the white space after it
 pub read_name : (bytes : List ℕ) → BeginsName bytes → (all : List Attribute) →
     run BeforeName all bytes ≡ run AfterName (record { name = map lower (name_front bytes); value = [] } ∷ all) (behind is_space (name_behind bytes))
 read_name [] begins all = absurd begins
@@ -128,49 +111,24 @@ read_name (c ∷ rest) begins all =
     ∙ skip_after_name _ (behind in_name rest)
 
 pub name_shorter : (bytes : List ℕ) → BeginsName bytes → length (behind is_space (name_behind bytes)) < length bytes
-name_shorter [] begins = absurd begins
-name_shorter (c ∷ rest) begins = omega (arith, shorter in_name rest, shorter is_space (behind in_name rest))
+name_shorter bytes begins = grind (arith, shorter)
 
--- the class of a byte tells the byte
+-- the class of a byte determines the byte
 
 abbrev chain : Bool → Bool → Bool → Bool → Bool → Bool → Class
 chain space slash greater equals quote apostrophe = cond space Space (cond slash Slash (cond greater Greater (cond equals Equals (cond quote Quote (cond apostrophe Apostrophe Other)))))
 
 greater_by : (b1 b2 b3 b4 b5 b6 : Bool) → chain b1 b2 b3 b4 b5 b6 ≡ Greater → b3 ≡ true
-greater_by true b2 b3 b4 b5 b6 e = absurd (cc)
-greater_by false true b3 b4 b5 b6 e = absurd (cc)
-greater_by false false true b4 b5 b6 e = refl
-greater_by false false false true b5 b6 e = absurd (cc)
-greater_by false false false false true b6 e = absurd (cc)
-greater_by false false false false false true e = absurd (cc)
-greater_by false false false false false false e = absurd (cc)
+greater_by b1 b2 b3 b4 b5 b6 e = grind arith
 
 equals_by : (b1 b2 b3 b4 b5 b6 : Bool) → chain b1 b2 b3 b4 b5 b6 ≡ Equals → b4 ≡ true
-equals_by true b2 b3 b4 b5 b6 e = absurd (cc)
-equals_by false true b3 b4 b5 b6 e = absurd (cc)
-equals_by false false true b4 b5 b6 e = absurd (cc)
-equals_by false false false true b5 b6 e = refl
-equals_by false false false false true b6 e = absurd (cc)
-equals_by false false false false false true e = absurd (cc)
-equals_by false false false false false false e = absurd (cc)
+equals_by b1 b2 b3 b4 b5 b6 e = grind arith
 
 quote_by : (b1 b2 b3 b4 b5 b6 : Bool) → chain b1 b2 b3 b4 b5 b6 ≡ Quote → b5 ≡ true
-quote_by true b2 b3 b4 b5 b6 e = absurd (cc)
-quote_by false true b3 b4 b5 b6 e = absurd (cc)
-quote_by false false true b4 b5 b6 e = absurd (cc)
-quote_by false false false true b5 b6 e = absurd (cc)
-quote_by false false false false true b6 e = refl
-quote_by false false false false false true e = absurd (cc)
-quote_by false false false false false false e = absurd (cc)
+quote_by b1 b2 b3 b4 b5 b6 e = grind arith
 
 apostrophe_by : (b1 b2 b3 b4 b5 b6 : Bool) → chain b1 b2 b3 b4 b5 b6 ≡ Apostrophe → b6 ≡ true
-apostrophe_by true b2 b3 b4 b5 b6 e = absurd (cc)
-apostrophe_by false true b3 b4 b5 b6 e = absurd (cc)
-apostrophe_by false false true b4 b5 b6 e = absurd (cc)
-apostrophe_by false false false true b5 b6 e = absurd (cc)
-apostrophe_by false false false false true b6 e = absurd (cc)
-apostrophe_by false false false false false true e = refl
-apostrophe_by false false false false false false e = absurd (cc)
+apostrophe_by b1 b2 b3 b4 b5 b6 e = grind arith
 
 other_greater : (c : ℕ) → (c == 62) ≡ false → class_of c ≡ Greater → ⊥
 other_greater c other is = let e : (c == 62) ≡ true = greater_by _ _ _ (c == 61) (c == 34) (c == 39) is in absurd (cc)
@@ -191,22 +149,17 @@ at_class s k c rest all is = ap (λ k. follow (step s k c all) (λ state all. ru
 
 -- an attribute without a value: what follows its name is read as before a name
 no_value : (k : Class) (c : ℕ) (all : List Attribute) → spaces k ≡ false → (k ≡ Equals → ⊥) → step AfterName k c all ≡ step BeforeName k c all
-no_value Space c all space equals = absurd (cc)
-no_value Equals c all space equals = absurd (equals refl)
-no_value _ c all space equals = refl
+no_value k c all space equals = grind arith
 
 pub read_no_value : (all : List Attribute) (bytes : List ℕ) → Stopped is_space bytes → Stopped (λ c. c == 61) bytes → run AfterName all bytes ≡ run BeforeName all bytes
-read_no_value all [] space equals = refl
-read_no_value all (c ∷ rest) space equals = same_at AfterName BeforeName c rest all (no_value (class_of c) c all space (other_equals c equals))
+read_no_value all bytes space equals = grind (arith, same_at, no_value, other_equals)
 
--- a slash alone
+-- a slash that is not before `>`
 slash_alone : (k : Class) (c : ℕ) (all : List Attribute) → (k ≡ Greater → ⊥) → step SelfClosing k c all ≡ step BeforeName k c all
-slash_alone Greater c all greater = absurd (greater refl)
-slash_alone _ c all greater = refl
+slash_alone k c all greater = grind arith
 
 pub read_slash : (all : List Attribute) (bytes : List ℕ) → Stopped (λ c. c == 62) bytes → run SelfClosing all bytes ≡ run BeforeName all bytes
-read_slash all [] greater = refl
-read_slash all (c ∷ rest) greater = same_at SelfClosing BeforeName c rest all (slash_alone (class_of c) c all (other_greater c greater))
+read_slash all bytes greater = grind (arith, same_at, slash_alone, other_greater)
 
 -- a quoted value
 
@@ -216,22 +169,17 @@ value_written name value all [] = ap (λ v. record { name = name; value = v } �
 value_written name value all (c ∷ rest) = value_written name (value ++ c ∷ []) all rest ∙ ap (λ v. record { name = name; value = v } ∷ all) (append_assoc value (c ∷ []) rest)
 
 after_quoted : (k : Class) (c : ℕ) (all : List Attribute) → step AfterQuoted k c all ≡ step BeforeName k c all
-after_quoted Space c all = refl
-after_quoted Slash c all = refl
-after_quoted Greater c all = refl
-after_quoted _ c all = refl
+after_quoted k c all = grind arith
 
 read_after_quoted : (all : List Attribute) (bytes : List ℕ) → run AfterQuoted all bytes ≡ run BeforeName all bytes
 read_after_quoted all [] = refl
 read_after_quoted all (c ∷ rest) = same_at AfterQuoted BeforeName c rest all (after_quoted (class_of c) c all)
 
 double_stays : (k : Class) (c : ℕ) (all : List Attribute) → (k ≡ Quote → ⊥) → step DoubleQuoted k c all ≡ Go DoubleQuoted (to_value c all)
-double_stays Quote c all quote = absurd (quote refl)
-double_stays _ c all quote = refl
+double_stays k c all quote = grind arith
 
 single_stays : (k : Class) (c : ℕ) (all : List Attribute) → (k ≡ Apostrophe → ⊥) → step SingleQuoted k c all ≡ Go SingleQuoted (to_value c all)
-single_stays Apostrophe c all quote = absurd (quote refl)
-single_stays _ c all quote = refl
+single_stays k c all quote = grind arith
 
 abbrev pub before : ℕ → ℕ → Bool
 before quote c = not (c == quote)
@@ -251,28 +199,20 @@ single_jump name all bytes =
 pub read_double : (name bytes : List ℕ) (first : ℕ) (more value rest : List ℕ) → bytes ≡ first ∷ more → Quote ≡ class_of first →
     (value ≡ front (before 34) more) × (34 ∷ rest ≡ behind (before 34) more) →
     (all : List Attribute) → run BeforeValue (record { name = name; value = [] } ∷ all) bytes ≡ run BeforeName (record { name = name; value = value } ∷ all) rest
-read_double name bytes first more value rest is quote cut all =
-    ap (run BeforeValue _) is ∙ at_class BeforeValue Quote first more _ quote ∙ double_jump name all more
-    ∙ ap (run DoubleQuoted _) (sym cut.1) ∙ read_after_quoted _ rest
-    ∙ ap (λ v. run BeforeName (record { name = name; value = v } ∷ all) rest) (sym cut.0)
+read_double name bytes first more value rest is quote cut all = grind (arith, at_class, double_jump, read_after_quoted)
 
 pub read_open_double : (name bytes : List ℕ) (first : ℕ) (more : List ℕ) → bytes ≡ first ∷ more → Quote ≡ class_of first → behind (before 34) more ≡ [] →
     (all : List Attribute) → run BeforeValue (record { name = name; value = [] } ∷ all) bytes ≡ None
-read_open_double name bytes first more is quote none all =
-    ap (run BeforeValue _) is ∙ at_class BeforeValue Quote first more _ quote ∙ double_jump name all more ∙ ap (run DoubleQuoted _) none
+read_open_double name bytes first more is quote none all = grind (arith, at_class, double_jump)
 
 pub read_single : (name bytes : List ℕ) (first : ℕ) (more value rest : List ℕ) → bytes ≡ first ∷ more → Apostrophe ≡ class_of first →
     (value ≡ front (before 39) more) × (39 ∷ rest ≡ behind (before 39) more) →
     (all : List Attribute) → run BeforeValue (record { name = name; value = [] } ∷ all) bytes ≡ run BeforeName (record { name = name; value = value } ∷ all) rest
-read_single name bytes first more value rest is quote cut all =
-    ap (run BeforeValue _) is ∙ at_class BeforeValue Apostrophe first more _ quote ∙ single_jump name all more
-    ∙ ap (run SingleQuoted _) (sym cut.1) ∙ read_after_quoted _ rest
-    ∙ ap (λ v. run BeforeName (record { name = name; value = v } ∷ all) rest) (sym cut.0)
+read_single name bytes first more value rest is quote cut all = grind (arith, at_class, single_jump, read_after_quoted)
 
 pub read_open_single : (name bytes : List ℕ) (first : ℕ) (more : List ℕ) → bytes ≡ first ∷ more → Apostrophe ≡ class_of first → behind (before 39) more ≡ [] →
     (all : List Attribute) → run BeforeValue (record { name = name; value = [] } ∷ all) bytes ≡ None
-read_open_single name bytes first more is quote none all =
-    ap (run BeforeValue _) is ∙ at_class BeforeValue Apostrophe first more _ quote ∙ single_jump name all more ∙ ap (run SingleQuoted _) none
+read_open_single name bytes first more is quote none all = grind (arith, at_class, single_jump)
 
 pub quoted_shorter : (test : ℕ → Bool) (bytes : List ℕ) (first quote : ℕ) (more rest : List ℕ) → bytes ≡ first ∷ more → quote ∷ rest ≡ behind test more → length rest < length bytes + 1
 quoted_shorter test bytes first quote more rest is cut =
@@ -287,21 +227,13 @@ abbrev unquoted : Class → Bool
 unquoted k = elim k [ Space ↦ false | Greater ↦ false | _ ↦ true ]
 
 unquoted_stays : (k : Class) (c : ℕ) (all : List Attribute) → unquoted k ≡ true → step Unquoted k c all ≡ Go Unquoted (to_value c all)
-unquoted_stays Space c all is = absurd (cc)
-unquoted_stays Greater c all is = absurd (cc)
-unquoted_stays _ c all is = refl
+unquoted_stays k c all is = grind arith
 
 unquoted_ends : (k : Class) (c : ℕ) (all : List Attribute) → unquoted k ≡ false → step Unquoted k c all ≡ step BeforeName k c all
-unquoted_ends Space c all is = refl
-unquoted_ends Greater c all is = refl
-unquoted_ends _ c all is = absurd (cc)
+unquoted_ends k c all is = grind arith
 
 unquoted_begins : (k : Class) (c : ℕ) (all : List Attribute) → spaces k ≡ false → (k ≡ Greater → ⊥) → (k ≡ Quote → ⊥) → (k ≡ Apostrophe → ⊥) → step BeforeValue k c all ≡ step Unquoted k c all
-unquoted_begins Space c all space greater quote apostrophe = absurd (cc)
-unquoted_begins Greater c all space greater quote apostrophe = absurd (greater refl)
-unquoted_begins Quote c all space greater quote apostrophe = absurd (quote refl)
-unquoted_begins Apostrophe c all space greater quote apostrophe = absurd (apostrophe refl)
-unquoted_begins _ c all space greater quote apostrophe = refl
+unquoted_begins k c all space greater quote apostrophe = grind arith
 
 unquoted_jump : (name : List ℕ) (all : List Attribute) (bytes : List ℕ) →
     run Unquoted (record { name = name; value = [] } ∷ all) bytes ≡ run BeforeName (record { name = name; value = front in_unquoted bytes } ∷ all) (behind in_unquoted bytes)
@@ -324,10 +256,9 @@ read_unquoted name bytes first more value rest is space greater quote apostrophe
 -- an attribute with a value, from its name on
 pub read_equals : (bytes zs more : List ℕ) → BeginsName bytes → zs ≡ behind is_space (name_behind bytes) → zs ≡ 61 ∷ more → (all : List Attribute) →
     run BeforeName all bytes ≡ run BeforeValue (record { name = map lower (name_front bytes); value = [] } ∷ all) (behind is_space more)
-read_equals bytes zs more begins skipped is all =
-    read_name bytes begins all ∙ ap (run AfterName _) (sym skipped ∙ is) ∙ skip_before_value _ more
+read_equals bytes zs more begins skipped is all = grind (arith, read_name, skip_before_value)
 
--- an `="` just behind a name
+-- an `="` right after a name
 
 stays : (bytes rest more : List ℕ) → rest ≡ name_behind bytes → rest ≡ 61 ∷ 34 ∷ more → rest ≡ behind is_space (name_behind bytes)
 stays bytes rest more cut is = is ∙ sym (ap (behind is_space) is) ∙ ap (behind is_space) cut
@@ -339,11 +270,7 @@ read_quote bytes name rest more begins named cut is all =
     ∙ ap (λ (n : List ℕ). run BeforeValue (record { name = map lower n; value = [] } ∷ all) (34 ∷ more)) (sym named)
 
 pub quote_within : (bytes rest more : List ℕ) → BeginsName bytes → rest ≡ name_behind bytes → rest ≡ 61 ∷ 34 ∷ more → length more ≤ length bytes
-quote_within bytes rest more begins cut is =
-    let b : length rest ≡ length (61 ∷ 34 ∷ more) = ap length is in
-    let c : length rest ≡ length (behind is_space (name_behind bytes)) = ap length (stays bytes rest more cut is) in
-    let d : length (behind is_space (name_behind bytes)) < length bytes = name_shorter bytes begins in
-    omega arith
+quote_within bytes rest more begins cut is = grind (arith, stays, name_shorter)
 
 -- a `class`, up to the first quote of its value
 
@@ -352,25 +279,20 @@ pub read_class : (bytes more : List ℕ) → bytes ≡ codes " class=" ++ 34 ∷
 read_class bytes more is all = ap (run BeforeName all) is
 
 pub class_within : (bytes more : List ℕ) → bytes ≡ codes " class=" ++ 34 ∷ more → length more ≤ length bytes
-class_within bytes more is =
-    let e : length bytes ≡ length (32 ∷ 99 ∷ 108 ∷ 97 ∷ 115 ∷ 115 ∷ 61 ∷ 34 ∷ more) = ap length is in
-    omega arith
+class_within bytes more is = grind arith
 
--- the same of a `href`
+-- the same for a `href`
 
 pub read_href : (bytes more : List ℕ) → bytes ≡ codes " href=" ++ 34 ∷ more → (all : List Attribute) →
     run BeforeName all bytes ≡ run BeforeValue (record { name = map lower (codes "href"); value = [] } ∷ all) (34 ∷ more)
 read_href bytes more is all = ap (run BeforeName all) is
 
 pub href_within : (bytes more : List ℕ) → bytes ≡ codes " href=" ++ 34 ∷ more → length more ≤ length bytes
-href_within bytes more is =
-    let e : length bytes ≡ length (32 ∷ 104 ∷ 114 ∷ 101 ∷ 102 ∷ 61 ∷ 34 ∷ more) = ap length is in
-    omega arith
+href_within bytes more is = grind arith
 
 pub read_bare : (bytes zs : List ℕ) → BeginsName bytes → zs ≡ behind is_space (name_behind bytes) → Stopped is_space zs → Stopped (λ c. c == 61) zs → (all : List Attribute) →
     run BeforeName all bytes ≡ run BeforeName (record { name = map lower (name_front bytes); value = [] } ∷ all) zs
-read_bare bytes zs begins skipped space equals all =
-    read_name bytes begins all ∙ ap (run AfterName _) (sym skipped) ∙ read_no_value _ zs space equals
+read_bare bytes zs begins skipped space equals all = grind (arith, read_name, read_no_value)
 
 -- the pieces at the first byte that is no white space
 
@@ -379,13 +301,11 @@ read_end bytes zs skipped is all = skip_before_name all bytes ∙ ap (run Before
 
 pub read_greater : (bytes zs : List ℕ) (first : ℕ) (more : List ℕ) → zs ≡ behind is_space bytes → zs ≡ first ∷ more → Greater ≡ class_of first → (all : List Attribute) →
     run BeforeName all bytes ≡ Some (record { attributes = reverse all; self_closing = false; rest = more })
-read_greater bytes zs first more skipped is greater all =
-    skip_before_name all bytes ∙ ap (run BeforeName all) (sym skipped ∙ is) ∙ at_class BeforeName Greater first more all greater
+read_greater bytes zs first more skipped is greater all = grind (arith, skip_before_name, at_class)
 
 to_slash : (bytes zs : List ℕ) (first : ℕ) (more : List ℕ) → zs ≡ behind is_space bytes → zs ≡ first ∷ more → Slash ≡ class_of first → (all : List Attribute) →
     run BeforeName all bytes ≡ run SelfClosing all more
-to_slash bytes zs first more skipped is slash all =
-    skip_before_name all bytes ∙ ap (run BeforeName all) (sym skipped ∙ is) ∙ at_class BeforeName Slash first more all slash
+to_slash bytes zs first more skipped is slash all = grind (arith, skip_before_name, at_class)
 
 pub read_self_closing : (bytes zs : List ℕ) (first : ℕ) (more last : List ℕ) → zs ≡ behind is_space bytes → zs ≡ first ∷ more → Slash ≡ class_of first → more ≡ 62 ∷ last → (all : List Attribute) →
     run BeforeName all bytes ≡ Some (record { attributes = reverse all; self_closing = true; rest = last })

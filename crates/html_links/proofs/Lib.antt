@@ -9,6 +9,7 @@ pub mod Reading
 pub mod Seeing
 pub mod Telling
 pub mod Passing
+pub mod Templates
 pub mod Wanting
 pub mod Scripts
 pub mod Decoding

@@ -1,62 +1,48 @@
 -- The words of a `rel` over runs of bytes.
+use Rattle.std.proofs.lemmas.Bool.Decides.{nat_tests}
+use Rattle.std.proofs.lemmas.Grind.{common_steps}
 use Rattle.std.proofs.Common.{◌≡◌, ℕ, Bool, true, false, not, cond, List, [], ◌∷◌, ◌++◌, refl, ap, sym, ◌∙◌, append_assoc, append-nil, ◌<◌, ◌≤◌, length, arith}
+use Rattle.std.proofs.lemmas.Bool.{not-false, cond-false, not-true}
 use Rattle.html_links.specs.Shown.{front, behind, is_space, Stopped}
 use Rattle.html_links.specs.Candidates.{is_unspaced}
 use Rattle.html_links.proofs.Jumps.{stopped, shorter}
-use Rattle.html_links.specs.Links.{is_host_hint, hints_behind}
+use Rattle.html_links.specs.Links.{is_link_type, types_behind}
 
 -- the words of a `rel`
 
-hint_at : (b : Bool) (word : List ℕ) (c : ℕ) (rest some more : List ℕ) → (not b ≡ true → hints_behind word (c ∷ rest) ≡ hints_behind (word ++ c ∷ []) rest) →
-    hints_behind (word ++ c ∷ []) rest ≡ hints_behind ((word ++ c ∷ []) ++ some) more →
-    hints_behind word (c ∷ rest) ≡ hints_behind (word ++ cond (not b) (c ∷ some) []) (cond (not b) more (c ∷ rest))
-hint_at false word c rest some more stays later = stays refl ∙ later ∙ ap (λ w. hints_behind w more) (append_assoc word (c ∷ []) some)
-hint_at true word c rest some more stays later = ap (λ w. hints_behind w (c ∷ rest)) (sym (append-nil word))
+type_at : (b : Bool) (word : List ℕ) (c : ℕ) (rest some more : List ℕ) → (not b ≡ true → types_behind word (c ∷ rest) ≡ types_behind (word ++ c ∷ []) rest) →
+    types_behind (word ++ c ∷ []) rest ≡ types_behind ((word ++ c ∷ []) ++ some) more →
+    types_behind word (c ∷ rest) ≡ types_behind (word ++ cond (not b) (c ∷ some) []) (cond (not b) more (c ∷ rest))
+type_at false word c rest some more stays later = stays refl ∙ later ∙ ap (λ w. types_behind w more) (append_assoc word (c ∷ []) some)
+type_at true word c rest some more stays later = ap (λ w. types_behind w (c ∷ rest)) (sym (append-nil word))
 
-if_not : (b x y : Bool) → not b ≡ true → cond b x y ≡ y
-if_not true x y e = absurd (cc)
-if_not false x y e = refl
+pub type_run : (word bytes : List ℕ) → types_behind word bytes ≡ types_behind (word ++ front is_unspaced bytes) (behind is_unspaced bytes)
+type_run word [] = ap (λ w. types_behind w []) (sym (append-nil word))
+type_run word (c ∷ rest) =
+    type_at (is_space c) word c rest (front is_unspaced rest) (behind is_unspaced rest)
+    (λ e. cond-false (is_space c) (cond (is_link_type word) true (types_behind [] rest)) (types_behind (word ++ c ∷ []) rest) (not-true (is_space c) e)) (type_run (word ++ c ∷ []) rest)
 
-pub hint_run : (word bytes : List ℕ) → hints_behind word bytes ≡ hints_behind (word ++ front is_unspaced bytes) (behind is_unspaced bytes)
-hint_run word [] = ap (λ w. hints_behind w []) (sym (append-nil word))
-hint_run word (c ∷ rest) =
-    hint_at (is_space c) word c rest (front is_unspaced rest) (behind is_unspaced rest)
-    (if_not (is_space c) (cond (is_host_hint word) true (hints_behind [] rest)) (hints_behind (word ++ c ∷ []) rest)) (hint_run (word ++ c ∷ []) rest)
+type_if : (space makes : Bool) (here later : Bool) → space ≡ true → cond space (cond makes true later) here ≡ cond makes true later
+type_if space makes here later e = grind arith
 
-hint_if : (space hint : Bool) (here later : Bool) → space ≡ true → cond space (cond hint true later) here ≡ cond hint true later
-hint_if true hint here later e = refl
-hint_if false hint here later e = absurd (cc)
+pub type_yes : (word rest : List ℕ) → Stopped is_unspaced rest → true ≡ is_link_type word → types_behind word rest ≡ true
+type_yes word rest stop is = grind (arith, type_if, not-false)
 
-spaced : (b : Bool) → not b ≡ false → b ≡ true
-spaced true e = refl
-spaced false e = absurd (cc)
+pub type_no : (word rest more : List ℕ) (c : ℕ) → Stopped is_unspaced rest → false ≡ is_link_type word → rest ≡ c ∷ more → types_behind word rest ≡ types_behind [] more
+type_no word rest more c stop is cut = grind (arith, type_if, not-false)
 
-pub hint_yes : (word rest : List ℕ) → Stopped is_unspaced rest → true ≡ is_host_hint word → hints_behind word rest ≡ true
-hint_yes word [] stop is = sym is
-hint_yes word (c ∷ rest) stop is =
-    hint_if (is_space c) (is_host_hint word) _ (hints_behind [] rest) (spaced (is_space c) stop) ∙ ap (λ b. cond b true (hints_behind [] rest)) (sym is)
+pub type_none : (word rest : List ℕ) → false ≡ is_link_type word → rest ≡ [] → types_behind word rest ≡ false
+type_none word rest is none = ap (types_behind word) none ∙ sym is
 
-pub hint_no : (word rest more : List ℕ) (c : ℕ) → Stopped is_unspaced rest → false ≡ is_host_hint word → rest ≡ c ∷ more → hints_behind word rest ≡ hints_behind [] more
-hint_no word [] more c stop is cut = absurd (cc)
-hint_no word (d ∷ rest) more c stop is cut =
-    let same : rest ≡ more = cc in
-    hint_if (is_space d) (is_host_hint word) _ (hints_behind [] rest) (spaced (is_space d) stop) ∙ ap (λ b. cond b true (hints_behind [] rest)) (sym is) ∙ ap (hints_behind []) same
+pub found_type : (rest word spaced : List ℕ) → word ≡ front is_unspaced rest → is_link_type word ≡ true → types_behind [] rest ≡ true
+found_type rest word spaced some is = grind (arith, type_run, type_yes, stopped)
 
-pub hint_none : (word rest : List ℕ) → false ≡ is_host_hint word → rest ≡ [] → hints_behind word rest ≡ false
-hint_none word rest is none = ap (hints_behind word) none ∙ sym is
+pub last_word : (rest word spaced : List ℕ) → word ≡ front is_unspaced rest → spaced ≡ behind is_unspaced rest → is_link_type word ≡ false → spaced ≡ [] → types_behind [] rest ≡ false
+last_word rest word spaced some more is none = grind (arith, type_run, type_none)
 
-pub found_hint : (rest word spaced : List ℕ) → word ≡ front is_unspaced rest → is_host_hint word ≡ true → hints_behind [] rest ≡ true
-found_hint rest word spaced some is =
-    hint_run [] rest ∙ ap (λ w. hints_behind w (behind is_unspaced rest)) (sym some) ∙ hint_yes word (behind is_unspaced rest) (stopped is_unspaced rest) (sym is)
-
-pub last_word : (rest word spaced : List ℕ) → word ≡ front is_unspaced rest → spaced ≡ behind is_unspaced rest → is_host_hint word ≡ false → spaced ≡ [] → hints_behind [] rest ≡ false
-last_word rest word spaced some more is none =
-    hint_run [] rest ∙ ap (λ w. hints_behind w (behind is_unspaced rest)) (sym some) ∙ hint_none word (behind is_unspaced rest) (sym is) (sym more ∙ none)
-
-pub next_word : (rest word spaced left : List ℕ) (c : ℕ) → word ≡ front is_unspaced rest → spaced ≡ behind is_unspaced rest → is_host_hint word ≡ false → spaced ≡ c ∷ left →
-    hints_behind [] rest ≡ hints_behind [] left
-next_word rest word spaced left c some more is cut =
-    hint_run [] rest ∙ ap (λ w. hints_behind w (behind is_unspaced rest)) (sym some) ∙ hint_no word (behind is_unspaced rest) left c (stopped is_unspaced rest) (sym is) (sym more ∙ cut)
+pub next_word : (rest word spaced left : List ℕ) (c : ℕ) → word ≡ front is_unspaced rest → spaced ≡ behind is_unspaced rest → is_link_type word ≡ false → spaced ≡ c ∷ left →
+    types_behind [] rest ≡ types_behind [] left
+next_word rest word spaced left c some more is cut = grind (arith, nat_tests, common_steps, type_run, type_no, stopped)
 
 pub word_less : (rest spaced left : List ℕ) (c : ℕ) → spaced ≡ behind is_unspaced rest → spaced ≡ c ∷ left → length left < length rest
 word_less rest spaced left c more cut =

@@ -1,8 +1,8 @@
 -- Marks among the bytes of a value, by lanes.
-use Rattle.std.proofs.Common.{◌≡◌, ℕ, ◌+◌, ◌-◌, ◌%◌, ◌^◌, ◌<◌, ◌≤◌, eqb, bit_or, Bool, true, false, not, cond, ◌||◌, List, [], ◌∷◌, map, length, get_or, take, drop, None, refl, sym, ap, ap₂, ◌∙◌, subst, arith, inl, inr}
+use Rattle.std.proofs.Common.{◌≡◌, ℕ, ◌+◌, ◌-◌, ◌%◌, ◌^◌, ◌<◌, ◌≤◌, eqb, bit_or, Bool, false, not, cond, ◌||◌, List, [], ◌∷◌, map, length, get_or, take, drop, None, refl, sym, ap, ap₂, ◌∙◌, subst, arith, inl, inr}
 use Rattle.std.specs.List.{position_or_len}
 use Rattle.std.specs.Simd.Lanes.{zip2, mask_l, top}
-use Rattle.std.proofs.lemmas.Bool.{false≢true, eqb-true, cases_lt}
+use Rattle.std.proofs.lemmas.Bool.{false≢true, eqb-true, cases_lt, not-false}
 use Rattle.std.proofs.lemmas.Simd.{map-map, mask_l-mod, leading_from_mask_l}
 use Rattle.std.proofs.lemmas.List.{length-map, length-take-le, get_or-drop}
 use Rattle.memchr.specs.Find.{IsFirstByte, Passes}
@@ -21,14 +21,7 @@ abbrev joint : ℕ → ℕ
 joint x = bit_or (lane 38 x) (lane 0 x)
 
 top_joint : (a b : Bool) → top 7 (bit_or (cond a 255 0) (cond b 255 0)) ≡ (a || b)
-top_joint true true = refl
-top_joint true false = refl
-top_joint false true = refl
-top_joint false false = refl
-
-zero_from : (b : Bool) → not b ≡ false → b ≡ true
-zero_from true e = refl
-zero_from false e = absurd (cc)
+top_joint a b = grind arith
 
 pub none_marked : (bytes a b : List ℕ) → 16 ≤ length bytes → a ≡ map (lane 38) (take 16 bytes) → b ≡ map (lane 0) (take 16 bytes) →
     not (eqb (mask_l (map (top 7) (zip2 bit_or a b)) % 2 ^ 64) 0) ≡ false → position_or_len is_mark (take 16 bytes) ≡ 16
@@ -39,7 +32,7 @@ none_marked bytes a b room ands nuls none =
     let mask : mask_l (map (top 7) (zip2 bit_or a b)) % 2 ^ 64 ≡ mask_l (map (λ (x : ℕ). top 7 (joint x)) (take 16 bytes)) =
     ap (λ (l : List ℕ). mask_l (map (top 7) l) % 2 ^ 64) lanes ∙ ap (λ (ms : List Bool). mask_l ms % 2 ^ 64) (map-map (top 7) joint (take 16 bytes))
     ∙ mask_l-mod (map (λ (x : ℕ). top 7 (joint x)) (take 16 bytes)) 64 few in
-    let zero : mask_l (map (λ (x : ℕ). top 7 (joint x)) (take 16 bytes)) ≡ 0 = sym mask ∙ eqb-true _ _ (zero_from _ none) in
+    let zero : mask_l (map (λ (x : ℕ). top 7 (joint x)) (take 16 bytes)) ≡ 0 = sym mask ∙ eqb-true _ _ (not-false _ none) in
     sym (prefix_same (λ (x : ℕ). not (top 7 (joint x))) (λ (x : ℕ). not (is_mark x)) (λ (x : ℕ). ap not (top_joint (eqb x 38) (eqb x 0))) (take 16 bytes))
     ∙ leading_from_mask_l (λ (x : ℕ). top 7 (joint x)) (take 16 bytes) zero ∙ long
 

@@ -1,4 +1,4 @@
--- A byte among the first, by the mask of one load, and behind them.
+-- A byte among the first, by the mask of one load, and after them.
 use Rattle.std.proofs.Common.{◌≡◌, ℕ, ◌+◌, ◌-◌, ◌%◌, ◌^◌, ◌<◌, ◌≤◌, eqb, Bool, true, false, not, cond, List, [], ◌∷◌, map, length, get_or, take, drop, None, Some, refl, sym, ap, ◌∙◌, subst, arith, inl, inr}
 use Rattle.std.specs.List.{prefix_len, position_or_len}
 use Rattle.std.specs.Simd.Lanes.{mask_l, top}
@@ -10,11 +10,7 @@ use Rattle.memchr.specs.Find.{IsFirstByte, Passes, is_byte}
 use Rattle.html_links.specs.Near.{first_set}
 
 first_is : (p : ℕ → Bool) (v : List ℕ) (n : ℕ) → length v ≡ n → n ≤ 64 → first_set (mask_l (map p v)) n ≡ prefix_len (λ x. not (p x)) v
-first_is p v n long few =
-    elim (cases_eq (mask_l (map p v)) 0) [
-      | inl none ↦ cond-true _ _ _ (eq-eqb _ _ none) ∙ sym (leading_from_mask_l p v none ∙ long)
-      | inr some ↦ cond-false _ _ _ (ne_eqb _ _ some) ∙ trailing_mask_l p 64 v (omega arith) (omega arith)
-    ]
+first_is p v n long few = grind (arith, cases_eq, cond-true, eq-eqb, leading_from_mask_l, cond-false, ne_eqb, trailing_mask_l)
 
 pub prefix_same : (p q : ℕ → Bool) → ((x : ℕ) → p x ≡ q x) → (xs : List ℕ) → prefix_len p xs ≡ prefix_len q xs
 prefix_same p q same [] = refl
@@ -25,8 +21,7 @@ abbrev pub lane : ℕ → ℕ → ℕ
 lane byte x = cond (eqb x byte) 255 0
 
 top_lane : (b : Bool) → top 7 (cond b 255 0) ≡ b
-top_lane true = refl
-top_lane false = refl
+top_lane b = grind arith
 
 pub near_place : (byte : ℕ) (bytes z : List ℕ) (r : ℕ) → 32 ≤ length bytes → r ≡ first_set (mask_l (map (top 7) z) % 2 ^ 64) 32 → z ≡ map (lane byte) (take 32 bytes) →
     r ≡ position_or_len (is_byte byte) (take 32 bytes)
@@ -52,7 +47,7 @@ near_first test bytes n r room is inside =
     subst (λ (x : ℕ). test x ≡ true) (ap (λ (k : ℕ). get_or (take n bytes) k 0) (sym is) ∙ get_or-take n bytes r 0 inside) (not-false _ (prefix_len_stops (λ (x : ℕ). not (test x)) (take n bytes) 0 within)) in
     (record { low = omega arith; high = omega arith; before = λ k low high. λ (p : Passes test bytes k). false≢true (sym (passes_none test bytes n k (omega arith) (omega arith)) ∙ p) }, here)
 
--- none among the first, and none of those behind them
+-- none among the first, and none of those after them
 module _ (test : ℕ → Bool) (bytes : List ℕ) (n r : ℕ) (is : r ≡ position_or_len test (take n bytes)) (all : n ≤ r) where
   fails_at : (k : ℕ) → (n ≤ k → Passes test (drop n bytes) (k - n) → ⊥) → Passes test bytes k → ⊥
   fails_at k later p =

@@ -1,5 +1,8 @@
 -- The machine of raw text over runs.
-use Rattle.std.proofs.Common.{◌≡◌, ℕ, ◌<◌, ◌≤◌, ◌==◌, ◌&&◌, Bool, true, false, not, cond, List, [], ◌∷◌, ◌++◌, length, map, Option, None, Some, refl, ap, sym, ◌∙◌, arith, append_assoc, append-nil}
+use Rattle.std.proofs.lemmas.Bool.Decides.{nat_tests}
+use Rattle.std.proofs.lemmas.Grind.{common_steps}
+use Rattle.std.proofs.Common.{◌≡◌, ℕ, ◌<◌, ◌≤◌, ◌==◌, ◌&&◌, Bool, true, false, not, cond, List, [], ◌∷◌, ◌++◌, length, map, Option, None, Some, refl, ap, sym, ◌∙◌, arith, append-nil}
+use Rattle.std.proofs.lemmas.Bool.{cond-false, not-true}
 use Rattle.std.specs.Char.{to_ascii_lowercase}
 use Rattle.std.specs.Str.{bytes_eq}
 use Rattle.html_links.specs.Tags.{class_of}
@@ -8,17 +11,12 @@ use Rattle.html_links.specs.Tags.{is_letter}
 use Rattle.html_links.specs.RawText.{Text, LessThan, EndTagOpen, EndTagName, Next, Go, Ends, text_step, ends_name, step, follow, run, ends_at}
 use Rattle.html_links.proofs.Jumps.{stopped, shorter}
 
-other : (b : Bool) (x y : Next) → not b ≡ true → cond b x y ≡ y
-other true x y e = absurd (cc)
-other false x y e = refl
-
 text_at : (name : List ℕ) (b : Bool) (c : ℕ) (rest more : List ℕ) → (b ≡ true → step name Text c ≡ Go Text) → run name Text rest ≡ run name Text more → run name Text (c ∷ rest) ≡ run name Text (cond b more (c ∷ rest))
-text_at name true c rest more stays later = ap (λ n. follow n (λ state. run name state rest) (c ∷ rest)) (stays refl) ∙ later
-text_at name false c rest more stays later = refl
+text_at name b c rest more stays later = grind arith
 
 to_less : (name bytes : List ℕ) → run name Text bytes ≡ run name Text (behind (λ c. not (c == 60)) bytes)
 to_less name [] = refl
-to_less name (c ∷ rest) = text_at name (not (c == 60)) c rest (behind (λ c. not (c == 60)) rest) (λ e. other (c == 60) (Go LessThan) (Go Text) e) (to_less name rest)
+to_less name (c ∷ rest) = text_at name (not (c == 60)) c rest (behind (λ c. not (c == 60)) rest) (λ e. cond-false (c == 60) (Go LessThan) (Go Text) (not-true (c == 60) e)) (to_less name rest)
 
 pub read_less : (name bytes opened : List ℕ) → 60 ∷ opened ≡ behind (λ c. not (c == 60)) bytes → run name Text bytes ≡ run name LessThan opened
 read_less name bytes opened cut = to_less name bytes ∙ ap (run name Text) (sym cut)
@@ -26,13 +24,8 @@ read_less name bytes opened cut = to_less name bytes ∙ ap (run name Text) (sym
 pub read_no_less : (name bytes : List ℕ) → behind (λ c. not (c == 60)) bytes ≡ [] → run name Text bytes ≡ None
 read_no_less name bytes none = to_less name bytes ∙ ap (run name Text) none
 
-chosen : (b : Bool) (x y : Next) → b ≡ false → cond b x y ≡ y
-chosen true x y e = absurd (cc)
-chosen false x y e = refl
-
 pub no_slash : (name bytes : List ℕ) → Stopped (λ c. c == 47) bytes → run name LessThan bytes ≡ run name Text bytes
-no_slash name [] slash = refl
-no_slash name (c ∷ rest) slash = ap (λ n. follow n (λ state. run name state rest) (c ∷ rest)) (chosen (c == 47) (Go EndTagOpen) (text_step c) slash)
+no_slash name bytes slash = grind (arith, cond-false)
 
 -- the letters of an end tag's name
 
@@ -42,23 +35,17 @@ named name so_far rest go text letter ends = cond letter go (cond ends (cond (by
 letters_at : (name so_far : List ℕ) (b : Bool) (c : ℕ) (rest some more : List ℕ) → is_letter c ≡ b →
     run name (EndTagName (so_far ++ to_ascii_lowercase c ∷ [])) rest ≡ run name (EndTagName ((so_far ++ to_ascii_lowercase c ∷ []) ++ map to_ascii_lowercase some)) more →
     run name (EndTagName so_far) (c ∷ rest) ≡ run name (EndTagName (so_far ++ map to_ascii_lowercase (cond b (c ∷ some) []))) (cond b more (c ∷ rest))
-letters_at name so_far true c rest some more letter later =
-    ap (λ l. follow (named name so_far rest (Go (EndTagName (so_far ++ to_ascii_lowercase c ∷ []))) (text_step c) l (ends_name (class_of c))) (λ state. run name state rest) (c ∷ rest)) letter
-    ∙ later ∙ ap (λ n. run name (EndTagName n) more) (append_assoc so_far (to_ascii_lowercase c ∷ []) (map to_ascii_lowercase some))
-letters_at name so_far false c rest some more letter later = ap (λ n. run name (EndTagName n) (c ∷ rest)) (sym (append-nil so_far))
+letters_at name so_far b c rest some more letter later = grind (arith, nat_tests, common_steps, append-nil)
 
 letters : (name so_far bytes : List ℕ) → run name (EndTagName so_far) bytes ≡ run name (EndTagName (so_far ++ map to_ascii_lowercase (front is_letter bytes))) (behind is_letter bytes)
 letters name so_far [] = refl
 letters name so_far (c ∷ rest) = letters_at name so_far (is_letter c) c rest (front is_letter rest) (behind is_letter rest) refl (letters name (so_far ++ to_ascii_lowercase c ∷ []) rest)
 
--- behind the letters
+-- after the letters
 
 ended_by : (name so_far rest : List ℕ) (c : ℕ) (go : Next) (b ends same : Bool) → b ≡ false →
     follow (cond b go (cond ends (cond same Ends (text_step c)) (text_step c))) (λ state. run name state rest) (c ∷ rest) ≡ cond (ends && same) (Some (c ∷ rest)) (run name Text (c ∷ rest))
-ended_by name so_far rest c go true ends same e = absurd (cc)
-ended_by name so_far rest c go false true true e = refl
-ended_by name so_far rest c go false true false e = refl
-ended_by name so_far rest c go false false same e = refl
+ended_by name so_far rest c go b ends same e = grind arith
 
 ended : (name so_far bytes : List ℕ) → Stopped is_letter bytes → run name (EndTagName so_far) bytes ≡ cond (ends_at bytes && bytes_eq so_far name) (Some bytes) (run name Text bytes)
 ended name so_far [] stops = refl
@@ -68,8 +55,7 @@ abbrev decided : List ℕ → List ℕ → List ℕ → Option (List ℕ)
 decided name found more = cond (ends_at more && bytes_eq (map to_ascii_lowercase found) name) (Some more) (run name Text more)
 
 and_false : (b : Bool) (x y : Option (List ℕ)) → y ≡ cond (b && false) x y
-and_false true x y = refl
-and_false false x y = refl
+and_false b x y = grind arith
 
 none_found : (name : List ℕ) (c : ℕ) (rest : List ℕ) → 0 < length name → run name Text (c ∷ rest) ≡ decided name [] (c ∷ rest)
 none_found [] c rest some = absurd (omega arith)
@@ -77,13 +63,7 @@ none_found (d ∷ name) c rest some = and_false (ends_name (class_of c)) (Some (
 
 opened_at : (name : List ℕ) (b : Bool) (c : ℕ) (rest : List ℕ) → 0 < length name → is_letter c ≡ b →
     run name EndTagOpen (c ∷ rest) ≡ decided name (cond b (c ∷ front is_letter rest) []) (cond b (behind is_letter rest) (c ∷ rest))
-opened_at name true c rest some letter =
-    ap (λ l. follow (cond l (Go (EndTagName (to_ascii_lowercase c ∷ []))) (text_step c)) (λ state. run name state rest) (c ∷ rest)) letter
-    ∙ letters name (to_ascii_lowercase c ∷ []) rest
-    ∙ ended name (to_ascii_lowercase c ∷ map to_ascii_lowercase (front is_letter rest)) (behind is_letter rest) (stopped is_letter rest)
-opened_at name false c rest some letter =
-    ap (λ l. follow (cond l (Go (EndTagName (to_ascii_lowercase c ∷ []))) (text_step c)) (λ state. run name state rest) (c ∷ rest)) letter
-    ∙ none_found name c rest some
+opened_at name b c rest some letter = grind (arith, letters, ended, stopped, none_found)
 
 opened_end : (name bytes : List ℕ) → 0 < length name → run name EndTagOpen bytes ≡ decided name (front is_letter bytes) (behind is_letter bytes)
 opened_end name [] some = refl
@@ -91,10 +71,7 @@ opened_end name (c ∷ rest) some = opened_at name (is_letter c) c rest some ref
 
 pub read_end : (name opened slashed found more : List ℕ) (b : Bool) → 0 < length name → opened ≡ 47 ∷ slashed → found ≡ front is_letter slashed → more ≡ behind is_letter slashed →
     (ends_at more && bytes_eq (map to_ascii_lowercase found) name) ≡ b → run name LessThan opened ≡ cond b (Some more) (run name Text more)
-read_end name opened slashed found more b some is letters_are rest_is test =
-    ap (run name LessThan) is ∙ opened_end name slashed some
-    ∙ ap (λ f. decided name f (behind is_letter slashed)) (sym letters_are) ∙ ap (decided name found) (sym rest_is)
-    ∙ ap (λ t. cond t (Some more) (run name Text more)) test
+read_end name opened slashed found more b some is letters_are rest_is test = grind (arith, opened_end)
 
 pub raw_less : (bytes opened slashed more : List ℕ) → 60 ∷ opened ≡ behind (λ c. not (c == 60)) bytes → opened ≡ 47 ∷ slashed → more ≡ behind is_letter slashed → length more < length bytes
 raw_less bytes opened slashed more cut is rest_is =

@@ -1,5 +1,6 @@
 -- The values of a tag's wanted attributes, one attribute after another.
-use Rattle.std.proofs.Common.{◌≡◌, ◌∙◌, ◌==◌, sym, ap, refl, ℕ, Bool, true, false, cond, List, [], ◌∷◌, ◌++◌, reverse, map, Option, None, Some, MatchOption, IfSome}
+use native.Mathlib.Omega.{arith}
+use Rattle.std.proofs.Common.{◌≡◌, ◌∙◌, ◌==◌, sym, ap, refl, ℕ, Bool, cond, List, [], ◌∷◌, ◌++◌, reverse, map, Option, None, Some, MatchOption, IfSome}
 use Rattle.std.specs.Prelude.{codes}
 use Rattle.std.proofs.lemmas.Grind.{reverse_onto}
 use Rattle.std.specs.Str.{bytes_eq}
@@ -11,7 +12,7 @@ use Rattle.html_links.specs.Elements.{Wanted, wanted_of}
 use Rattle.html_links.specs.Values.{Values, values_of, first_named, or_named, with_attribute, values_in, tag_with, no_values}
 use Rattle.html_links.proofs.Jumps.{before, read_class, read_double}
 
--- some attributes are behind it, and these are their values
+-- it has read some attributes, and these are their values
 pub record Reading (bytes rest : List ℕ) (w : Wanted) (v : Values) : Type 0 where
   pub all : List Attribute
   pub reads : run BeforeName all rest ≡ run BeforeName [] bytes
@@ -21,8 +22,7 @@ pub record Reading (bytes rest : List ℕ) (w : Wanted) (v : Values) : Type 0 wh
 
 named_at : (b : Bool) (value : List ℕ) (o : Option (List ℕ)) (name : List ℕ) (a : Attribute) (first : Option (List ℕ)) →
     o ≡ or_named first name a → cond b (Some value) o ≡ or_named (cond b (Some value) first) name a
-named_at true value o name a first e = refl
-named_at false value o name a first e = e
+named_at b value o name a first e = grind arith
 
 named_last : (name : List ℕ) (all : List Attribute) (a : Attribute) → first_named name (all ++ a ∷ []) ≡ or_named (first_named name all) name a
 named_last name [] a = refl
@@ -33,13 +33,9 @@ values_last w all a = rw (named_last w.first all a, named_last w.second all a, n
 
 pub one_more : (bytes rest more : List ℕ) (w : Wanted) (v new : Values) (a : Attribute) → Reading bytes rest w v →
     ((all : List Attribute) → run BeforeName all rest ≡ run BeforeName (a ∷ all) more) → new ≡ with_attribute v w a → Reading bytes more w new
-one_more bytes rest more w v new a so_far reads with_it = record {
-  all = a ∷ so_far.all;
-  reads = sym (reads so_far.all) ∙ so_far.reads;
-  values = with_it ∙ ap (λ (v : Values). with_attribute v w a) so_far.values ∙ sym (values_last w (reverse so_far.all) a) ∙ ap (values_of w) (sym (reverse_onto so_far.all a []));
-}
+one_more bytes rest more w v new a so_far reads with_it = grind (arith, values_last, reverse_onto)
 
--- a tag with a `class` alone
+-- a tag with only a `class`
 pub plain_class : (r : Option (Bor (List ℕ))) (bytes quoted value rest : List ℕ) → bytes ≡ codes " class=" ++ 34 ∷ quoted →
     (value ≡ front (before 34) quoted) × (34 ∷ rest ≡ behind (before 34) quoted) → MatchOption r (Stopped (λ c. c == 62) rest) (λ more. rest ≡ 62 ∷ more.now) →
     IfSome r (λ last. Some (tag_with no_values last.now) ≡ values_in (wanted_of Other) (tag_of bytes))

@@ -1,5 +1,6 @@
 -- The machine of a script's text, and its first state over a run.
-use Rattle.std.proofs.Common.{◌≡◌, ℕ, ◌+◌, ◌<◌, ◌≤◌, ◌==◌, Bool, true, false, not, cond, List, [], ◌∷◌, length, None, Some, refl, ap, sym, ◌∙◌, arith}
+use Rattle.std.proofs.Common.{◌≡◌, ℕ, ◌+◌, ◌<◌, ◌≤◌, ◌==◌, Bool, true, not, cond, List, [], ◌∷◌, length, None, Some, refl, ap, sym, ◌∙◌, arith}
+use Rattle.std.proofs.lemmas.Bool.{cond-false, not-true}
 use Rattle.html_links.specs.declared.script.State.{State}
 use Rattle.html_links.specs.declared.script.State.TheVariants.{Text, LessThan}
 use Rattle.html_links.specs.declared.script.Next.{Next}
@@ -8,17 +9,12 @@ use Rattle.html_links.specs.Shown.{behind}
 use Rattle.html_links.specs.Script.{step, follow, run}
 use Rattle.html_links.proofs.Jumps.{shorter}
 
-other : (b : Bool) (x y : Next) → not b ≡ true → cond b x y ≡ y
-other true x y e = absurd (cc)
-other false x y e = refl
-
 text_at : (b : Bool) (c : ℕ) (rest more : List ℕ) → (b ≡ true → step Text c ≡ Go Text) → run Text rest ≡ run Text more → run Text (c ∷ rest) ≡ run Text (cond b more (c ∷ rest))
-text_at true c rest more stays later = ap (λ n. follow n (λ state. run state rest) (c ∷ rest)) (stays refl) ∙ later
-text_at false c rest more stays later = refl
+text_at b c rest more stays later = grind arith
 
 to_less : (bytes : List ℕ) → run Text bytes ≡ run Text (behind (λ c. not (c == 60)) bytes)
 to_less [] = refl
-to_less (c ∷ rest) = text_at (not (c == 60)) c rest (behind (λ c. not (c == 60)) rest) (λ e. other (c == 60) (Go LessThan) (Go Text) e) (to_less rest)
+to_less (c ∷ rest) = text_at (not (c == 60)) c rest (behind (λ c. not (c == 60)) rest) (λ e. cond-false (c == 60) (Go LessThan) (Go Text) (not-true (c == 60) e)) (to_less rest)
 
 pub read_less : (bytes opened : List ℕ) → 60 ∷ opened ≡ behind (λ c. not (c == 60)) bytes → run Text bytes ≡ run LessThan opened
 read_less bytes opened cut = to_less bytes ∙ ap (run Text) (sym cut)
@@ -34,8 +30,7 @@ pub ends : (s : State) (c : ℕ) (bytes rest : List ℕ) → bytes ≡ c ∷ res
 ends s c bytes rest is steps = ap (run s) is ∙ ap (λ n. follow n (λ state. run state rest) (c ∷ rest)) (sym steps) ∙ ap (λ (bytes : List ℕ). Some bytes) (sym is)
 
 left_at : (c : ℕ) (next : Next) (rest here : List ℕ) → ((s : State) → run s rest ≡ Some here → length here ≤ length rest) → follow next (λ s. run s rest) (c ∷ rest) ≡ Some here → length here ≤ length rest + 1
-left_at c (Go s) rest here later e = omega (arith, later s e)
-left_at c Ends rest here later e = let same : (c ∷ rest) ≡ here = cc in let l : length (c ∷ rest) ≡ length here = ap length same in omega arith
+left_at c next rest here later e = grind arith
 
 pub left : (s : State) (bytes here : List ℕ) → run s bytes ≡ Some here → length here ≤ length bytes
 left s [] here e = absurd (cc)

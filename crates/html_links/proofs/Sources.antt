@@ -1,17 +1,9 @@
 -- The candidates of a `srcset` over runs of bytes.
-use Rattle.std.proofs.Common.{◌≡◌, ℕ, zero, suc, ◌+◌, ◌<◌, ◌≤◌, ◌==◌, ◌||◌, nat_lt, Bool, true, false, not, cond, List, [], ◌∷◌, ◌++◌, length, refl, ap, sym, ◌∙◌, arith, append_assoc, append-nil}
-use Rattle.std.proofs.lemmas.Bool.{eqb-true}
+use Rattle.std.proofs.Common.{◌≡◌, ℕ, ◌+◌, ◌<◌, ◌≤◌, ◌==◌, ◌||◌, Bool, true, false, not, cond, List, [], ◌∷◌, ◌++◌, length, refl, ap, sym, ◌∙◌, arith, append_assoc, append-nil}
+use Rattle.std.proofs.lemmas.Bool.{eqb-true, eqb-false, false_from_ne_true, cond-true, cond-false, not-false, not-true}
 use Rattle.html_links.specs.Shown.{front, behind, is_space, Stopped}
 use Rattle.html_links.proofs.Jumps.{stopped, shorter}
 use Rattle.html_links.specs.Candidates.{Between, Url, Descriptors, Next, Go, are_commas, without_commas, is_between, is_unspaced, behind_url, behind_shorter, step, at_end, follow, read, candidates_of}
-
-refuted : (b : Bool) → (b ≡ true → ⊥) → b ≡ false
-refuted true never = absurd (never refl)
-refuted false never = refl
-
-if_true : (b : Bool) (x y : Next) → b ≡ true → cond b x y ≡ x
-if_true true x y e = refl
-if_true false x y e = absurd (cc)
 
 abbrev on : List ℕ → Next → List (List ℕ)
 on rest next = follow next (λ s. read s rest)
@@ -20,11 +12,7 @@ on rest next = follow next (λ s. read s rest)
 
 pub front_shorter : (test : ℕ → Bool) (bytes : List ℕ) → length (front test bytes) + length (behind test bytes) ≡ length bytes
 front_shorter test [] = refl
-front_shorter test (c ∷ rest) = cut_at (test c) c rest (front test rest) (behind test rest) (front_shorter test rest)
-  where
-    cut_at : (b : Bool) (c : ℕ) (rest some more : List ℕ) → length some + length more ≡ length rest → length (cond b (c ∷ some) []) + length (cond b more (c ∷ rest)) ≡ length (c ∷ rest)
-    cut_at true c rest some more e = omega (arith, e)
-    cut_at false c rest some more e = omega arith
+front_shorter test (c ∷ rest) = grind (arith, front_shorter test rest)
 
 pub front_all : (test : ℕ → Bool) (bytes : List ℕ) → behind test bytes ≡ [] → front test bytes ≡ bytes
 front_all test [] none = refl
@@ -42,7 +30,7 @@ between_at false c rest more stays later = refl
 
 pub between_run : (bytes : List ℕ) → read Between bytes ≡ read Between (behind is_between bytes)
 between_run [] = refl
-between_run (c ∷ rest) = between_at (is_between c) c rest (behind is_between rest) (if_true (is_between c) (Go [] Between) (Go [] (Url (c ∷ [])))) (between_run rest)
+between_run (c ∷ rest) = between_at (is_between c) c rest (behind is_between rest) (cond-true (is_between c) (Go [] Between) (Go [] (Url (c ∷ [])))) (between_run rest)
 
 -- a URL
 
@@ -52,76 +40,49 @@ url_at : (b : Bool) (url : List ℕ) (c : ℕ) (rest some more : List ℕ) → (
 url_at false url c rest some more stays later = ap (on rest) (stays refl) ∙ later ∙ ap (λ u. read (Url u) more) (append_assoc url (c ∷ []) some)
 url_at true url c rest some more stays later = ap (λ u. read (Url u) (c ∷ rest)) (sym (append-nil url))
 
-if_not : (b : Bool) (x y : Next) → not b ≡ true → cond b x y ≡ y
-if_not true x y e = absurd (cc)
-if_not false x y e = refl
-
 pub url_run : (url bytes : List ℕ) → read (Url url) bytes ≡ read (Url (url ++ front is_unspaced bytes)) (behind is_unspaced bytes)
 url_run url [] = ap (λ u. read (Url u) []) (sym (append-nil url))
 url_run url (c ∷ rest) =
     url_at (is_space c) url c rest (front is_unspaced rest) (behind is_unspaced rest)
-    (if_not (is_space c) (Go (without_commas url ∷ []) (behind_url url)) (Go [] (Url (url ++ c ∷ [])))) (url_run (url ++ c ∷ []) rest)
+    (λ e. cond-false (is_space c) (Go (without_commas url ∷ []) (behind_url url)) (Go [] (Url (url ++ c ∷ []))) (not-true (is_space c) e)) (url_run (url ++ c ∷ []) rest)
 
 -- a byte of a candidate is no white space
 
 either : (a b : Bool) → a || b ≡ false → a ≡ false
-either true b e = absurd (cc)
-either false b e = refl
+either a b e = grind arith
 
 start_at : (b : Bool) (c : ℕ) (rest some more : List ℕ) → b ≡ false → step Between c ≡ Go [] (Url (c ∷ [])) → read (Url (c ∷ [])) rest ≡ read (Url (c ∷ some)) more →
     read Between (c ∷ rest) ≡ read (Url (cond (not b) (c ∷ some) [])) (cond (not b) more (c ∷ rest))
 start_at true c rest some more isnt steps later = absurd (cc)
 start_at false c rest some more isnt steps later = ap (on rest) steps ∙ later
 
-if_false : (b : Bool) (x y : Next) → b ≡ false → cond b x y ≡ y
-if_false true x y e = absurd (cc)
-if_false false x y e = refl
-
 pub start_url : (start : List ℕ) → Stopped is_between start → 0 < length (front is_unspaced start) → read Between start ≡ read (Url (front is_unspaced start)) (behind is_unspaced start)
-start_url [] stop some = absurd (omega (arith, some))
-start_url (c ∷ rest) stop some =
-    start_at (is_space c) c rest (front is_unspaced rest) (behind is_unspaced rest) (either (is_space c) (c == 44) stop)
-    (if_false (is_between c) (Go [] Between) (Go [] (Url (c ∷ []))) stop) (url_run (c ∷ []) rest)
+start_url start stop some = grind (arith, start_at, either, cond-false, url_run)
 
--- where there is no byte there is no candidate
+-- if there is no byte, there is no candidate
 pub no_url : (start : List ℕ) → Stopped is_between start → length (front is_unspaced start) ≡ 0 → read Between start ≡ []
-no_url [] stop none = refl
-no_url (c ∷ rest) stop none = absurd (some_at (is_space c) c (front is_unspaced rest) (either (is_space c) (c == 44) stop) none)
-  where
-    some_at : (b : Bool) (c : ℕ) (some : List ℕ) → b ≡ false → length (cond (not b) (c ∷ some) []) ≡ 0 → ⊥
-    some_at true c some isnt none = absurd (cc)
-    some_at false c some isnt none = omega (arith, none)
+no_url start stop none = grind (arith, either)
 
--- white space behind a URL
+-- white space after a URL
 
 space_not : (c n : ℕ) → is_space n ≡ false → is_space c ≡ true → (c == n) ≡ false
-space_not c n isnt space = refuted (c == n) (λ e. let is : c ≡ n = eqb-true c n e in let same : is_space c ≡ is_space n = ap is_space is in absurd (cc))
+space_not c n isnt space = false_from_ne_true (c == n) (λ e. let is : c ≡ n = eqb-true c n e in let same : is_space c ≡ is_space n = ap is_space is in absurd (cc))
 
 space_between : (c : ℕ) (rest : List ℕ) → is_space c ≡ true → read Between (c ∷ rest) ≡ read Between rest
-space_between c rest space = ap (on rest) (if_true (is_between c) (Go [] Between) (Go [] (Url (c ∷ []))) (ap (λ b. b || c == 44) space))
+space_between c rest space = ap (on rest) (cond-true (is_between c) (Go [] Between) (Go [] (Url (c ∷ []))) (ap (λ b. b || c == 44) space))
 
 space_descriptors : (c : ℕ) (rest : List ℕ) → is_space c ≡ true → read (Descriptors false) (c ∷ rest) ≡ read (Descriptors false) rest
-space_descriptors c rest space =
-    ap (on rest) (if_false (c == 44) (Go [] Between) (Go [] (Descriptors (c == 40))) (space_not c 44 refl space) ∙ ap (λ b. Go [] (Descriptors b)) (space_not c 40 refl space))
+space_descriptors c rest space = grind (arith, cond-false, space_not)
 
 behind_at : (b : Bool) (c : ℕ) (rest : List ℕ) → is_space c ≡ true → read (cond b Between (Descriptors false)) rest ≡ read (cond b Between (Descriptors false)) (c ∷ rest)
 behind_at true c rest space = sym (space_between c rest space)
 behind_at false c rest space = sym (space_descriptors c rest space)
 
 none_at : (b : Bool) → at_end (cond b Between (Descriptors false)) ≡ []
-none_at true = refl
-none_at false = refl
-
-unspaced_not : (b : Bool) → not b ≡ false → b ≡ true
-unspaced_not true e = refl
-unspaced_not false e = absurd (cc)
+none_at b = grind arith
 
 pub url_end : (url more : List ℕ) → Stopped is_unspaced more → read (Url url) more ≡ without_commas url ∷ read (behind_url url) more
-url_end url [] stop = ap (λ t. without_commas url ∷ t) (sym (none_at (nat_lt (length (without_commas url)) (length url))))
-url_end url (c ∷ rest) stop =
-    let space : is_space c ≡ true = unspaced_not (is_space c) stop in
-    ap (on rest) (if_true (is_space c) (Go (without_commas url ∷ []) (behind_url url)) (Go [] (Url (url ++ c ∷ []))) space)
-    ∙ ap (λ t. without_commas url ∷ t) (behind_at (nat_lt (length (without_commas url)) (length url)) c rest space)
+url_end url more stop = grind (arith, none_at, not-false, cond-true, behind_at)
 
 -- commas at the end
 
@@ -134,16 +95,8 @@ one_comma [] = refl
 one_comma (c ∷ rest) = ap (λ b. cond (cond (c == 44) b false) [] (c ∷ without_commas (rest ++ 44 ∷ []))) (commas_last rest) ∙ ap (λ t. cond (are_commas (c ∷ rest)) [] (c ∷ t)) (one_comma rest)
 
 no_commas : (bytes : List ℕ) (x : ℕ) → (x == 44) ≡ false → are_commas (bytes ++ x ∷ []) ≡ false
-no_commas [] x other = stops (x == 44) other
-  where
-    stops : (b : Bool) → b ≡ false → cond b true false ≡ false
-    stops true e = absurd (cc)
-    stops false e = refl
-no_commas (c ∷ rest) x other = ap (λ b. cond (c == 44) b false) (no_commas rest x other) ∙ never (c == 44)
-  where
-    never : (b : Bool) → cond b false false ≡ false
-    never true = refl
-    never false = refl
+no_commas [] x other = grind arith
+no_commas (c ∷ rest) x other = grind (arith, no_commas rest x)
 
 pub no_comma : (bytes : List ℕ) (x : ℕ) → (x == 44) ≡ false → without_commas (bytes ++ x ∷ []) ≡ bytes ++ x ∷ []
 no_comma [] x other = ap (λ b. cond b [] (x ∷ [])) (no_commas [] x other)
@@ -151,31 +104,16 @@ no_comma (c ∷ rest) x other = ap (λ b. cond b [] (c ∷ without_commas (rest 
 
 -- one candidate
 
-positive : (n : ℕ) → (n == 0) ≡ false → 0 < n
-positive zero e = absurd (cc)
-positive (suc n) e = omega arith
-
 pub no_candidate : (bytes start word : List ℕ) → start ≡ behind is_between bytes → Stopped is_between start → word ≡ front is_unspaced start → (length word == 0) ≡ true → candidates_of bytes ≡ []
 no_candidate bytes start word cut stop some none = between_run bytes ∙ ap (read Between) (sym cut) ∙ no_url start stop (ap length (sym some) ∙ eqb-true (length word) 0 none)
 
 pub one_candidate : (bytes start word more url left : List ℕ) → start ≡ behind is_between bytes → Stopped is_between start → word ≡ front is_unspaced start → more ≡ behind is_unspaced start →
     (length word == 0) ≡ false → url ≡ without_commas word → read (behind_shorter url word) more ≡ read Between left → candidates_of bytes ≡ url ∷ candidates_of left
-one_candidate bytes start word more url left cut stop some rest there trimmed later =
-    let same : length word ≡ length (front is_unspaced start) = ap length some in
-    between_run bytes ∙ ap (read Between) (sym cut) ∙ start_url start stop (omega (arith, positive (length word) there))
-    ∙ url_end (front is_unspaced start) (behind is_unspaced start) (stopped is_unspaced start)
-    ∙ ap (λ w. without_commas w ∷ read (behind_url w) (behind is_unspaced start)) (sym some)
-    ∙ ap (λ m. without_commas word ∷ read (behind_url word) m) (sym rest)
-    ∙ ap (λ u. u ∷ read (behind_shorter u word) more) (sym trimmed)
-    ∙ ap (λ t. url ∷ t) later
+one_candidate bytes start word more url left cut stop some rest there trimmed later = grind (arith, between_run, start_url, eqb-false, url_end, stopped)
 
 pub candidate_less : (bytes start word more left : List ℕ) → start ≡ behind is_between bytes → word ≡ front is_unspaced start → more ≡ behind is_unspaced start →
     (length word == 0) ≡ false → length left ≤ length more → length left < length bytes
-candidate_less bytes start word more left cut some rest there le =
-    let a : length start ≡ length (behind is_between bytes) = ap length cut in
-    let b : length word ≡ length (front is_unspaced start) = ap length some in
-    let c : length more ≡ length (behind is_unspaced start) = ap length rest in
-    omega (arith, positive (length word) there, front_shorter is_unspaced start, shorter is_between bytes)
+candidate_less bytes start word more left cut some rest there le = grind (arith, eqb-false, front_shorter, shorter)
 
 pub kept : (url front : List ℕ) (last : ℕ) → url ≡ front ++ last ∷ [] → (last ≡ 44 → ⊥) → without_commas url ≡ url
-kept url front last is other = ap without_commas is ∙ no_comma front last (refuted (last == 44) (λ e. other (eqb-true last 44 e))) ∙ sym is
+kept url front last is other = ap without_commas is ∙ no_comma front last (false_from_ne_true (last == 44) (λ e. other (eqb-true last 44 e))) ∙ sym is

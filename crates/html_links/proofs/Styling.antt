@@ -1,15 +1,11 @@
 -- Style sheets: comments over runs of bytes, and URLs one after another.
 use Rattle.std.proofs.Common.{◌≡◌, ℕ, zero, suc, ◌<◌, ◌≤◌, ◌==◌, Bool, true, false, not, cond, List, [], ◌∷◌, ◌++◌, Option, None, Some, length, refl, ap, sym, ◌∙◌, append_assoc, append-nil, arith}
-use Rattle.std.specs.Char.{to_ascii_lowercase}
+use Rattle.std.proofs.lemmas.Bool.{cond-false}
 use Rattle.html_links.specs.Shown.{front, behind, Stopped}
 use Rattle.html_links.specs.Refresh.{behind_letter, and_then, is_quote}
-use Rattle.html_links.specs.Styles.{Text, Slash, Comment, Star, Next, Go, step, follow, read, is_wide_space, in_plain, Found, found_with, or_found, closed, quoted, some_url, plain, in_brackets, behind_url, behind_import, spaced, found_behind, found_at, urls_after, urls_within, urls_of}
+use Rattle.html_links.specs.Styles.{Text, Slash, Comment, Star, Next, Go, step, follow, read, is_wide_space, in_plain, Found, or_found, closed, quoted, some_url, plain, in_brackets, behind_url, behind_import, spaced, found_behind, found_at, urls_after, urls_within, urls_of}
 use Rattle.html_links.proofs.Jumps.{shorter}
 use Rattle.html_links.proofs.Sources.{front_all}
-
-if_false : (b : Bool) (x y : Next) → b ≡ false → cond b x y ≡ y
-if_false true x y e = absurd (cc)
-if_false false x y e = refl
 
 abbrev on : List ℕ → Next → List ℕ
 on rest next = follow next (λ s. read s rest)
@@ -18,17 +14,14 @@ on rest next = follow next (λ s. read s rest)
 
 text_at : (b : Bool) (c : ℕ) (rest some more : List ℕ) → (b ≡ false → step Text c ≡ Go (c ∷ []) Text) → read Text rest ≡ some ++ read Text more →
     read Text (c ∷ rest) ≡ cond (not b) (c ∷ some) [] ++ read Text (cond (not b) more (c ∷ rest))
-text_at true c rest some more stays later = refl
-text_at false c rest some more stays later = ap (on rest) (stays refl) ∙ ap (λ t. c ∷ t) later
+text_at b c rest some more stays later = grind arith
 
 to_slash : (bytes : List ℕ) → read Text bytes ≡ front (λ c. not (c == 47)) bytes ++ read Text (behind (λ c. not (c == 47)) bytes)
 to_slash [] = refl
-to_slash (c ∷ rest) =
-    text_at (c == 47) c rest (front (λ c. not (c == 47)) rest) (behind (λ c. not (c == 47)) rest) (if_false (c == 47) (Go [] Slash) (Go (c ∷ []) Text)) (to_slash rest)
+to_slash (c ∷ rest) = grind (arith, text_at, cond-false, to_slash rest)
 
 pub no_slash : (bytes : List ℕ) → behind (λ c. not (c == 47)) bytes ≡ [] → read Text bytes ≡ bytes
-no_slash bytes none =
-    to_slash bytes ∙ ap (λ more. front (λ c. not (c == 47)) bytes ++ read Text more) none ∙ append-nil (front (λ c. not (c == 47)) bytes) ∙ front_all (λ c. not (c == 47)) bytes none
+no_slash bytes none = grind (arith, to_slash, append-nil, front_all)
 
 pub slashed : (bytes plain more : List ℕ) → plain ≡ front (λ c. not (c == 47)) bytes → 47 ∷ more ≡ behind (λ c. not (c == 47)) bytes → read Text bytes ≡ plain ++ read Slash more
 slashed bytes plain more some cut = to_slash bytes ∙ ap (λ p. p ++ read Text (behind (λ c. not (c == 47)) bytes)) (sym some) ∙ ap (λ m. plain ++ read Text m) (sym cut)
@@ -38,17 +31,13 @@ slash_star more comment is = ap (read Slash) is
 
 slash_if : (star slash : Bool) (c : ℕ) (rest : List ℕ) → star ≡ false →
     on rest (cond star (Go [] Comment) (cond slash (Go (47 ∷ []) Slash) (Go (47 ∷ c ∷ []) Text))) ≡ 47 ∷ on rest (cond slash (Go [] Slash) (Go (c ∷ []) Text))
-slash_if true slash c rest other = absurd (cc)
-slash_if false true c rest other = refl
-slash_if false false c rest other = refl
+slash_if star slash c rest other = grind arith
 
 pub slash_other : (more : List ℕ) → Stopped (λ c. c == 42) more → read Slash more ≡ 47 ∷ read Text more
-slash_other [] other = refl
-slash_other (c ∷ rest) other = slash_if (c == 42) (c == 47) c rest other
+slash_other more other = grind (arith, slash_if)
 
 whole_at : (b : Bool) (c : ℕ) (rest some more : List ℕ) → some ++ more ≡ rest → cond b (c ∷ some) [] ++ cond b more (c ∷ rest) ≡ c ∷ rest
-whole_at true c rest some more e = ap (λ t. c ∷ t) e
-whole_at false c rest some more e = refl
+whole_at b c rest some more e = grind arith
 
 whole : (test : ℕ → Bool) (bytes : List ℕ) → front test bytes ++ behind test bytes ≡ bytes
 whole test [] = refl
@@ -84,12 +73,11 @@ bare_slash old new last bytes plain more all some cut other wrote slash so_far =
 -- a comment to a `*`
 
 star_at : (b : Bool) (c : ℕ) (rest more : List ℕ) → (b ≡ false → step Comment c ≡ Go [] Comment) → read Comment rest ≡ read Comment more → read Comment (c ∷ rest) ≡ read Comment (cond (not b) more (c ∷ rest))
-star_at true c rest more stays later = refl
-star_at false c rest more stays later = ap (on rest) (stays refl) ∙ later
+star_at b c rest more stays later = grind arith
 
 to_star : (bytes : List ℕ) → read Comment bytes ≡ read Comment (behind (λ c. not (c == 42)) bytes)
 to_star [] = refl
-to_star (c ∷ rest) = star_at (c == 42) c rest (behind (λ c. not (c == 42)) rest) (if_false (c == 42) (Go [] Star) (Go [] Comment)) (to_star rest)
+to_star (c ∷ rest) = star_at (c == 42) c rest (behind (λ c. not (c == 42)) rest) (cond-false (c == 42) (Go [] Star) (Go [] Comment)) (to_star rest)
 
 pub no_star : (bytes : List ℕ) → behind (λ c. not (c == 42)) bytes ≡ [] → read Comment bytes ≡ []
 no_star bytes none = to_star bytes ∙ ap (read Comment) none
@@ -101,8 +89,7 @@ pub star_slash : (bytes starred more : List ℕ) → 42 ∷ starred ≡ behind (
 star_slash bytes starred more cut is = star_end bytes starred more cut ∙ ap (read Star) is
 
 star_other_at : (starred : List ℕ) → Stopped (λ c. c == 47) starred → read Star starred ≡ read Comment starred
-star_other_at [] other = refl
-star_other_at (c ∷ rest) other = ap (on rest) (if_false (c == 47) (Go [] Text) (cond (c == 42) (Go [] Star) (Go [] Comment)) other)
+star_other_at starred other = grind (arith, cond-false)
 
 pub star_other : (bytes starred : List ℕ) → 42 ∷ starred ≡ behind (λ c. not (c == 42)) bytes → Stopped (λ c. c == 47) starred → read Comment bytes ≡ read Comment starred
 star_other bytes starred cut other = star_end bytes starred [] cut ∙ star_other_at starred other
@@ -112,15 +99,10 @@ cut_less n bytes more cut =
     let same : length (n ∷ more) ≡ length (behind (λ c. not (c == n)) bytes) = ap length cut in
     omega (arith, shorter (λ c. not (c == n)) bytes)
 
--- what is behind a URL is less
+-- the bytes after a URL are fewer
 
 letter_less : (letter : ℕ) (bytes more : List ℕ) → behind_letter letter bytes ≡ Some more → length more < length bytes
-letter_less letter [] more e = absurd (cc)
-letter_less letter (c ∷ rest) more e = at_letter (to_ascii_lowercase c == letter) c rest more e
-  where
-    at_letter : (b : Bool) (c : ℕ) (rest more : List ℕ) → cond b (Some rest) None ≡ Some more → length more < length (c ∷ rest)
-    at_letter true c rest more e = let same : rest ≡ more = cc in let l : length rest ≡ length more = ap length same in omega arith
-    at_letter false c rest more e = absurd (cc)
+letter_less letter bytes more e = grind arith
 
 and_less : (o : Option (List ℕ)) (next : List ℕ → Option (List ℕ)) (bytes : List ℕ) → ((m : List ℕ) → o ≡ Some m → length m < length bytes) →
     ((m n : List ℕ) → next m ≡ Some n → length n < length m) → (n : List ℕ) → and_then o next ≡ Some n → length n < length bytes
@@ -140,15 +122,10 @@ import_less : (bytes n : List ℕ) → behind_import bytes ≡ Some n → length
 import_less = more_less 64 _ (more_less 105 _ (more_less 109 _ (more_less 112 _ (more_less 111 _ (two_less 114 116)))))
 
 closed_less : (url bytes : List ℕ) (f : Found) → closed url bytes ≡ Some f → length f.rest ≤ length bytes
-closed_less url [] f e = absurd (cc)
-closed_less url (c ∷ rest) f e =
-    let same : found_with url rest ≡ f = cc in
-    let l : length rest ≡ length f.rest = ap (λ (f : Found). length f.rest) same in
-    omega arith
+closed_less url bytes f e = grind arith
 
 quote_at : (b : Bool) (url bytes : List ℕ) (f : Found) → cond b (closed url bytes) None ≡ Some f → length f.rest ≤ length bytes
-quote_at true url bytes f e = closed_less url bytes f e
-quote_at false url bytes f e = absurd (cc)
+quote_at b url bytes f e = grind (arith, closed_less)
 
 quoted_less : (bytes : List ℕ) (f : Found) → quoted bytes ≡ Some f → length f.rest ≤ length bytes
 quoted_less [] f e = absurd (cc)
@@ -156,15 +133,10 @@ quoted_less (c ∷ rest) f e =
     omega (arith, quote_at (is_quote c) (front (λ x. not (x == c)) rest) (behind (λ x. not (x == c)) rest) f e, shorter (λ x. not (x == c)) rest)
 
 some_less : (url bytes : List ℕ) (f : Found) → some_url url bytes ≡ Some f → length f.rest ≤ length bytes
-some_less [] bytes f e = absurd (cc)
-some_less (c ∷ url) bytes f e =
-    let same : found_with (c ∷ url) bytes ≡ f = cc in
-    let l : length bytes ≡ length f.rest = ap (λ (f : Found). length f.rest) same in
-    omega arith
+some_less url bytes f e = grind arith
 
 or_less : (a b : Option Found) (n : ℕ) → ((f : Found) → a ≡ Some f → length f.rest ≤ n) → ((f : Found) → b ≡ Some f → length f.rest ≤ n) → (f : Found) → or_found a b ≡ Some f → length f.rest ≤ n
-or_less None b n less other f e = other f e
-or_less (Some g) b n less other f e = less f e
+or_less a b n less other f e = grind arith
 
 brackets_less : (bytes : List ℕ) (f : Found) → in_brackets bytes ≡ Some f → length f.rest ≤ length bytes
 brackets_less bytes f e =
@@ -190,13 +162,12 @@ behind_less None None bytes less other f e = absurd (cc)
 pub found_less : (bytes : List ℕ) (f : Found) → found_at bytes ≡ Some f → length f.rest < length bytes
 found_less bytes f e = behind_less (behind_url bytes) (behind_import bytes) bytes (url_less bytes) (import_less bytes) f e
 
--- URLs do not depend on how many bytes more are looked at
+-- a larger number of bytes that are looked at gives the same URLs
 
 after_same : (o : Option Found) (n m : ℕ) (c : ℕ) (rest : List ℕ) → ((f : Found) → o ≡ Some f → length f.rest < length (c ∷ rest)) → length (c ∷ rest) ≤ suc n → length (c ∷ rest) ≤ suc m →
     ((bytes : List ℕ) → length bytes ≤ n → length bytes ≤ m → urls_within n bytes ≡ urls_within m bytes) →
     urls_after o rest (λ rest. urls_within n rest) ≡ urls_after o rest (λ rest. urls_within m rest)
-after_same None n m c rest less a b same = same rest (omega (arith, a)) (omega (arith, b))
-after_same (Some f) n m c rest less a b same = ap (λ t. f.url ∷ t) (same f.rest (omega (arith, a, less f refl)) (omega (arith, b, less f refl)))
+after_same o n m c rest less a b same = grind arith
 
 within : (n m : ℕ) (bytes : List ℕ) → length bytes ≤ n → length bytes ≤ m → urls_within n bytes ≡ urls_within m bytes
 within zero zero bytes a b = refl

@@ -1,8 +1,8 @@
--- The URLs of a `srcset`, as the HTML Standard parses it (4.8.4.3.10), also of a candidate whose descriptors it refuses.
+-- The URLs of a `srcset`, as the HTML Standard parses a srcset attribute, also of a candidate whose descriptors it rejects.
 use Rattle.std.specs.Prelude.{ℕ, ◌==◌, ◌||◌, nat_lt, not, Bool, true, false, if◌then◌else◌, List, [], ◌∷◌, ◌++◌, length}
 use Rattle.html_links.specs.Shown.{is_space}
 
--- Between candidates, in a URL with these bytes so far, or behind it in descriptors, with or without an open parenthesis.
+-- Between candidates, in a URL with these bytes so far, or after it in descriptors, with or without an open parenthesis.
 pub data State : Type 0 where
   Between : State
   Url : List ℕ → State
@@ -27,7 +27,7 @@ behind_shorter url candidate = if nat_lt (length url) (length candidate) then Be
 abbrev pub behind_url : List ℕ → State
 behind_url url = behind_shorter (without_commas url) url
 
--- URLs, and the state behind them
+-- URLs, and the state after them
 pub data Next : Type 0 where
   Go : List (List ℕ) → State → Next
 

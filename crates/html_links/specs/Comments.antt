@@ -1,5 +1,5 @@
--- Comments from behind `<!--`, as the tokenizer of the HTML Standard reads them (13.2.5.43 to 13.2.5.52):
--- each state is one constructor, each transition one equation of `step`.
+-- Comments, from the bytes after `<!--`, as the tokenizer of the HTML Standard reads them, in its states from comment start to
+-- comment end bang: each state is one constructor, each transition one equation of `step`.
 use Rattle.std.specs.Prelude.{ℕ, ◌==◌, if◌then◌else◌, List, [], ◌∷◌, Option, None, Some}
 use Rattle.std.specs.Borrow.{Bor}
 
@@ -80,7 +80,7 @@ abbrev pub follow : Next → (State → Option (List ℕ)) → List ℕ → Opti
 follow (Go state) on rest = on state
 follow Emit on rest = Some rest
 
--- what is behind the comment; nothing where the file ends within it
+-- the bytes after the comment, if it ends
 abbrev pub run : State → List ℕ → Option (List ℕ)
 run state [] = None
 run state (c ∷ rest) = follow (step state (mark_of c)) (λ state. run state rest) rest

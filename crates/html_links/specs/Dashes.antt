@@ -1,9 +1,9 @@
--- What is said of the code after a dash in a comment.
+-- What contracts state of the code after a dash in a comment.
 use Rattle.std.specs.Prelude.{◌≡◌, ◌≤◌, ℕ, List, length, Result, Ok, Err, Some}
 use Rattle.std.specs.Borrow.{Bor}
 use Rattle.html_links.specs.Comments.{run, Comment, EndDash}
 
--- it ends here, or goes on as a comment
+-- it ends here, or continues as a comment
 abbrev pub Dashed : Result (Bor (List ℕ)) (Bor (List ℕ)) → List ℕ → Type 0
 Dashed (Ok last) bytes = run EndDash bytes ≡ Some last.now
 Dashed (Err more) bytes = run EndDash bytes ≡ run Comment more.now

@@ -1,4 +1,4 @@
--- What is said of the code that reads character references.
+-- What contracts state of the code that reads character references.
 use Rattle.std.specs.Prelude.{◌≡◌, ℕ, ◌==◌, ◌||◌, not, Bool, List, ◌∷◌, ◌++◌}
 use Rattle.std.specs.Char.{is_digit, encode_utf8}
 use Rattle.html_links.specs.declared.references.Decoded.{Decoded}
@@ -22,6 +22,6 @@ decoded_text (decoded.Itself bytes) = 38 ∷ bytes.now
 decoded_text (decoded.Character c) = encode_utf8 c
 decoded_text (decoded.Named text) = text.now
 
--- the text of the bytes in a state, cut behind what was decoded
+-- the text of the bytes in a state, after what was decoded
 abbrev pub Decodes : State → List ℕ → Decoded → List ℕ → Type 0
 Decodes state bytes found rest = read state bytes ≡ decoded_text found ++ read Text rest

@@ -1,5 +1,5 @@
--- The start tags of a document, as the tokenizer of the HTML Standard reads them in HTML content (13.2.5.1 to 13.2.5.56)
--- with the content of elements by their names alone.
+-- The tags of a document, as the tokenizer of the HTML Standard reads them in HTML content, in its states from the data state
+-- to the DOCTYPE state. Only the name of an element decides what its content is.
 -- A doctype ends at the first `>` in each of its states, as a bogus comment does.
 use Rattle.std.specs.Prelude.{ℕ, ◌==◌, ◌||◌, Bool, true, false, if◌then◌else◌, List, [], ◌∷◌, ◌++◌, reverse, codes}
 use Rattle.std.specs.Str.{bytes_eq}
@@ -25,6 +25,14 @@ pub record StartTag : Type 0 where
   pub attributes : List Attribute
   pub self_closing : Bool
 
+-- What the tokenizer emits: start tags, and the end tags of templates. No other end tag decides whether a tag is part of the page.
+pub data Token : Type 0 where
+  Start : StartTag → Token
+  TemplateEnd : Token
+
+abbrev pub is_template : List ℕ → Bool
+is_template name = bytes_eq name (codes "template")
+
 -- what the content of an element is, by its name: text to its end tag, a script, text to the document's end, or markup
 abbrev pub is_raw : List ℕ → Bool
 is_raw name =
@@ -38,7 +46,7 @@ content_of name =
     else if bytes_eq name (codes "plaintext") then content.Plain
     else content.Markup
 
--- what stands behind a `<`
+-- what a byte after a `<` opens
 abbrev pub opening_of : ℕ → Opening
 opening_of c =
     if c == 33 then opening.Bang
@@ -47,7 +55,7 @@ opening_of c =
     else if is_letter c then opening.Letter
     else opening.Plain
 
--- In a tag stand whether it is an end tag, and its name so far.
+-- The state in a tag has whether it is an end tag, and its name so far.
 pub data State : Type 0 where
   Data : State
   TagOpen : State
@@ -62,15 +70,18 @@ pub data State : Type 0 where
   InScript : code.State → State
   InPlain : State
 
--- Go to a state, or emit what has ended, with the start tags in it.
+-- Go to a state, or emit what has ended.
 pub data Next : Type 0 where
   Go : State → Next
-  Emit : List StartTag → State → Next
+  Emit : List Token → State → Next
 
--- an end tag has no attributes that count
-abbrev pub emitted : Bool → List ℕ → List Attribute → Bool → List StartTag
-emitted true name attributes closing = []
-emitted false name attributes closing = record { name = name; attributes = attributes; self_closing = closing } ∷ []
+abbrev pub end_tag : List ℕ → List Token
+end_tag name = if is_template name then TemplateEnd ∷ [] else []
+
+-- the attributes of an end tag do not count
+abbrev pub emitted : Bool → List ℕ → List Attribute → Bool → List Token
+emitted true name attributes closing = end_tag name
+emitted false name attributes closing = Start (record { name = name; attributes = attributes; self_closing = closing }) ∷ []
 
 abbrev pub raw_content : List ℕ → State
 raw_content name = InRaw name raw.Text
@@ -119,7 +130,7 @@ abbrev pub comment_step : comments.Next → Next
 comment_step (comments.Go state) = Go (InComment state)
 comment_step comments.Emit = Go Data
 
--- behind its name the end tag goes on as before an attribute's name
+-- after its name, the end tag continues in the state before an attribute's name
 abbrev pub raw_step : List ℕ → ℕ → raw.Next → Next
 raw_step name c (raw.Go state) = Go (InRaw name state)
 raw_step name c raw.Ends = tag_step true name (tags.step BeforeName (class_of c) c [])
@@ -142,14 +153,19 @@ step (InRaw name state) c = raw_step name c (raw.step name state c)
 step (InScript state) c = script_step c (scripts.step state c)
 step InPlain c = Go InPlain
 
-abbrev pub follow : Next → (State → List StartTag) → List StartTag
+abbrev pub follow : Next → (State → List Token) → List Token
 follow (Go here) on = on here
 follow (Emit found here) on = found ++ on here
 
--- the start tags that end in these bytes
-abbrev pub read : State → List ℕ → List StartTag
+-- the tags that end in these bytes
+abbrev pub read : State → List ℕ → List Token
 read here [] = []
 read here (c ∷ rest) = follow (step here c) (λ here. read here rest)
 
+abbrev pub start_tags : List Token → List StartTag
+start_tags [] = []
+start_tags (Start t ∷ rest) = t ∷ start_tags rest
+start_tags (TemplateEnd ∷ rest) = start_tags rest
+
 abbrev pub tags_of : List ℕ → List StartTag
-tags_of bytes = read Data bytes
+tags_of bytes = start_tags (read Data bytes)

@@ -1,31 +1,35 @@
 -- The elements whose attributes name documents, and which attributes these are.
-use Rattle.std.specs.Prelude.{ℕ, ◌||◌, not, Bool, if◌then◌else◌, List, [], codes}
+use Rattle.std.specs.Prelude.{ℕ, ◌||◌, not, Bool, false, if◌then◌else◌, List, [], codes, Option, None, Some}
 use Rattle.std.specs.Str.{bytes_eq}
 use Rattle.html_links.specs.declared.element.Element.{Element}
 use Rattle.html_links.specs.declared.element.Element.TheVariants as element
 use Rattle.html_links.specs.declared.element.Wanted as code
 use Rattle.html_links.specs.declared.element.TheConstants.{LENGTHS}
 use Rattle.html_links.specs.Lengths.{may_be}
+use Rattle.html_links.specs.RawText.{same_name}
+use Rattle.html_links.specs.Document.{is_template}
 
 abbrev pub is_anchor : List ℕ → Bool
 is_anchor name = bytes_eq name (codes "a") || bytes_eq name (codes "image") || bytes_eq name (codes "use")
 
 abbrev pub is_background : List ℕ → Bool
-is_background name = bytes_eq name (codes "body") || bytes_eq name (codes "table") || bytes_eq name (codes "td") || bytes_eq name (codes "th")
+is_background name =
+    bytes_eq name (codes "body") || bytes_eq name (codes "table") || bytes_eq name (codes "td") || bytes_eq name (codes "th")
+    || bytes_eq name (codes "tr") || bytes_eq name (codes "thead") || bytes_eq name (codes "tbody") || bytes_eq name (codes "tfoot")
 
 abbrev pub is_embedded : List ℕ → Bool
 is_embedded name =
-    bytes_eq name (codes "audio") || bytes_eq name (codes "embed") || bytes_eq name (codes "frame") || bytes_eq name (codes "iframe")
-    || bytes_eq name (codes "input") || bytes_eq name (codes "script") || bytes_eq name (codes "track")
+    bytes_eq name (codes "audio") || bytes_eq name (codes "embed") || bytes_eq name (codes "script") || bytes_eq name (codes "track")
 
-abbrev pub is_image : List ℕ → Bool
-is_image name = bytes_eq name (codes "img") || bytes_eq name (codes "source")
+abbrev pub is_frame : List ℕ → Bool
+is_frame name = bytes_eq name (codes "frame") || bytes_eq name (codes "iframe")
 
 -- by the name in lower case
 abbrev pub element_of : List ℕ → Element
 element_of name =
     if is_anchor name then element.Anchor
-    else if is_image name then element.Image
+    else if bytes_eq name (codes "img") then element.Image
+    else if bytes_eq name (codes "source") then element.Source
     else if is_embedded name then element.Embedded
     else if is_background name then element.Background
     else if bytes_eq name (codes "area") then element.Area
@@ -34,13 +38,18 @@ element_of name =
     else if bytes_eq name (codes "meta") then element.Meta
     else if bytes_eq name (codes "object") then element.Object
     else if bytes_eq name (codes "video") then element.Video
+    else if is_template name then element.Template
+    else if is_frame name then element.Frame
+    else if bytes_eq name (codes "input") then element.Input
+    else if bytes_eq name (codes "button") then element.Button
+    else if bytes_eq name (codes "param") then element.Param
     else element.Other
 
--- by its first letter and its length the name is of no element that names documents, nor of one with text
+-- the first letter and the length of the name are those of no element that names documents or has text
 abbrev pub is_usual : List ℕ → Bool
 is_usual name = not (may_be LENGTHS name)
 
--- names of attributes; an empty one is none's
+-- names of attributes; an empty one is that of no attribute
 pub record Wanted : Type 0 where
   pub first : List ℕ
   pub second : List ℕ
@@ -55,12 +64,28 @@ wanted_of element.Area = wants (codes "href") [] []
 wanted_of element.Base = wants (codes "href") [] []
 wanted_of element.Background = wants (codes "background") [] []
 wanted_of element.Embedded = wants (codes "src") [] []
-wanted_of element.Image = wants (codes "src") (codes "srcset") []
+wanted_of element.Button = wants (codes "formaction") [] (codes "type")
+wanted_of element.Frame = wants (codes "src") (codes "longdesc") []
+wanted_of element.Image = wants (codes "src") (codes "srcset") (codes "longdesc")
+wanted_of element.Source = wants (codes "src") (codes "srcset") []
+wanted_of element.Input = wants (codes "src") (codes "formaction") (codes "type")
 wanted_of element.Link = wants (codes "href") (codes "imagesrcset") (codes "rel")
-wanted_of element.Meta = wants (codes "content") (codes "http-equiv") []
+wanted_of element.Meta = wants (codes "content") (codes "http-equiv") (codes "property")
 wanted_of element.Object = wants (codes "data") [] []
+wanted_of element.Param = wants (codes "value") [] []
 wanted_of element.Video = wants (codes "src") (codes "poster") []
+wanted_of element.Template = wants [] [] (codes "shadowrootmode")
 wanted_of element.Other = wants [] [] []
 
 abbrev pub wanted_at : code.Wanted → Wanted
 wanted_at w = record { first = w.first.now; second = w.second.now; third = w.third.now }
+
+-- the template becomes a shadow root, by the keyword in its attribute as written
+abbrev pub is_shadow : Option (List ℕ) → Bool
+is_shadow None = false
+is_shadow (Some mode) = same_name mode (codes "open") || same_name mode (codes "closed")
+
+-- the contents of the element are not part of the page, by its third wanted value
+abbrev pub is_inert : Element → Option (List ℕ) → Bool
+is_inert element.Template mode = not (is_shadow mode)
+is_inert _ mode = false

@@ -1,11 +1,11 @@
--- Names told apart by their first letter and their length.
+-- Names by their first letter and their length.
 use Rattle.std.specs.Prelude.{ℕ, ◌%◌, ◌/◌, ◌^◌, ◌==◌, ◌&&◌, nat_lt, Bool, true, List, [], ◌∷◌, length, slice_index}
 
--- for a letter's last five bits a table has the lengths of names without it, each as a bit
+-- for a letter's last five bits, a table has the lengths of the names without it, each as a bit
 abbrev pub has_length : List ℕ → ℕ → ℕ → Bool
 has_length lengths letter more = nat_lt more 16 && ((slice_index lengths letter / 2 ^ more) % 2 == 1)
 
--- a name may be one of a table's; an empty one always may
+-- a name may be one of those in a table, as an empty name always may
 abbrev pub may_be : List ℕ → List ℕ → Bool
 may_be lengths [] = true
 may_be lengths (first ∷ rest) = has_length lengths (first % 32) (length rest)

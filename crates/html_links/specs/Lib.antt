@@ -10,6 +10,7 @@ pub mod Near
 pub mod Elements
 pub mod Values
 pub mod Seen
+pub mod Template
 pub mod Script
 pub mod Scans
 pub mod Names
@@ -19,7 +20,6 @@ pub mod Candidates
 pub mod Refresh
 pub mod Links
 pub mod Passed
-pub mod Placed
 pub mod Reads
 pub mod Styles
 pub mod Styled

@@ -1,5 +1,5 @@
--- The links of a document but those of styles, its base, and its ids.
-use Rattle.std.specs.Prelude.{ℕ, ◌||◌, Bool, true, false, if◌then◌else◌, List, [], ◌∷◌, ◌++◌, codes, Option, None, Some}
+-- The links of a document without those of its styles, its base, and its ids.
+use Rattle.std.specs.Prelude.{ℕ, ◌||◌, not, Bool, true, false, if◌then◌else◌, List, [], ◌∷◌, ◌++◌, codes, Option, None, Some}
 use Rattle.html_links.specs.declared.element.Element.{Element}
 use Rattle.html_links.specs.declared.element.Element.TheVariants as element
 use Rattle.html_links.specs.declared.reader.Form.{Form}
@@ -17,41 +17,108 @@ abbrev pub target_links : Option (List ℕ) → List (List ℕ)
 target_links None = []
 target_links (Some target) = target ∷ []
 
--- the links of a text: itself, the URLs of a `srcset`, or the target of a refresh
+-- the links of a text: itself, the URLs of a `srcset`, the target of a refresh, or nothing
 abbrev pub text_links : Form → List ℕ → List (List ℕ)
 text_links form.Link text = text ∷ []
 text_links form.List text = candidates_of text
 text_links form.Refresh text = target_links (target_of text)
+text_links form.Nothing text = []
 
 abbrev pub value_links : Form → Option (List ℕ) → List (List ℕ)
 value_links form None = []
 value_links form (Some value) = text_links form (text_of value)
 
-abbrev pub is_host_hint : List ℕ → Bool
-is_host_hint word = same_name word (codes "preconnect") || same_name word (codes "dns-prefetch")
+-- A keyword of a `rel` makes a link to a document or a resource: any but the two that name a host. The Standard ignores keywords
+-- that are not registered. Here they count, since the register grows.
+abbrev pub is_link_type : List ℕ → Bool
+is_link_type word = not (same_name word [] || same_name word (codes "preconnect") || same_name word (codes "dns-prefetch"))
 
--- a word between white space is a hint, behind these bytes of a word
-abbrev pub hints_behind : List ℕ → List ℕ → Bool
-hints_behind word [] = is_host_hint word
-hints_behind word (c ∷ rest) =
-    if is_space c then (if is_host_hint word then true else hints_behind [] rest) else hints_behind (word ++ c ∷ []) rest
+-- some keyword between white space makes a link, after these bytes of a keyword
+abbrev pub types_behind : List ℕ → List ℕ → Bool
+types_behind word [] = is_link_type word
+types_behind word (c ∷ rest) =
+    if is_space c then (if is_link_type word then true else types_behind [] rest) else types_behind (word ++ c ∷ []) rest
 
--- the `rel` of a `link` says that it names a host and no document
-abbrev pub names_host : Option (List ℕ) → Bool
-names_host None = false
-names_host (Some rel) = hints_behind [] (text_of rel)
+-- the `rel` of a `link` makes it a link to a document. A `link` without `rel` counts, since it may have an `itemprop`.
+abbrev pub is_related : Option (List ℕ) → Bool
+is_related None = true
+is_related (Some rel) = types_behind [] (text_of rel)
 
-abbrev pub is_refresh : Option (List ℕ) → Bool
-is_refresh None = false
-is_refresh (Some equiv) = same_name (text_of equiv) (codes "refresh")
+-- the value of an enumerated attribute is this keyword, in any case
+abbrev pub is_keyword : List ℕ → Option (List ℕ) → Bool
+is_keyword word None = false
+is_keyword word (Some value) = same_name (text_of value) word
+
+-- the `type` of an `input` is in the Standard's state Image Button or Submit Button: `formaction` applies to it
+abbrev pub submits : Option (List ℕ) → Bool
+submits kind = if is_keyword (codes "image") kind then true else is_keyword (codes "submit") kind
+
+-- the `type` of a `button` is in the Standard's state Reset Button or Button: it submits no form, and its `formaction` has no effect
+abbrev pub submits_nothing : Option (List ℕ) → Bool
+submits_nothing kind = if is_keyword (codes "reset") kind then true else is_keyword (codes "button") kind
+
+-- the names of properties that are URLs, in the Open Graph protocol and for cards of X
+abbrev pub is_open_graph : List ℕ → Bool
+is_open_graph name =
+    bytes_eq name (codes "og:url") || bytes_eq name (codes "og:image") || bytes_eq name (codes "og:image:url") || bytes_eq name (codes "og:image:secure_url")
+    || bytes_eq name (codes "og:video") || bytes_eq name (codes "og:video:url") || bytes_eq name (codes "og:video:secure_url")
+    || bytes_eq name (codes "og:audio") || bytes_eq name (codes "og:audio:url") || bytes_eq name (codes "og:audio:secure_url")
+
+abbrev pub is_card : List ℕ → Bool
+is_card name =
+    bytes_eq name (codes "twitter:image") || bytes_eq name (codes "twitter:image:src") || bytes_eq name (codes "twitter:player") || bytes_eq name (codes "twitter:player:stream")
+
+abbrev pub names_url : Option (List ℕ) → Bool
+names_url None = false
+names_url (Some name) = is_open_graph (text_of name) || is_card (text_of name)
+
+-- the names of a plugin's parameters that are the URL of its data
+abbrev pub is_data : List ℕ → Bool
+is_data name = same_name name (codes "movie") || same_name name (codes "src") || same_name name (codes "data") || same_name name (codes "url")
+
+abbrev pub names_data : Option (List ℕ) → Bool
+names_data None = false
+names_data (Some name) = is_data (text_of name)
+
+abbrev pub form_if : Bool → Form → Form
+form_if is some = if is then some else form.Nothing
+
+abbrev pub meta_form : Values → Form
+meta_form v = if is_keyword (codes "refresh") v.second then form.Refresh else if names_url v.third then form.Link else form_if (names_url v.name) form.Link
+
+-- how the first value that is wanted of an element names documents
+abbrev pub first_form : Element → Values → Form
+first_form element.Base v = form.Nothing
+first_form element.Meta v = meta_form v
+first_form element.Link v = form_if (is_related v.third) form.Link
+first_form element.Input v = form_if (is_keyword (codes "image") v.third) form.Link
+first_form element.Button v = form_if (not (submits_nothing v.third)) form.Link
+first_form element.Param v = form_if (names_data v.name) form.Link
+first_form _ v = form.Link
+
+-- and how the second does
+abbrev pub second_form : Element → Values → Form
+second_form element.Base v = form.Nothing
+second_form element.Meta v = form.Nothing
+second_form element.Link v = form_if (is_related v.third) form.List
+second_form element.Image v = form.List
+second_form element.Source v = form.List
+second_form element.Input v = form_if (submits v.third) form.Link
+second_form _ v = form.Link
+
+abbrev pub first_links : Element → Values → List (List ℕ)
+first_links element v = value_links (first_form element v) v.first
+
+abbrev pub second_links : Element → Values → List (List ℕ)
+second_links element v = value_links (second_form element v) v.second
+
+abbrev pub third_links : Element → Values → List (List ℕ)
+third_links element.Image v = value_links form.Link v.third
+third_links _ v = []
 
 -- the links of the values that are wanted of an element
 abbrev pub links_with : Element → Values → List (List ℕ)
-links_with element.Base v = []
-links_with element.Meta v = if is_refresh v.second then value_links form.Refresh v.first else []
-links_with element.Link v = if names_host v.third then [] else value_links form.Link v.first ++ value_links form.List v.second
-links_with element.Image v = value_links form.Link v.first ++ value_links form.List v.second
-links_with _ v = value_links form.Link v.first ++ value_links form.Link v.second
+links_with element v = first_links element v ++ second_links element v ++ third_links element v
 
 abbrev pub links_in : List Seen → List (List ℕ)
 links_in [] = []

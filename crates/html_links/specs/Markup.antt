@@ -1,5 +1,5 @@
--- What is said of the code that reads a document.
-use Rattle.std.specs.Prelude.{◌≡◌, ◌≤◌, ℕ, Bool, true, false, List, [], ◌∷◌, length, map, Option, None, Some}
+-- What contracts state of the code that reads a document.
+use Rattle.std.specs.Prelude.{◌≡◌, ◌≤◌, ℕ, Bool, true, false, List, [], ◌∷◌, ◌++◌, length, map, Option, None, Some}
 use Rattle.std.specs.Borrow.{Bor}
 use Rattle.html_links.specs.declared.bytes.Class.TheVariants.{Space, Slash, Greater}
 use Rattle.html_links.specs.declared.document.Markup.{Markup}
@@ -7,12 +7,12 @@ use Rattle.html_links.specs.declared.document.Markup.TheVariants as markup
 use Rattle.html_links.specs.declared.document.StartTagAt.{StartTagAt}
 use Rattle.html_links.specs.Tags.{class_of, lower, BeforeName, Tag}
 use Rattle.html_links.specs.Shown.{front, behind, attribute_at}
-use Rattle.html_links.specs.Document.{StartTag, Data, InTag, TagOpen, EndTagOpen, read}
+use Rattle.html_links.specs.Document.{StartTag, Token, Data, InTag, TagOpen, EndTagOpen, end_tag, read}
 
 abbrev pub in_tag_name : ℕ → Bool
 in_tag_name c = elim (class_of c) [ Space ↦ false | Slash ↦ false | Greater ↦ false | _ ↦ true ]
 
--- a first byte and those behind it that pass
+-- a first byte and those after it that pass
 abbrev pub led_front : (ℕ → Bool) → List ℕ → List ℕ
 led_front test [] = []
 led_front test (c ∷ rest) = c ∷ front test rest
@@ -24,16 +24,21 @@ led_behind test (c ∷ rest) = behind test rest
 abbrev pub start_tag_at : StartTagAt → StartTag
 start_tag_at t = record { name = map lower t.name.now; attributes = map attribute_at t.attributes.items; self_closing = t.self_closing }
 
--- the tags behind something, which may not end
-abbrev pub read_rest : Option (Bor (List ℕ)) → List StartTag
+-- the tags after something, which may not end
+abbrev pub read_rest : Option (Bor (List ℕ)) → List Token
 read_rest None = []
 read_rest (Some rest) = read Data rest.now
+
+-- the end tag of an element with this name, which may be missing, and the tags after it
+abbrev pub ended_rest : List ℕ → Option (Bor (List ℕ)) → List Token
+ended_rest name None = []
+ended_rest name (Some rest) = end_tag name ++ read Data rest.now
 
 abbrev pub rest_of : Option Tag → Option (List ℕ)
 rest_of None = None
 rest_of (Some t) = Some t.rest
 
--- from behind a `<`
+-- from the bytes after a `<`
 abbrev pub MarkupReads : Markup → List ℕ → Type 0
 MarkupReads (markup.Start name more) bytes = read TagOpen bytes ≡ read (InTag false (map lower name.now) BeforeName []) more.now
 MarkupReads (markup.End name more) bytes = read TagOpen bytes ≡ read (InTag true (map lower name.now) BeforeName []) more.now
@@ -54,7 +59,7 @@ abbrev pub other_markup : Option (Bor (List ℕ)) → Markup
 other_markup None = markup.Unfinished
 other_markup (Some rest) = markup.Other rest
 
--- from behind a `</`
+-- from the bytes after a `</`
 abbrev pub MarkupEnds : Markup → List ℕ → Type 0
 MarkupEnds (markup.Start name more) bytes = ⊥
 MarkupEnds (markup.End name more) bytes = read EndTagOpen bytes ≡ read (InTag true (map lower name.now) BeforeName []) more.now

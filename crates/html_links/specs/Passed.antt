@@ -1,4 +1,4 @@
--- What a reader of links finds of what is seen: it passes tags that name nothing.
+-- What a reader of links finds in what is seen: it skips tags that name nothing.
 use Rattle.std.specs.Prelude.{◌≡◌, ◌<◌, ℕ, ◌&&◌, not, Bool, true, false, if◌then◌else◌, List, [], ◌∷◌, length, map, codes, Option, None, Some}
 use Rattle.std.specs.Str.{bytes_eq}
 use Rattle.html_links.specs.declared.next_tag.NextTag.{NextTag}
@@ -7,14 +7,14 @@ use Rattle.html_links.specs.declared.next_tag.Step.TheVariants as step
 use Rattle.html_links.specs.Tags.{lower, BeforeName}
 use Rattle.html_links.specs.Document.{InTag, read}
 use Rattle.html_links.specs.Values.{Values}
-use Rattle.html_links.specs.Seen.{Seen, seen_of, seen_in, seen_at}
+use Rattle.html_links.specs.Seen.{Seen, seen_within, seen_in, seen_at}
 use Rattle.html_links.specs.Links.{links_in, ids_in, base_in}
 
 abbrev pub is_absent : Option (List ℕ) → Bool
 is_absent None = true
 is_absent (Some value) = false
 
--- none names a document or a part, or is a style
+-- none names a document or an anchor, or is a style
 abbrev pub name_nothing : Values → Bool
 name_nothing v = is_absent v.first && is_absent v.second && is_absent v.style && is_absent v.id
 
@@ -33,17 +33,17 @@ pub record Has (all some : List Seen) : Type 0 where
   pub base : base_in all ≡ base_in some
   pub styles : styled_in all ≡ styled_in some
 
--- What is said of the code: the tag with these values has, with those behind it, what is seen.
+-- What contracts state of the code: the tag with these values, with those after it, has what is seen.
 abbrev pub Finds : Option NextTag → Values → List Seen → Type 0
 Finds None values seen = Has seen []
 Finds (Some t) values seen = Has seen (seen_at t values ∷ seen_in t.rest.now)
 
--- The same at the next `<` of some bytes, which has fewer behind it.
+-- The same for the next `<` in some bytes, which has fewer bytes after it.
 abbrev pub Steps : Step → Values → List ℕ → List Seen → Type 0
 Steps (step.Pass more) values bytes seen = Has seen (seen_in more.now) × (length more.now < length bytes)
 Steps (step.Take t) values bytes seen = Has seen (seen_at t values ∷ seen_in t.rest.now) × (length t.rest.now < length bytes)
 Steps step.End values bytes seen = Has seen []
 
--- and from behind the name of a start tag
+-- the same from the bytes after the name of a start tag
 abbrev pub StepsTag : Step → Values → List ℕ → List ℕ → Type 0
-StepsTag s values name bytes = Steps s values bytes (map seen_of (read (InTag false (map lower name) BeforeName []) bytes))
+StepsTag s values name bytes = Steps s values bytes (seen_within 0 (read (InTag false (map lower name) BeforeName []) bytes))

@@ -1,5 +1,5 @@
 -- Raw text, as in `style` or `title`, to its end tag, as the tokenizer of the HTML Standard reads it
--- (13.2.5.2 and 13.2.5.3 with 13.2.5.9 to 13.2.5.14; RCDATA and RAWTEXT differ in character references alone).
+-- in its RCDATA and RAWTEXT states, which differ only in character references.
 use Rattle.std.specs.Prelude.{ℕ, ◌==◌, Bool, true, false, if◌then◌else◌, List, [], ◌∷◌, ◌++◌, map, Option, None, Some}
 use Rattle.std.specs.Str.{bytes_eq}
 use Rattle.html_links.specs.declared.bytes.Class.{Class}
@@ -7,14 +7,14 @@ use Rattle.html_links.specs.declared.bytes.Class.TheVariants.{Space, Slash, Grea
 use Rattle.std.specs.Char.{to_ascii_lowercase}
 use Rattle.html_links.specs.Tags.{class_of, is_letter}
 
--- in an end tag's name stands the name so far, the Standard's temporary buffer in to_ascii_lowercase case
+-- the state in an end tag's name has the name so far, the Standard's temporary buffer in lower case
 pub data State : Type 0 where
   Text : State
   LessThan : State
   EndTagOpen : State
   EndTagName : List ℕ → State
 
--- go to a state, or go on behind the end tag's name, at this byte
+-- go to a state, or continue after the end tag's name, at this byte
 pub data Next : Type 0 where
   Go : State → Next
   Ends : Next
@@ -42,12 +42,12 @@ abbrev pub follow : Next → (State → Option (List ℕ)) → List ℕ → Opti
 follow (Go state) on here = on state
 follow Ends on here = Some here
 
--- the bytes from behind the name of the end tag of the element with this name; nothing where there is none
+-- the bytes after the name of the end tag of the element with this name, if there is one
 abbrev pub run : List ℕ → State → List ℕ → Option (List ℕ)
 run name state [] = None
 run name state (c ∷ rest) = follow (step name state c) (λ state. run name state rest) (c ∷ rest)
 
--- what the code tests of the letters behind `</` and the bytes behind them
+-- what the code tests of the letters after `</` and the bytes after them
 abbrev pub ends_at : List ℕ → Bool
 ends_at [] = false
 ends_at (c ∷ rest) = ends_name (class_of c)

@@ -1,4 +1,4 @@
--- What the code's base stands for.
+-- The text of the code's base.
 use Rattle.std.specs.Prelude.{ℕ, List, Option, None, Some, Vec}
 use Rattle.std.specs.declared.alloc.Global.{Global}
 

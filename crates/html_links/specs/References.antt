@@ -1,14 +1,14 @@
--- The text of an attribute's value, as the tokenizer of the HTML Standard reads it: its character references
--- (13.2.5.72 to 13.2.5.80), and U+FFFD for each NUL (13.2.5.36 to 13.2.5.38). What is no reference stands for itself.
--- In a value a name without `;` counts only where neither a letter or digit nor `=` is behind it,
--- so the longest name that counts is all letters and digits, with the `;` behind them where there is one.
+-- The text of an attribute's value, as the tokenizer of the HTML Standard reads it: its character references, by the states from
+-- character reference to numeric character reference end, and U+FFFD for each NUL, by the attribute value states. What is no
+-- reference stays as it is. In a value, a name without `;` counts only if neither a letter or digit nor `=` follows it,
+-- so the longest name that counts is all letters and digits, with the `;` after them if there is one.
 use Rattle.std.specs.Prelude.{ℕ, ◌+◌, ◌-◌, ◌*◌, ◌==◌, ◌||◌, nat_lt, Bool, true, false, if◌then◌else◌, List, [], ◌∷◌, ◌++◌, Option, None, Some, slice_index}
 use Rattle.std.specs.Char.{is_ascii_alphanumeric, is_digit, digit_value, encode_utf8}
 use Rattle.std.specs.Int.{is_in_range}
 use Rattle.html_links.specs.Names.{named}
 use Rattle.html_links.specs.declared.references.TheConstants.{WINDOWS}
 
--- Behind an `&` stand a name's first bytes, or `#`, or `#` with an `x` before digits to a base, or some of these.
+-- After an `&` are the first bytes of a name, or `#`, or `#` and maybe an `x` before digits to a base, or some of these.
 pub data State : Type 0 where
   Text : State
   Reference : State
@@ -17,7 +17,7 @@ pub data State : Type 0 where
   Start : ℕ → List ℕ → State
   Number : ℕ → ℕ → State
 
--- some bytes of the text, and the state behind them
+-- some bytes of the text, and the state after them
 pub data Next : Type 0 where
   Go : List ℕ → State → Next
 
@@ -31,14 +31,14 @@ character_of n =
     else if nat_lt n 1114112 then n
     else 65533
 
--- the number with one digit more; one above all characters stays, since it stands for U+FFFD with more digits too
+-- The number with one digit more. One above all characters stays, since it is U+FFFD with more digits too.
 abbrev pub number_after : ℕ → ℕ → ℕ → ℕ
 number_after radix n digit = if nat_lt n 1114112 then n * radix + digit else n
 
 abbrev pub digit_in : ℕ → ℕ → Option ℕ
 digit_in radix c = if is_digit c radix then Some (digit_value c) else None
 
--- a byte of text, behind some bytes of the text
+-- a byte of text, after some bytes of the text
 abbrev pub text_step : List ℕ → ℕ → Next
 text_step before c =
     if c == 38 then Go before Reference
@@ -62,7 +62,7 @@ abbrev pub number_at : ℕ → ℕ → ℕ → Option ℕ → Next
 number_at radix n c None = number_end n c
 number_at radix n c (Some digit) = Go [] (Number radix (number_after radix n digit))
 
--- the text of a name with no `;` behind it
+-- the text of a name without a `;`
 abbrev pub or_itself : List ℕ → Option (List ℕ) → List ℕ
 or_itself name None = 38 ∷ name
 or_itself name (Some text) = text
@@ -94,7 +94,7 @@ step Hash c = if is_x c then Go [] (Start 16 (35 ∷ c ∷ [])) else start_step 
 step (Start radix before) c = start_step radix before c
 step (Number radix n) c = number_at radix n c (digit_in radix c)
 
--- what a state stands for where the value ends
+-- the text of a state at the end of the value
 abbrev pub at_end : State → List ℕ
 at_end Text = []
 at_end Reference = 38 ∷ []
@@ -110,6 +110,6 @@ abbrev pub read : State → List ℕ → List ℕ
 read state [] = at_end state
 read state (c ∷ rest) = follow (step state c) (λ state. read state rest)
 
--- the text of a value as it stands
+-- the text of a value as written
 abbrev pub text_of : List ℕ → List ℕ
 text_of value = read Text value

@@ -1,4 +1,4 @@
--- What is said of the code that reads a script.
+-- What contracts state of the code that reads a script.
 use Rattle.std.specs.Prelude.{◌≡◌, ◌<◌, ℕ, List, length, None, Some}
 use Rattle.html_links.specs.declared.script.State.{State}
 use Rattle.html_links.specs.declared.script.Scan.{Scan}

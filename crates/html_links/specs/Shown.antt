@@ -1,4 +1,4 @@
--- What the code's values stand for in the words of `Tags`, and the runs of bytes that it cuts.
+-- What the code's values are in the words of `Tags`, and the runs of bytes that it cuts.
 use Rattle.std.specs.Prelude.{◌≡◌, ℕ, ◌<◌, Bool, true, false, if◌then◌else◌, List, [], ◌∷◌, length, map, reverse, Option, None, Some}
 use Rattle.html_links.specs.declared.bytes.Class.{Class}
 use Rattle.html_links.specs.declared.bytes.Class.TheVariants.{Space, Slash, Greater, Equals}
@@ -8,12 +8,12 @@ use Rattle.html_links.specs.declared.tag.Piece.{Piece}
 use Rattle.html_links.specs.declared.tag.Piece.TheVariants as piece
 use Rattle.html_links.specs.Tags.{Attribute, Tag, BeforeName, BeforeValue, lower, class_of, run}
 
--- the bytes from the front on that pass a test
+-- the first bytes, as long as they pass a test
 abbrev pub front : (ℕ → Bool) → List ℕ → List ℕ
 front test [] = []
 front test (c ∷ rest) = if test c then c ∷ front test rest else []
 
--- and those behind them
+-- and those after them
 abbrev pub behind : (ℕ → Bool) → List ℕ → List ℕ
 behind test [] = []
 behind test (c ∷ rest) = if test c then behind test rest else c ∷ rest
@@ -27,7 +27,7 @@ in_name c = elim (class_of c) [ Space ↦ false | Slash ↦ false | Greater ↦ 
 abbrev pub in_unquoted : ℕ → Bool
 in_unquoted c = elim (class_of c) [ Space ↦ false | Greater ↦ false | _ ↦ true ]
 
--- the class begins a name, where an attribute may begin
+-- a byte of this class begins a name if an attribute may begin there
 abbrev pub begins : Class → Bool
 begins Space = false
 begins Slash = false
@@ -38,7 +38,7 @@ abbrev pub BeginsName : List ℕ → Type 0
 BeginsName [] = ⊥
 BeginsName (c ∷ rest) = begins (class_of c) ≡ true
 
--- a name, whose first byte may be `=`, and what is behind it
+-- a name, whose first byte may be `=`, and the bytes after it
 abbrev pub name_front : List ℕ → List ℕ
 name_front [] = []
 name_front (c ∷ rest) = c ∷ front in_name rest
@@ -54,7 +54,7 @@ abbrev pub tag_at : Option TagAt → Option Tag
 tag_at None = None
 tag_at (Some t) = Some (record { attributes = map attribute_at t.attributes.items; self_closing = t.self_closing; rest = t.rest.now })
 
--- what the machine gives once it has read a piece, after these attributes
+-- what the machine reads after a piece, and after these attributes
 abbrev pub outcome : Piece → List Attribute → Option Tag
 outcome (piece.Attribute a more) all = run BeforeName (attribute_at a ∷ all) more.now
 outcome (piece.Slash more) all = run BeforeName all more.now
@@ -68,14 +68,14 @@ Reads piece bytes = (all : List Attribute) → run BeforeName all bytes ≡ outc
 abbrev pub ReadsValue : Piece → List ℕ → List ℕ → Type 0
 ReadsValue piece name bytes = (all : List Attribute) → run BeforeValue (record { name = map lower name; value = [] } ∷ all) bytes ≡ outcome piece all
 
--- what is left has fewer bytes than n
+-- fewer than n bytes are left
 abbrev pub Leaves : Piece → ℕ → Type 0
 Leaves (piece.Attribute a more) n = length more.now < n
 Leaves (piece.Slash more) n = length more.now < n
 Leaves (piece.End closing more) n = length more.now < n
 Leaves piece.Unfinished n = Unit {0}
 
--- the first byte fails the test, where there is one
+-- the first byte, if there is one, fails the test
 abbrev pub Stopped : (ℕ → Bool) → List ℕ → Type 0
 Stopped test [] = Unit {0}
 Stopped test (c ∷ rest) = test c ≡ false

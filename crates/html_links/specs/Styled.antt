@@ -1,4 +1,4 @@
--- What is said of the code that reads style sheets.
+-- What contracts state of the code that reads style sheets.
 use Rattle.std.specs.Prelude.{◌<◌, ℕ, List, length, Option, None, Some}
 use Rattle.std.specs.Borrow.{Bor}
 use Rattle.html_links.specs.Styles.{Found, found_with}

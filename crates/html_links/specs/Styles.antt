@@ -1,17 +1,17 @@
--- The texts of `url()` and `@import` in a style sheet, by patterns: a word in any case with a text in quotes behind it,
--- or, behind `url(`, a text without quotes, parentheses and white space.
+-- The texts of `url()` and `@import` in a style sheet, by patterns: a word in any case with a text in quotes after it,
+-- or, after `url(`, a text without quotes, parentheses and white space.
 use Rattle.std.specs.Prelude.{ℕ, zero, suc, ◌==◌, ◌||◌, ◌&&◌, nat_le, not, Bool, if◌then◌else◌, List, [], ◌∷◌, ◌++◌, length, Option, None, Some}
 use Rattle.html_links.specs.Shown.{front, behind}
 use Rattle.html_links.specs.Refresh.{behind_letter, and_then, is_quote}
 
--- In text, behind a `/` there, in a comment, or behind a `*` there.
+-- In text, after a `/` there, in a comment, or after a `*` there.
 pub data State : Type 0 where
   Text : State
   Slash : State
   Comment : State
   Star : State
 
--- some bytes outside of comments, and the state behind them
+-- some bytes outside of comments, and the state after them
 pub data Next : Type 0 where
   Go : List ℕ → State → Next
 
@@ -49,7 +49,7 @@ is_wide_space c = (nat_le 9 c && nat_le c 13) || c == 32
 abbrev pub in_plain : ℕ → Bool
 in_plain c = not (is_wide_space c || is_quote c || c == 40 || c == 41)
 
--- a URL, and what is behind it
+-- a URL, and the bytes after it
 pub record Found : Type 0 where
   pub url : List ℕ
   pub rest : List ℕ
@@ -80,12 +80,12 @@ plain bytes = some_url (front in_plain bytes) (behind in_plain bytes)
 abbrev pub in_brackets : List ℕ → Option Found
 in_brackets bytes = or_found (quoted (behind is_wide_space bytes)) (plain (behind is_wide_space bytes))
 
--- behind `url(`
+-- after `url(`
 abbrev pub behind_url : List ℕ → Option (List ℕ)
 behind_url bytes =
     and_then (behind_letter 117 bytes) (λ bytes. and_then (behind_letter 114 bytes) (λ bytes. and_then (behind_letter 108 bytes) (behind_letter 40)))
 
--- behind `@import`
+-- after `@import`
 abbrev pub behind_import : List ℕ → Option (List ℕ)
 behind_import bytes =
     and_then (behind_letter 64 bytes) (λ bytes. and_then (behind_letter 105 bytes) (λ bytes. and_then (behind_letter 109 bytes) (λ bytes. and_then (behind_letter 112 bytes)
@@ -108,7 +108,7 @@ abbrev pub urls_after : Option Found → List ℕ → (List ℕ → List (List �
 urls_after None rest on = on rest
 urls_after (Some f) rest on = f.url ∷ on f.rest
 
--- at each byte, where no URL before it has it; so many bytes are looked at
+-- at each byte that is in no URL before it, of the given number of bytes
 abbrev pub urls_within : ℕ → List ℕ → List (List ℕ)
 urls_within zero bytes = []
 urls_within (suc n) [] = []

@@ -1,4 +1,5 @@
--- Start tags from behind their name, as the tokenizer of the HTML Standard reads them (13.2.5.32 to 13.2.5.40).
+-- Start tags, from the bytes after their name, as the tokenizer of the HTML Standard reads them, in its states from before
+-- attribute name to self-closing start tag.
 -- Each state is one constructor, each transition one equation of `step`. Carriage returns count as white space,
 -- since the Standard makes line feeds of them first. NUL stays NUL, and character references stay as they are.
 use Rattle.std.specs.Prelude.{ℕ, ◌==◌, ◌||◌, ◌&&◌, nat_le, Bool, true, false, if◌then◌else◌, List, [], ◌∷◌, ◌++◌, reverse, Option, None, Some}
@@ -93,7 +94,7 @@ step SelfClosing Space c all = Go BeforeName all
 step SelfClosing Slash c all = Go SelfClosing all
 step SelfClosing _ c all = Go Name (start c all)
 
--- A tag that was emitted: its attributes in order, and the bytes behind it.
+-- A tag that was emitted: its attributes in order, and the bytes after it.
 pub record Tag : Type 0 where
   pub attributes : List Attribute
   pub self_closing : Bool
@@ -108,6 +109,6 @@ abbrev pub run : State → List Attribute → List ℕ → Option Tag
 run state all [] = None
 run state all (c ∷ rest) = follow (step state (class_of c) c all) (λ state all. run state all rest) rest
 
--- the tag that begins with these bytes behind its name
+-- the tag that has these bytes after its name
 abbrev pub tag_of : List ℕ → Option Tag
 tag_of bytes = run BeforeName [] bytes

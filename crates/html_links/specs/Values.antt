@@ -1,4 +1,4 @@
--- The values of a tag's wanted attributes, and of those that each tag may have: of equal names the first counts.
+-- The values of a tag's wanted attributes, and of those that each tag may have. Of attributes with the same name, the first counts.
 use Rattle.std.specs.Prelude.{ℕ, if◌then◌else◌, List, [], ◌∷◌, map, codes, Option, None, Some}
 use Rattle.std.specs.Option.{option_or}
 use Rattle.std.specs.Str.{bytes_eq}
@@ -31,7 +31,7 @@ values_of w all = record {
   name = first_named (codes "name") all;
 }
 
--- What is said of the code: values with what is behind the tag, and one attribute more.
+-- What contracts state of the code: values with the bytes after the tag, and one attribute more.
 pub record TagValues : Type 0 where
   pub values : Values
   pub rest : List ℕ

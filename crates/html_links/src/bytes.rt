@@ -1,4 +1,4 @@
-//! Classes of bytes, and slices cut where they change.
+//! Classes of bytes, and slices up to the first byte of another class.
 ghost use Rattle.std.specs.Prelude.{◌≡◌, ◌∷◌, ◌==◌, [], length, not, MatchOption};
 ghost use Rattle.std.specs.List.{take_while};
 ghost use Rattle.html_links.specs.Tags.{class_of};
@@ -92,7 +92,7 @@ pub(crate) fn parts(bytes: &[u8]) -> Option<(u8, &[u8])>
     }
 }
 
-/// What is behind this byte, where it is the first.
+/// The bytes after this byte, if it is the first.
 pub(crate) fn behind_byte(byte: u8, bytes: &[u8]) -> Option<&[u8]>
     ensures { MatchOption result (Stopped (λ c. c == byte) bytes.now) (λ more. bytes.now ≡ byte ∷ more.now) }
 {
@@ -124,7 +124,7 @@ pub(crate) fn split_unquoted(bytes: &[u8]) -> (&[u8], &[u8])
     bytes.split_at(unquoted_len(bytes))
 }
 
-/// What stands before the first such quote, and what behind it.
+/// The bytes before the first such quote, and those after it.
 #[inline(always)]
 pub(crate) fn split_quoted(quote: u8, bytes: &[u8]) -> Option<(&[u8], &[u8])>
     ensures { MatchOption result (behind (λ c. not (c == quote)) bytes.now ≡ [])
@@ -136,7 +136,7 @@ pub(crate) fn split_quoted(quote: u8, bytes: &[u8]) -> Option<(&[u8], &[u8])>
     }
 }
 
-/// What stands behind the first such byte, which may be far.
+/// The bytes after the first such byte, which may be far.
 #[inline(always)]
 pub(crate) fn behind_first(byte: u8, bytes: &[u8]) -> Option<&[u8]>
     ensures { MatchOption result (behind (λ c. not (c == byte)) bytes.now ≡ []) (λ rest. byte ∷ rest.now ≡ behind (λ c. not (c == byte)) bytes.now) }

@@ -1,4 +1,4 @@
-//! Where a comment ends.
+//! The end of a comment.
 ghost use Rattle.std.specs.Prelude.{◌≡◌, ◌≤◌, ◌==◌, length, option_map, IfSome};
 ghost use Rattle.std.specs.List.{take_while};
 ghost use Rattle.html_links.specs.Comments.{Comment, run, comment_rest, bytes_at};
@@ -7,7 +7,7 @@ ghost use Rattle.html_links.specs.Dashes.{Dashed, LeavesRest};
 
 use crate::bytes::{behind_byte, split_quoted};
 
-/// What is behind a comment, from behind its `<!--`; nothing where the comment does not end.
+/// The bytes after a comment, from those after its `<!--`. `None` if the comment does not end.
 #[inline(always)]
 pub fn after_comment(bytes: &[u8]) -> Option<&[u8]>
     ensures { bytes_at result ≡ comment_rest bytes.now }
@@ -18,7 +18,7 @@ pub fn after_comment(bytes: &[u8]) -> Option<&[u8]>
     }
 }
 
-/// How many bytes are behind the comment. It stands apart, with its answer in registers.
+/// The number of bytes after the comment. This function is not inlined, and its result is in registers.
 #[inline(never)]
 fn comment_left(bytes: &[u8]) -> Option<usize>
     ensures left { result ≡ option_map length (comment_rest bytes.now) }
@@ -60,7 +60,7 @@ fn in_comment(bytes: &[u8]) -> Option<&[u8]>
     }
 }
 
-/// What is behind the comment where it ends after this dash, and else what is left of it.
+/// The bytes after the comment if it ends after this dash, and otherwise those that are left of it.
 fn after_dash(bytes: &[u8]) -> Result<&[u8], &[u8]>
     ensures ends { Dashed result bytes.now }
     ensures leaves { LeavesRest result bytes.now }

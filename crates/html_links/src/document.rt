@@ -4,7 +4,7 @@ ghost use Rattle.std.specs.List.{take_while};
 ghost use Rattle.html_links.specs.Tags.{tag_of, lower};
 ghost use Rattle.html_links.specs.Comments.{bytes_at};
 ghost use Rattle.html_links.specs.Document.{opening_of, read, tags_of, behind_tag, content_of, is_raw, Bogus, MarkupDeclaration, raw_content, script_content};
-ghost use Rattle.html_links.specs.Markup.{in_tag_name, led_front, led_behind, start_tag_at, read_rest, rest_of, MarkupReads, MarkupEnds, other_markup, MarkupLeaves, RestLeaves};
+ghost use Rattle.html_links.specs.Markup.{in_tag_name, led_front, led_behind, start_tag_at, read_rest, ended_rest, rest_of, MarkupReads, MarkupEnds, other_markup, MarkupLeaves, RestLeaves};
 
 use crate::bytes::{Class, LAST_MARK, behind_byte, behind_first, class_of, parts, split_quoted};
 use crate::comments::after_comment;
@@ -14,7 +14,7 @@ use crate::script::after_script;
 use crate::tag::{AttributeAt, Piece, TagAt, next_piece, read_tag};
 use std::alloc::{AllocError, Global};
 
-/// What a byte behind a `<` means.
+/// What a byte after a `<` means.
 #[derive(Clone, Copy)]
 enum Opening {
     Bang,
@@ -33,7 +33,7 @@ enum Content {
     Markup,
 }
 
-/// A start tag as it stands in the document.
+/// A start tag as written.
 #[derive(Drop)]
 pub struct StartTagAt<'a> {
     pub name: &'a [u8],
@@ -41,7 +41,7 @@ pub struct StartTagAt<'a> {
     pub self_closing: bool,
 }
 
-/// What stands behind a `<`: a tag's name and what is behind it, or what is behind anything else.
+/// What follows a `<`: the name of a tag and the bytes after it, or the bytes after anything else.
 #[derive(Clone, Copy)]
 pub(crate) enum Markup<'a> {
     Start(&'a [u8], &'a [u8]),
@@ -85,8 +85,8 @@ fn split_tag_name(bytes: &[u8]) -> (&[u8], &[u8])
     bytes.split_at(1 + tag_name_len(&bytes[1..]))
 }
 
-/// What is behind what is read as a comment. What is called for it and the next answers in registers, so that no tag pays for
-/// them.
+/// The bytes after what is read as a comment. The functions that this one and the next call return their results in registers,
+/// so no tag pays for them.
 #[inline(always)]
 fn after_bogus(bytes: &[u8]) -> Option<&[u8]>
     ensures reads { read Bogus bytes.now ≡ read_rest result }
@@ -98,7 +98,7 @@ fn after_bogus(bytes: &[u8]) -> Option<&[u8]>
     }
 }
 
-/// What is behind what begins with `<!`.
+/// The bytes after what begins with `<!`.
 #[inline(always)]
 fn after_declaration(bytes: &[u8]) -> Option<&[u8]>
     ensures reads { read MarkupDeclaration bytes.now ≡ read_rest result }
@@ -140,7 +140,7 @@ fn other(rest: Option<&[u8]>) -> Markup<'_>
     }
 }
 
-/// What stands behind a `<`. It stands in line, so that its answer does so in registers.
+/// What follows a `<`. It is inlined, so its result stays in registers.
 #[inline(always)]
 pub(crate) fn next_markup(bytes: &[u8]) -> Markup<'_>
     ensures reads { MarkupReads result bytes.now }
@@ -161,7 +161,7 @@ pub(crate) fn next_markup(bytes: &[u8]) -> Markup<'_>
     }
 }
 
-/// What is behind a tag, from behind its name. Most end tags end there.
+/// The bytes after a tag, from those after its name. Most end tags end there.
 #[inline(always)]
 pub(crate) fn after_tag(bytes: &[u8]) -> Option<&[u8]>
     ensures { bytes_at result ≡ rest_of (tag_of bytes.now) }
@@ -219,10 +219,10 @@ fn content_of(name: &[u8]) -> Content
     }
 }
 
-/// What is behind an element whose text is raw, from behind its start tag.
+/// The bytes after an element whose text is raw, from those after its start tag.
 fn after_raw<'a>(name: &[u8], bytes: &'a [u8]) -> Option<&'a [u8]>
     requires { 0 < length name.now }
-    ensures reads { read (raw_content (map lower name.now)) bytes.now ≡ read_rest result }
+    ensures reads { read (raw_content (map lower name.now)) bytes.now ≡ ended_rest (map lower name.now) result }
     ensures leaves { RestLeaves result bytes.now }
 {
     match after_raw_text(name, bytes) {
@@ -231,7 +231,7 @@ fn after_raw<'a>(name: &[u8], bytes: &'a [u8]) -> Option<&'a [u8]>
     }
 }
 
-/// What is behind a script, from behind its start tag.
+/// The bytes after a script, from those after its start tag.
 fn after_whole_script(bytes: &[u8]) -> Option<&[u8]>
     ensures reads { read script_content bytes.now ≡ read_rest result }
     ensures leaves { RestLeaves result bytes.now }
@@ -242,7 +242,7 @@ fn after_whole_script(bytes: &[u8]) -> Option<&[u8]>
     }
 }
 
-/// What is behind a start tag, or behind the end tag of its element where the content is text.
+/// The bytes after a start tag, or after the end tag of its element if the content is text.
 pub(crate) fn after_element<'a>(name: &[u8], bytes: &'a [u8]) -> Option<&'a [u8]>
     ensures reads { read (behind_tag false (map lower name.now)) bytes.now ≡ read_rest result }
     ensures leaves { RestLeaves result bytes.now }

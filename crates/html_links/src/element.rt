@@ -1,28 +1,35 @@
 //! The elements whose attributes name documents, and these attributes.
 ghost use Rattle.std.specs.Prelude.{◌≡◌, map};
 ghost use Rattle.html_links.specs.Tags.{lower};
-ghost use Rattle.html_links.specs.Elements.{is_anchor, is_background, is_embedded, is_image, is_usual, element_of, wanted_at, wanted_of, wants};
+ghost use Rattle.html_links.specs.Comments.{bytes_at};
+ghost use Rattle.html_links.specs.Elements.{is_anchor, is_background, is_embedded, is_frame, is_inert, is_shadow, is_usual, element_of, wanted_at, wanted_of, wants};
 
 use crate::lengths::may_be;
 use crate::raw_text::same_name;
 
-/// Elements that name documents alike.
+/// The kinds of elements, by the attributes in which they name documents.
 #[derive(Clone, Copy)]
 pub(crate) enum Element {
     Anchor,
     Area,
     Background,
     Base,
+    Button,
     Embedded,
+    Frame,
     Image,
+    Input,
     Link,
     Meta,
     Object,
+    Param,
+    Source,
+    Template,
     Video,
     Other,
 }
 
-/// The names of the attributes that are wanted of an element; an empty name is none's.
+/// The names of the wanted attributes of an element. An empty name is that of no attribute.
 #[derive(Clone, Copy)]
 pub(crate) struct Wanted {
     pub(crate) first: &'static [u8],
@@ -32,7 +39,7 @@ pub(crate) struct Wanted {
 
 /// The lengths of the names of elements that name documents or whose content is text.
 static LENGTHS: [u16; 32] = [
-    0x0, 0x19, 0x8, 0x0, 0x0, 0x10, 0x10, 0x0, 0x0, 0x34, 0x0, 0x0, 0x8, 0x8, 0xc0, 0x20, 0x100,
+    0x0, 0x19, 0x28, 0x0, 0x0, 0x10, 0x10, 0x0, 0x0, 0x34, 0x0, 0x0, 0x8, 0x8, 0xc0, 0x20, 0x110,
     0x0, 0x0, 0x30, 0x92, 0x4, 0x10, 0x0, 0x4, 0x0, 0x0, 0x0, 0x0, 0x0, 0x0, 0x0,
 ];
 
@@ -49,6 +56,10 @@ fn is_background(name: &[u8]) -> bool
         || same_name(name, b"table")
         || same_name(name, b"td")
         || same_name(name, b"th")
+        || same_name(name, b"tr")
+        || same_name(name, b"thead")
+        || same_name(name, b"tbody")
+        || same_name(name, b"tfoot")
 }
 
 fn is_embedded(name: &[u8]) -> bool
@@ -56,20 +67,17 @@ fn is_embedded(name: &[u8]) -> bool
 {
     same_name(name, b"audio")
         || same_name(name, b"embed")
-        || same_name(name, b"frame")
-        || same_name(name, b"iframe")
-        || same_name(name, b"input")
         || same_name(name, b"script")
         || same_name(name, b"track")
 }
 
-fn is_image(name: &[u8]) -> bool
-    ensures { result ≡ is_image (map lower name.now) }
+fn is_frame(name: &[u8]) -> bool
+    ensures { result ≡ is_frame (map lower name.now) }
 {
-    same_name(name, b"img") || same_name(name, b"source")
+    same_name(name, b"frame") || same_name(name, b"iframe")
 }
 
-/// Whether an element with this name is sure to name no documents and to have no text, as its first letter and its length tell.
+/// Whether the first letter and the length of a name show that the element names no documents and has no text.
 #[inline(always)]
 pub(crate) fn is_usual(name: &[u8]) -> bool
     ensures { result ≡ is_usual name.now }
@@ -83,8 +91,10 @@ pub(crate) fn element_of(name: &[u8]) -> Element
 {
     if is_anchor(name) {
         Element::Anchor
-    } else if is_image(name) {
+    } else if same_name(name, b"img") {
         Element::Image
+    } else if same_name(name, b"source") {
+        Element::Source
     } else if is_embedded(name) {
         Element::Embedded
     } else if is_background(name) {
@@ -101,12 +111,22 @@ pub(crate) fn element_of(name: &[u8]) -> Element
         Element::Object
     } else if same_name(name, b"video") {
         Element::Video
+    } else if same_name(name, b"template") {
+        Element::Template
+    } else if is_frame(name) {
+        Element::Frame
+    } else if same_name(name, b"input") {
+        Element::Input
+    } else if same_name(name, b"button") {
+        Element::Button
+    } else if same_name(name, b"param") {
+        Element::Param
     } else {
         Element::Other
     }
 }
 
-/// The attributes that name documents, in the order of their links, or say what those are.
+/// The attributes that name documents, in the order of their links, and those that decide whether others do.
 pub(crate) fn wanted_of(element: Element) -> Wanted
     ensures { wanted_at result ≡ wanted_of element }
 {
@@ -115,11 +135,17 @@ pub(crate) fn wanted_of(element: Element) -> Wanted
         Element::Area | Element::Base => names(b"href", b"", b""),
         Element::Background => names(b"background", b"", b""),
         Element::Embedded => names(b"src", b"", b""),
-        Element::Image => names(b"src", b"srcset", b""),
+        Element::Button => names(b"formaction", b"", b"type"),
+        Element::Frame => names(b"src", b"longdesc", b""),
+        Element::Image => names(b"src", b"srcset", b"longdesc"),
+        Element::Source => names(b"src", b"srcset", b""),
+        Element::Input => names(b"src", b"formaction", b"type"),
         Element::Link => names(b"href", b"imagesrcset", b"rel"),
-        Element::Meta => names(b"content", b"http-equiv", b""),
+        Element::Meta => names(b"content", b"http-equiv", b"property"),
         Element::Object => names(b"data", b"", b""),
+        Element::Param => names(b"value", b"", b""),
         Element::Video => names(b"src", b"poster", b""),
+        Element::Template => names(b"", b"", b"shadowrootmode"),
         Element::Other => names(b"", b"", b""),
     }
 }
@@ -131,5 +157,25 @@ fn names(first: &'static [u8], second: &'static [u8], third: &'static [u8]) -> W
         first,
         second,
         third,
+    }
+}
+
+/// Whether the contents of the element are not part of the page, by its third wanted value.
+pub(crate) fn is_inert(element: Element, mode: Option<&[u8]>) -> bool
+    ensures { result ≡ is_inert element (bytes_at mode.entry) }
+{
+    match element {
+        Element::Template => !is_shadow(mode),
+        _ => false,
+    }
+}
+
+/// Whether a template becomes a shadow root, by the value of its `shadowrootmode` as written.
+fn is_shadow(mode: Option<&[u8]>) -> bool
+    ensures { result ≡ is_shadow (bytes_at mode.entry) }
+{
+    match mode {
+        Some(mode) => same_name(mode, b"open") || same_name(mode, b"closed"),
+        None => false,
     }
 }

@@ -13,7 +13,7 @@ use crate::lengths::may_be;
 use crate::raw_text::same_name;
 use crate::tag::{AttributeAt, Piece, next_piece};
 
-/// The values of wanted attributes as they stand, the first of each name.
+/// The values of wanted attributes as written, the first of each name.
 #[derive(Clone, Copy)]
 pub(crate) struct Values<'a> {
     pub(crate) first: Option<&'a [u8]>,
@@ -22,10 +22,12 @@ pub(crate) struct Values<'a> {
     pub(crate) style: Option<&'a [u8]>,
     pub(crate) id: Option<&'a [u8]>,
     pub(crate) name: Option<&'a [u8]>,
-    /// How many bytes are behind the first value and its quote.
+    /// The number of bytes after the first value and its quote.
     pub(crate) first_left: usize,
-    /// The same of the second.
+    /// That number for the second value.
     pub(crate) second_left: usize,
+    /// That number for the third value.
+    pub(crate) third_left: usize,
 }
 
 impl<'a> Values<'a> {
@@ -41,10 +43,11 @@ impl<'a> Values<'a> {
             name: None,
             first_left: 0,
             second_left: 0,
+            third_left: 0,
         }
     }
 
-    /// Whether none names a document or a part, or is a style.
+    /// Whether none of them names a document or an anchor, or is a style.
     #[inline(always)]
     pub(crate) fn name_nothing(&self) -> bool
         ensures { result ≡ name_nothing (values_at self.now) }
@@ -70,8 +73,8 @@ impl<'a> Values<'a> {
 
 /// The lengths of the names of attributes that are wanted of an element, or of each.
 static LENGTHS: [u16; 32] = [
-    0x0, 0x0, 0x200, 0x40, 0x8, 0x0, 0x0, 0x0, 0x208, 0x402, 0x0, 0x0, 0x0, 0x0, 0x8, 0x0, 0x20,
-    0x0, 0x4, 0x34, 0x0, 0x0, 0x0, 0x0, 0x200, 0x0, 0x0, 0x0, 0x0, 0x0, 0x0, 0x0,
+    0x0, 0x0, 0x200, 0x40, 0x8, 0x0, 0x200, 0x0, 0x208, 0x402, 0x0, 0x0, 0x80, 0x0, 0x8, 0x0, 0xa0,
+    0x0, 0x4, 0x2034, 0x8, 0x0, 0x10, 0x0, 0x200, 0x0, 0x0, 0x0, 0x0, 0x0, 0x0, 0x0,
 ];
 
 #[inline(always)]
@@ -84,7 +87,7 @@ fn is_absent(value: Option<&[u8]>) -> bool
     }
 }
 
-/// Takes the attribute's value where none is there yet and the attribute has this name; whether it did.
+/// Takes the value of an attribute if it has this name and no value was taken before, and returns whether it did.
 #[inline(always)]
 fn take_named<'a>(value: &mut Option<&'a [u8]>, name: &[u8], attribute: AttributeAt<'a>) -> bool
     ensures { bytes_at value.new ≡ or_named (bytes_at value.old) name.now (attribute_at attribute.entry) }
@@ -96,7 +99,7 @@ fn take_named<'a>(value: &mut Option<&'a [u8]>, name: &[u8], attribute: Attribut
     takes
 }
 
-/// Takes a value where none is there yet; whether it did.
+/// Takes a value if none was taken before, and returns whether it did.
 #[inline(always)]
 fn take_value<'a>(value: &mut Option<&'a [u8]>, found: &'a [u8]) -> bool
     ensures { bytes_at value.new ≡ option_or (bytes_at value.old) (Some found.now) }
@@ -126,7 +129,7 @@ fn is_link(element: Element, name: &[u8]) -> bool
     }
 }
 
-/// Takes the `href` of an `a`, behind which so many bytes are left.
+/// Takes the `href` of an `a`, which has `left` bytes after it.
 #[inline(always)]
 fn take_link<'a>(values: &mut Values<'a>, attribute: AttributeAt<'a>, left: usize)
     requires { attribute.name.now ≡ codes "href" }
@@ -137,7 +140,7 @@ fn take_link<'a>(values: &mut Values<'a>, attribute: AttributeAt<'a>, left: usiz
     }
 }
 
-/// Takes the values of one attribute more, behind which so many bytes are left.
+/// Takes the values of another attribute, which has `left` bytes after it.
 #[inline(always)]
 fn take_attribute<'a>(
     values: &mut Values<'a>,
@@ -157,7 +160,7 @@ fn take_attribute<'a>(
     take_wanted(values, &wanted_of(element), attribute, left);
 }
 
-/// The same where the names that are wanted are known.
+/// Takes the values of another attribute, by the wanted names.
 #[inline(always)]
 fn take_wanted<'a>(
     values: &mut Values<'a>,
@@ -173,13 +176,16 @@ fn take_wanted<'a>(
     if take_named(&mut values.second, wanted.second, attribute) {
         values.second_left = left;
     }
-    take_named(&mut values.third, wanted.third, attribute);
+    if take_named(&mut values.third, wanted.third, attribute) {
+        values.third_left = left;
+    }
     take_named(&mut values.style, b"style", attribute);
     take_named(&mut values.id, b"id", attribute);
     take_named(&mut values.name, b"name", attribute);
 }
 
-/// Finds the wanted values of a tag from behind its name; answers what is behind the tag, and nothing where the tag does not end.
+/// Finds the wanted values of a tag, from the bytes after its name. Returns the bytes after the tag, or nothing if the tag does
+/// not end.
 #[inline(always)]
 pub(crate) fn values_in<'a>(
     element: Element,

@@ -1,10 +1,10 @@
-//! Names told apart by their first letter and their length.
+//! Names by their first letter and their length.
 ghost use Rattle.std.specs.Prelude.{◌≡◌, ◌%◌};
 ghost use Rattle.html_links.specs.Lengths.{has_length, may_be};
 
 use crate::bytes::parts;
 
-/// Whether a table of lengths has, for a letter, that of a name with so many bytes behind it.
+/// Whether a table has, for a letter, the length of a name with `more` bytes after it.
 #[inline(always)]
 fn has_length(lengths: &[u16; 32], letter: u8, more: usize) -> bool
     ensures { result ≡ has_length lengths.now (letter % 32) more }

@@ -20,6 +20,7 @@ mod script;
 mod srcset;
 mod style;
 mod tag;
+mod template;
 
 pub use document::{StartTagAt, tags};
 pub use links::{Links, PlacedLinks};

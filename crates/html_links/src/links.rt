@@ -11,12 +11,12 @@ pub trait Links {
     /// The text of the next link, its character references read.
     ///
     /// # Errors
-    /// Where a growth was refused.
+    /// If an allocation fails.
     fn push(&mut self, text: &[u8]) -> Result<(), AllocError>
         ensures { OnOk result (texts self.new ≡ texts self.old ++ text.now ∷ []) };
 }
 
-/// Is given the texts of links, and where in the document their values begin.
+/// A receiver of the texts of links, and of the positions in the document at which their values begin.
 pub trait PlacedLinks: Links {
     /// The value of the links that come next begins at this index.
     fn begin_at(&mut self, index: usize)

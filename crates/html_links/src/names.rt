@@ -64,7 +64,7 @@ fn counts(closed: bool, name: &[u8], row: &[u8]) -> bool
     row.len() > name.len() && &row[..name.len()] == name && is_mark(closed, row[name.len()])
 }
 
-/// The text that a name stands for after an `&`. `closed` says whether a `;` follows the name.
+/// The text of a name after an `&`. `closed` says whether a `;` follows the name.
 pub(crate) fn named(closed: bool, name: &[u8]) -> Option<&'static [u8]>
     ensures { bytes_at result ≡ named closed name.now }
 {

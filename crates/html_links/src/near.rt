@@ -10,7 +10,7 @@ use std::simd::prelude::*;
 /// How many bytes are looked at in place.
 const LANES: usize = 32;
 
-/// The lowest bit that is set, or this number where none is.
+/// The lowest bit that is set, or this number if none is.
 #[inline(always)]
 fn first_set(mask: u64, none: usize) -> usize
     ensures { result ≡ first_set mask none }
@@ -22,7 +22,7 @@ fn first_set(mask: u64, none: usize) -> usize
     }
 }
 
-/// The index of the byte among the first, or their number where it is not there.
+/// The index of the byte among the first bytes, or their number if it is not among them.
 #[inline(always)]
 fn near_index(byte: u8, bytes: &[u8]) -> usize
     requires { LANES ≤ length bytes.now }
@@ -50,7 +50,7 @@ pub(crate) fn near_byte(byte: u8, bytes: &[u8]) -> Option<usize>
     }
 }
 
-/// The first index of a byte. The search stands once in the program, and its answer in registers.
+/// The first index of a byte. The program has the search once, and its result is in registers.
 #[inline(never)]
 pub(crate) fn find_byte(byte: u8, bytes: &[u8]) -> Option<usize>
     ensures { IsFirstByte (is_byte byte) bytes.now result }

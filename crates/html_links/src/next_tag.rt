@@ -1,21 +1,24 @@
 //! The next start tag of a document.
-ghost use Rattle.std.specs.Prelude.{◌≡◌, ◌==◌, ◌∷◌, [], map, not, true, codes, bytes_eq, Some, IfSome, MatchOption};
+ghost use Rattle.std.specs.Prelude.{◌≡◌, ◌==◌, ◌∷◌, [], map, not, true, false, codes, bytes_eq, Some, IfSome, MatchOption};
 ghost use Rattle.html_links.specs.Tags.{lower, tag_of};
 ghost use Rattle.html_links.specs.Shown.{behind};
 ghost use Rattle.html_links.specs.Elements.{wanted_of, is_usual};
 ghost use Rattle.html_links.specs.Values.{values_at, values_in, tag_values, tag_with, no_values};
-ghost use Rattle.html_links.specs.Seen.{LeavesTag, seen_in};
+ghost use Rattle.html_links.specs.Document.{behind_tag, read};
+ghost use Rattle.html_links.specs.Markup.{RestLeaves};
+ghost use Rattle.html_links.specs.Seen.{LeavesTag, opened, seen_in, seen_rest, seen_with, seen_within};
 ghost use Rattle.html_links.specs.Passed.{Finds, Steps, StepsTag};
 
 use crate::bytes::{behind_byte, split_quoted};
 use crate::document::{Markup, after_element, after_tag, next_markup};
-use crate::element::{Element, element_of, is_usual};
+use crate::element::{Element, element_of, is_inert, is_usual};
 use crate::found::{Values, values_in};
 use crate::raw_text::same_name;
 use crate::tag::behind_class;
+use crate::template::after_template;
 
-/// A start tag: what is behind its name, its element, what is behind the tag, and what is behind the element where its text is
-/// raw.
+/// A start tag: its name, the bytes after the name, its element, the bytes after the tag, and the bytes after its contents if
+/// these have no tags of the page.
 #[derive(Clone, Copy)]
 pub(crate) struct NextTag<'a> {
     pub(crate) name: &'a [u8],
@@ -25,7 +28,8 @@ pub(crate) struct NextTag<'a> {
     pub(crate) rest: &'a [u8],
 }
 
-/// What the next `<` gives: bytes to go on with where it is no tag that may name something, such a tag, or nothing more.
+/// What the next `<` begins: something that names nothing, with the bytes after it, a tag that may name something, or nothing
+/// that ends.
 #[derive(Clone, Copy)]
 enum Step<'a> {
     Pass(&'a [u8]),
@@ -49,7 +53,7 @@ pub(crate) fn next_tag<'a>(bytes: &'a [u8], values: &mut Values<'a>) -> Option<N
     }
 }
 
-/// What the first `<` in these bytes gives.
+/// What the first `<` in these bytes begins.
 #[inline(always)]
 fn next_step<'a>(bytes: &'a [u8], values: &mut Values<'a>) -> Step<'a>
     ensures { Steps result (values_at values.new) bytes.now (seen_in bytes.now) }
@@ -68,8 +72,8 @@ fn next_step<'a>(bytes: &'a [u8], values: &mut Values<'a>) -> Step<'a>
     }
 }
 
-/// What is behind the first `<`. Tags often follow one another, which is seen without a search: what is done next need not wait
-/// for its answer.
+/// The bytes after the first `<`. Tags often follow one another. This case needs no search, so the next step need not wait for
+/// the result of one.
 #[inline(always)]
 fn behind_less(bytes: &[u8]) -> Option<&[u8]>
     ensures { MatchOption result (behind (λ c. not (c == 60)) bytes.now ≡ []) (λ opened. 60 ∷ opened.now ≡ behind (λ c. not (c == 60)) bytes.now) }
@@ -83,7 +87,7 @@ fn behind_less(bytes: &[u8]) -> Option<&[u8]>
     }
 }
 
-/// A start tag from behind its name.
+/// A start tag, from the bytes after its name.
 #[inline(always)]
 fn start_tag<'a>(name: &'a [u8], bytes: &'a [u8], values: &mut Values<'a>) -> Step<'a>
     ensures { StepsTag result (values_at values.new) name.now bytes.now }
@@ -121,7 +125,7 @@ fn usual_tag<'a>(name: &'a [u8], bytes: &'a [u8], values: &mut Values<'a>) -> St
     })
 }
 
-/// What is behind a tag without attributes, or with a `class` alone, from behind its name.
+/// The bytes after a tag without attributes, or with only a `class`, from those after its name.
 #[inline(always)]
 fn after_plain(bytes: &[u8]) -> Option<&[u8]>
     ensures { IfSome result (λ last. Some (tag_with no_values last.now) ≡ values_in (wanted_of Element.Other) (tag_of bytes.now)) }
@@ -138,7 +142,7 @@ fn after_plain(bytes: &[u8]) -> Option<&[u8]>
     }
 }
 
-/// Finds the values of a tag whose element names no documents, from behind its name; answers what is behind the tag.
+/// Finds the values of a tag whose element names no documents, from the bytes after its name. Returns the bytes after the tag.
 #[inline(never)]
 fn usual_values<'a>(bytes: &'a [u8], values: &mut Values<'a>) -> Option<&'a [u8]>
     ensures { tag_values (values_at values.new) result ≡ values_in (wanted_of Element.Other) (tag_of bytes.now) }
@@ -146,8 +150,8 @@ fn usual_values<'a>(bytes: &'a [u8], values: &mut Values<'a>) -> Option<&'a [u8]
     values_in(Element::Other, bytes, values)
 }
 
-/// The start tag of an `a`. It stands apart, as the next, so that the values stay in the caller's memory, written where one is
-/// found.
+/// The start tag of an `a`. This function and the next are not inlined, so the values stay in the caller's memory, and are
+/// written only when one is found.
 #[inline(never)]
 fn anchor_tag<'a>(name: &'a [u8], bytes: &'a [u8], values: &mut Values<'a>) -> Step<'a>
     requires { bytes_eq (map lower name.now) (codes "a") ≡ true }
@@ -174,7 +178,7 @@ fn wanted_tag<'a>(name: &'a [u8], bytes: &'a [u8], values: &mut Values<'a>) -> S
     let Some(text) = values_in(element, bytes, values) else {
         return Step::End;
     };
-    match after_element(name, text) {
+    match after_contents(name, element, values, text) {
         Some(rest) => Step::Take(NextTag {
             name,
             inside: bytes,
@@ -189,5 +193,25 @@ fn wanted_tag<'a>(name: &'a [u8], bytes: &'a [u8], values: &mut Values<'a>) -> S
             text,
             rest: &[],
         }),
+    }
+}
+
+/// The bytes after the contents of an element if these have no tags of the page, and otherwise the bytes after its start tag.
+fn after_contents<'a>(
+    name: &[u8],
+    element: Element,
+    values: &Values<'a>,
+    text: &'a [u8],
+) -> Option<&'a [u8]>
+    ensures reads { seen_within (opened (seen_with (map lower name.now) element (values_at values.now))) (read (behind_tag false (map lower name.now)) text.now) ≡ seen_rest result }
+    ensures leaves { RestLeaves result text.now }
+{
+    let Some(rest) = after_element(name, text) else {
+        return None;
+    };
+    if is_inert(element, values.third) {
+        after_template(rest)
+    } else {
+        Some(rest)
     }
 }

@@ -1,4 +1,4 @@
-//! Where raw text ends.
+//! The end of a raw text.
 ghost use Rattle.std.specs.Prelude.{◌≡◌, ◌<◌, ◌&&◌, length, map};
 ghost use Rattle.std.specs.List.{take_while};
 ghost use Rattle.std.specs.Char.{to_ascii_lowercase};
@@ -42,7 +42,7 @@ fn ends_name(bytes: &[u8]) -> bool
     }
 }
 
-/// Whether the names are the same in any case. Most that are have the same case, which is seen at once.
+/// Whether the names are the same in any case. Most of them have the same case, which is tested first.
 pub(crate) fn same_name(found: &[u8], name: &[u8]) -> bool
     ensures { result ≡ same_name found.now name.now }
 {
@@ -55,7 +55,7 @@ fn is_end(found: &[u8], rest: &[u8], name: &[u8]) -> bool
     ends_name(rest) && same_name(found, name)
 }
 
-/// What is behind the name of the end tag with which the text of this element ends; nothing where it does not end.
+/// The bytes after the name of the end tag that ends the text of this element. `None` if the text does not end.
 pub fn after_raw_text<'a>(name: &[u8], bytes: &'a [u8]) -> Option<&'a [u8]>
     requires { 0 < length name.now }
     ensures { bytes_at result ≡ run (map to_ascii_lowercase name.now) Text bytes.now }
@@ -78,7 +78,7 @@ pub fn after_raw_text<'a>(name: &[u8], bytes: &'a [u8]) -> Option<&'a [u8]>
     }
 }
 
-/// The text of this element before its end tag, where it has one.
+/// The text of this element before its end tag, if there is one.
 pub(crate) fn raw_text<'a>(name: &[u8], bytes: &'a [u8]) -> &'a [u8]
     requires { 0 < length name.now }
 {

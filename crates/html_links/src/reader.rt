@@ -1,12 +1,12 @@
 //! The reader of a document.
 ghost use Rattle.std.specs.Prelude.{◌≡◌, ◌++◌, [], map, false, IfOk, OnOk};
+ghost use Rattle.std.specs.Str.{bytes_eq};
 ghost use Rattle.html_links.specs.Comments.{bytes_at};
 ghost use Rattle.html_links.specs.Tags.{lower};
 ghost use Rattle.html_links.specs.References.{text_of};
 ghost use Rattle.html_links.specs.Values.{values_at};
-ghost use Rattle.html_links.specs.Links.{value_links, text_links, is_host_hint, hints_behind, names_host, is_refresh, links_with, links_of, ids_with, anchors_with, ids_of, base_of, base_with, or_later};
+ghost use Rattle.html_links.specs.Links.{value_links, text_links, is_link_type, types_behind, is_related, is_keyword, submits, submits_nothing, is_open_graph, is_card, names_url, is_data, names_data, form_if, meta_form, first_form, second_form, first_links, second_links, third_links, links_with, links_of, ids_with, anchors_with, ids_of, base_of, base_with, or_later};
 ghost use Rattle.html_links.specs.Reads.{base_at};
-ghost use Rattle.html_links.specs.declared.reader.Form.TheVariants.{Link};
 
 use crate::bytes::parts;
 use crate::element::Element;
@@ -21,7 +21,7 @@ use crate::srcset::{push_candidates, split_unspaced};
 use crate::{Links, style_links};
 use std::alloc::{AllocError, Global};
 
-/// The `href` of a document's first `base` that has one, its references read.
+/// The `href` of a document's first `base` that has one, with its character references decoded.
 pub type Base = Option<Vec<u8>>;
 
 /// How the value of an attribute names documents.
@@ -30,12 +30,13 @@ pub(crate) enum Form {
     Link,
     List,
     Refresh,
+    Nothing,
 }
 
-/// Gives the links of a document in their order, and answers its base. With `styles` also those of styles.
+/// Passes on the links of a document in order, and returns its base. With `styles`, it passes on the links of styles too.
 ///
 /// # Errors
-/// Where a growth was refused.
+/// If an allocation fails.
 pub fn read_links<L: Links>(
     alloc: Global,
     document: &[u8],
@@ -60,10 +61,10 @@ pub fn read_links<L: Links>(
     Ok(base)
 }
 
-/// Gives the links of a document as `read_places` does, and its ids: each `id` of a tag, and each `name` of an `a`.
+/// Passes on the links of a document as `read_places` does, and its ids: each `id` of a tag, and each `name` of an `a`.
 ///
 /// # Errors
-/// Where a growth was refused.
+/// If an allocation fails.
 pub fn read_page<L: PlacedLinks, I: Links>(
     alloc: Global,
     document: &[u8],
@@ -116,7 +117,7 @@ fn push_anchor<I: Links>(
     }
 }
 
-/// Gives the links of a tag's `style`, and those of a style sheet behind the tag.
+/// Passes on the links of a tag's `style`, and those of a style sheet after the tag.
 fn push_styles<L: Links>(
     alloc: Global,
     tag: NextTag<'_>,
@@ -135,7 +136,7 @@ fn push_styles<L: Links>(
     Ok(())
 }
 
-/// Takes the base of a tag where there is none yet.
+/// Takes the base of a tag if there is none yet.
 #[inline(always)]
 pub(crate) fn take_base(
     alloc: Global,
@@ -162,6 +163,7 @@ pub(crate) fn take_base(
     }
 }
 
+/// Passes on the links of a tag's wanted values.
 fn push_values<L: Links>(
     element: Element,
     values: &Values<'_>,
@@ -170,64 +172,226 @@ fn push_values<L: Links>(
 ) -> Result<(), AllocError>
     ensures { OnOk result (L.texts links.new ≡ L.texts links.old ++ links_with element (values_at values.now)) }
 {
-    match element {
-        Element::Base => Ok(()),
-        Element::Meta => {
-            if is_refresh(values.second, decoded)? {
-                push_value(Form::Refresh, values.first, decoded, links)
-            } else {
-                Ok(())
-            }
-        }
-        Element::Link => {
-            if names_host(values.third, decoded)? {
-                Ok(())
-            } else {
-                push_both(Form::List, values, decoded, links)
-            }
-        }
-        Element::Image => push_both(Form::List, values, decoded, links),
-        _ => push_both(Form::Link, values, decoded, links),
-    }
+    push_first(element, values, decoded, links)?;
+    push_second(element, values, decoded, links)?;
+    push_third(element, values, decoded, links)
 }
 
-/// Gives the link in the first value, and those of the second.
-fn push_both<L: Links>(
-    second: Form,
+/// Passes on the links of the first wanted value.
+#[inline(always)]
+pub(crate) fn push_first<L: Links>(
+    element: Element,
     values: &Values<'_>,
     decoded: &mut Vec<u8>,
     links: &mut L,
 ) -> Result<(), AllocError>
-    ensures { OnOk result (L.texts links.new ≡ L.texts links.old ++ (value_links Link (bytes_at values.now.first) ++ value_links second (bytes_at values.now.second))) }
+    ensures { OnOk result (L.texts links.new ≡ L.texts links.old ++ first_links element (values_at values.now)) }
 {
-    push_value(Form::Link, values.first, decoded, links)?;
-    push_value(second, values.second, decoded, links)
+    let Some(value) = values.first else {
+        return Ok(());
+    };
+    let form = first_form(element, values, decoded)?;
+    push_some(form, value, decoded, links)
 }
 
-pub(crate) fn is_refresh(equiv: Option<&[u8]>, decoded: &mut Vec<u8>) -> Result<bool, AllocError>
-    ensures { IfOk result (λ is. is ≡ is_refresh (bytes_at equiv.entry)) }
+/// Passes on the links of the second wanted value.
+#[inline(always)]
+pub(crate) fn push_second<L: Links>(
+    element: Element,
+    values: &Values<'_>,
+    decoded: &mut Vec<u8>,
+    links: &mut L,
+) -> Result<(), AllocError>
+    ensures { OnOk result (L.texts links.new ≡ L.texts links.old ++ second_links element (values_at values.now)) }
 {
-    let Some(value) = equiv else {
+    let Some(value) = values.second else {
+        return Ok(());
+    };
+    let form = second_form(element, values, decoded)?;
+    push_some(form, value, decoded, links)
+}
+
+/// Passes on the link of the third wanted value.
+#[inline(always)]
+pub(crate) fn push_third<L: Links>(
+    element: Element,
+    values: &Values<'_>,
+    decoded: &mut Vec<u8>,
+    links: &mut L,
+) -> Result<(), AllocError>
+    ensures { OnOk result (L.texts links.new ≡ L.texts links.old ++ third_links element (values_at values.now)) }
+{
+    match element {
+        Element::Image => push_value(Form::Link, values.third, decoded, links),
+        _ => Ok(()),
+    }
+}
+
+/// How the first wanted value names documents.
+#[inline(always)]
+fn first_form(
+    element: Element,
+    values: &Values<'_>,
+    decoded: &mut Vec<u8>,
+) -> Result<Form, AllocError>
+    ensures { IfOk result (λ form. form ≡ first_form element (values_at values.now)) }
+{
+    match element {
+        Element::Base => Ok(Form::Nothing),
+        Element::Meta => meta_form(values, decoded),
+        Element::Link => Ok(form_if(is_related(values.third, decoded)?, Form::Link)),
+        Element::Input => Ok(form_if(is_keyword(b"image", values.third, decoded)?, Form::Link)),
+        Element::Button => Ok(form_if(!submits_nothing(values.third, decoded)?, Form::Link)),
+        Element::Param => Ok(form_if(names_data(values.name, decoded)?, Form::Link)),
+        _ => Ok(Form::Link),
+    }
+}
+
+/// How the second wanted value names documents.
+#[inline(always)]
+fn second_form(
+    element: Element,
+    values: &Values<'_>,
+    decoded: &mut Vec<u8>,
+) -> Result<Form, AllocError>
+    ensures { IfOk result (λ form. form ≡ second_form element (values_at values.now)) }
+{
+    match element {
+        Element::Base | Element::Meta => Ok(Form::Nothing),
+        Element::Link => Ok(form_if(is_related(values.third, decoded)?, Form::List)),
+        Element::Image | Element::Source => Ok(Form::List),
+        Element::Input => Ok(form_if(submits(values.third, decoded)?, Form::Link)),
+        _ => Ok(Form::Link),
+    }
+}
+
+fn form_if(is: bool, form: Form) -> Form
+    ensures { result ≡ form_if is form }
+{
+    if is { form } else { Form::Nothing }
+}
+
+fn meta_form(values: &Values<'_>, decoded: &mut Vec<u8>) -> Result<Form, AllocError>
+    ensures { IfOk result (λ form. form ≡ meta_form (values_at values.now)) }
+{
+    if is_keyword(b"refresh", values.second, decoded)? {
+        return Ok(Form::Refresh);
+    }
+    if names_url(values.third, decoded)? {
+        return Ok(Form::Link);
+    }
+    Ok(form_if(names_url(values.name, decoded)?, Form::Link))
+}
+
+/// Whether the `type` of an `input` says that it submits its form.
+fn submits(kind: Option<&[u8]>, decoded: &mut Vec<u8>) -> Result<bool, AllocError>
+    ensures { IfOk result (λ is. is ≡ submits (bytes_at kind.entry)) }
+{
+    if is_keyword(b"image", kind, decoded)? {
+        return Ok(true);
+    }
+    is_keyword(b"submit", kind, decoded)
+}
+
+/// Whether the `type` of a `button` says that it does not submit its form.
+fn submits_nothing(kind: Option<&[u8]>, decoded: &mut Vec<u8>) -> Result<bool, AllocError>
+    ensures { IfOk result (λ is. is ≡ submits_nothing (bytes_at kind.entry)) }
+{
+    if is_keyword(b"reset", kind, decoded)? {
+        return Ok(true);
+    }
+    is_keyword(b"button", kind, decoded)
+}
+
+/// Whether a value is this keyword, in any case.
+fn is_keyword(word: &[u8], value: Option<&[u8]>, decoded: &mut Vec<u8>) -> Result<bool, AllocError>
+    ensures { IfOk result (λ is. is ≡ is_keyword word.now (bytes_at value.entry)) }
+{
+    let Some(value) = value else {
         return Ok(false);
     };
     decoded.clear();
     decode(value, decoded)?;
-    Ok(same_name(decoded.as_slice(), b"refresh"))
+    Ok(same_name(decoded.as_slice(), word))
 }
 
-/// Whether the `rel` of a `link` says that it names a host and no document.
-pub(crate) fn names_host(rel: Option<&[u8]>, decoded: &mut Vec<u8>) -> Result<bool, AllocError>
-    ensures { IfOk result (λ names. names ≡ names_host (bytes_at rel.entry)) }
+/// Whether the `property` or the `name` of a `meta` says that its content is a URL.
+fn names_url(name: Option<&[u8]>, decoded: &mut Vec<u8>) -> Result<bool, AllocError>
+    ensures { IfOk result (λ is. is ≡ names_url (bytes_at name.entry)) }
+{
+    let Some(name) = name else {
+        return Ok(false);
+    };
+    decoded.clear();
+    decode(name, decoded)?;
+    let name = decoded.as_slice();
+    Ok(is_open_graph(name) || is_card(name))
+}
+
+fn is_text(found: &[u8], text: &[u8]) -> bool
+    ensures { result ≡ bytes_eq found.now text.now }
+{
+    found == text
+}
+
+fn is_open_graph(name: &[u8]) -> bool
+    ensures { result ≡ is_open_graph name.now }
+{
+    is_text(name, b"og:url")
+        || is_text(name, b"og:image")
+        || is_text(name, b"og:image:url")
+        || is_text(name, b"og:image:secure_url")
+        || is_text(name, b"og:video")
+        || is_text(name, b"og:video:url")
+        || is_text(name, b"og:video:secure_url")
+        || is_text(name, b"og:audio")
+        || is_text(name, b"og:audio:url")
+        || is_text(name, b"og:audio:secure_url")
+}
+
+fn is_card(name: &[u8]) -> bool
+    ensures { result ≡ is_card name.now }
+{
+    is_text(name, b"twitter:image")
+        || is_text(name, b"twitter:image:src")
+        || is_text(name, b"twitter:player")
+        || is_text(name, b"twitter:player:stream")
+}
+
+/// Whether the `name` of a `param` says that its value is the URL of a plugin's data.
+fn names_data(name: Option<&[u8]>, decoded: &mut Vec<u8>) -> Result<bool, AllocError>
+    ensures { IfOk result (λ is. is ≡ names_data (bytes_at name.entry)) }
+{
+    let Some(name) = name else {
+        return Ok(false);
+    };
+    decoded.clear();
+    decode(name, decoded)?;
+    Ok(is_data(decoded.as_slice()))
+}
+
+fn is_data(name: &[u8]) -> bool
+    ensures { result ≡ is_data name.now }
+{
+    same_name(name, b"movie")
+        || same_name(name, b"src")
+        || same_name(name, b"data")
+        || same_name(name, b"url")
+}
+
+/// Whether the `rel` of a `link` makes it a link to a document.
+fn is_related(rel: Option<&[u8]>, decoded: &mut Vec<u8>) -> Result<bool, AllocError>
+    ensures { IfOk result (λ is. is ≡ is_related (bytes_at rel.entry)) }
 {
     let Some(value) = rel else {
-        return Ok(false);
+        return Ok(true);
     };
     decoded.clear();
     decode(value, decoded)?;
-    Ok(has_host_hint(decoded.as_slice()))
+    Ok(has_link_type(decoded.as_slice()))
 }
 
-/// Gives the links of a value. Most values are none, which is seen in line.
+/// Passes on the links of a value. Most values are absent, which is tested inline.
 #[inline(always)]
 pub(crate) fn push_value<L: Links>(
     form: Form,
@@ -270,22 +434,25 @@ fn push_text<L: Links>(form: Form, text: &[u8], links: &mut L) -> Result<(), All
             Some(target) => links.push(target),
             None => Ok(()),
         },
+        Form::Nothing => Ok(()),
     }
 }
 
-fn is_host_hint(word: &[u8]) -> bool
-    ensures { result ≡ is_host_hint word.now }
+/// Whether a keyword of a `rel` makes a link to a document. A keyword that names a host does not.
+fn is_link_type(word: &[u8]) -> bool
+    ensures { result ≡ is_link_type word.now }
 {
-    same_name(word, b"preconnect") || same_name(word, b"dns-prefetch")
+    !(same_name(word, b"") || same_name(word, b"preconnect") || same_name(word, b"dns-prefetch"))
 }
 
-fn has_host_hint(rel: &[u8]) -> bool
-    ensures { result ≡ hints_behind [] rel.now }
+/// Whether some keyword of a `rel` makes a link to a document.
+fn has_link_type(rel: &[u8]) -> bool
+    ensures { result ≡ types_behind [] rel.now }
 {
     let mut rest = rel;
     'words: loop {
         let (word, spaced) = split_unspaced(rest);
-        if is_host_hint(word) {
+        if is_link_type(word) {
             return true;
         }
         let Some((_, more)) = parts(spaced) else {

@@ -16,7 +16,7 @@ use std::simd::prelude::*;
 /// How many bytes of a value are looked at together.
 const LANES: usize = 16;
 
-/// What an `&` and the bytes behind it mean: the `&` with some of them, a character, or a name's text.
+/// What an `&` and the bytes after it mean: the `&` with some of them, a character, or the text of a name.
 #[derive(Clone, Copy)]
 pub(crate) enum Decoded<'a> {
     Itself(&'a [u8]),
@@ -63,7 +63,7 @@ fn is_marked(bytes: &[u8]) -> bool
     marks.to_bitmask() != 0
 }
 
-/// What stands before the first `&` or NUL, and what begins with it.
+/// The bytes before the first `&` or NUL, and those from it on.
 fn split_plain(bytes: &[u8]) -> (&[u8], &[u8])
     ensures plain { result.0.now ≡ front is_plain bytes.now }
     ensures rest { result.1.now ≡ behind is_plain bytes.now }
@@ -112,7 +112,7 @@ fn push_character(character: char, out: &mut Vec<u8>) -> Result<(), AllocError>
     out.extend_from_slice(text.as_bytes())
 }
 
-/// What an `&` or a NUL at the front means, and the bytes behind it.
+/// What an `&` or a NUL at the front means, and the bytes after it.
 fn decode_mark(bytes: &[u8]) -> Option<(Decoded<'_>, &[u8])>
     requires { Stopped is_plain bytes.now }
     ensures reads { MatchOption result (bytes.now ≡ []) (λ x. Decodes Text bytes.now x.0 x.1.now) }
@@ -128,7 +128,7 @@ fn decode_mark(bytes: &[u8]) -> Option<(Decoded<'_>, &[u8])>
     }
 }
 
-/// What an `&` before these bytes means, and the bytes behind it.
+/// What an `&` before these bytes means, and the bytes after it.
 fn reference(bytes: &[u8]) -> (Decoded<'_>, &[u8])
     ensures reads { Decodes Reference bytes.now result.0 result.1.now }
     ensures leaves { length result.1.now ≤ length bytes.now }
@@ -181,7 +181,7 @@ fn number_after(radix: u32, number: u64, digit: u32) -> u64
     }
 }
 
-/// What a number to a base means, behind an `&` and these bytes.
+/// What a number to a base means, after an `&` and these bytes.
 fn number<'a>(radix: u32, before: &'static [u8], bytes: &'a [u8]) -> (Decoded<'a>, &'a [u8])
     requires low { 2 ≤ radix }
     requires high { radix ≤ 36 }
@@ -202,7 +202,7 @@ fn number<'a>(radix: u32, before: &'static [u8], bytes: &'a [u8]) -> (Decoded<'a
     }
 }
 
-/// The number with the digits that follow, and the bytes behind them.
+/// The number with the digits that follow, and the bytes after them.
 fn more_digits(radix: u32, first: u64, bytes: &[u8]) -> (u64, &[u8])
     requires low { 2 ≤ radix }
     requires high { radix ≤ 36 }
@@ -224,7 +224,7 @@ fn more_digits(radix: u32, first: u64, bytes: &[u8]) -> (u64, &[u8])
     }
 }
 
-/// The characters that the numbers 0x80 to 0x9f stand for, those of Windows.
+/// The characters of the numbers 0x80 to 0x9f, which are those of Windows.
 pub(crate) static WINDOWS: [char; 32] = [
     '\u{20ac}', '\u{81}', '\u{201a}', '\u{192}', '\u{201e}', '\u{2026}', '\u{2020}', '\u{2021}',
     '\u{2c6}', '\u{2030}', '\u{160}', '\u{2039}', '\u{152}', '\u{8d}', '\u{17d}', '\u{8f}',
@@ -278,7 +278,7 @@ fn name(bytes: &[u8]) -> (Decoded<'_>, &[u8])
     }
 }
 
-/// What an `&` and a name mean, behind which there is a `;`.
+/// What an `&` and a name mean if a `;` is after the name.
 fn closed_name<'a>(name: &'a [u8], rest: &'a [u8], last: &'a [u8]) -> (Decoded<'a>, &'a [u8])
     requires { rest.now ≡ 59 ∷ last.now }
     ensures reads { Decodes (Name name.now) rest.now result.0 result.1.now }
@@ -290,7 +290,7 @@ fn closed_name<'a>(name: &'a [u8], rest: &'a [u8], last: &'a [u8]) -> (Decoded<'
     }
 }
 
-/// What an `&` and a name mean, behind which there is no `;`.
+/// What an `&` and a name mean if no `;` is after the name.
 fn open_name<'a>(name: &'a [u8], rest: &'a [u8]) -> (Decoded<'a>, &'a [u8])
     requires letter { Stopped is_ascii_alphanumeric rest.now }
     requires semicolon { Stopped (λ c. c == 59) rest.now }

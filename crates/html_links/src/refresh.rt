@@ -89,7 +89,7 @@ fn behind_number(bytes: &[u8]) -> Option<&[u8]>
     }
 }
 
-/// What is behind the time, and behind its `;`, `,` or white space.
+/// The bytes after the time, and after its `;`, `,` or white space.
 fn behind_time(content: &[u8]) -> Option<&[u8]>
     ensures { bytes_at result ≡ behind_time content.now }
 {
@@ -122,7 +122,7 @@ fn behind_equals(bytes: &[u8]) -> Option<&[u8]>
     }
 }
 
-/// What is behind `url=`, where the text begins with that.
+/// The bytes after `url=`, if the text begins with it.
 fn behind_url(text: &[u8]) -> &[u8]
     ensures { result.now ≡ behind_url text.now }
 {
@@ -147,7 +147,7 @@ pub(crate) fn is_quote(byte: u8) -> bool
     byte == b'"' || byte == b'\''
 }
 
-/// The text to its closing quote, where it begins with a quote.
+/// The text to its closing quote, if it begins with a quote.
 fn unquoted(text: &[u8]) -> &[u8]
     ensures { result.now ≡ unquoted text.now }
 {

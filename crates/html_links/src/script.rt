@@ -1,4 +1,4 @@
-//! Where the text of a script ends.
+//! The end of a script's text.
 ghost use Rattle.std.specs.Prelude.{◌≡◌, ◌==◌, if◌then◌else◌};
 ghost use Rattle.html_links.specs.Comments.{bytes_at};
 ghost use Rattle.html_links.specs.Tags.{class_of, is_letter};
@@ -11,7 +11,7 @@ ghost use Rattle.html_links.specs.Scans.{Scans, LeavesScan};
 use crate::bytes::{Class, class_of, parts, split_quoted};
 use crate::raw_text::is_letter;
 
-/// The Standard's states of a script's text. A number tells how many letters of `script` a name has, 7 where it has others.
+/// The Standard's states of a script's text. A number is that of the letters of `script` in a name, or 7 if it has others.
 #[derive(Clone, Copy)]
 pub(crate) enum State {
     Text,
@@ -41,7 +41,7 @@ pub(crate) enum Next {
     Ends,
 }
 
-/// A state to go on in, behind some bytes; the end tag's name is behind; or the document ends.
+/// The next state and the bytes from which it continues, the bytes after the end tag's name, or the end of the document.
 #[derive(Clone, Copy)]
 enum Scan<'a> {
     Go(State, &'a [u8]),
@@ -326,7 +326,7 @@ fn step(state: State, byte: u8) -> Next
     }
 }
 
-/// What is behind the text before the next `<` in a script that is not escaped.
+/// The bytes after the text before the next `<` in a script that is not escaped.
 fn open_text(bytes: &[u8]) -> Scan<'_>
     ensures scans { Scans result Text bytes.now }
     ensures leaves { LeavesScan result bytes.now }
@@ -360,7 +360,7 @@ fn next_scan(state: State, bytes: &[u8]) -> Scan<'_>
     }
 }
 
-/// What is behind the name of the end tag with which a script ends; nothing where it does not end.
+/// The bytes after the name of the end tag that ends a script. `None` if the script does not end.
 pub(crate) fn after_script(bytes: &[u8]) -> Option<&[u8]>
     ensures { bytes_at result ≡ run Text bytes.now }
 {

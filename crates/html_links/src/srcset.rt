@@ -39,7 +39,7 @@ fn unspaced_len(bytes: &[u8]) -> usize
     bytes.iter().take_while(|byte| is_unspaced(**byte)).count()
 }
 
-/// What stands before the first white space, and what begins with it.
+/// The bytes before the first white space, and those from it on.
 pub(crate) fn split_unspaced(bytes: &[u8]) -> (&[u8], &[u8])
     ensures word { result.0.now ≡ front is_unspaced bytes.now }
     ensures rest { result.1.now ≡ behind is_unspaced bytes.now }
@@ -47,7 +47,7 @@ pub(crate) fn split_unspaced(bytes: &[u8]) -> (&[u8], &[u8])
     bytes.split_at(unspaced_len(bytes))
 }
 
-/// What is before a comma at the end.
+/// The bytes before a comma at the end.
 fn before_comma(url: &[u8]) -> Option<&[u8]>
     ensures { MatchOption result (without_commas url.now ≡ url.now) (λ front. url.now ≡ front.now ++ 44 ∷ []) }
 {
@@ -67,7 +67,7 @@ fn without_commas(url: &[u8]) -> &[u8]
     front
 }
 
-/// What is behind the descriptors of a candidate: behind its comma, which parentheses may hide.
+/// The bytes after the descriptors of a candidate, which end with a comma outside of parentheses.
 fn skip_descriptors(bytes: &[u8]) -> &[u8]
     ensures reads { read (Descriptors false) bytes.now ≡ read Between result.now }
     ensures leaves { length result.now ≤ length bytes.now }
@@ -89,7 +89,7 @@ fn skip_descriptors(bytes: &[u8]) -> &[u8]
     }
 }
 
-/// What is behind the descriptors of a candidate, of which a URL that ended with a comma has none.
+/// The bytes after the descriptors of a candidate. It has none if its URL ended with a comma.
 fn behind_descriptors<'a>(url: &[u8], candidate: &[u8], bytes: &'a [u8]) -> &'a [u8]
     ensures reads { read (behind_shorter url.now candidate.now) bytes.now ≡ read Between result.now }
     ensures leaves { length result.now ≤ length bytes.now }
@@ -101,7 +101,7 @@ fn behind_descriptors<'a>(url: &[u8], candidate: &[u8], bytes: &'a [u8]) -> &'a 
     }
 }
 
-/// The next URL, and the bytes behind its candidate.
+/// The next URL, and the bytes after its candidate.
 fn next_candidate(bytes: &[u8]) -> Option<(&[u8], &[u8])>
     ensures gives { MatchOption result (candidates_of bytes.now ≡ []) (λ x. candidates_of bytes.now ≡ x.0.now ∷ candidates_of x.1.now) }
     ensures leaves { MatchOption result (candidates_of bytes.now ≡ []) (λ x. length x.1.now < length bytes.now) }
@@ -115,7 +115,7 @@ fn next_candidate(bytes: &[u8]) -> Option<(&[u8], &[u8])>
     Some((url, behind_descriptors(url, candidate, more)))
 }
 
-/// Gives the URLs of a `srcset`.
+/// Passes on the URLs of a `srcset`.
 pub(crate) fn push_candidates<L: Links>(text: &[u8], links: &mut L) -> Result<(), AllocError>
     ensures { OnOk result (L.texts links.new ≡ L.texts links.old ++ candidates_of text.now) }
 {

@@ -11,10 +11,10 @@ use crate::bytes::{behind_byte, parts, split_quoted};
 use crate::refresh::{behind_letter, is_quote};
 use std::alloc::{AllocError, Global};
 
-/// Gives the texts of `url()` and `@import` in a style sheet or a style.
+/// Passes on the texts of `url()` and `@import` in a style sheet or a style.
 ///
 /// # Errors
-/// Where a growth was refused.
+/// If an allocation fails.
 pub fn style_links<L: Links>(alloc: Global, text: &[u8], links: &mut L) -> Result<(), AllocError>
     ensures { OnOk result (L.texts links.new ≡ L.texts links.old ++ style_links_of text.now) }
 {
@@ -62,7 +62,7 @@ fn push_bare(text: &[u8], out: &mut Vec<u8>) -> Result<(), AllocError>
     }
 }
 
-/// What is behind a comment, from behind its `/*`.
+/// The bytes after a comment, from those after its `/*`.
 fn behind_comment(text: &[u8]) -> &[u8]
     ensures reads { read Comment text.now ≡ read Text result.now }
     ensures leaves { length result.now ≤ length text.now }
@@ -90,7 +90,7 @@ fn push_urls<L: Links>(text: &[u8], links: &mut L) -> Result<(), AllocError>
     Ok(())
 }
 
-/// The next URL, and what is behind it.
+/// The next URL, and the bytes after it.
 fn next_url(bytes: &[u8]) -> Option<(&[u8], &[u8])>
     ensures gives { MatchOption result (urls_of bytes.now ≡ []) (λ x. urls_of bytes.now ≡ x.0.now ∷ urls_of x.1.now) }
     ensures leaves { FoundLeaves result bytes.now }
@@ -107,7 +107,7 @@ fn next_url(bytes: &[u8]) -> Option<(&[u8], &[u8])>
     }
 }
 
-/// The URL with whose word the bytes begin, and what is behind it.
+/// The URL with whose word the bytes begin, and the bytes after it.
 fn found_at(bytes: &[u8]) -> Option<(&[u8], &[u8])>
     ensures { found_bytes result ≡ found_at bytes.now }
 {
@@ -182,7 +182,7 @@ fn spaced(bytes: &[u8]) -> Option<(&[u8], &[u8])>
     }
 }
 
-/// The bytes between quotes that the bytes begin with, and what is behind them.
+/// The bytes between quotes at the front, and those after them.
 fn quoted(bytes: &[u8]) -> Option<(&[u8], &[u8])>
     ensures { found_bytes result ≡ quoted bytes.now }
 {

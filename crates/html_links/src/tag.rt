@@ -1,4 +1,4 @@
-//! A start tag from behind its name.
+//! A start tag, from the bytes after its name.
 ghost use Rattle.std.specs.Prelude.{◌≡◌, ◌∷◌, ◌++◌, ◌+◌, length, codes, IfOk, IfSome};
 ghost use Rattle.html_links.specs.Tags.{tag_of};
 ghost use Rattle.html_links.specs.Shown.{is_space, BeginsName, Stopped, tag_at, Reads, ReadsValue, Leaves};
@@ -8,14 +8,14 @@ use crate::bytes::{
 };
 use std::alloc::{AllocError, Global};
 
-/// An attribute as it stands in the document: its name in any case, its value without quotes.
+/// An attribute as written in the document: its name in any case, and its value without quotes.
 #[derive(Clone, Copy)]
 pub struct AttributeAt<'a> {
     pub name: &'a [u8],
     pub value: &'a [u8],
 }
 
-/// A tag, and the bytes behind its `>`.
+/// A tag, and the bytes after its `>`.
 #[derive(Drop)]
 pub struct TagAt<'a> {
     pub attributes: Vec<AttributeAt<'a>>,
@@ -23,7 +23,7 @@ pub struct TagAt<'a> {
     pub rest: &'a [u8],
 }
 
-/// What stands next in a tag, and the bytes behind it.
+/// What comes next in a tag, and the bytes after it.
 #[derive(Clone, Copy)]
 pub(crate) enum Piece<'a> {
     Attribute(AttributeAt<'a>, &'a [u8]),
@@ -32,7 +32,7 @@ pub(crate) enum Piece<'a> {
     Unfinished,
 }
 
-/// What is behind an `="`, with which most values begin.
+/// The bytes after an `="`, with which most values begin.
 #[inline(always)]
 fn behind_quote(bytes: &[u8]) -> Option<&[u8]>
     ensures { IfSome result (λ more. bytes.now ≡ 61 ∷ 34 ∷ more.now) }
@@ -43,7 +43,7 @@ fn behind_quote(bytes: &[u8]) -> Option<&[u8]>
     }
 }
 
-/// What is behind the `class="` that most tags have right behind their name.
+/// The bytes after the `class="` that follows the name in most tags.
 #[inline(always)]
 pub(crate) fn behind_class(bytes: &[u8]) -> Option<&[u8]>
     ensures { IfSome result (λ more. bytes.now ≡ codes " class=" ++ 34 ∷ more.now) }
@@ -51,7 +51,7 @@ pub(crate) fn behind_class(bytes: &[u8]) -> Option<&[u8]>
     bytes.strip_prefix(b" class=\"")
 }
 
-/// What is behind the `href="` of a link.
+/// The bytes after the `href="` of a link.
 #[inline(always)]
 fn behind_href(bytes: &[u8]) -> Option<&[u8]>
     ensures { IfSome result (λ more. bytes.now ≡ codes " href=" ++ 34 ∷ more.now) }
@@ -59,7 +59,7 @@ fn behind_href(bytes: &[u8]) -> Option<&[u8]>
     bytes.strip_prefix(b" href=\"")
 }
 
-/// An attribute from behind the first quote of its value.
+/// An attribute, from the bytes after the first quote of its value.
 #[inline(always)]
 fn quoted<'a>(name: &'a [u8], bytes: &'a [u8]) -> Piece<'a>
     ensures reads { ReadsValue result name.now (34 ∷ bytes.now) }
@@ -89,7 +89,7 @@ fn attribute(bytes: &[u8]) -> Piece<'_>
     }
 }
 
-/// The value of an attribute, behind the `=` and white space.
+/// The value of an attribute, after the `=` and white space.
 #[inline(always)]
 fn value<'a>(name: &'a [u8], bytes: &'a [u8]) -> Piece<'a>
     requires { Stopped is_space bytes.now }
@@ -151,7 +151,7 @@ fn any_piece(bytes: &[u8]) -> Piece<'_>
     }
 }
 
-/// The attributes of a start tag, from behind its name; nothing where the tag does not end.
+/// The attributes of a start tag, from the bytes after its name. `None` if the tag does not end.
 pub fn read_tag<'a>(alloc: Global, bytes: &'a [u8]) -> Result<Option<TagAt<'a>>, AllocError>
     ensures { IfOk result (λ tag. tag_at tag ≡ tag_of bytes.now) }
 {

@@ -8,7 +8,7 @@ use Rattle.std.specs.declared.cmp.Ordering.TheVariants.{Less}
 use Rattle.std.specs.Cmp.Lexicographic.{slice_cmp}
 use Rattle.crawl_certificate.specs.Certificate.{IsAscending, result_urls}
 use Rattle.mercator_site.specs.Own.{from_own, own_of, while_own}
-use Rattle.saved_site.specs.Below.{begins}
+use Rattle.site_files.specs.Below.{begins}
 use Rattle.crawl_pages.specs.declared.page.PageResult.{PageResult}
 
 -- a text between two that begin so does

@@ -6,7 +6,7 @@ use Rattle.mercator_site.specs.Checks.{IsCheck, IsNamedCheck}
 use Rattle.mercator_site.specs.Faults.{is_unfinished}
 use Rattle.mercator_site.specs.declared.check.CheckReport.{CheckReport}
 use Rattle.mercator_site.specs.declared.fault.SiteFault.{SiteFault}
-use Rattle.saved_site.specs.declared.web.Alias.{Alias}
+use Rattle.site_files.specs.declared.alias.Alias.{Alias}
 
 -- the name may be left out
 pub unnamed : (answer : Result CheckReport SiteFault) (name top web : List ℕ) (aliases : List Alias) (asks : Asks) → IfOk answer (λ report. IsNamedCheck name top web aliases asks report.is_broken report.text.items) → IfOk answer (λ report. IsCheck top web aliases asks report.is_broken report.text.items)

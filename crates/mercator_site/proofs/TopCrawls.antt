@@ -20,7 +20,7 @@ use Rattle.mercator_site.specs.Own.{AreOwn}
 use Rattle.mercator_site.specs.Sources.{IsSourceOf}
 use Rattle.saved_site.specs.Aliases.{AreAliases}
 use Rattle.saved_site.specs.Linked.{IsSiteSource, PageFound, page_at}
-use Rattle.saved_site.specs.declared.web.Alias.{Alias}
+use Rattle.site_files.specs.declared.alias.Alias.{Alias}
 
 -- the pages of a site stand for its saved web
 pub source_of : (top : List ℕ) (pages : List PageFound) (source : IsSiteSource top pages) → IsSourceOf (page_at pages) source.bytes

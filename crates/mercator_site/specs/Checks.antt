@@ -19,11 +19,12 @@ use Rattle.mercator_site.specs.Own.{AreOwn, own_of}
 use Rattle.mercator_site.specs.declared.options.CheckForm.{CheckForm}
 use Rattle.mercator_site.specs.declared.options.CheckForm.TheVariants as form
 use Rattle.saved_site.specs.Aliases.{alias_page}
-use Rattle.saved_site.specs.Below.{IsTop, IsWebBelow}
+use Rattle.site_files.specs.Below.{IsTop}
+use Rattle.saved_site.specs.Below.{IsWebBelow}
 use Rattle.saved_site.specs.Meaning.{IsSiteWeb}
 use Rattle.site_check.specs.Broken.{broken_of, redirects_of}
-use Rattle.saved_site.specs.declared.files.SiteFiles.{SiteFiles}
-use Rattle.saved_site.specs.declared.web.Alias.{Alias}
+use Rattle.site_files.specs.declared.files.SiteFiles.{SiteFiles}
+use Rattle.site_files.specs.declared.alias.Alias.{Alias}
 use Rattle.site_check.specs.Ignored.{AreUnused, parts_in}
 use Rattle.site_check.specs.Names.{AreNamed}
 use Rattle.site_check.specs.Told.{rows_in, way_of}

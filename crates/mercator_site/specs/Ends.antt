@@ -3,7 +3,8 @@ use Rattle.std.specs.Prelude.{◌≡◌, ℕ, Bool, if◌then◌else◌, List, [
 use Rattle.mercator_site.specs.Asks.{asks_of}
 use Rattle.mercator_site.specs.Checks.{IsSiteCheck}
 use Rattle.mercator_site.specs.declared.options.CheckOptions.{CheckOptions}
-use Rattle.saved_site.specs.Below.{IsTop, IsWebBelow}
+use Rattle.site_files.specs.Below.{IsTop}
+use Rattle.saved_site.specs.Below.{IsWebBelow}
 use Rattle.site_check.specs.Ignored.{entries_in}
 
 -- the report of a check of a folder, with an ignore list of these bytes. It says nothing about which files the folder has, except

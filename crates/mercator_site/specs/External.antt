@@ -8,7 +8,7 @@ use Rattle.std.specs.Str.{bytes_eq}
 use Rattle.check_report.specs.declared.value.External.{External}
 use Rattle.crawl_pages.specs.Pages.{links_of}
 use Rattle.crawl_pages.specs.declared.page.PageResult.{PageResult}
-use Rattle.saved_site.specs.Below.{begins}
+use Rattle.site_files.specs.Below.{begins}
 
 -- the URLs that do not begin with the top
 abbrev pub outside : List ℕ → List (List ℕ) → List (List ℕ)

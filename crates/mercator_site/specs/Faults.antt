@@ -13,8 +13,8 @@ use Rattle.mercator_site.specs.declared.options.CheckOptions.{CheckOptions}
 use Rattle.mercator_site.specs.declared.fault.SiteFault.{SiteFault}
 use Rattle.mercator_site.specs.declared.fault.SiteFault.TheVariants as wrong
 use Rattle.saved_site.specs.Meaning.{IsSiteWeb}
-use Rattle.saved_site.specs.declared.error.SiteError.{SiteError}
-use Rattle.saved_site.specs.declared.error.SiteError.TheVariants as unmade
+use Rattle.site_files.specs.declared.error.SiteError.{SiteError}
+use Rattle.site_files.specs.declared.error.SiteError.TheVariants as unmade
 
 -- the error for each error of a part
 abbrev pub of_site : SiteError → SiteFault

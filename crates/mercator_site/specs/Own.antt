@@ -2,7 +2,7 @@
 use Rattle.std.specs.Prelude.{ℕ, List, [], ◌∷◌, filter, if◌then◌else◌}
 use Rattle.std.specs.List.{AllPass}
 use Rattle.crawl_pages.specs.declared.page.PageResult.{PageResult}
-use Rattle.saved_site.specs.Below.{begins}
+use Rattle.site_files.specs.Below.{begins}
 
 -- all of these URLs begin with the top
 abbrev pub AreOwn : List ℕ → List (List ℕ) → Type 0

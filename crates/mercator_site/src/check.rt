@@ -18,11 +18,10 @@ use check_report::{Contents, External};
 use crawl_keys::CanonUrl;
 use crawl_pages::PageResult;
 use crawl_run::Crawled;
-use saved_site::{
-    Alias, FileBytes, InMemory, LinkPlaces, LinkedSite, PageAnchors, Rules, SiteFiles, SiteNames,
-    site_pages,
-};
+use document_links::{LinkPlaces, PageAnchors};
+use saved_site::{LinkedSite, site_pages};
 use site_check::{CheckInput, Checked, check_site};
+use site_files::{Alias, FileBytes, InMemory, Rules, SiteFiles, SiteNames};
 use std::alloc::{AllocError, Global};
 use std::mem::forget;
 use std::sync::Wait;

@@ -4,7 +4,7 @@ ghost use Rattle.mercator_site.specs.Faults.{is_unfinished, of_crawl, of_site};
 ghost use Rattle.mercator_site.specs.declared.fault.SiteFault.TheVariants as wrong;
 
 use crawl_run::{CrawlError, CrawlFailure};
-use saved_site::SiteError;
+use site_files::SiteError;
 use std::alloc::{AllocError, AllocFailed};
 
 /// Why a folder has no report, or no saved web.

@@ -11,11 +11,9 @@ use crate::check::{CheckReport, CheckSettings, report_of_pages};
 use crate::fault::SiteFault;
 use crate::notices::{Notice, push_notes};
 use crate::options::{CheckOptions, SiteOptions};
-use saved_site::{
-    FolderNames, OnDisk, Rules, SiteFiles, SiteNames, Web, WebText, folder_names, folder_web,
-    site_pages,
-};
+use saved_site::{OnDisk, Web, WebText, folder_web, site_pages};
 use site_check::read_ignores;
+use site_files::{FolderNames, Rules, SiteFiles, SiteNames, folder_names};
 use std::alloc::{AllocError, Global};
 use std::fs::Files;
 use std::sync::Wait;

@@ -1,6 +1,6 @@
 //! What a caller can print about the files of a folder: what was skipped or changed.
 
-use saved_site::Note;
+use site_files::Note;
 use std::alloc::{AllocError, Global};
 
 /// A line to print about a file or folder.

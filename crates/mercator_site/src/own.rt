@@ -2,7 +2,7 @@
 ghost use Rattle.std.specs.Prelude.{◌≡◌};
 ghost use Rattle.crawl_certificate.specs.Certificate.{IsAscending, result_urls};
 ghost use Rattle.mercator_site.specs.Own.{from_own, own_of, while_own};
-ghost use Rattle.saved_site.specs.Below.{begins};
+ghost use Rattle.site_files.specs.Below.{begins};
 
 use crawl_keys::CanonUrl;
 use crawl_pages::PageResult;

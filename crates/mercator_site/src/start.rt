@@ -4,7 +4,7 @@ ghost use Rattle.crawl_keys.specs.CanonicalText.{resolve};
 ghost use Rattle.mercator_site.specs.Checks.{starts};
 ghost use Rattle.mercator_site.specs.Faults.{is_unfinished};
 ghost use Rattle.mercator_site.specs.Own.{AreOwn};
-ghost use Rattle.saved_site.specs.Below.{begins};
+ghost use Rattle.site_files.specs.Below.{begins};
 
 use crate::fault::SiteFault;
 use crate::own::is_own;

@@ -1,5 +1,7 @@
--- Ids in one block, and one more behind them.
-use Rattle.std.proofs.Common.{◌≡◌, ◌∙◌, ℕ, zero, suc, ◌+◌, ◌-◌, ◌<◌, ◌≤◌, List, [], ◌∷◌, ◌++◌, length, take, drop, get_or, length-append, refl, sym, ap, subst, arith}
+-- Ids in one block, and one more after them.
+use Rattle.std.proofs.lemmas.Bool.Decides.{nat_tests}
+use Rattle.std.proofs.lemmas.Grind.{common_steps}
+use Rattle.std.proofs.Common.{◌≡◌, ◌∙◌, ℕ, zero, suc, ◌+◌, ◌-◌, ◌<◌, ◌≤◌, List, [], ◌∷◌, ◌++◌, length, take, drop, get_or, length-append, refl, ap, arith}
 use Rattle.std.proofs.lemmas.List.{drop-append-le, drop_at, get_or-map, length-drop, length-map, length-take, map-append, map_more, take-append-le, take_all}
 use Rattle.std.specs.Borrow.{Bor}
 use Rattle.std.specs.Cmp.Lexicographic.{slice_cmp}
@@ -26,7 +28,7 @@ up_to : (from : ℕ) (ends : List ℕ) (count : ℕ) → DoBound from ends count
 up_to from [] count bound = omega (arith, bound)
 up_to from (end ∷ ends) count bound = omega (arith, bound.0, up_to end ends count bound.1)
 
--- where it begins and ends there are bytes
+-- its begin and its end are within the bytes
 pub id_within : (from : ℕ) (ends : List ℕ) (count k : ℕ) → DoBound from ends count → k < length ends → (get_or (from ∷ ends) k 0 ≤ get_or ends k 0) × (get_or ends k 0 ≤ count)
 id_within from [] count k bound below = absurd (omega (arith, below))
 id_within from (end ∷ ends) count zero bound below = (bound.0, up_to end ends count bound.1)
@@ -50,36 +52,24 @@ pub bound_more : (from : ℕ) (ends : List ℕ) (count more : ℕ) → DoBound f
 bound_more from [] count more bound up = (omega (arith, bound, up), refl)
 bound_more from (end ∷ ends) count more bound up = (bound.0, bound_more end ends count more bound.1 up)
 
--- what stands before the end is the same
+-- the bytes before the end are the same
 range_kept : (bytes more : List ℕ) (from end : ℕ) → from ≤ end → end ≤ length bytes → slice_range (bytes ++ more) from end ≡ slice_range bytes from end
-range_kept bytes more from end up within =
-    let begin : from ≤ length bytes = omega arith in
-    let rest : end - from ≤ length (drop from bytes) = omega (arith, length-drop from bytes) in
-    ap (take (end - from)) (drop-append-le from bytes more begin) ∙ take-append-le (end - from) (drop from bytes) more rest
+range_kept bytes more from end up within = grind (arith, length-drop, drop-append-le, take-append-le)
 
 last_range : (bytes id : List ℕ) (from : ℕ) → from ≡ length bytes → slice_range (bytes ++ id) from (length (bytes ++ id)) ≡ id
-last_range bytes id from here =
-    let rest : drop from (bytes ++ id) ≡ id = drop_at bytes id from (sym here) in
-    let all : length id ≤ length (bytes ++ id) - from = omega (arith, length-append bytes id, here) in
-    ap (take (length (bytes ++ id) - from)) rest ∙ take_all (length (bytes ++ id) - from) id all
+last_range bytes id from here = grind (arith, drop_at, length-append, take_all)
 
 pub ids_more : (bytes id : List ℕ) (from : ℕ) (ends : List ℕ) → DoBound from ends (length bytes) →
     texts_from (bytes ++ id) from (ends ++ length (bytes ++ id) ∷ []) ≡ texts_from bytes from ends ++ id ∷ []
 ids_more bytes id from [] bound = ap (λ t. t ∷ []) (last_range bytes id from bound)
-ids_more bytes id from (end ∷ ends) bound =
-    let here = range_kept bytes id from end bound.0 (up_to end ends (length bytes) bound.1) in
-    ap (λ t. t ∷ texts_from (bytes ++ id) end (ends ++ length (bytes ++ id) ∷ [])) here
-    ∙ ap (λ ts. slice_range bytes from end ∷ ts) (ids_more bytes id end ends bound.1)
+ids_more bytes id from (end ∷ ends) bound = grind (arith, range_kept, up_to, ids_more bytes id end ends bound.1)
 
 -- what a push makes of a block
 pub ids_pushed : (bytes more id : List ℕ) (ends longer : List ℕ) → DoBound 0 ends (length bytes) → more ≡ bytes ++ id → longer ≡ ends ++ length more ∷ [] → texts_from more 0 longer ≡ texts_from bytes 0 ends ++ id ∷ []
-ids_pushed bytes more id ends longer bound is ends_are =
-    (λ i. texts_from (is i) 0 ((ends_are ∙ ap (λ b. ends ++ length b ∷ []) is) i)) ∙ ids_more bytes id 0 ends bound
+ids_pushed bytes more id ends longer bound is ends_are = grind (arith, ids_more)
 
 pub bound_pushed : (bytes more id : List ℕ) (ends longer : List ℕ) → DoBound 0 ends (length bytes) → more ≡ bytes ++ id → longer ≡ ends ++ length more ∷ [] → DoBound 0 longer (length more)
-bound_pushed bytes more id ends longer bound is ends_are =
-    let up : length bytes ≤ length more = omega (arith, ap length is, length-append bytes id) in
-    subst (λ (es : List ℕ). DoBound 0 es (length more)) (sym ends_are) (bound_more 0 ends (length bytes) (length more) bound up)
+bound_pushed bytes more id ends longer bound is ends_are = grind (arith, length-append, bound_more)
 
 -- ---- what is pointed to
 
@@ -87,8 +77,7 @@ pub pointed_push : (ids : List (Bor (List ℕ))) (id : Bor (List ℕ)) → point
 pointed_push ids id = map-append (λ (text : Bor (List ℕ)). text.now) ids (id ∷ [])
 
 pub pointed_more : (ids : List (Bor (List ℕ))) (i : ℕ) (id : Bor (List ℕ)) → i < length ids → id ≡ get_or ids i id → pointed (take (i + 1) ids) ≡ pointed (take i ids) ++ id.now ∷ []
-pointed_more ids i id below is =
-    map_more (λ (text : Bor (List ℕ)). text.now) ids i id below ∙ ap (λ (x : Bor (List ℕ)). pointed (take i ids) ++ x.now ∷ []) (sym is)
+pointed_more ids i id below is = grind (arith, nat_tests, common_steps, map_more)
 
 pub pointed_ascend : (ids : List (Bor (List ℕ))) → IsSorted (λ x y. slice_cmp nat_cmp x.now y.now) ids → DoAscend (pointed ids)
 pointed_ascend [] up = λ k d first below. absurd (omega (arith, below))

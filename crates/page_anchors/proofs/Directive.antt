@@ -1,4 +1,4 @@
--- What stands before a fragment directive, byte by byte.
+-- The bytes before a fragment directive, one by one.
 use Rattle.std.proofs.Common.{◌≡◌, ℕ, ◌+◌, ◌-◌, ◌<◌, false, List, [], ◌∷◌, ◌++◌, length, take, drop, get_or, length-drop, arith, sym, ap, ◌∙◌, if◌then◌else◌}
 use Rattle.std.proofs.lemmas.List.{append_assoc, drop_more, take_more, take_all}
 use Rattle.page_anchors.specs.Indicated.{before_directive, begins_directive}

@@ -1,5 +1,5 @@
--- A text of which a URL has each byte as it stands.
-use Rattle.std.proofs.Common.{◌≡◌, ◌≢◌, ◌∙◌, ℕ, ◌<◌, Bool, true, false, ◌==◌, ◌||◌, nat_lt, List, [], ◌∷◌, All, length, refl, sym, ap, arith, true≢false, if◌then◌else◌}
+-- A text whose bytes are the same in a URL.
+use Rattle.std.proofs.Common.{◌≡◌, ◌≢◌, ◌∙◌, ℕ, ◌<◌, Bool, true, false, ◌==◌, ◌||◌, List, [], ◌∷◌, All, length, refl, ap, arith, if◌then◌else◌}
 use Rattle.std.proofs.lemmas.Bool.{agree_below_at, eq-eqb, ltb-false, or_parts}
 use Rattle.std.proofs.lemmas.List.Elements.{All-nil, All-cons}
 use Rattle.std.proofs.lemmas.Str.{IsUtf8-from_ascii, utf8_lossy-IsUtf8}
@@ -23,24 +23,14 @@ unfolding should_percent_encode
 agrees b below = agree_below_at (should_percent_encode IN_FRAGMENT) is_escaped 256 b refl below
 
 plain_byte : (b : ℕ) → is_odd b ≡ false → IsPlain b
-plain_byte b odd =
-    let whole = or_parts (is_escaped b || (b == 37)) (b == 58) odd in
-    let escapes = or_parts (is_escaped b) (b == 37) whole.0 in
-    let low = or_parts _ (nat_lt 126 b) escapes.0 in
-    record {
-      kept = agrees b (omega (arith, ltb-false 126 b low.1)) ∙ escapes.0;
-      escape = λ is. true≢false (sym (eq-eqb b 37 is) ∙ escapes.1);
-      directive = whole.1;
-    }
+plain_byte b odd = grind (arith, or_parts, agrees, ltb-false, eq-eqb)
 
 begins_none : (b : ℕ) (bs : List ℕ) → IsPlain b → begins_directive (b ∷ bs) ≡ false
 begins_none b bs plain = grind (arith, plain.directive)
 
 plain_front : (text : List ℕ) → list_any is_odd text ≡ false → before_directive text ≡ text
 plain_front [] none = refl
-plain_front (b ∷ bs) none =
-    let parts = or_parts (is_odd b) (list_any is_odd bs) none in
-    ap (λ q. if q then [] else b ∷ before_directive bs) (begins_none b bs (plain_byte b parts.0)) ∙ ap (λ t. b ∷ t) (plain_front bs parts.1)
+plain_front (b ∷ bs) none = grind (arith, or_parts, begins_none, plain_byte, plain_front bs)
 
 all_kept : (text : List ℕ) → list_any is_odd text ≡ false → All (IsKept IN_FRAGMENT) text
 all_kept [] none = All-nil (IsKept IN_FRAGMENT)
@@ -50,17 +40,14 @@ all_kept (b ∷ bs) none =
 
 decodes : (text : List ℕ) → list_any is_odd text ≡ false → percent_decode text ≡ text
 decodes [] none = percent_decode-nil
-decodes (b ∷ bs) none =
-    let parts = or_parts (is_odd b) (list_any is_odd bs) none in
-    percent_decode_not_percent b bs (plain_byte b parts.0).escape ∙ ap (λ t. b ∷ t) (decodes bs parts.1)
+decodes (b ∷ bs) none = grind (arith, or_parts, percent_decode_not_percent, plain_byte, decodes bs)
 
 own_decoded : (text : List ℕ) → list_any is_odd text ≡ false → decoded_of text ≡ text
 own_decoded text none = ap utf8_lossy (decodes text none) ∙ utf8_lossy-IsUtf8 text (IsUtf8-from_ascii text (IsAscii_from_kept IN_FRAGMENT text (all_kept text none)))
 
--- what is looked for twice is found at once
+-- a second search for the same text changes nothing
 once : (has top : Bool) → (if has then true else (if has then true else top)) ≡ (if has then true else top)
-once true top = refl
-once false top = refl
+once has top = grind arith
 
 pub plain_indicated : (ids : List (List ℕ)) (text : List ℕ) → list_any is_odd text ≡ false → is_indicated ids text ≡ (if length text == 0 then true else has_decoded ids text)
 plain_indicated ids text none =

@@ -1,5 +1,5 @@
 -- What a binary search found among ids that ascend.
-use Rattle.std.proofs.Common.{◌≡◌, ◌∙◌, ℕ, ◌+◌, ◌<◌, ◌≤◌, true, false, List, [], length, get_or, inl, inr, refl, sym, ap, arith}
+use Rattle.std.proofs.Common.{◌≡◌, ◌∙◌, ℕ, ◌+◌, ◌<◌, ◌≤◌, true, false, List, [], length, get_or, inl, inr, sym, ap, arith}
 use Rattle.std.proofs.lemmas.Bool.{cases_lt}
 use Rattle.std.proofs.lemmas.List.{get_or_default}
 use Rattle.std.proofs.lemmas.List.Folds.{list_any_at, list_any_none}
@@ -9,10 +9,10 @@ use Rattle.std.specs.Cmp.Lexicographic.{slice_cmp, nat_list_cmp_total}
 use Rattle.std.specs.Ordering.{is_eq, is_lt, nat_cmp, ordering_index}
 use Rattle.std.specs.Str.{bytes_eq}
 use Rattle.std.specs.declared.cmp.Ordering.{Ordering}
-use Rattle.std.specs.declared.cmp.Ordering.TheVariants.{Less, Equal, Greater}
+use Rattle.std.specs.declared.cmp.Ordering.TheVariants.{Less, Greater}
 use Rattle.page_anchors.specs.Indicated.{has_id, DoAscend}
 
--- what is before the bounds is less than the text, and what is behind them greater
+-- the ids before the bounds are less than the text, and those after them greater
 pub record IsBetween (ids : List (List ℕ)) (text : List ℕ) (low high : ℕ) : Type 0 where
   pub up : low ≤ high
   pub within : high ≤ length ids
@@ -20,28 +20,20 @@ pub record IsBetween (ids : List (List ℕ)) (text : List ℕ) (low high : ℕ) 
   pub above : DoAscend ids → (k : ℕ) (d : List ℕ) → high ≤ k → k < length ids → slice_cmp nat_cmp (get_or ids k d) text ≡ Greater
 
 least : (o : Ordering) → ordering_index o ≤ 0 → o ≡ Less
-least Less few = refl
-least Equal few = absurd (omega (arith, few))
-least Greater few = absurd (omega (arith, few))
+least o few = grind arith
 
 greatest : (o : Ordering) → 2 ≤ ordering_index o → o ≡ Greater
-greatest Less many = absurd (omega (arith, many))
-greatest Equal many = absurd (omega (arith, many))
-greatest Greater many = refl
+greatest o many = grind arith
 
 rises : (ids : List (List ℕ)) (text : List ℕ) → DoAscend ids → (i j : ℕ) (d : List ℕ) → i ≤ j → j < length ids →
     ordering_index (slice_cmp nat_cmp (get_or ids i d) text) ≤ ordering_index (slice_cmp nat_cmp (get_or ids j d) text)
 rises ids text ascend = searchable_from_sorted nat_list_cmp_total (λ (id : List ℕ). id) ids text ascend
 
 if_less : (o : Ordering) → is_lt o ≡ true → o ≡ Less
-if_less Less is = refl
-if_less Equal is = cc
-if_less Greater is = cc
+if_less o is = grind arith
 
 if_greater : (o : Ordering) → is_eq o ≡ false → is_lt o ≡ false → o ≡ Greater
-if_greater Less other not_less = cc
-if_greater Equal other not_less = cc
-if_greater Greater other not_less = refl
+if_greater o other not_less = grind arith
 
 pub half_behind : (ids : List (List ℕ)) (text id : List ℕ) (low middle high : ℕ) → IsBetween ids text low high → middle < high → id ≡ get_or ids middle [] → is_lt (slice_cmp nat_cmp id text) ≡ true →
     IsBetween ids text (middle + 1) high
@@ -72,9 +64,7 @@ half_before ids text id low middle high between from below is other not_less =
     }
 
 pub found_at : (ids : List (List ℕ)) (text id : List ℕ) (k : ℕ) → k < length ids → id ≡ get_or ids k [] → is_eq (slice_cmp nat_cmp id text) ≡ true → true ≡ has_id ids text
-found_at ids text id k below is equal =
-    let same : bytes_eq (get_or ids k []) text ≡ true = (λ i. bytes_eq (sym is i) text) ∙ sym (is_eq-slice_cmp id text) ∙ equal in
-    sym (list_any_at (λ x. bytes_eq x text) ids k [] below same)
+found_at ids text id k below is equal = grind (arith, is_eq-slice_cmp, list_any_at)
 
 pub none_found : (ids : List (List ℕ)) (text : List ℕ) (low high : ℕ) → IsBetween ids text low high → high ≤ low → DoAscend ids → false ≡ has_id ids text
 none_found ids text low high between over ascend =

@@ -1,28 +1,12 @@
--- What lies below a top.
-use Rattle.std.proofs.Common.{◌≡◌, ℕ, true, false, List, [], ◌∷◌, ◌++◌, Ok, refl, sym, ap, ◌∙◌, inl, inr, true≢false}
-use Rattle.std.specs.List.{list_any}
+-- Pages below a top.
+use Rattle.std.proofs.Common.{◌≡◌, ℕ, true, false, List, [], ◌∷◌, refl, sym, ap, ◌∙◌, inl, inr, true≢false}
 use Rattle.std.specs.Str.{bytes_eq}
 use Rattle.std.proofs.lemmas.Bool.{cases_Bool, cond-false}
 use Rattle.std.proofs.lemmas.Slice.Eq.{bytes_eq-Decides}
-use Rattle.crawl_keys.specs.CanonicalText.{canonical}
 use Rattle.crawl_pages.specs.declared.page.Page.TheVariants as page
-use Rattle.percent_encoding.specs.Percent.{percent_decode}
-use Rattle.saved_site.specs.Below.{IsTop, is_below, is_mark, without_slashes}
+use Rattle.site_files.specs.Below.{is_below}
 use Rattle.saved_site.specs.Meaning.{page_in, under_page}
 use Rattle.saved_site.specs.declared.page.SitePage.{SitePage}
-
--- ---- the top
-
-pub top_of : (base top url other : List ℕ) → canonical base ≡ Ok url → canonical top ≡ Ok other → other ≡ top → list_any is_mark url ≡ false → percent_decode top ≡ percent_decode (without_slashes url) ++ 47 ∷ [] → IsTop base top
-top_of base top url other canon own is plain same = record {
-  own = own ∙ ap Ok is;
-  url = url;
-  canon = canon;
-  plain = plain;
-  same = same;
-}
-
--- ---- pages
 
 -- all pages are below the top
 abbrev pub AreBelow : List ℕ → List SitePage → Type 0

@@ -9,6 +9,5 @@ pub mod PageLengths
 pub mod Parts
 pub mod Says
 pub mod SiteSource
-pub mod Slashes
 pub mod Sound
 pub mod WebTexts

@@ -16,11 +16,11 @@ use Rattle.saved_site.proofs.BelowTop.{AreBelow}
 use Rattle.saved_site.proofs.Found.{web_at}
 use Rattle.saved_site.proofs.Sound.{AllPages}
 use Rattle.saved_site.proofs.WebTexts.{site_below, site_web}
-use Rattle.saved_site.specs.Below.{is_below}
 use Rattle.saved_site.specs.Linked.{PageFound, page_at, IsKept, AreKept, IsSiteSource}
 use Rattle.saved_site.specs.Meaning.{page_in, under_page}
 use Rattle.saved_site.specs.Pages.{web_text, is_behind, AscendsBehind, IsPage}
 use Rattle.saved_site.specs.declared.page.SitePage.{SitePage}
+use Rattle.site_files.specs.Below.{is_below}
 
 -- ---- a page among those that ascend
 

@@ -7,11 +7,12 @@ use Rattle.std.proofs.lemmas.List.{flat_map_more, take_more}
 use Rattle.saved_site.proofs.BelowTop.{AreBelow, none_outside}
 use Rattle.saved_site.proofs.Found.{web_at}
 use Rattle.saved_site.proofs.Sound.{AllPages, web_sound}
-use Rattle.saved_site.specs.Below.{IsWebBelow, is_below, is_next}
+use Rattle.saved_site.specs.Below.{IsWebBelow, is_next}
 use Rattle.saved_site.specs.Meaning.{IsSiteWeb, page_in}
 use Rattle.saved_site.specs.Pages.{page_text, web_text, is_behind, ascending_behind, AscendsBehind, IsPage}
 use Rattle.saved_site.specs.WebTexts.{AreInOrder, IsPageText, TextAt, last_url, web_bytes}
 use Rattle.saved_site.specs.declared.page.SitePage.{SitePage}
+use Rattle.site_files.specs.Below.{is_below}
 
 -- ---- pages that ascend
 

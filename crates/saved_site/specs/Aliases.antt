@@ -3,7 +3,7 @@ use Rattle.std.specs.Prelude.{◌≡◌, [], ◌∷◌, List, All}
 use Rattle.crawl_pages.specs.declared.page.Page.{Page}
 use Rattle.crawl_pages.specs.declared.page.Page.TheVariants as page
 use Rattle.saved_site.specs.Linked.{PageFound, page_at}
-use Rattle.saved_site.specs.declared.web.Alias.{Alias}
+use Rattle.site_files.specs.declared.alias.Alias.{Alias}
 
 -- the page of an alias has one link, to the own URL of the file
 abbrev pub alias_page : Alias → Page

@@ -1,13 +1,8 @@
--- Why files have no saved web.
-use Rattle.saved_site.specs.declared.error.SiteError.{SiteError}
-use Rattle.saved_site.specs.declared.error.SiteError.TheVariants as wrong
+-- Why a site has no saved web.
+use Rattle.site_files.specs.declared.error.SiteError.{SiteError}
+use Rattle.site_files.specs.declared.error.SiteError.TheVariants as wrong
 
--- the base and the names are no site, the web is too large, or a growth was refused: all but a folder that cannot be read
-abbrev pub IsOfFiles : SiteError → Type 0
-IsOfFiles (wrong.Io error) = ⊥
-IsOfFiles error = Unit {0}
-
--- the same of a site: its web is too large, or a growth was refused
+-- the saved web is too large, or an allocation failed
 abbrev pub IsOfWeb : SiteError → Type 0
 IsOfWeb wrong.TooLarge = Unit {0}
 IsOfWeb wrong.NoMemory = Unit {0}

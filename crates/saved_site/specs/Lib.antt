@@ -1,7 +1,6 @@
 pub mod Aliases
 pub mod Below
 pub mod Errors
-pub mod Files
 pub mod Leads
 pub mod Lines
 pub mod LinkTables

@@ -5,9 +5,9 @@ ghost use Rattle.saved_site.specs.Aliases.{AreAliases, alias_page};
 ghost use Rattle.saved_site.specs.Linked.{page_at};
 
 use crate::linked::LinkedPages;
-use crate::web::Alias;
 use crawl_keys::CanonUrl;
 use crawl_pages::{Fetch, Page};
+use site_files::Alias;
 use std::alloc::{AllocError, Global};
 
 /// Returns the aliases whose page has only the link to the own URL. All have, but this is checked, because a contract promises it.

@@ -1,16 +1,16 @@
 //! Makes the page of a task from the contents of its file.
 use crate::line_text::LineText;
-use crate::notes::{Left, Note};
 use crate::page::{SitePage, Under};
-use crate::site_input::{SiteInput, Task};
-use crate::spellings::{Spelling, can_spell, link_spellings, text_spelling};
-use crate::targets::{Target, targets_at};
+use crate::spellings::{link_spellings, text_spelling};
+use crate::targets::targets_at;
+use crate::task::Task;
 use crate::web_text::WEB_LIMIT;
 use crawl_keys::CanonUrl;
 use document_links::{
     AnchorTargets, Anchors, Document, LINK_FRONT, LinkCounts, LinkTexts, RawLinks, ReadOptions,
-    fits, is_document, read_document,
+    Target, fits, is_document, read_document,
 };
+use site_files::{Left, Note, SiteFiles};
 use std::alloc::{AllocError, Global};
 
 /// A new page, and what is known of it.
@@ -23,7 +23,7 @@ pub(crate) struct NewPage {
     pub(crate) page: Option<SitePage>,
     /// The number of bytes of the page in a saved web, at least.
     pub(crate) byte_count: usize,
-    pub(crate) spellings: Vec<Spelling>,
+    pub(crate) spellings: Vec<Task>,
     pub(crate) counts: LinkCounts,
     /// The own URL of the file, if the page is an alias.
     pub(crate) own: Option<CanonUrl>,
@@ -44,32 +44,32 @@ pub(crate) struct SiteAnchors {
 /// Makes the page of a task. `room` is memory for its links. `body` has the contents of its file, if it has one that could be read.
 pub(crate) fn page_of(
     alloc: Global,
-    input: SiteInput<'_>,
+    files: &SiteFiles<'_>,
     task: &Task,
     body: Option<&[u8]>,
     room: &mut RawLinks,
 ) -> Result<NewPage, AllocError> {
-    if input.file_of(task).is_some() {
-        let document = file_document(alloc, input, task, body, room)?;
-        return document_page(alloc, input, task, document);
+    if task.is_own(files) {
+        let document = file_document(alloc, files, task, body, room)?;
+        return document_page(alloc, files, task, document);
     }
-    if let Some(target) = input.target_of(task) {
-        return moved_page(alloc, input, task, target);
+    if let Some(target) = files.moved_to(task.entry) {
+        return moved_page(alloc, files, task, target);
     }
-    alias_page(alloc, input, task)
+    alias_page(alloc, files, task)
 }
 
 /// The links of the file of a task, if it is a document.
 fn file_document(
     alloc: Global,
-    input: SiteInput<'_>,
+    files: &SiteFiles<'_>,
     task: &Task,
     body: Option<&[u8]>,
     room: &mut RawLinks,
 ) -> Result<Document, AllocError> {
-    match (input.document_of(task), body) {
+    match (task.document(files), body) {
         (Some(file), Some(body)) if file.is_document || is_document(body) => {
-            read_document(alloc, body, &task.url, options_at(input, &task.url), room)
+            read_document(alloc, body, &task.url, options_at(files, &task.url), room)
         }
         _ => Ok(Document::empty(alloc)),
     }
@@ -77,10 +77,10 @@ fn file_document(
 
 /// What is read of the document at a URL. If a page has more bytes of links than a saved web, the saved web is too large. A page whose
 /// URL is too long is not in it, but its links can still spell others.
-fn options_at(input: SiteInput<'_>, url: &CanonUrl) -> ReadOptions {
+fn options_at(files: &SiteFiles<'_>, url: &CanonUrl) -> ReadOptions {
     ReadOptions {
-        anchors: input.rules.anchors,
-        places: input.rules.places,
+        anchors: files.rules().anchors,
+        places: files.rules().places,
         byte_limit: if fits(LINK_FRONT, url.as_str().as_bytes()) {
             WEB_LIMIT
         } else {
@@ -92,7 +92,7 @@ fn options_at(input: SiteInput<'_>, url: &CanonUrl) -> ReadOptions {
 /// A page with the links of its file.
 fn document_page(
     alloc: Global,
-    input: SiteInput<'_>,
+    files: &SiteFiles<'_>,
     task: &Task,
     document: Document,
 ) -> Result<NewPage, AllocError> {
@@ -104,11 +104,11 @@ fn document_page(
         encoding,
     } = document;
     let notes = document_notes(alloc, task, counts, encoding)?;
-    let spellings = link_spellings(alloc, input, &task.url, &links)?;
+    let spellings = link_spellings(alloc, files, &task.url, &links)?;
     let mut new = NewPage::new(task, Under::Links(links), notes)?;
     new.spellings = spellings;
     new.counts = counts;
-    new.anchors = site_anchors(input, anchors)?;
+    new.anchors = site_anchors(files, anchors)?;
     new.positions = positions;
     Ok(new)
 }
@@ -135,22 +135,22 @@ fn document_notes(
 
 /// The anchors of a document, with the pages of the site to which its links to anchors lead.
 fn site_anchors(
-    input: SiteInput<'_>,
+    files: &SiteFiles<'_>,
     anchors: Option<AnchorTargets>,
 ) -> Result<Option<SiteAnchors>, AllocError> {
     let Some(AnchorTargets { anchors, urls }) = anchors else {
         return Ok(None);
     };
-    let targets = targets_at(input.site, urls)?;
+    let targets = targets_at(files, urls)?;
     Ok(Some(SiteAnchors { anchors, targets }))
 }
 
 /// The page of an alias, whose only link is the own URL of its file.
-fn alias_page(alloc: Global, input: SiteInput<'_>, task: &Task) -> Result<NewPage, AllocError> {
+fn alias_page(alloc: Global, files: &SiteFiles<'_>, task: &Task) -> Result<NewPage, AllocError> {
     let mut links = LinkTexts::new(alloc);
-    let own = input.site.own_url(task.entry);
+    let own = files.own_url(task.entry);
     if let Some(own) = own {
-        push_own(input, own, &mut links)?;
+        push_own(files, own, &mut links)?;
     }
     let mut new = NewPage::new(task, Under::Links(links), Vec::new(alloc))?;
     new.counts.links = 1;
@@ -163,8 +163,12 @@ fn alias_page(alloc: Global, input: SiteInput<'_>, task: &Task) -> Result<NewPag
 }
 
 /// Appends a link to a URL of the site, if it fits in a line.
-fn push_own(input: SiteInput<'_>, own: &CanonUrl, links: &mut LinkTexts) -> Result<(), AllocError> {
-    let text = without_origin(own.as_str(), input.site.origin.as_str()).as_bytes();
+fn push_own(
+    files: &SiteFiles<'_>,
+    own: &CanonUrl,
+    links: &mut LinkTexts,
+) -> Result<(), AllocError> {
+    let text = without_origin(own.as_str(), files.origin()).as_bytes();
     if fits(LINK_FRONT, text) {
         links.push(text)?;
     }
@@ -174,15 +178,15 @@ fn push_own(input: SiteInput<'_>, own: &CanonUrl, links: &mut LinkTexts) -> Resu
 /// A folder without its slash, which is moved to the folder with it and with the same query.
 fn moved_page(
     alloc: Global,
-    input: SiteInput<'_>,
+    files: &SiteFiles<'_>,
     task: &Task,
     target: &str,
 ) -> Result<NewPage, AllocError> {
     let target = with_query(alloc, target, task.url.as_str())?;
-    let text = without_origin(target.as_str(), input.site.origin.as_str());
+    let text = without_origin(target.as_str(), files.origin());
     let mut new = moved_to(alloc, task, text)?;
-    if can_spell(input, text)
-        && let Some(spelling) = text_spelling(alloc, input, &task.url, text)?
+    if files.can_spell(text)
+        && let Some(spelling) = text_spelling(alloc, files, &task.url, text)?
     {
         new.spellings.push(spelling)?;
     }

@@ -4,16 +4,13 @@ ghost use Rattle.std.specs.Prelude.{◌≡◌, IfOk, alloc_error};
 ghost use Rattle.saved_site.specs.Below.{IsWebAt};
 ghost use Rattle.saved_site.specs.Meaning.{IsSiteWeb};
 
-use crate::body::Body;
-use crate::error::SiteError;
-use crate::file_bytes::{FileBytes, SiteFile};
-use crate::files::SiteFiles;
-use crate::notes::Left;
-use crate::site::Rules;
-use crate::walk::{FolderNames, folder_names};
-use crate::web::{SiteNames, Web};
+use crate::web::Web;
 use crate::web_maker::site_web;
 use document_links::{START_LENGTH, is_document};
+use site_files::{
+    Body, FileBytes, FolderNames, Left, Rules, SiteError, SiteFile, SiteFiles, SiteNames,
+    folder_names,
+};
 use std::alloc::{AllocError, Global};
 use std::io::{ErrorKind, Read};
 use std::rt::Files;

@@ -1,13 +1,11 @@
 //! Makes pages in threads, each of which reads the files of its pages.
-use crate::body::Body;
-use crate::file_bytes::FileBytes;
 use crate::new_page::{NewPage, page_of};
-use crate::notes::Note;
 use crate::page::SitePage;
 use crate::page_sink::PageSink;
-use crate::site_input::{SiteInput, Task};
+use crate::task::Task;
 use crate::web::Summary;
 use document_links::{LinkCounts, RawLinks};
+use site_files::{Body, FileBytes, Note, SiteFiles};
 use std::alloc::{AllocError, Global};
 use std::sync::atomic::{AtomicUsize, Ordering};
 use std::thread;
@@ -71,14 +69,14 @@ pub(crate) struct PageMaker<S> {
 }
 
 impl<S: PageSink> PageMaker<S> {
-    fn new(alloc: Global, input: SiteInput<'_>) -> Result<PageMaker<S>, AllocError> {
+    fn new(alloc: Global, files: &SiteFiles<'_>) -> Result<PageMaker<S>, AllocError> {
         Ok(PageMaker {
             alloc,
             body: Body::new(alloc),
             room: RawLinks::new(alloc),
             pages: Vec::new(alloc),
             unread: Vec::new(alloc),
-            sink: S::empty(alloc, input.top)?,
+            sink: S::empty(alloc, files.top())?,
             summary: Summary::default(),
         })
     }
@@ -92,7 +90,7 @@ impl<S: PageSink> PageMaker<S> {
     /// Takes tasks and makes their pages, until no task is left or the batch has enough. A long file occupies only one thread.
     fn run<B: FileBytes>(
         self,
-        input: SiteInput<'_>,
+        files: &SiteFiles<'_>,
         bytes: &B,
         tasks: &[Task],
         counter: &TaskCounter,
@@ -105,7 +103,7 @@ impl<S: PageSink> PageMaker<S> {
             if first >= tasks.len() {
                 break;
             }
-            maker = maker.with_block(input, bytes, tasks, first, counter)?;
+            maker = maker.with_block(files, bytes, tasks, first, counter)?;
         }
         Ok(maker)
     }
@@ -113,7 +111,7 @@ impl<S: PageSink> PageMaker<S> {
     /// Makes the pages of the block of tasks that begins with this number.
     fn with_block<B: FileBytes>(
         self,
-        input: SiteInput<'_>,
+        files: &SiteFiles<'_>,
         bytes: &B,
         tasks: &[Task],
         first: usize,
@@ -124,8 +122,8 @@ impl<S: PageSink> PageMaker<S> {
             let Some(task) = tasks.get(number) else {
                 break;
             };
-            let is_read = maker.read(input, bytes, number, task)?;
-            let mut page = maker.page_of(input, task, is_read)?;
+            let is_read = maker.read(files, bytes, number, task)?;
+            let mut page = maker.page_of(files, task, is_read)?;
             page.number = number;
             counter.add(maker.body.as_slice().len());
             counter.add(page.byte_count);
@@ -137,13 +135,13 @@ impl<S: PageSink> PageMaker<S> {
     /// Reads the file of the task with this number, and returns whether it can be read.
     fn read<B: FileBytes>(
         &mut self,
-        input: SiteInput<'_>,
+        files: &SiteFiles<'_>,
         bytes: &B,
         number: usize,
         task: &Task,
     ) -> Result<bool, AllocError> {
         self.body.clear();
-        let Some(file) = input.document_of(task) else {
+        let Some(file) = task.document(files) else {
             return Ok(true);
         };
         match bytes.read(file, &mut self.body)? {
@@ -161,12 +159,12 @@ impl<S: PageSink> PageMaker<S> {
     /// Makes the page of a task from the contents of its file, if they were read.
     fn page_of(
         &mut self,
-        input: SiteInput<'_>,
+        files: &SiteFiles<'_>,
         task: &Task,
         is_read: bool,
     ) -> Result<NewPage, AllocError> {
         let body = contents_of(&self.body, is_read);
-        page_of(self.alloc, input, task, body, &mut self.room)
+        page_of(self.alloc, files, task, body, &mut self.room)
     }
 
     /// The same with a new page. The page itself goes into the sink.
@@ -209,12 +207,12 @@ impl<S: PageSink> Batch<S> {
     /// A batch without pages, with a maker for each of `threads` threads.
     pub(crate) fn before(
         alloc: Global,
-        input: SiteInput<'_>,
+        files: &SiteFiles<'_>,
         threads: usize,
     ) -> Result<Batch<S>, AllocError> {
         let mut batch = Batch::new(alloc);
         for _ in 0..threads {
-            batch.makers.push(PageMaker::new(alloc, input)?)?;
+            batch.makers.push(PageMaker::new(alloc, files)?)?;
         }
         Ok(batch)
     }
@@ -278,7 +276,7 @@ impl<S: PageSink> Batch<S> {
 /// Makes the pages of the first of these tasks, at least one if there is a maker. Each maker has its own thread.
 pub(crate) fn next_batch<R: Threads + Sync, B: FileBytes + Sync, S: PageSink>(
     rt: &R,
-    input: SiteInput<'_>,
+    files: &SiteFiles<'_>,
     bytes: &B,
     tasks: &[Task],
     makers: Vec<PageMaker<S>>,
@@ -289,7 +287,7 @@ pub(crate) fn next_batch<R: Threads + Sync, B: FileBytes + Sync, S: PageSink>(
     let parts = thread::map_vec(
         rt,
         makers,
-        &|maker: PageMaker<S>| { maker.run(input, bytes, tasks, counter) },
+        &|maker: PageMaker<S>| { maker.run(files, bytes, tasks, counter) },
     )?;
     Batch::of(alloc, parts)
 }

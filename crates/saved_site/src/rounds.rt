@@ -2,13 +2,12 @@
 ghost use Rattle.std.specs.Prelude.{IfErr};
 ghost use Rattle.saved_site.specs.Errors.{IsOfWeb};
 
-use crate::error::SiteError;
-use crate::file_bytes::FileBytes;
 use crate::page_maker::{Batch, next_batch};
 use crate::page_sink::PageSink;
 use crate::site_data::SiteData;
-use crate::site_input::{SiteInput, Task};
+use crate::task::Task;
 use crate::task_queue::TaskQueue;
+use site_files::{FileBytes, SiteError, SiteFiles};
 use std::alloc::AllocError;
 use std::thread;
 use std::thread::Threads;
@@ -17,7 +16,7 @@ use std::thread::Threads;
 /// the third the targets of redirects among these. Links of aliases spell nothing, so no round follows unless a name contains `//`.
 pub(crate) fn make_all<R: Threads + Sync, B: FileBytes + Sync, S: PageSink>(
     rt: &R,
-    input: SiteInput<'_>,
+    files: &SiteFiles<'_>,
     bytes: &B,
     queue: TaskQueue,
     before: SiteData<S>,
@@ -27,12 +26,12 @@ pub(crate) fn make_all<R: Threads + Sync, B: FileBytes + Sync, S: PageSink>(
     let mut queue = queue;
     let mut data = before;
     let alloc = *data.notes.allocator();
-    let mut tasks = queue.first_tasks(alloc, input)?;
+    let mut tasks = queue.first_tasks(alloc, files)?;
     'rounds: for _ in 0..u64::MAX {
         if tasks.is_empty() {
             break;
         }
-        data = make_round(rt, input, bytes, tasks.as_slice(), &mut queue, data)?;
+        data = make_round(rt, files, bytes, tasks.as_slice(), &mut queue, data)?;
         tasks = queue.next_tasks();
     }
     Ok(data)
@@ -41,7 +40,7 @@ pub(crate) fn make_all<R: Threads + Sync, B: FileBytes + Sync, S: PageSink>(
 /// Makes the page of each task.
 fn make_round<R: Threads + Sync, B: FileBytes + Sync, S: PageSink>(
     rt: &R,
-    input: SiteInput<'_>,
+    files: &SiteFiles<'_>,
     bytes: &B,
     tasks: &[Task],
     queue: &mut TaskQueue,
@@ -49,7 +48,7 @@ fn make_round<R: Threads + Sync, B: FileBytes + Sync, S: PageSink>(
 ) -> Result<SiteData<S>, SiteError>
     ensures { IfErr result IsOfWeb }
 {
-    let (last, data) = make_batches(rt, input, bytes, tasks, queue, before)?;
+    let (last, data) = make_batches(rt, files, bytes, tasks, queue, before)?;
     let Batch { pages, makers, .. } = last;
     let mut data = data.with_all(pages)?;
     data.add_makers(makers)?;
@@ -61,7 +60,7 @@ fn make_round<R: Threads + Sync, B: FileBytes + Sync, S: PageSink>(
 /// made. The last one is not added yet.
 fn make_batches<R: Threads + Sync, B: FileBytes + Sync, S: PageSink>(
     rt: &R,
-    input: SiteInput<'_>,
+    files: &SiteFiles<'_>,
     bytes: &B,
     tasks: &[Task],
     queue: &mut TaskQueue,
@@ -71,13 +70,13 @@ fn make_batches<R: Threads + Sync, B: FileBytes + Sync, S: PageSink>(
 {
     let mut data = before;
     let alloc = *data.notes.allocator();
-    let mut batch = Batch::before(alloc, input, input.rules.threads.min(tasks.len()).max(1))?;
+    let mut batch = Batch::before(alloc, files, files.rules().threads.min(tasks.len()).max(1))?;
     let mut rest = tasks;
     'batches: for _ in 0..tasks.len() {
         if rest.is_empty() {
             break;
         }
-        let (next, more) = make_batch(rt, input, bytes, rest, batch, data)?;
+        let (next, more) = make_batch(rt, files, bytes, rest, batch, data)?;
         batch = next;
         data = more;
         data.notes.append(&mut batch.notes)?;
@@ -90,7 +89,7 @@ fn make_batches<R: Threads + Sync, B: FileBytes + Sync, S: PageSink>(
 /// Makes the pages of the first of the tasks in threads. Meanwhile those of the batch before are added to the data.
 fn make_batch<R: Threads + Sync, B: FileBytes + Sync, S: PageSink>(
     rt: &R,
-    input: SiteInput<'_>,
+    files: &SiteFiles<'_>,
     bytes: &B,
     tasks: &[Task],
     batch: Batch<S>,
@@ -99,7 +98,7 @@ fn make_batch<R: Threads + Sync, B: FileBytes + Sync, S: PageSink>(
     let Batch { pages, makers, .. } = batch;
     let (next, data) = thread::join(
         rt,
-        move || next_batch(rt, input, bytes, tasks, makers),
+        move || next_batch(rt, files, bytes, tasks, makers),
         move || before.with_all(pages),
     );
     let next = next?;

@@ -1,10 +1,11 @@
 //! The pages of a site, and what is known of them.
 use crate::new_page::{NewPage, SiteAnchors};
-use crate::notes::Note;
 use crate::page_maker::PageMaker;
 use crate::page_sink::PageSink;
-use crate::web::{Alias, LinkPlaces, PageAnchors, Summary};
+use crate::web::Summary;
 use crawl_keys::CanonUrl;
+use document_links::{LinkPlaces, PageAnchors};
+use site_files::{Alias, Note};
 use std::alloc::{AllocError, Global};
 use std::mem;
 

@@ -1,22 +1,17 @@
 //! The pages of a site to which links lead.
-use crate::site::Site;
 use crawl_keys::CanonUrl;
+use document_links::Target;
+use site_files::SiteFiles;
 use std::alloc::AllocError;
 
-/// The target of a link.
-#[derive(Drop)]
-pub enum Target {
-    /// The page of the site with this number.
-    Page(usize),
-    /// A URL that is not a page of the site.
-    Other(CanonUrl),
-}
-
 /// The targets at these URLs, in the same order.
-pub(crate) fn targets_at(site: &Site, urls: Vec<CanonUrl>) -> Result<Vec<Target>, AllocError> {
+pub(crate) fn targets_at(
+    files: &SiteFiles<'_>,
+    urls: Vec<CanonUrl>,
+) -> Result<Vec<Target>, AllocError> {
     let mut targets = Vec::with_capacity(*urls.allocator(), urls.len())?;
     for url in urls {
-        targets.push(match site.find(url.as_str()) {
+        targets.push(match files.find(url.as_str()) {
             Some(page) => Target::Page(page),
             None => Target::Other(url),
         })?;

@@ -2,11 +2,11 @@
 ghost use Rattle.std.specs.Prelude.{IfErr};
 ghost use Rattle.saved_site.specs.Errors.{IsOfWeb};
 
-use crate::error::SiteError;
 use crate::new_page::NewPage;
-use crate::site_input::{SiteInput, Task};
+use crate::task::Task;
 use crate::tasks::{SpelledTasks, site_tasks};
 use crate::web_text::{HEADER_LENGTH, WEB_LIMIT};
+use site_files::{SiteError, SiteFiles};
 use std::alloc::{AllocError, Global};
 
 /// The pages that are still to be made.
@@ -21,11 +21,11 @@ impl TaskQueue {
     /// A queue before the first page. Seeds can spell pages, too.
     pub(crate) fn new(
         alloc: Global,
-        input: SiteInput<'_>,
+        files: &SiteFiles<'_>,
         seeds: &[String],
     ) -> Result<TaskQueue, AllocError> {
         let mut ahead = SpelledTasks::new(alloc);
-        ahead.add_seeds(input, seeds)?;
+        ahead.add_seeds(files, seeds)?;
         Ok(TaskQueue {
             ahead,
             byte_count: HEADER_LENGTH,
@@ -52,9 +52,9 @@ impl TaskQueue {
     pub(crate) fn first_tasks(
         &mut self,
         alloc: Global,
-        input: SiteInput<'_>,
+        files: &SiteFiles<'_>,
     ) -> Result<Vec<Task>, AllocError> {
-        let mut tasks = site_tasks(alloc, input)?;
+        let mut tasks = site_tasks(alloc, files)?;
         let mut more = self.next_tasks();
         tasks.append(&mut more)?;
         Ok(tasks)

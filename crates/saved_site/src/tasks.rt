@@ -1,18 +1,21 @@
 //! The pages that are to be made.
 use crate::new_page::NewPage;
-use crate::site_input::{SiteInput, Task};
-use crate::spellings::{Spelling, text_spelling};
+use crate::spellings::text_spelling;
+use crate::task::Task;
 use crawl_keys::CanonUrl;
+use site_files::SiteFiles;
 use std::alloc::{AllocError, Global};
 use std::collections::BTreeSet;
 use std::mem;
 
 /// The pages of the site.
-pub(crate) fn site_tasks(alloc: Global, input: SiteInput<'_>) -> Result<Vec<Task>, AllocError> {
+pub(crate) fn site_tasks(alloc: Global, files: &SiteFiles<'_>) -> Result<Vec<Task>, AllocError> {
     let mut tasks = Vec::new(alloc);
-    for (entry, found) in input.site.entries.iter().enumerate() {
-        let url = found.url.clone()?;
-        tasks.push(Task { url, entry })?;
+    for entry in 0..files.page_count() {
+        if let Some(url) = files.url(entry) {
+            let url = url.clone()?;
+            tasks.push(Task { url, entry })?;
+        }
     }
     Ok(tasks)
 }
@@ -38,13 +41,13 @@ impl SpelledTasks {
     /// Adds the pages that links on the top spell.
     pub(crate) fn add_seeds(
         &mut self,
-        input: SiteInput<'_>,
+        files: &SiteFiles<'_>,
         seeds: &[String],
     ) -> Result<(), AllocError> {
-        let top = input.site.top_url();
+        let top = files.top_url();
         for seed in seeds {
-            if let Some(spelling) = text_spelling(self.alloc, input, top, seed.as_str())? {
-                self.add(&spelling)?;
+            if let Some(spelling) = text_spelling(self.alloc, files, top, seed.as_str())? {
+                self.add(spelling)?;
             }
         }
         Ok(())
@@ -54,20 +57,17 @@ impl SpelledTasks {
     pub(crate) fn add_spelled(&mut self, pages: &mut [NewPage]) -> Result<(), AllocError> {
         for page in pages.iter_mut() {
             let spellings = mem::replace(&mut page.spellings, Vec::new(self.alloc));
-            for spelling in &spellings {
+            for spelling in spellings {
                 self.add(spelling)?;
             }
         }
         Ok(())
     }
 
-    fn add(&mut self, spelling: &Spelling) -> Result<(), AllocError> {
+    fn add(&mut self, spelling: Task) -> Result<(), AllocError> {
         if !self.known.contains(&spelling.url) {
             self.known.insert(spelling.url.clone()?)?;
-            self.tasks.push(Task {
-                url: spelling.url.clone()?,
-                entry: spelling.entry,
-            })?;
+            self.tasks.push(spelling)?;
         }
         Ok(())
     }

@@ -1,13 +1,9 @@
 //! The pages of a site, as a saved web and as a source for a crawl, and what is known of them.
-use crate::folder_links::FolderLink;
 use crate::linked::LinkedPages;
-use crate::notes::Note;
 use crate::page::SitePage;
-use crate::site::Rules;
-use crate::targets::Target;
 use crate::web_text::WebText;
-use crawl_keys::CanonUrl;
-use document_links::{Anchors, LinkCounts};
+use document_links::{LinkCounts, LinkPlaces, PageAnchors};
+use site_files::{Alias, Note};
 
 /// A saved web and what is known of its pages.
 #[derive(Drop)]
@@ -39,32 +35,6 @@ pub struct LinkedSite {
     pub places: Vec<LinkPlaces>,
 }
 
-/// Another URL for which a server returns a file: it has another spelling or query, the name of an index file, or that of a symbolic
-/// link to a folder. The only link of its page is the file's own URL.
-#[derive(Drop)]
-pub struct Alias {
-    pub url: CanonUrl,
-    /// The file's own URL, whose page has the links of the file. For an index file it is that of the folder.
-    pub own: CanonUrl,
-}
-
-/// The positions of the links in the document at a URL.
-#[derive(Drop)]
-pub struct LinkPlaces {
-    pub url: CanonUrl,
-    /// The positions in the document's text at which the values of its links start, in order, for links with a canonical URL.
-    pub indices: Vec<u32>,
-}
-
-/// The anchors of the document at a URL.
-#[derive(Drop)]
-pub struct PageAnchors {
-    pub url: CanonUrl,
-    pub anchors: Anchors,
-    /// The targets of its links to anchors; `Anchors::links_to` takes their indices.
-    pub targets: Vec<Target>,
-}
-
 /// The counts of a saved web.
 #[derive(Clone, Copy, Debug, PartialEq, Eq, Default)]
 pub struct Summary {
@@ -74,18 +44,6 @@ pub struct Summary {
     pub aliases: u64,
     /// The links.
     pub links: LinkCounts,
-}
-
-/// The names of a site's files, the URL of its top, and the rules. A name that ends with a slash is a folder.
-#[derive(Clone, Copy)]
-pub struct SiteNames<'a> {
-    pub names: &'a [String],
-    /// The folders among them that are listed by another name.
-    pub links: &'a [FolderLink],
-    pub base: &'a str,
-    pub rules: &'a Rules,
-    /// Links on the top at which a crawl starts. Like links in documents, they can have another spelling or a query.
-    pub seeds: &'a [String],
 }
 
 impl Summary {

@@ -7,17 +7,14 @@ ghost use Rattle.saved_site.specs.Linked.{IsSiteSource};
 ghost use Rattle.saved_site.specs.Meaning.{IsSiteWeb};
 
 use crate::aliases::aliases_among;
-use crate::error::SiteError;
-use crate::file_bytes::FileBytes;
-use crate::files::SiteFiles;
 use crate::linked::LinkedPages;
-use crate::notes::Note;
 use crate::page_sink::PageSink;
 use crate::rounds::make_all;
 use crate::site_data::SiteData;
 use crate::task_queue::TaskQueue;
 use crate::web::{LinkedSite, Web};
 use crate::web_text::WebText;
+use site_files::{FileBytes, Note, SiteError, SiteFiles};
 use std::thread::Threads;
 
 /// Makes the saved web of a site from the bytes of its files. `seeds` are those of `SiteNames`. The notes come before those about pages.
@@ -105,11 +102,10 @@ fn data_of<R: Threads + Sync, B: FileBytes + Sync, S: PageSink>(
     ensures { IfErr result IsOfWeb }
 {
     let alloc = *notes.allocator();
-    let input = files.input();
     let mut none = SiteData::new(alloc, notes);
     files.copy_doubles(&mut none.notes)?;
-    let queue = TaskQueue::new(alloc, input, seeds)?;
-    let mut data = make_all(rt, input, bytes, queue, none)?;
+    let queue = TaskQueue::new(alloc, files, seeds)?;
+    let mut data = make_all(rt, files, bytes, queue, none)?;
     data.sort()?;
     Ok(data)
 }

@@ -1,13 +1,13 @@
--- What a shown text has.
-use Rattle.std.proofs.Common.{◌≡◌, ℕ, ◌+◌, ◌/◌, ◌%◌, ◌<◌, ◌≤◌, ◌==◌, Bool, true, false, ◌&&◌, ◌||◌, not, List, [], ◌∷◌, ◌++◌, codes, nat_le, nat_lt, chars, IsAscii, IsUtf8, refl, sym, ap, ◌∙◌, ⊎_elim, append-nil, arith}
-use Rattle.std.proofs.lemmas.Bool.{and_from, and_parts, cases_lt, cond_both, le-leb, lt-ltb, ltb-true, ne_eqb, not-true, not_from_false, or_left}
+-- Properties of a shown text.
+use Rattle.std.proofs.lemmas.Grind.{common_steps}
+use Rattle.std.proofs.Common.{◌≡◌, ℕ, ◌+◌, ◌<◌, ◌≤◌, ◌==◌, Bool, true, false, ◌&&◌, ◌||◌, not, List, [], ◌∷◌, ◌++◌, nat_le, nat_lt, chars, IsAscii, IsUtf8, refl, sym, ap, ◌∙◌, append-nil, arith}
+use Rattle.std.proofs.lemmas.Bool.{and_from, and_parts, cond_both, le-leb, lt-ltb, ltb-true, ne_eqb, not-true, not_from_false, or_left}
 use Rattle.std.proofs.lemmas.Bool.Decides.{nat_tests}
 use Rattle.std.proofs.lemmas.Fmt.{digits_is_IsNumeral}
 use Rattle.std.proofs.lemmas.List.Folds.{list_all-append}
 use Rattle.std.proofs.lemmas.Str.{chars-IsAscii, chars-append, chars-encodes, chars-nil, encodes-chars, IsUtf8-append, IsUtf8-encode, IsUtf8-from_ascii, IsUtf8-nil, scalars-chars}
-use Rattle.std.proofs.lemmas.Str.Ascii.{IsAscii-cons, IsAscii-nil}
+use Rattle.std.proofs.lemmas.Str.Ascii.{IsAscii-nil}
 use Rattle.std.specs.Char.{digit_value, encode_utf8}
-use Rattle.std.specs.Fmt.{digits}
 use Rattle.std.specs.List.{flat_map, list_all}
 use Rattle.std.specs.Str.{encode_utf8_all}
 use Rattle.std.specs.Str.Parse.{AllDigits}
@@ -23,18 +23,8 @@ use Rattle.shown_text.proofs.Pieces.{char_stays}
 abbrev pub PassesEscapes : (ℕ → Bool) → Type 0
 PassesEscapes p = ((b : ℕ) → 48 ≤ b → b ≤ 57 → p b ≡ true) × ((b : ℕ) → 65 ≤ b → b ≤ 125 → p b ≡ true)
 
-digit_low : (d : ℕ) → digit_value d < 16 → 48 ≤ d
-digit_low d small = grind (arith, nat_tests)
-
-digit_letter : (d : ℕ) → digit_value d < 16 → 58 ≤ d → 65 ≤ d
-digit_letter d small other = grind (arith, nat_tests)
-
-digit_high : (d : ℕ) → digit_value d < 16 → d ≤ 125
-digit_high d small = grind (arith, nat_tests)
-
 digit_passes : (p : ℕ → Bool) → PassesEscapes p → (d : ℕ) → digit_value d < 16 → p d ≡ true
-digit_passes p passes d small =
-    ⊎_elim (λ digit. passes.0 d (digit_low d small) (omega (arith, digit))) (λ letter. passes.1 d (digit_letter d small letter) (digit_high d small)) (cases_lt d 58)
+digit_passes p passes d small = grind arith
 
 digits_pass : (p : ℕ → Bool) → PassesEscapes p → (ds : List ℕ) → AllDigits 16 ds → list_all p ds ≡ true
 digits_pass p passes [] all = refl
@@ -45,14 +35,7 @@ hidden_small : (c : ℕ) → is_hidden c ≡ true → c ≤ 8297
 hidden_small c hidden = grind (arith, nat_tests)
 
 pub escape_passes : (p : ℕ → Bool) → PassesEscapes p → (c : ℕ) → is_hidden c ≡ true → list_all p (escape_of c) ≡ true
-escape_passes p passes c hidden =
-    let small = hidden_small c hidden in
-    let number = digits 16 false c in
-    let start : list_all p (codes "\\u{") ≡ true = and_from (p 92) _ (passes.1 92 (omega arith) (omega arith)) (and_from (p 117) _ (passes.1 117 (omega arith) (omega arith)) (and_from (p 123) true (passes.1 123 (omega arith) (omega arith)) refl)) in
-    let end : list_all p (codes "}") ≡ true = and_from (p 125) true (passes.1 125 (omega arith) (omega arith)) refl in
-    let middle : list_all p number ≡ true = digits_pass p passes number (digits_is_IsNumeral 16 false (omega arith) (omega arith) c (omega arith)).0.1 in
-    list_all-append p (codes "\\u{" ++ number) (codes "}")
-    ∙ and_from (list_all p (codes "\\u{" ++ number)) (list_all p (codes "}")) (list_all-append p (codes "\\u{") number ∙ and_from (list_all p (codes "\\u{")) (list_all p number) start middle) end
+escape_passes p passes c hidden = grind (arith, common_steps, hidden_small, and_from, digits_pass, digits_is_IsNumeral, list_all-append)
 
 -- ---- ASCII
 
@@ -62,9 +45,7 @@ is_low b = nat_lt b 128
 pub ascii_from : (bs : List ℕ) → list_all is_low bs ≡ true → IsAscii bs
 unfolding is_low
 ascii_from [] low = IsAscii-nil
-ascii_from (b ∷ bs) low =
-    let parts = and_parts (nat_lt b 128) (list_all is_low bs) low in
-    IsAscii-cons b bs (ltb-true b 128 parts.0) (ascii_from bs parts.1)
+ascii_from (b ∷ bs) low = grind (arith, and_parts, ltb-true, ascii_from bs)
 
 pub low_passes : PassesEscapes is_low
 unfolding is_low
@@ -116,7 +97,7 @@ passes_char p c is_scalar passes = record {
       ∙ ap (list_all p) (chars-encodes (c ∷ []) (and_from (scalar c) true is_scalar refl)) ∙ and_from (p c) true passes refl;
 }
 
--- what each character of a text becomes passes
+-- the output for each character of a text passes
 pub passes_each : (p : ℕ → Bool) (f : ℕ → List ℕ) → ((c : ℕ) → scalar c ≡ true → Passes p (f c)) → (cs : List ℕ) → scalars cs ≡ true → Passes p (flat_map f cs)
 passes_each p f each [] all = passes_nil p
 passes_each p f each (c ∷ cs) all =
@@ -143,9 +124,7 @@ escapes_or_lf = (λ b from to. or_lf b (escapes_visible.0 b from to), λ b from 
 
 -- a character that is not escaped in a text of several lines
 stays_or_lf : (hidden feed : Bool) → (hidden && not feed) ≡ false → (not hidden || feed) ≡ true
-stays_or_lf true true stays = refl
-stays_or_lf true false stays = sym stays
-stays_or_lf false feed stays = refl
+stays_or_lf hidden feed stays = grind arith
 
 escaped_hidden : (hidden feed : Bool) → (hidden && not feed) ≡ true → hidden ≡ true
 escaped_hidden hidden feed both = (and_parts hidden (not feed) both).0
@@ -173,17 +152,13 @@ shown_utf8 lines.Several text utf8 = (lines_visible text utf8).utf8
 -- characters that stay
 stay_all : (how : Lines) (p : ℕ → Bool) → ((c : ℕ) → p c ≡ true → is_escaped how c ≡ false) → (cs : List ℕ) → list_all p cs ≡ true → flat_map (shown_char_in how) cs ≡ encode_utf8_all cs
 stay_all how p stays [] all = refl
-stay_all how p stays (c ∷ cs) all =
-    let parts = and_parts (p c) (list_all p cs) all in
-    λ i. char_stays how c (stays c parts.0) i ++ stay_all how p stays cs parts.1 i
+stay_all how p stays (c ∷ cs) all = grind (arith, and_parts, char_stays, stay_all how p stays cs)
 
 pub shown_same : (text : List ℕ) → IsUtf8 text → list_all is_visible (chars text) ≡ true → shown_in lines.One text ≡ text
 shown_same text utf8 all = stay_all lines.One is_visible (λ c seen. not-true (is_hidden c) seen) (chars text) all ∙ encodes-chars text utf8
 
 or_lf_stays : (hidden feed : Bool) → (not hidden || feed) ≡ true → (hidden && not feed) ≡ false
-or_lf_stays true true all = refl
-or_lf_stays true false all = sym all
-or_lf_stays false feed all = refl
+or_lf_stays hidden feed all = grind arith
 
 pub lines_same : (text : List ℕ) → IsUtf8 text → list_all is_visible_or_lf (chars text) ≡ true → shown_in lines.Several text ≡ text
 lines_same text utf8 all = stay_all lines.Several is_visible_or_lf (λ c seen. or_lf_stays (is_hidden c) (c == 10) seen) (chars text) all ∙ encodes-chars text utf8
@@ -200,13 +175,7 @@ next_passes p high n rest all = and_from (p (128 + n)) (list_all p rest) (high (
 -- the bytes of a character pass if it passes or is not ASCII
 pub encode_passes : (p : ℕ → Bool) → PassesHigh p → (c : ℕ) → (c < 128 → p c ≡ true) → list_all p (encode_utf8 c) ≡ true
 unfolding encode_utf8
-encode_passes p high c passes =
-    cond_both (nat_lt c 128) _ _ (λ t. list_all p t ≡ true) (λ one. and_from (p c) true (passes (ltb-true c 128 one)) refl)
-    (λ more. cond_both (nat_lt c 2048) _ _ (λ t. list_all p t ≡ true) (λ two. and_from (p (192 + c / 64)) _ (high (192 + c / 64) (omega arith)) (next_passes p high (c % 64) [] refl))
-    (λ more. cond_both (nat_lt c 65536) _ _ (λ t. list_all p t ≡ true)
-    (λ three. and_from (p (224 + c / 4096)) _ (high (224 + c / 4096) (omega arith)) (next_passes p high (c / 64 % 64) ((128 + c % 64) ∷ []) (next_passes p high (c % 64) [] refl)))
-    (λ four. and_from (p (240 + c / 262144)) _ (high (240 + c / 262144) (omega arith))
-    (next_passes p high (c / 4096 % 64) ((128 + c / 64 % 64) ∷ (128 + c % 64) ∷ []) (next_passes p high (c / 64 % 64) ((128 + c % 64) ∷ []) (next_passes p high (c % 64) [] refl))))))
+encode_passes p high c passes = grind arith
 
 pub high_printed : PassesHigh is_printed
 high_printed b high = and_from (nat_le 32 b) _ (le-leb 32 b (omega arith)) (not_from_false _ (ne_eqb b 127 (λ e. omega arith)))
@@ -214,15 +183,14 @@ high_printed b high = and_from (nat_le 32 b) _ (le-leb 32 b (omega arith)) (not_
 pub seen_printed : (c : ℕ) → c < 128 → is_hidden c ≡ false → is_printed c ≡ true
 seen_printed c small seen = grind (arith, nat_tests)
 
--- what is shown of a character passes if its escape does, or its bytes do
+-- the output for a character passes if its escape or its bytes pass
 pub shown_char_passes : (p : ℕ → Bool) → PassesEscapes p → PassesHigh p → (c : ℕ) → (c < 128 → is_hidden c ≡ false → p c ≡ true) → list_all p (shown_char c) ≡ true
-shown_char_passes p escapes high c passes =
-    cond_both (is_hidden c) (escape_of c) (encode_utf8 c) (λ t. list_all p t ≡ true) (escape_passes p escapes c) (λ seen. encode_passes p high c (λ small. passes small seen))
+shown_char_passes p escapes high c passes = grind (arith, cond_both, escape_passes, encode_passes)
 
 pub shown_char_printed : (c : ℕ) → list_all is_printed (shown_char c) ≡ true
 shown_char_printed c = shown_char_passes is_printed escapes_printed high_printed c (seen_printed c)
 
--- what each character becomes passes
+-- the output for each character passes
 pub each_passes : (p : ℕ → Bool) (f : ℕ → List ℕ) → ((c : ℕ) → list_all p (f c) ≡ true) → (cs : List ℕ) → list_all p (flat_map f cs) ≡ true
 each_passes p f each [] = refl
 each_passes p f each (c ∷ cs) = list_all-append p (f c) (flat_map f cs) ∙ and_from (list_all p (f c)) (list_all p (flat_map f cs)) (each c) (each_passes p f each cs)

@@ -92,6 +92,7 @@ fn is_plain(byte: u8) -> bool
 }
 
 /// Appends the first character of the text, and returns the rest.
+#[tactic(auto, using(crate::proofs::Pieces::char_put))]
 fn put_first<'a>(out: &mut Vec<u8>, how: Lines, text: &'a str) -> Result<&'a str, AllocError>
     ensures text { IfOk result (λ rest. out.new.items ++ shown_in how rest.now ≡ out.old.items ++ shown_in how text.now) }
     ensures shorter { IfOk result (λ rest. length rest.now ≤ length text.now - 1) }

@@ -11,8 +11,8 @@ use Rattle.std.specs.List.{list_any}
 use Rattle.std.specs.Ordering.{nat_cmp}
 use Rattle.std.specs.Str.{bytes_eq}
 use Rattle.check_report.specs.declared.value.Place.{Place}
-use Rattle.saved_site.specs.Files.{PageFile}
-use Rattle.saved_site.specs.declared.files.SiteFiles.{SiteFiles}
+use Rattle.site_files.specs.Files.{PageFile}
+use Rattle.site_files.specs.declared.files.SiteFiles.{SiteFiles}
 use Rattle.site_check.specs.Names.{is_slash, behind_slashes, has_name, Names, named_at, IsKnown, known_with, known_at, only_told}
 use Rattle.site_check.specs.declared.names.Namesakes.{Namesakes}
 use Rattle.site_check.specs.declared.names.Namesakes.TheVariants.{One, Several}

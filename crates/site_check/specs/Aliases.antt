@@ -6,7 +6,7 @@ use Rattle.std.specs.Str.{bytes_eq}
 use Rattle.crawl_pages.specs.Pages.{is_found}
 use Rattle.crawl_pages.specs.declared.page.PageResult.{PageResult}
 use Rattle.hash_order.specs.HashOrder.{by_hash}
-use Rattle.saved_site.specs.declared.web.Alias.{Alias}
+use Rattle.site_files.specs.declared.alias.Alias.{Alias}
 
 -- the URL is that of an alias
 abbrev pub is_alias : List Alias → List ℕ → Bool

@@ -11,8 +11,8 @@ use Rattle.check_report.specs.declared.value.Broken.{Broken}
 use Rattle.check_report.specs.declared.value.Kind.{Kind}
 use Rattle.check_report.specs.declared.value.Kind.TheVariants.{NoPage, NoAnchor}
 use Rattle.check_report.specs.declared.value.Place.{Place}
-use Rattle.saved_site.specs.Files.{PageFile, name_at, pages_of}
-use Rattle.saved_site.specs.declared.files.SiteFiles.{SiteFiles}
+use Rattle.site_files.specs.Files.{PageFile, name_at, pages_of}
+use Rattle.site_files.specs.declared.files.SiteFiles.{SiteFiles}
 use Rattle.site_check.specs.Broken.{shown}
 use Rattle.site_check.specs.declared.names.Namesakes.{Namesakes}
 use Rattle.site_check.specs.declared.names.Namesakes.TheVariants.{One, Several}

@@ -8,7 +8,7 @@ use Rattle.check_report.specs.declared.value.Totals.{Totals}
 use Rattle.crawl_pages.specs.declared.page.Page.{Page}
 use Rattle.crawl_pages.specs.declared.page.Page.TheVariants.{Found, Moved, Missing}
 use Rattle.crawl_pages.specs.declared.page.PageResult.{PageResult}
-use Rattle.saved_site.specs.declared.web.Alias.{Alias}
+use Rattle.site_files.specs.declared.alias.Alias.{Alias}
 use Rattle.site_check.specs.Aliases.{is_alias, is_alias_page, is_own_page}
 
 -- a count stops at the greatest number of 64 bits

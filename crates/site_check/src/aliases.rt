@@ -4,7 +4,7 @@ ghost use Rattle.site_check.specs.Aliases.{is_alias, is_in};
 
 use crawl_pages::NoMemory;
 use hash_order::HashedText;
-use saved_site::Alias;
+use site_files::Alias;
 use std::alloc::Global;
 use std::collections::BTreeSet;
 

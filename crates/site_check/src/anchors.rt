@@ -1,6 +1,6 @@
 //! Links to anchors that documents do not have.
 ghost use Rattle.std.specs.Prelude.{◌≡◌, ◌∷◌, ◌++◌, ℕ, List, [], IfOk, OnOk, map, string_bytes};
-ghost use Rattle.saved_site.specs.declared.files.SiteFiles.{SiteFiles};
+ghost use Rattle.site_files.specs.declared.files.SiteFiles.{SiteFiles};
 ghost use Rattle.site_check.specs.Ignored.{not_ignored, parts_in};
 ghost use Rattle.site_check.specs.Names.{AreNamed};
 ghost use Rattle.site_check.specs.Parts.{part_text};
@@ -13,8 +13,8 @@ use crate::shown::shown;
 use crate::site_pages::{DocumentUrl, Pages};
 use check_report::{Broken, Kind, Place};
 use crawl_pages::NoMemory;
-use document_links::{AnchorLink, Anchors};
-use saved_site::{PageAnchors, SiteFiles};
+use document_links::{AnchorLink, Anchors, PageAnchors};
+use site_files::SiteFiles;
 use std::alloc::Global;
 
 /// Links of the result with this number to anchors of a document, by the index of their target.

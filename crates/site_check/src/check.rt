@@ -3,7 +3,7 @@ ghost use Rattle.std.specs.Prelude.{◌≡◌, ◌==◌, ◌++◌, ℕ, List, []
 ghost use Rattle.std.specs.List.{flat_map};
 ghost use Rattle.crawl_sources.specs.Tallies.{pointed};
 ghost use Rattle.crawl_pages.specs.declared.page.PageResult.{PageResult};
-ghost use Rattle.saved_site.specs.declared.files.SiteFiles.{SiteFiles};
+ghost use Rattle.site_files.specs.declared.files.SiteFiles.{SiteFiles};
 ghost use Rattle.site_check.specs.Broken.{broken_of, linked_at, redirects_of, result_at, rows_with, ways_with};
 ghost use Rattle.site_check.specs.Ignored.{AreUnused, missing_texts, not_ignored, parts_in, text_at, unused};
 ghost use Rattle.site_check.specs.Leads.{indices_in, leads_from, number_in, targets_of};
@@ -29,7 +29,7 @@ use crate::unreached::unreached;
 use crate::worst::worst;
 use check_report::{Broken, FileCount, Findings, Redirect, Totals};
 use crawl_pages::{NoMemory, PageResult};
-use saved_site::{FileBytes, SiteFiles};
+use site_files::{FileBytes, SiteFiles};
 use std::alloc::Global;
 use std::thread::{Threads, join};
 

@@ -1,5 +1,6 @@
 //! The settings of a check.
-use saved_site::{Alias, LinkPlaces, PageAnchors};
+use document_links::{LinkPlaces, PageAnchors};
+use site_files::Alias;
 
 /// The settings of a check, and what is known of the site.
 #[derive(Clone, Copy)]

@@ -10,8 +10,8 @@ use crate::linked::Linked;
 use crate::shown::shown;
 use crawl_keys::CanonUrl;
 use crawl_pages::{NoMemory, Page, PageResult};
+use document_links::LinkPlaces;
 use hash_order::HashedText;
-use saved_site::LinkPlaces;
 use std::alloc::Global;
 use std::collections::BTreeMap;
 

@@ -2,13 +2,13 @@
 ghost use Rattle.std.specs.Prelude.{◌≡◌, ◌∷◌, [], ℕ, List, None, Some, filter, if◌then◌else◌, IfOk, MatchOption, OnOk, slice_get, string_bytes, unwrap_or};
 ghost use Rattle.std.specs.Option.{option_copied, option_map};
 ghost use Rattle.std.specs.Str.{bytes_eq};
-ghost use Rattle.saved_site.specs.Files.{PageFile, page_file, pages_of};
+ghost use Rattle.site_files.specs.Files.{PageFile, page_file, pages_of};
 ghost use Rattle.site_check.specs.Names.{AreNames, behind_slashes, has_name, is_slash, known_at, known_with, last_part, named_at, only_told, page_told, path_of, same_name, stands_in};
 
 use crate::shown::shown;
 use check_report::Place;
 use crawl_pages::NoMemory;
-use saved_site::SiteFiles;
+use site_files::SiteFiles;
 use std::alloc::Global;
 use std::collections::BTreeMap;
 

@@ -1,8 +1,9 @@
 //! The pages of a site: the results of its crawl, its files, its documents and its aliases.
 use crawl_keys::CanonUrl;
 use crawl_pages::{NoMemory, Page, PageResult};
+use document_links::{PageAnchors, Target};
 use page_anchors::is_indicated;
-use saved_site::{Alias, PageAnchors, SiteFiles, Target};
+use site_files::{Alias, SiteFiles};
 use std::alloc::Global;
 
 /// The results of a crawl of a site, and its files.

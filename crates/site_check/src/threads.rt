@@ -8,7 +8,7 @@ use crate::located::{TargetPlace, by_page, every_place};
 use crate::missing_anchors::MissingAnchorLink;
 use crate::site_pages::Site;
 use crawl_pages::{NoMemory, PageResult};
-use saved_site::FileBytes;
+use site_files::FileBytes;
 use std::alloc::Global;
 use std::sync::atomic::AtomicUsize;
 use std::thread;

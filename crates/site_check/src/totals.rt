@@ -6,7 +6,7 @@ ghost use Rattle.site_check.specs.Totals.{capped, is_part, link_count, links_in,
 use crate::aliases::{AliasUrls, alias_urls};
 use check_report::{Broken, Kind, Redirect, Totals};
 use crawl_pages::{NoMemory, Page, PageResult};
-use saved_site::Alias;
+use site_files::Alias;
 use std::alloc::Global;
 
 /// The totals of a crawl's results, of a site with these aliases, and of these rows.

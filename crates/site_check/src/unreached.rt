@@ -1,7 +1,7 @@
 //! Files that no link leads to.
 use crate::shown::shown;
 use crawl_pages::{NoMemory, PageResult};
-use saved_site::SiteFiles;
+use site_files::SiteFiles;
 use std::alloc::Global;
 
 /// The URLs of the files of which no page was found, one for each file.

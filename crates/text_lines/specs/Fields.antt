@@ -1,4 +1,4 @@
--- The fields of a text, which a space separates.
+-- The fields of a text, separated by a space.
 use Rattle.std.specs.Prelude.{ℕ, ◌==◌, Bool, List, length, nat_lt, if◌then◌else◌, Option, Some, None}
 use Rattle.std.specs.List.{position_or_len, before_first, after_first}
 

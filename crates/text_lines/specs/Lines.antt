@@ -1,4 +1,4 @@
--- The text of a line; `lines` of std's `specs.Str.Lines` says how bytes are cut into lines.
+-- The text of a line. `lines` of std's `specs.Str.Lines` defines how bytes are cut into lines.
 use Rattle.std.specs.Prelude.{ℕ, List, length, nat_lt, if◌then◌else◌, Result, Ok, Err}
 use Rattle.std.specs.Borrow.{Bor}
 use Rattle.std.specs.Str.{is_utf8}
@@ -13,7 +13,7 @@ text_of number line =
     else if is_utf8 line then Ok line
     else Err (NotText number)
 
--- a result that points to bytes, as those bytes
+-- a result that refers to bytes, as those bytes
 abbrev pub bytes_at : {E : Type 0} → Result (Bor (List ℕ)) E → Result (List ℕ) E
 bytes_at (Ok x) = Ok x.now
 bytes_at (Err e) = Err e

@@ -4,8 +4,9 @@ use crawl_pages::{Fetch, Page};
 use mercator_site::{
     CheckReport, CheckSettings, Files, ReportOptions, report_of_files, report_of_pages,
 };
-use saved_site::{Body, InMemory, Rules, SiteFiles, SiteNames, site_pages, site_web};
+use saved_site::{site_pages, site_web};
 use saved_web::SavedWeb;
+use site_files::{Body, InMemory, Rules, SiteFiles, SiteNames};
 use std::alloc::{AllocError, Global};
 use std::io;
 use std::io::Read;

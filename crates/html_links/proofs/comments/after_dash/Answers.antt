@@ -1,4 +1,4 @@
-use Rattle.std.proofs.Common.{◌∙◌, ◌≡◌, ◌≤◌, ◌∷◌, ap, arith, length}
+use Rattle.std.proofs.Common.{◌∙◌, ap, arith}
 use Rattle.html_links.specs.Comments.{End, EndBang, run}
 use Rattle.html_links.proofs.Dashing.{to_end, left_behind, no_end, no_bang_end}
 use Rattle.html_links.proofs.comments.after_dash.Goals as goal
@@ -13,8 +13,7 @@ returns-in_default-behind_byte-2-clause-ends c =
     ∙ no_end c.skip_dashes-more.result.now c.skip_dashes-more.ensures.stopped c.in_default-behind_byte.ensures c.in_default-behind_byte-2.ensures
 
 pub returns-in_default-behind_byte-2-clause-leaves : goal.returns-in_default-behind_byte-2-clause-leaves
-returns-in_default-behind_byte-2-clause-leaves c =
-    left_behind c.args.bytes.now c.in-Some.dashed.now c.skip_dashes-more.result.now c.in-Some.ensures c.skip_dashes-more.ensures.skipped
+returns-in_default-behind_byte-2-clause-leaves c = grind (arith, left_behind)
 
 pub returns-in-Some-behind_byte-3-clause-ends : goal.returns-in-Some-behind_byte-3-clause-ends
 returns-in-Some-behind_byte-3-clause-ends c =
@@ -27,7 +26,4 @@ returns-in-None-clause-ends c =
     ∙ ap (run End) c.in-Some-behind_byte-2.ensures ∙ no_bang_end c.in-Some-behind_byte-2.banged.now c.in-None.ensures
 
 pub returns-in-None-clause-leaves : goal.returns-in-None-clause-leaves
-returns-in-None-clause-leaves c =
-    let le : length c.skip_dashes-more.result.now ≤ length c.args.bytes.now = left_behind c.args.bytes.now c.in-Some.dashed.now c.skip_dashes-more.result.now c.in-Some.ensures c.skip_dashes-more.ensures.skipped in
-    let e : length c.skip_dashes-more.result.now ≡ length (33 ∷ c.in-Some-behind_byte-2.banged.now) = ap length c.in-Some-behind_byte-2.ensures in
-    omega arith
+returns-in-None-clause-leaves c = grind (arith, left_behind)

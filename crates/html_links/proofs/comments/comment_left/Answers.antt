@@ -1,5 +1,4 @@
-use Rattle.std.proofs.Common.{◌<◌, ap, arith, length, option_map, sym}
-use Rattle.html_links.specs.Comments.{Start}
+use Rattle.std.proofs.Common.{ap, arith, length, option_map}
 use Rattle.html_links.proofs.Dashing.{comment_less}
 use Rattle.html_links.proofs.comments.comment_left.Goals as goal
 
@@ -7,8 +6,7 @@ pub returns-in-Some-clause-left : goal.returns-in-Some-clause-left
 returns-in-Some-clause-left c = ap (option_map length) c.in-Some.ensures
 
 pub returns-in-Some-clause-within : goal.returns-in-Some-clause-within
-returns-in-Some-clause-within c =
-    let less : length c.in-Some.rest.now < length c.args.bytes.now = comment_less Start c.args.bytes.now c.in-Some.rest.now (sym c.in-Some.ensures) in omega arith
+returns-in-Some-clause-within c = grind (arith, comment_less)
 
 pub returns-in-None-clause-left : goal.returns-in-None-clause-left
 returns-in-None-clause-left c = ap (option_map length) c.in-None.ensures

@@ -2,7 +2,7 @@ use Rattle.std.proofs.Common.{◌≡◌, List, length, []}
 use Rattle.html_links.specs.Tags.{Attribute, run, BeforeName}
 use Rattle.html_links.proofs.document.after_pieces.Given as goal
 
--- the tag ends where what is left of it ends, after some attributes
+-- the tag ends where the rest of it ends, after some attributes
 abbrev pub invariant-pieces : goal.invariant-pieces
 invariant-pieces l = (all : List Attribute) × (run BeforeName all l.rest ≡ run BeforeName [] l.fn.bytes)
 

@@ -1,47 +1,40 @@
-use Rattle.std.proofs.Common.{◌∷◌, ◌∙◌, ◌<◌, ◌==◌, ap, arith, length, map, not, sym}
+use Rattle.std.proofs.lemmas.Bool.Decides.{nat_tests}
+use Rattle.std.proofs.lemmas.Grind.{common_steps}
+use Rattle.std.proofs.Common.{◌∷◌, ◌∙◌, ◌<◌, ap, arith, length, map, sym}
 use Rattle.html_links.specs.Tags.{lower}
-use Rattle.html_links.specs.Document.{tags_of}
+use Rattle.html_links.specs.Document.{Data, Start, read, start_tags, tags_of}
 use Rattle.html_links.specs.Shown.{tag_at}
 use Rattle.html_links.specs.Markup.{start_tag_at}
-use Rattle.html_links.proofs.Documents.{nothing_more, goes_on, one_more, last_one, read_text, read_less, read_end_tag, read_open_end_tag, read_start_tag, read_open_start_tag, start_less, end_less, cut_shorter}
+use Rattle.html_links.proofs.Documents.{nothing_more, goes_on, one_more, last_one, read_text, read_less, end_tags, read_end_tag, read_open_end_tag, read_start_tag, read_open_start_tag, start_less, end_less, cut_shorter}
 use Rattle.html_links.proofs.document.tags.Goals as goal
 
 pub returns-in_default : goal.returns-in_default
 returns-in_default c = nothing_more (map start_tag_at c.markup.tags.items) (tags_of c.args.bytes.now) c.markup.rest.now c.markup.invariant (read_text c.markup.rest.now c.in_default.ensures)
 
 pub returns-in-Unfinished : goal.returns-in-Unfinished
-returns-in-Unfinished c =
-    nothing_more (map start_tag_at c.markup.tags.items) (tags_of c.args.bytes.now) c.markup.rest.now c.markup.invariant
-    (read_less c.markup.rest.now c.in-Some.opened.now c.in-Some.ensures.1 ∙ c.in-Unfinished.ensures.reads)
+returns-in-Unfinished c = grind (arith, nat_tests, common_steps, nothing_more, read_less)
 
 pub markup-preserved : goal.markup-preserved
-markup-preserved c =
-    goes_on (map start_tag_at c.markup.tags.items) (tags_of c.args.bytes.now) c.markup.rest.now c.in-Other.more.now c.markup.invariant
-    (read_less c.markup.rest.now c.in-Some.opened.now c.in-Some.ensures.1 ∙ c.in-Other.ensures.reads)
+markup-preserved c = grind (arith, goes_on, read_less)
 
 pub markup-smaller : goal.markup-smaller
-markup-smaller c =
-    let a : length c.in-Some.opened.now < length c.markup.rest.now = cut_shorter (λ c. not (c == 60)) c.markup.rest.now c.in-Some.opened.now 60 c.in-Some.ensures.1 in
-    omega (arith, c.in-Other.ensures.leaves)
+markup-smaller c = grind (arith, cut_shorter)
 
 pub returns-in_default-after_tag : goal.returns-in_default-after_tag
-returns-in_default-after_tag c =
-    nothing_more (map start_tag_at c.markup.tags.items) (tags_of c.args.bytes.now) c.markup.rest.now c.markup.invariant
-    (read_open_end_tag c.markup.rest.now c.in-Some.opened.now _ c.in-End.more.now c.in-Some.ensures.1 c.in-End.ensures.reads c.in_default-after_tag.ensures)
+returns-in_default-after_tag c = grind (arith, nat_tests, common_steps, nothing_more, read_open_end_tag)
 
 pub markup-preserved-in-End : goal.markup-preserved-in-End
 markup-preserved-in-End c =
     goes_on (map start_tag_at c.markup.tags.items) (tags_of c.args.bytes.now) c.markup.rest.now c.in-Some-after_tag.last.now c.markup.invariant
-    (read_end_tag c.markup.rest.now c.in-Some.opened.now _ c.in-End.more.now c.in-Some-after_tag.last.now c.in-Some.ensures.1 c.in-End.ensures.reads c.in-Some-after_tag.ensures)
+    (ap start_tags (read_end_tag c.markup.rest.now c.in-Some.opened.now _ c.in-End.more.now c.in-Some-after_tag.last.now c.in-Some.ensures.1 c.in-End.ensures.reads c.in-Some-after_tag.ensures)
+    ∙ end_tags (map lower c.in-End.field-0.now) (read Data c.in-Some-after_tag.last.now))
 
 pub markup-smaller-in-End : goal.markup-smaller-in-End
 markup-smaller-in-End c =
     end_less c.markup.rest.now c.in-Some.opened.now c.in-End.more.now c.in-Some-after_tag.last.now c.in-Some.ensures.1 c.in-End.ensures.leaves c.in-Some-after_tag.ensures
 
 pub returns-in_default-2 : goal.returns-in_default-2
-returns-in_default-2 c =
-    nothing_more (map start_tag_at c.markup.tags.items) (tags_of c.args.bytes.now) c.markup.rest.now c.markup.invariant
-    (read_open_start_tag c.markup.rest.now c.in-Some.opened.now _ c.in-Start.more.now c.in-Some.ensures.1 c.in-Start.ensures.reads (ap tag_at (sym c.in_default-2.is) ∙ c.in_ok-found-in-Start.ensures))
+returns-in_default-2 c = grind (arith, nat_tests, common_steps, nothing_more, read_open_start_tag)
 
 pub markup-smaller-in-Start : goal.markup-smaller-in-Start
 markup-smaller-in-Start c =
@@ -53,7 +46,7 @@ pub markup-preserved-in-Start : goal.markup-preserved-in-Start
 markup-preserved-in-Start c =
     one_more c.markup.tags.items c.push.new.self.items _ (tags_of c.args.bytes.now) _ c.markup.rest.now c.markup.invariant c.in_ok-push-in-Start.ensures.items
     (read_start_tag c.markup.rest.now c.in-Some.opened.now (map lower c.in-Start.name.now) c.in-Start.more.now _ c.in-Some.ensures.1 c.in-Start.ensures.reads (ap tag_at (sym c.in-Some-2.is) ∙ c.in_ok-found-in-Start.ensures)
-    ∙ ap (λ more. start_tag_at (record { name = c.in-Start.name; attributes = c.in-Some-2.found.attributes; self_closing = c.in-Some-2.found.self_closing }) ∷ more) c.in-Some-after_element.ensures.reads)
+    ∙ ap (λ more. Start (start_tag_at (record { name = c.in-Start.name; attributes = c.in-Some-2.found.attributes; self_closing = c.in-Some-2.found.self_closing })) ∷ more) c.in-Some-after_element.ensures.reads)
 
 pub returns-in_default-after_element : goal.returns-in_default-after_element
 returns-in_default-after_element c =

@@ -1,11 +1,11 @@
 use Rattle.std.proofs.Common.{◌≡◌, ◌++◌, map, length}
-use Rattle.html_links.specs.Document.{read, Data}
+use Rattle.html_links.specs.Document.{tags_of}
 use Rattle.html_links.specs.Markup.{start_tag_at}
 use Rattle.html_links.proofs.document.tags.Given as goal
 
 -- the tags so far and those of what is left are those of the whole
 abbrev pub invariant-markup : goal.invariant-markup
-invariant-markup l = map start_tag_at l.tags.items ++ read Data l.rest ≡ read Data l.fn.bytes
+invariant-markup l = map start_tag_at l.tags.items ++ tags_of l.rest ≡ tags_of l.fn.bytes
 
 abbrev pub decreases-markup : goal.decreases-markup
 decreases-markup l = length l.rest

@@ -1,7 +1,6 @@
-use Rattle.std.proofs.Common.{◌∙◌, ap, sym}
-use Rattle.html_links.specs.Shown.{attribute_at}
-use Rattle.html_links.specs.Elements.{wanted_of}
-use Rattle.html_links.specs.Values.{values_at, with_attribute}
+use native.Mathlib.Omega.{arith}
+use Rattle.std.proofs.Common.{◌∙◌, sym}
+use Rattle.html_links.specs.Values.{values_at}
 use Rattle.html_links.proofs.Wanting.{not_wanted}
 use Rattle.html_links.proofs.found.take_attribute.Goals as goal
 
@@ -9,13 +8,11 @@ pub take_link-requires : goal.take_link-requires
 take_link-requires c = (c.is_link.ensures c.if-is_link.true).1
 
 pub returns-then-is_link : goal.returns-then-is_link
-returns-then-is_link c =
-    c.take_link.ensures ∙ ap (λ e. with_attribute (values_at c.args.values.now) (wanted_of e) (attribute_at c.args.attribute)) (sym (c.is_link.ensures c.if-is_link.true).0)
+returns-then-is_link c = grind arith
 
 pub returns-then-not-may_be : goal.returns-then-not-may_be
 returns-then-not-may_be c =
     sym (not_wanted (values_at c.args.values.now) c.args.element c.args.attribute.name.now c.args.attribute.value.now (sym c.may_be.ensures ∙ c.if-not-may_be.true))
 
 pub returns : goal.returns
-returns c =
-    c.take_wanted.ensures ∙ ap (λ w. with_attribute (values_at c.args.values.now) w (attribute_at c.args.attribute)) c.wanted_of.ensures
+returns c = grind arith

@@ -1,31 +1,27 @@
-use Rattle.std.proofs.Common.{◌∙◌, ◌<◌, ◌==◌, [], ap, arith, length, map, not}
-use Rattle.html_links.specs.Values.{values_at}
-use Rattle.html_links.specs.Seen.{seen_of}
+use Rattle.std.proofs.Common.{◌∙◌, [], ap, arith, map}
+use Rattle.html_links.specs.Tags.{lower}
+use Rattle.html_links.specs.Seen.{seen_within}
 use Rattle.html_links.proofs.Documents.{read_text, read_less, read_end_tag, read_open_end_tag, end_less, cut_shorter}
-use Rattle.html_links.proofs.Passing.{has_same, passes, steps_from}
+use Rattle.html_links.proofs.Passing.{has_same, passes, passes_end, steps_from}
 use Rattle.html_links.proofs.next_tag.next_step.Goals as goal
 
 pub returns-in_default : goal.returns-in_default
-returns-in_default c = has_same _ [] (ap (map seen_of) (read_text c.args.bytes.now c.in_default.ensures))
+returns-in_default c = has_same _ [] (ap (seen_within 0) (read_text c.args.bytes.now c.in_default.ensures))
 
 pub returns-in-Start : goal.returns-in-Start
-returns-in-Start c =
-    steps_from c.start_tag.result (values_at c.start_tag.new.values) c.args.bytes.now c.in-Some.opened.now c.in-Start.name.now c.in-Start.more.now c.in-Some.ensures
-    c.in-Start.ensures.reads c.in-Start.ensures.leaves c.start_tag.ensures
+returns-in-Start c = grind (arith, steps_from)
 
 pub returns-in-Some-after_tag : goal.returns-in-Some-after_tag
 returns-in-Some-after_tag c = (
-  passes c.args.bytes.now c.in-Some-after_tag.last.now (read_end_tag c.args.bytes.now c.in-Some.opened.now _ c.in-End.more.now c.in-Some-after_tag.last.now c.in-Some.ensures c.in-End.ensures.reads c.in-Some-after_tag.ensures),
+  passes_end c.args.bytes.now c.in-Some-after_tag.last.now (map lower c.in-End.field-0.now) (read_end_tag c.args.bytes.now c.in-Some.opened.now _ c.in-End.more.now c.in-Some-after_tag.last.now c.in-Some.ensures c.in-End.ensures.reads c.in-Some-after_tag.ensures),
   end_less c.args.bytes.now c.in-Some.opened.now c.in-End.more.now c.in-Some-after_tag.last.now c.in-Some.ensures c.in-End.ensures.leaves c.in-Some-after_tag.ensures,
 )
 
 pub returns-in-None : goal.returns-in-None
-returns-in-None c = has_same _ [] (ap (map seen_of) (read_open_end_tag c.args.bytes.now c.in-Some.opened.now _ c.in-End.more.now c.in-Some.ensures c.in-End.ensures.reads c.in-None.ensures))
+returns-in-None c = has_same _ [] (ap (seen_within 0) (read_open_end_tag c.args.bytes.now c.in-Some.opened.now _ c.in-End.more.now c.in-Some.ensures c.in-End.ensures.reads c.in-None.ensures))
 
 pub returns-in-Other : goal.returns-in-Other
-returns-in-Other c =
-    let a : length c.in-Some.opened.now < length c.args.bytes.now = cut_shorter (λ c. not (c == 60)) c.args.bytes.now c.in-Some.opened.now 60 c.in-Some.ensures in
-    (passes c.args.bytes.now c.in-Other.more.now (read_less c.args.bytes.now c.in-Some.opened.now c.in-Some.ensures ∙ c.in-Other.ensures.reads), omega (arith, c.in-Other.ensures.leaves))
+returns-in-Other c = grind (arith, cut_shorter, passes, read_less)
 
 pub returns-in-Unfinished : goal.returns-in-Unfinished
-returns-in-Unfinished c = has_same _ [] (ap (map seen_of) (read_less c.args.bytes.now c.in-Some.opened.now c.in-Some.ensures ∙ c.in-Unfinished.ensures.reads))
+returns-in-Unfinished c = has_same _ [] (ap (seen_within 0) (read_less c.args.bytes.now c.in-Some.opened.now c.in-Some.ensures ∙ c.in-Unfinished.ensures.reads))

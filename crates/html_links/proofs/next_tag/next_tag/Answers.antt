@@ -1,4 +1,4 @@
-use Rattle.std.proofs.Common.{◌<◌, arith, length}
+use Rattle.std.proofs.Common.{arith}
 use Rattle.html_links.proofs.Passing.{sought_all, sought_on, has_then}
 use Rattle.html_links.proofs.next_tag.next_tag.Goals as goal
 
@@ -12,9 +12,7 @@ pub returns-in-Take-clause-finds : goal.returns-in-Take-clause-finds
 returns-in-Take-clause-finds c = has_then _ _ _ c.markup.invariant.has c.in-Take.ensures.0
 
 pub returns-in-Take-clause-leaves : goal.returns-in-Take-clause-leaves
-returns-in-Take-clause-leaves c =
-    let less : length c.in-Take.tag.rest.now < length c.markup.rest.now = c.in-Take.ensures.1 in
-    omega (arith, c.markup.invariant.left)
+returns-in-Take-clause-leaves c = grind arith
 
 pub returns-in-End-clause-finds : goal.returns-in-End-clause-finds
 returns-in-End-clause-finds c = has_then _ _ _ c.markup.invariant.has c.in-End.ensures

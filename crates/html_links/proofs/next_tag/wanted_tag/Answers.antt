@@ -1,8 +1,8 @@
-use Rattle.std.proofs.Common.{◌<◌, arith, length, map, refl, []}
+use Rattle.std.proofs.Common.{◌∙◌, ◌∷◌, ◌<◌, ap, arith, length, map, refl, []}
 use Rattle.html_links.specs.Tags.{lower}
 use Rattle.html_links.specs.Elements.{wanted_of}
 use Rattle.html_links.specs.Values.{values_at}
-use Rattle.html_links.specs.Document.{read, Data}
+use Rattle.html_links.specs.Seen.{seen_with}
 use Rattle.html_links.proofs.Seeing.{seen_start, open_start, text_less}
 use Rattle.html_links.proofs.Passing.{has_same}
 use Rattle.html_links.proofs.next_tag.wanted_tag.Goals as goal
@@ -10,20 +10,22 @@ use Rattle.html_links.proofs.next_tag.wanted_tag.Goals as goal
 pub returns-in_default : goal.returns-in_default
 returns-in_default c = has_same _ [] (open_start (map lower c.args.name.now) c.args.bytes.now (wanted_of c.element_of-element.result) c.in_default.ensures)
 
-pub returns-in-Some-after_element : goal.returns-in-Some-after_element
-returns-in-Some-after_element c =
+pub returns-in-Some-after_contents : goal.returns-in-Some-after_contents
+returns-in-Some-after_contents c =
     let less : length c.in-Some.text.now < length c.args.bytes.now = text_less (wanted_of c.element_of-element.result) (values_at c.values_in.new.values) c.in-Some.text.now c.args.bytes.now c.in-Some.ensures in (
       has_same _ _
-          (seen_start (map lower c.args.name.now) c.args.bytes.now c.element_of-element.result (wanted_of c.element_of-element.result) (values_at c.values_in.new.values) c.in-Some.text.now (read Data c.in-Some-after_element.rest.now)
-          c.element_of-element.ensures refl c.in-Some.ensures c.in-Some-after_element.ensures.reads),
-      omega (arith, c.in-Some-after_element.ensures.leaves),
+          (seen_start (map lower c.args.name.now) c.args.bytes.now c.element_of-element.result (wanted_of c.element_of-element.result) (values_at c.values_in.new.values) c.in-Some.text.now _
+          c.element_of-element.ensures refl c.in-Some.ensures refl
+          ∙ ap (λ seen. seen_with (map lower c.args.name.now) c.element_of-element.result (values_at c.values_in.new.values) ∷ seen) c.in-Some-after_contents.ensures.reads),
+      omega (arith, c.in-Some-after_contents.ensures.leaves),
     )
 
 pub returns-in-None : goal.returns-in-None
 returns-in-None c =
     let less : length c.in-Some.text.now < length c.args.bytes.now = text_less (wanted_of c.element_of-element.result) (values_at c.values_in.new.values) c.in-Some.text.now c.args.bytes.now c.in-Some.ensures in (
       has_same _ _
-          (seen_start (map lower c.args.name.now) c.args.bytes.now c.element_of-element.result (wanted_of c.element_of-element.result) (values_at c.values_in.new.values) c.in-Some.text.now []
-          c.element_of-element.ensures refl c.in-Some.ensures c.in-None.ensures.reads),
+          (seen_start (map lower c.args.name.now) c.args.bytes.now c.element_of-element.result (wanted_of c.element_of-element.result) (values_at c.values_in.new.values) c.in-Some.text.now _
+          c.element_of-element.ensures refl c.in-Some.ensures refl
+          ∙ ap (λ seen. seen_with (map lower c.args.name.now) c.element_of-element.result (values_at c.values_in.new.values) ∷ seen) c.in-None.ensures.reads),
       omega arith,
     )

@@ -2,7 +2,7 @@ use Rattle.std.proofs.Common.{◌≡◌, ◌<◌, ◌-◌, ℕ, false, get_or, l
 use Rattle.html_links.specs.Decoding.{is_mark}
 use Rattle.html_links.proofs.references.is_coded.Given as goal
 
--- no mark is behind it
+-- there was no mark so far
 abbrev pub invariant-marks : goal.invariant-marks
 invariant-marks l = (k : ℕ) → k < l.at → is_mark (get_or l.value k 0) ≡ false
 

@@ -1,4 +1,4 @@
-use Rattle.std.proofs.Common.{◌∙◌, ap, sym, arith, length}
+use Rattle.std.proofs.Common.{◌∙◌, ap, sym, arith}
 use Rattle.html_links.specs.Styles.{found_with, urls_of}
 use Rattle.html_links.proofs.Styling.{next_found, none_found, found_less}
 use Rattle.html_links.proofs.style.next_url.Goals as goal
@@ -15,7 +15,4 @@ returns-in-Some-found_at-clause-leaves c =
     omega (arith, found_less c.places.rest.now (found_with c.in-Some-found_at.url.now c.in-Some-found_at.left.now) (sym c.in-Some-found_at.ensures), c.places.invariant.1)
 
 pub places-preserved : goal.places-preserved
-places-preserved c = (
-  c.places.invariant.0 ∙ none_found c.places.rest.now c.in-Some.more.now _ c.in-Some.ensures c.in-None.ensures,
-  omega (arith, ap length c.in-Some.ensures, c.places.invariant.1),
-)
+places-preserved c = grind (arith, none_found)

@@ -1,5 +1,4 @@
-use Rattle.std.proofs.Common.{◌≡◌, ◌≤◌, ◌<◌, ◌∷◌, arith, ap, length}
-use Rattle.html_links.specs.Shown.{is_space, outcome}
+use Rattle.std.proofs.Common.{◌≡◌, ◌<◌, ◌∷◌, arith, ap, length}
 use Rattle.html_links.proofs.Jumps.{read_end, read_greater, read_self_closing, read_slash_alone, read_attribute, piece_shorter, shorter}
 use Rattle.html_links.proofs.Loops.{leaves_less}
 use Rattle.html_links.proofs.tag.any_piece.Goals as goal
@@ -19,8 +18,7 @@ returns-in-Some-behind_byte-clause-reads c =
     read_self_closing c.args.bytes.now c.skip_space-rest.result.now c.in-Some.first c.in-Some.more.now c.in-Some-behind_byte.last.now c.skip_space-rest.ensures.skipped c.in-Some.ensures c.in-Slash.ensures c.in-Some-behind_byte.ensures
 
 pub returns-in-None-clause-reads : goal.returns-in-None-clause-reads
-returns-in-None-clause-reads c =
-    read_slash_alone c.args.bytes.now c.skip_space-rest.result.now c.in-Some.first c.in-Some.more.now c.skip_space-rest.ensures.skipped c.in-Some.ensures c.in-Slash.ensures c.in-None.ensures
+returns-in-None-clause-reads c = grind (arith, read_slash_alone)
 
 pub returns-in-None-clause-leaves : goal.returns-in-None-clause-leaves
 returns-in-None-clause-leaves c = piece_shorter c.args.bytes.now c.skip_space-rest.result.now c.in-Some.first c.in-Some.more.now c.skip_space-rest.ensures.skipped c.in-Some.ensures
@@ -32,9 +30,4 @@ returns-in-Some-behind_byte-clause-leaves c =
     omega arith
 
 pub returns-in_default-class_of : goal.returns-in_default-class_of
-returns-in_default-class_of c =
-    let cut : length c.skip_space-rest.result.now ≤ length c.args.bytes.now = rw c.skip_space-rest.ensures.skipped (shorter is_space c.args.bytes.now) in
-    record {
-      reads = λ all. read_attribute c.args.bytes.now c.skip_space-rest.result.now (outcome c.attribute.result all) c.skip_space-rest.ensures.skipped all (c.attribute.ensures.reads all);
-      leaves = leaves_less c.attribute.result (length c.skip_space-rest.result.now) (length c.args.bytes.now) cut c.attribute.ensures.leaves;
-    }
+returns-in_default-class_of c = grind (arith, shorter, read_attribute, leaves_less)

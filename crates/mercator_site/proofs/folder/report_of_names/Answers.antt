@@ -5,7 +5,7 @@ use Rattle.mercator_site.specs.Asks.{Asks, asks_of}
 use Rattle.mercator_site.specs.Checks.{IsNamedCheck}
 use Rattle.mercator_site.specs.Faults.{IsTopIncomplete}
 use Rattle.mercator_site.proofs.TopCrawls.{aliases_in, source_of}
-use Rattle.saved_site.specs.Below.{IsTop}
+use Rattle.site_files.specs.Below.{IsTop}
 use Rattle.mercator_site.proofs.folder.report_of_names.Goals as goal
 
 pub returns-in_err-report-clause-incomplete : goal.returns-in_err-report-clause-incomplete

@@ -2,7 +2,7 @@ use Rattle.std.proofs.Common.{◌≡◌, ℕ, true, List, [], arith, subst, sym}
 use Rattle.std.proofs.lemmas.Grind.{common_steps}
 use Rattle.std.proofs.lemmas.List.Elements.{All-append, All-cons, All-nil}
 use Rattle.mercator_site.specs.Own.{AreOwn}
-use Rattle.saved_site.specs.Below.{begins}
+use Rattle.site_files.specs.Below.{begins}
 use Rattle.mercator_site.proofs.start.seeds_of.Goals as goal
 
 pub loop-link-preserved : goal.loop-link-preserved

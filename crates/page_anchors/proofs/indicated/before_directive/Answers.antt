@@ -1,10 +1,8 @@
-use Rattle.std.proofs.Common.{ap, sym, ◌∙◌}
-use Rattle.page_anchors.specs.Indicated.{begins_directive}
+use native.Mathlib.Omega.{arith}
+use Rattle.std.proofs.lemmas.Bool.Decides.{nat_tests}
+use Rattle.std.proofs.lemmas.Grind.{common_steps}
 use Rattle.page_anchors.proofs.Directive.{directive_more, whole_rest}
 use Rattle.page_anchors.proofs.indicated.before_directive.Goals as goal
 
 pub loop-index-preserved : goal.loop-index-preserved
-loop-index-preserved c =
-    let text = c.args.text.now in
-    let i = c.loop-index.index in
-    directive_more text i c.loop-index-test.true (ap begins_directive (sym (whole_rest text i)) ∙ sym c.if-begins_directive.ensures) c.loop-index.invariant
+loop-index-preserved c = grind (arith, nat_tests, common_steps, directive_more, whole_rest)

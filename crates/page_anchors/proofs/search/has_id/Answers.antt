@@ -4,12 +4,7 @@ use Rattle.page_anchors.proofs.Searched.{found_at, half_before, half_behind, non
 use Rattle.page_anchors.proofs.search.has_id.Goals as goal
 
 pub halves-init : goal.halves-init
-halves-init c = record {
-  up = omega arith;
-  within = omega arith;
-  below = λ ascend k d none. absurd (omega (arith, none));
-  above = λ ascend k d behind below. absurd (omega (arith, behind, below, c.len-high.ensures));
-}
+halves-init c = grind arith
 
 pub halves-preserved-then-is_lt : goal.halves-preserved-then-is_lt
 halves-preserved-then-is_lt c =
@@ -23,9 +18,7 @@ halves-preserved c =
     (ap is_lt (sym c.order-found.ensures) ∙ sym c.is_lt.ensures ∙ c.if-is_lt.false)
 
 pub returns-then-is_eq : goal.returns-then-is_eq
-returns-then-is_eq c = λ ascend.
-    found_at c.args.ids.now c.args.text.now c.id.result.now _ (omega (arith, c.halves-test.true, c.halves.invariant.within)) c.id.ensures
-    (ap is_eq (sym c.order-found.ensures) ∙ sym c.is_eq.ensures ∙ c.if-is_eq.true)
+returns-then-is_eq c = grind (arith, found_at)
 
 pub returns : goal.returns
 returns c = none_found c.args.ids.now c.args.text.now c.halves.low c.halves.high c.halves.invariant c.halves-test.false

@@ -5,7 +5,7 @@ use Rattle.shown_text.proofs.escape.put_text.Given as goal
 abbrev pub decreases-runs : goal.decreases-runs
 decreases-runs l = length l.rest
 
--- what was put, and the shown rest, is the whole
+-- the bytes written so far and the shown rest are the whole output
 abbrev pub invariant-runs : goal.invariant-runs
 invariant-runs l = record {
   utf8 : IsUtf8 l.rest;

@@ -2,7 +2,7 @@ use Rattle.std.proofs.Common.{◌||◌, [], ◌∷◌, ◌++◌, take, sym, ap, 
 use Rattle.std.proofs.lemmas.List.{take_more}
 use Rattle.std.specs.Str.{bytes_eq}
 use Rattle.crawl_sources.proofs.Counts.{any_push, set_put}
-use Rattle.saved_site.specs.declared.web.Alias.{Alias}
+use Rattle.site_files.specs.declared.alias.Alias.{Alias}
 use Rattle.site_check.specs.Aliases.{is_alias}
 use Rattle.site_check.proofs.aliases.alias_urls.Goals as goal
 

@@ -1,5 +1,5 @@
 use Rattle.std.proofs.Common.{◌≡◌, ℕ, List, [], map, take, string_bytes}
-use Rattle.saved_site.specs.declared.files.SiteFiles.{SiteFiles}
+use Rattle.site_files.specs.declared.files.SiteFiles.{SiteFiles}
 use Rattle.site_check.specs.Ignored.{not_ignored, parts_in}
 use Rattle.site_check.specs.Names.{AreNamed}
 use Rattle.site_check.specs.Parts.{part_text}

@@ -1,7 +1,7 @@
 use Rattle.std.proofs.Common.{IfOk, map, string_bytes, ap, subst, ◌∙◌}
 use Rattle.std.specs.List.{flat_map}
 use Rattle.std.proofs.lemmas.Result.{IfOk-weaker}
-use Rattle.saved_site.specs.declared.files.SiteFiles.{SiteFiles}
+use Rattle.site_files.specs.declared.files.SiteFiles.{SiteFiles}
 use Rattle.site_check.specs.Broken.{linked_at, rows_with, ways_with}
 use Rattle.site_check.specs.Names.{AreNamed}
 use Rattle.site_check.specs.Totals.{totals_of}

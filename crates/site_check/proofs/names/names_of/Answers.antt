@@ -1,5 +1,5 @@
 use Rattle.std.proofs.Common.{arith}
-use Rattle.saved_site.specs.Files.{pages_of}
+use Rattle.site_files.specs.Files.{pages_of}
 use Rattle.site_check.specs.Names.{named_at}
 use Rattle.site_check.proofs.Namesakes.{names_more}
 use Rattle.site_check.proofs.names.names_of.Goals as goal

@@ -1,5 +1,5 @@
 use Rattle.std.proofs.Common.{ℕ, List, take, filter}
-use Rattle.saved_site.specs.Files.{pages_of}
+use Rattle.site_files.specs.Files.{pages_of}
 use Rattle.site_check.specs.Names.{IsKnown, has_name, named_at}
 use Rattle.site_check.proofs.names.names_of.Given as goal
 

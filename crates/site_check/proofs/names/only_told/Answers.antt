@@ -1,5 +1,5 @@
 use Rattle.std.proofs.Common.{sym, filter}
-use Rattle.saved_site.specs.Files.{pages_of}
+use Rattle.site_files.specs.Files.{pages_of}
 use Rattle.site_check.specs.Names.{has_name, named_at}
 use Rattle.site_check.proofs.Namesakes.{none_known}
 use Rattle.site_check.proofs.names.only_told.Goals as goal

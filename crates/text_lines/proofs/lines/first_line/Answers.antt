@@ -1,11 +1,10 @@
-use Rattle.std.proofs.Common.{sym, ◌+◌, length}
+use Rattle.std.proofs.Common.{sym, ◌+◌, length, arith}
 use Rattle.std.proofs.lemmas.List.{take_rest}
 use Rattle.text_lines.proofs.CutLines.{lines_at, lines_only, nonempty, whole_utf8, no_bytes}
 use Rattle.text_lines.proofs.lines.first_line.Goals as goal
 
 pub returns-in-Some-clause-cut : goal.returns-in-Some-clause-cut
-returns-in-Some-clause-cut c =
-    rw (c.without_return.ensures, take_rest c.args.bytes.now (c.in-Some.end + 1)) (lines_at c.args.bytes.now c.in-Some.end (sym c.in-Some.ensures))
+returns-in-Some-clause-cut c = grind (arith, take_rest, lines_at)
 
 pub returns-in-Some-clause-utf8 : goal.returns-in-Some-clause-utf8
 returns-in-Some-clause-utf8 c = λ line more.

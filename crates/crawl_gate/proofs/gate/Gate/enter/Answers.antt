@@ -1,3 +1,4 @@
+use native.Mathlib.Omega.{arith}
 use Rattle.crawl_gate.proofs.Trying.{none_lost, lost_of, lost_knows, one_more_lost, at_last, not_lost}
 use Rattle.crawl_gate.proofs.gate.Gate.enter.Goals as goal
 
@@ -11,11 +12,4 @@ pub loop-preserved : goal.loop-preserved
 loop-preserved g c = (tt, tt, one_more_lost _ _ _ c.loop.invariant.2 c.in-Lost.ensures.words)
 
 pub returns-in_default : goal.returns-in_default
-returns-in_default g c =
-    let never_lost = not_lost _ c.in_default.not-Lost in
-    record {
-      words = at_last _ _ _ c.loop.invariant.2 c.try_enter.ensures.words never_lost;
-      gate = c.try_enter.ensures.gate;
-      never_lost = never_lost;
-      for_good = λ e. c.try_enter.ensures.for_good (lost_knows _ _ c.loop.invariant.2 e);
-    }
+returns-in_default g c = grind (arith, not_lost, at_last, lost_knows)

@@ -1,4 +1,4 @@
-use Rattle.crawl_gate.proofs.Trying.{lost_of_beside, one_more_lost_beside, at_last_beside, not_lost}
+use Rattle.crawl_gate.proofs.Trying.{lost_of_beside, one_more_lost_beside}
 use Rattle.crawl_gate.proofs.gate.Gate.enter_beside.Goals as goal
 
 pub try_enter_beside-requires-clause-held : goal.try_enter_beside-requires-clause-held
@@ -9,13 +9,3 @@ try_enter_beside-requires-clause-pass g c = (lost_of_beside _ _ _ _ _ c.loop.inv
 
 pub loop-preserved : goal.loop-preserved
 loop-preserved g c = (tt, tt, one_more_lost_beside _ _ _ _ _ _ c.loop.invariant.2 c.in-Lost.ensures.words)
-
-pub returns-in_default : goal.returns-in_default
-returns-in_default g c =
-    let never_lost = not_lost _ c.in_default.not-Lost in
-    record {
-      words = at_last_beside _ _ _ _ _ _ c.loop.invariant.2 c.try_enter_beside.ensures.words never_lost;
-      gate = c.try_enter_beside.ensures.gate;
-      never_closed = c.try_enter_beside.ensures.never_closed;
-      never_lost = never_lost;
-    }

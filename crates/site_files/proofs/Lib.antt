@@ -1,0 +1,2 @@
+pub mod Slashes
+pub mod Tops

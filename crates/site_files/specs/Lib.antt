@@ -1,0 +1,3 @@
+pub mod Below
+pub mod Errors
+pub mod Files

@@ -1,0 +1,73 @@
+//! Which URLs are below the top of a site.
+ghost use Rattle.std.specs.Prelude.{◌≡◌, ◌++◌, ◌∷◌, [], true, IfOk};
+ghost use Rattle.percent_encoding.specs.Percent.{percent_decode};
+ghost use Rattle.site_files.specs.Below.{begins, is_below, is_slash, without_slashes};
+
+use crawl_keys::CanonUrl;
+use percent_encoding::percent_decode;
+use std::alloc::{AllocError, Global};
+
+/// Whether a URL begins with the top, or does once the escapes of both are read.
+pub fn is_below(alloc: Global, top: &str, url: &CanonUrl) -> Result<bool, AllocError>
+    ensures { IfOk result (λ is. is ≡ is_below top.now url.now) }
+{
+    let is_below = is_text_below(alloc, top, url.as_str())?;
+    Ok(is_below)
+}
+
+fn is_text_below(alloc: Global, top: &str, url: &str) -> Result<bool, AllocError>
+    ensures { IfOk result (λ is. is ≡ is_below top.now url.now) }
+{
+    if begins(top.as_bytes(), url.as_bytes()) {
+        return Ok(true);
+    }
+    let top = unescaped(alloc, top.as_bytes())?;
+    let url = unescaped(alloc, url.as_bytes())?;
+    Ok(begins(top.as_slice(), url.as_slice()))
+}
+
+/// Whether a text is a URL with one slash at its end, once the escapes of both are read.
+pub(crate) fn is_slashed(alloc: Global, url: &str, text: &str) -> Result<bool, AllocError>
+    ensures { IfOk result (λ is. is ≡ true → percent_decode text.now ≡ percent_decode (without_slashes url.now) ++ 47 ∷ []) }
+{
+    let mut read = unescaped(alloc, without_slashes(url.as_bytes()))?;
+    read.push(b'/')?;
+    let text = unescaped(alloc, text.as_bytes())?;
+    Ok(text.as_slice() == read.as_slice())
+}
+
+fn begins(front: &[u8], text: &[u8]) -> bool
+    ensures { result ≡ begins front.now text.now }
+{
+    text.starts_with(front)
+}
+
+/// The text with its escapes read.
+fn unescaped(alloc: Global, text: &[u8]) -> Result<Vec<u8>, AllocError>
+    ensures { IfOk result (λ read. read.items ≡ percent_decode text.now) }
+{
+    let mut read = Vec::new(alloc);
+    percent_decode(text).append_to(&mut read)?;
+    Ok(read)
+}
+
+/// The text without the slashes at its end.
+fn without_slashes(text: &[u8]) -> &[u8]
+    ensures { result.now ≡ without_slashes text.now }
+{
+    let mut rest = text;
+    'slashes: while let Some((last, front)) = rest.split_last() {
+        if is_slash(*last) {
+            rest = front;
+        } else {
+            break;
+        }
+    }
+    rest
+}
+
+fn is_slash(byte: u8) -> bool
+    ensures { result ≡ is_slash byte }
+{
+    byte == b'/'
+}

@@ -1,0 +1,99 @@
+//! The contents of a file.
+use std::alloc::{AllocError, Global};
+use std::io;
+use std::io::Read;
+
+/// The number of bytes of room that are kept for the next file, at most.
+const ROOM: usize = 1 << 23;
+
+/// The number of bytes by which the room grows, so that little more memory is touched than is used.
+const GROWTH: usize = 1 << 20;
+
+/// The contents of a file.
+#[derive(Drop)]
+pub struct Body {
+    /// The room for them, which is reused.
+    room: Vec<u8>,
+    /// The number of bytes in use.
+    used: usize,
+}
+
+impl Body {
+    /// An empty body.
+    pub fn new(alloc: Global) -> Body {
+        Body {
+            room: Vec::new(alloc),
+            used: 0,
+        }
+    }
+
+    /// Removes the contents. The room is kept for the next file, unless it is large.
+    pub fn clear(&mut self) {
+        self.used = 0;
+        if self.room.len() > ROOM {
+            let alloc = *self.room.allocator();
+            self.room = Vec::new(alloc);
+        }
+    }
+
+    pub fn as_slice(&self) -> &[u8] {
+        self.room.as_slice().get(..self.used).unwrap_or(&[])
+    }
+
+    /// Appends bytes.
+    ///
+    /// # Errors
+    /// Out of memory.
+    pub fn push(&mut self, bytes: &[u8]) -> Result<(), AllocError> {
+        self.room.truncate(self.used);
+        self.room.extend_from_slice(bytes)?;
+        self.used = self.room.len();
+        Ok(())
+    }
+
+    /// Reads to the end, or until there are more than `most` bytes, which it returns. Unlike `read_to_end`, it does not clear the room
+    /// first.
+    ///
+    /// # Errors
+    /// Those of the input; out of memory.
+    pub fn read<I: Read>(&mut self, input: &mut I, most: usize) -> io::Result<bool> {
+        let limit = most.saturating_add(1);
+        for _ in 0..u64::MAX {
+            if self.used >= limit || !self.read_some(input, limit)? {
+                break;
+            }
+        }
+        Ok(self.used > most)
+    }
+
+    /// Reads the first `length` bytes of a file, or all if there are fewer, into an empty body.
+    pub fn read_start<I: Read>(&mut self, input: &mut I, length: usize) -> io::Result<()> {
+        for _ in 0..length {
+            if self.used >= length || !self.read_some(input, length)? {
+                break;
+            }
+        }
+        Ok(())
+    }
+
+    /// Reads at least one byte, up to `limit` bytes in all, and returns whether there was one.
+    fn read_some<I: Read>(&mut self, input: &mut I, limit: usize) -> io::Result<bool> {
+        if self.room.len() <= self.used {
+            self.grow()?;
+        }
+        let end = self.room.len().min(limit);
+        let room = self
+            .room
+            .as_mut_slice()
+            .get_mut(self.used..end)
+            .unwrap_or(&mut []);
+        let count = input.read(room)?;
+        self.used = self.used.saturating_add(count);
+        Ok(count != 0)
+    }
+
+    fn grow(&mut self) -> Result<(), AllocError> {
+        let length = self.room.len().max(self.used);
+        self.room.resize(length.saturating_add(GROWTH), 0)
+    }
+}

@@ -1,0 +1,210 @@
+//! The file of each page of a site.
+ghost use Rattle.std.specs.Prelude.{◌≡◌, IfErr, IfOk, length, slice_get, string_bytes};
+ghost use Rattle.std.specs.Option.{option_map};
+ghost use Rattle.site_files.specs.Below.{IsTop};
+ghost use Rattle.site_files.specs.Errors.{IsOfFiles};
+ghost use Rattle.site_files.specs.Files.{name_at, page_file, page_of, pages_of};
+
+use crate::error::SiteError;
+use crate::folder_links::FolderLink;
+use crate::kinds::{Kind, kind_of};
+use crate::notes::Note;
+use crate::site::{Entry, Rules, Site, Source, split_name};
+use crawl_keys::CanonUrl;
+use std::alloc::{AllocError, Global};
+
+/// The names of a site's files, the URL of its top, and the rules. A name that ends with a slash is a folder.
+#[derive(Clone, Copy)]
+pub struct SiteNames<'a> {
+    pub names: &'a [String],
+    /// The folders among them that are listed by another name.
+    pub links: &'a [FolderLink],
+    pub base: &'a str,
+    pub rules: &'a Rules,
+    /// Links on the top at which a crawl starts. Like links in documents, they can have another spelling or a query.
+    pub seeds: &'a [String],
+}
+
+/// A file of a site.
+#[derive(Clone, Copy)]
+pub struct SiteFile<'a> {
+    /// Its index among the names of the site.
+    pub index: usize,
+    pub name: &'a str,
+    /// Whether it is known to be a document. Otherwise it is read only if its first bytes are those of a document.
+    pub is_document: bool,
+}
+
+/// The pages of a site by their URLs, and their files.
+#[derive(Drop)]
+pub struct SiteFiles<'a> {
+    pub(crate) site: Site,
+    names: &'a [String],
+    pub(crate) rules: &'a Rules,
+    /// The files without a page, because another file has the same URL.
+    doubles: Vec<Note>,
+}
+
+impl<'a> SiteFiles<'a> {
+    /// The pages and files of a site.
+    ///
+    /// # Errors
+    /// `BadBase`, `NoFiles`, `NoMemory`.
+    pub fn new(alloc: Global, input: SiteNames<'a>) -> Result<SiteFiles<'a>, SiteError>
+        ensures error { IfErr result IsOfFiles }
+        ensures top { IfOk result (λ files. IsTop input.entry.base.now (string_bytes files.site.top)) }
+    {
+        let SiteNames {
+            names,
+            links,
+            base,
+            rules,
+            ..
+        } = input;
+        let mut doubles = Vec::new(alloc);
+        let site = Site::new(alloc, base, names, links, rules, &mut doubles)?;
+        Ok(SiteFiles {
+            site,
+            names,
+            rules,
+            doubles,
+        })
+    }
+
+    /// Adds the notes about the files without a page.
+    pub fn copy_doubles(&self, notes: &mut Vec<Note>) -> Result<(), AllocError> {
+        for note in &self.doubles {
+            notes.push(note.copy()?)?;
+        }
+        Ok(())
+    }
+
+    /// The URL of the site's top.
+    pub fn top(&self) -> &str
+        ensures { result.now ≡ string_bytes self.now.site.top }
+    {
+        self.site.top.as_str()
+    }
+
+    /// The URL of the top as that of a page.
+    pub fn top_url(&self) -> &CanonUrl {
+        &self.site.top_url
+    }
+
+    /// The scheme and the authority of all URLs.
+    pub fn origin(&self) -> &str {
+        self.site.origin.as_str()
+    }
+
+    /// The number of pages, without other spellings and queries.
+    pub fn page_count(&self) -> usize
+        ensures { result ≡ length (pages_of self.now) }
+    {
+        self.site.entries.len()
+    }
+
+    /// The URL of a page, and the index of its file in the names, if it has one.
+    pub fn page(&self, number: usize) -> Option<(&str, Option<usize>)>
+        ensures { option_map (λ page. page_file page.0.now page.1) result ≡ slice_get (pages_of self.now) number }
+    {
+        match self.site.entries.get(number) {
+            Some(entry) => Some(page_of(entry)),
+            None => None,
+        }
+    }
+
+    /// The URL of the page with this number.
+    pub fn url(&self, number: usize) -> Option<&CanonUrl> {
+        Some(&self.site.entries.get(number)?.url)
+    }
+
+    /// The own URL of the file of the page with this number, or `None` for a redirect.
+    pub fn own_url(&self, number: usize) -> Option<&CanonUrl> {
+        let entry = self.site.entries.get(number)?;
+        match &entry.source {
+            Source::File(_) => Some(&entry.url),
+            Source::Index(index) => self.own_url_of(*index),
+            Source::Moved(_) => None,
+        }
+    }
+
+    /// The own URL of the file with this index.
+    fn own_url_of(&self, index: usize) -> Option<&CanonUrl> {
+        self.url(self.site.own.get(index).copied()??)
+    }
+
+    /// The file of the page with this number, if it has one that can be a document.
+    pub fn document(&self, number: usize) -> Option<SiteFile<'a>> {
+        let (_, index) = self.page(number)?;
+        let index = index?;
+        let name = self.name(index)?;
+        let (path, _) = split_name(name, self.rules.queries);
+        match kind_of(path) {
+            Kind::Other => None,
+            kind => Some(SiteFile {
+                index,
+                name,
+                is_document: kind == Kind::Document,
+            }),
+        }
+    }
+
+    /// The URL to which the page with this number is moved, without a query, if the page is a redirect.
+    pub fn moved_to(&self, number: usize) -> Option<&str> {
+        match &self.site.entries.get(number)?.source {
+            Source::Moved(target) => Some(target.as_str()),
+            _ => None,
+        }
+    }
+
+    /// The page with this URL, by its number.
+    pub fn find(&self, url: &str) -> Option<usize> {
+        self.site
+            .entries
+            .as_slice()
+            .binary_search_by(|entry| entry.url.as_str().cmp(url))
+            .ok()
+    }
+
+    /// The number of names.
+    pub fn name_count(&self) -> usize {
+        self.names.len()
+    }
+
+    /// The name with this index.
+    pub fn name(&self, index: usize) -> Option<&'a str>
+        ensures { option_map (λ name. name.now) result ≡ name_at self.now index }
+    {
+        let names = self.names;
+        match names.get(index) {
+            Some(name) => Some(name.as_str()),
+            None => None,
+        }
+    }
+
+    /// The index of the file of the page at a URL, or `None`. Pages at other spellings or with a query are not found.
+    pub fn file_of(&self, url: &str) -> Option<usize> {
+        let (_, file) = self.page(self.find(url)?)?;
+        file
+    }
+
+    /// The rules by which the names become pages.
+    pub fn rules(&self) -> &Rules {
+        self.rules
+    }
+
+    /// The number of threads that make the pages.
+    pub fn threads(&self) -> usize {
+        self.rules.threads
+    }
+}
+
+fn page_of(entry: &Entry) -> (&str, Option<usize>)
+    ensures { page_file result.0.now result.1 ≡ page_of entry.now }
+{
+    match &entry.source {
+        Source::File(index) => (entry.url.as_str(), Some(*index)),
+        Source::Index(index) => (entry.url.as_str(), Some(*index)),
+        Source::Moved(_) => (entry.url.as_str(), None),
+    }
+}

@@ -1,0 +1,28 @@
+//! Which file of a folder each URL of a site is, from the names of the files: what a plain static server returns.
+#![tactic(auto)]
+
+mod alias;
+mod below;
+mod body;
+mod error;
+mod escapes;
+mod file_bytes;
+mod files;
+mod folder;
+mod folder_links;
+mod kinds;
+mod notes;
+mod site;
+mod spellings;
+mod walk;
+
+pub use alias::Alias;
+pub use below::is_below;
+pub use body::Body;
+pub use error::SiteError;
+pub use file_bytes::{FileBytes, InMemory};
+pub use files::{SiteFile, SiteFiles, SiteNames};
+pub use folder_links::FolderLink;
+pub use notes::{Left, Note};
+pub use site::Rules;
+pub use walk::{FolderNames, folder_names};

@@ -1,0 +1,437 @@
+//! The pages of a site, by the names of its files.
+ghost use Rattle.std.specs.Prelude.{◌≡◌, ◌++◌, ◌∷◌, ℕ, List, [], IfErr, IfOk, Ok, false, string_bytes, true};
+ghost use Rattle.std.specs.List.{list_any};
+ghost use Rattle.crawl_keys.specs.CanonicalText.{canonical};
+ghost use Rattle.percent_encoding.specs.Percent.{percent_decode};
+ghost use Rattle.site_files.specs.Below.{IsTop, is_mark, without_slashes};
+ghost use Rattle.site_files.specs.Errors.{IsOfFiles};
+
+use crate::below::is_slashed;
+use crate::error::SiteError;
+use crate::escapes::{push_name, push_query, push_respelled};
+use crate::folder_links::{FolderLink, LinkedFolders};
+use crate::notes::{Left, Note};
+use crawl_keys::{CanonUrl, KeyError, canonical};
+use std::alloc::{AllocError, Global};
+use std::cmp::Ordering;
+
+/// The rules by which names become pages.
+#[derive(Debug, Drop)]
+pub struct Rules {
+    /// The name of index files.
+    pub index: String,
+    /// Whether a `?` in a file name is the start of a query, as `wget -r` writes it.
+    pub queries: bool,
+    /// Whether only the exact spelling of a page's URL is accepted.
+    pub exact: bool,
+    /// Whether anchors and links to anchors are read.
+    pub anchors: bool,
+    /// Whether the positions of links are kept.
+    pub places: bool,
+    /// Whether symbolic links that lead out of the folder are followed.
+    pub follow: bool,
+    /// The number of threads that make pages; 0 means 1.
+    pub threads: usize,
+}
+
+/// The path of a name, and its query behind a `?`.
+pub(crate) fn split_name(name: &str, queries: bool) -> (&str, Option<&str>) {
+    if !queries {
+        return (name, None);
+    }
+    match name.split_once('?') {
+        Some((path, query)) => (path, Some(query)),
+        None => (name, None),
+    }
+}
+
+/// What a server returns for a URL.
+#[derive(Drop)]
+pub(crate) enum Source {
+    /// The file with this index among the names. The URL is the file's own, at which its links are followed.
+    File(usize),
+    /// The index file with this index among the names, if the URL is that of its name. Its own URL is that of its folder.
+    Index(usize),
+    /// A redirect to this URL.
+    Moved(String),
+}
+
+/// A page of a site.
+#[derive(Drop)]
+pub(crate) struct Entry {
+    pub(crate) url: CanonUrl,
+    pub(crate) source: Source,
+}
+
+/// The pages of a site, in the order of their URLs.
+#[derive(Drop)]
+pub(crate) struct Site {
+    /// The scheme and the authority of all URLs.
+    pub(crate) origin: String,
+    /// The URL of the top, with a slash at its end.
+    pub(crate) top: String,
+    /// The same as that of a page.
+    pub(crate) top_url: CanonUrl,
+    pub(crate) entries: Vec<Entry>,
+    /// The number of the page at the own URL of each file, by the index of the file.
+    pub(crate) own: Vec<Option<usize>>,
+    /// The folders to which symbolic links lead.
+    pub(crate) linked: LinkedFolders,
+}
+
+impl Site {
+    /// The pages of files with these names, below a top with this URL. A name that ends in a slash is a folder. `links` are the folders
+    /// among them that are listed by another name.
+    pub(crate) fn new(
+        alloc: Global,
+        base: &str,
+        names: &[String],
+        links: &[FolderLink],
+        rules: &Rules,
+        notes: &mut Vec<Note>,
+    ) -> Result<Site, SiteError>
+        ensures error { IfErr result IsOfFiles }
+        ensures top { IfOk result (λ site. IsTop base.now (string_bytes site.top)) }
+    {
+        if !names.iter().any(|name| !name.as_str().ends_with('/')) {
+            return Err(SiteError::NoFiles);
+        }
+        let site = Site::at(alloc, base)?;
+        let entries = site.entries_of(names, rules)?;
+        let mut entries = without_doubles(entries, names, notes)?;
+        let own = own_numbers(alloc, entries.as_mut_slice(), names.len())?;
+        let linked = site.linked_folders(links)?;
+        let Site {
+            origin,
+            top,
+            top_url,
+            ..
+        } = site;
+        Ok(Site {
+            origin,
+            top,
+            top_url,
+            entries,
+            own,
+            linked,
+        })
+    }
+
+    /// One without pages, whose top has this URL.
+    fn at(alloc: Global, base: &str) -> Result<Site, SiteError>
+        ensures error { IfErr result IsOfFiles }
+        ensures top { IfOk result (λ site. IsTop base.now (string_bytes site.top)) }
+    {
+        let page = url_at(alloc, base)?;
+        let Some((origin, path)) = split_origin(page.as_str()) else {
+            return Err(SiteError::BadBase);
+        };
+        let mut top = String::from_str(alloc, origin)?;
+        push_respelled(alloc, path.trim_end_matches('/'), &mut top)?;
+        top.push('/')?;
+        let top_url = top_at(alloc, &page, top.as_str())?;
+        Ok(Site {
+            origin: String::from_str(alloc, origin)?,
+            top,
+            top_url,
+            entries: Vec::new(alloc),
+            own: Vec::new(alloc),
+            linked: LinkedFolders::new(Vec::new(alloc))?,
+        })
+    }
+
+    /// The URLs of folders that are listed by another name.
+    fn linked_folders(&self, links: &[FolderLink]) -> Result<LinkedFolders, AllocError> {
+        let mut linked = Vec::new(*self.top.allocator());
+        for link in links {
+            let name = self.url_of(link.name.as_str(), None)?;
+            let own = self.url_of(link.own.as_str(), None)?;
+            linked.push(FolderLink { name, own })?;
+        }
+        LinkedFolders::new(linked)
+    }
+
+    /// The pages of files with these names, in the order of their URLs.
+    fn entries_of(&self, names: &[String], rules: &Rules) -> Result<Vec<Entry>, SiteError>
+        ensures { IfErr result IsOfFiles }
+    {
+        // Three lists in the order of names, which is nearly that of URLs: little is left to sort.
+        let mut entries = Vec::new(*self.top.allocator());
+        self.push_files(names, rules, &mut entries)?;
+        self.push_indices(names, rules, &mut entries)?;
+        self.push_folders(names, &mut entries)?;
+        entries.sort_by(|a: &Entry, b: &Entry| order_of(a, b))?;
+        Ok(entries)
+    }
+
+    /// Adds the page at the URL of each file's name.
+    fn push_files(
+        &self,
+        names: &[String],
+        rules: &Rules,
+        entries: &mut Vec<Entry>,
+    ) -> Result<(), SiteError>
+        ensures { IfErr result IsOfFiles }
+    {
+        for (index, name) in names.iter().enumerate() {
+            if let Some((path, query)) = file_path(name.as_str(), rules) {
+                self.push(path, query, name_source(path, index, rules), entries)?;
+            }
+        }
+        Ok(())
+    }
+
+    /// Adds the page at the URL of the folder of each index file.
+    fn push_indices(
+        &self,
+        names: &[String],
+        rules: &Rules,
+        entries: &mut Vec<Entry>,
+    ) -> Result<(), SiteError>
+        ensures { IfErr result IsOfFiles }
+    {
+        for (index, name) in names.iter().enumerate() {
+            if let Some((path, query)) = file_path(name.as_str(), rules)
+                && let Some(folder) = folder_of(path, rules)
+            {
+                self.push(folder, query, Source::File(index), entries)?;
+            }
+        }
+        Ok(())
+    }
+
+    /// Adds the pages of folders without their slashes.
+    fn push_folders(&self, names: &[String], entries: &mut Vec<Entry>) -> Result<(), SiteError>
+        ensures { IfErr result IsOfFiles }
+    {
+        for name in names {
+            self.push_folder(name.as_str(), entries)?;
+        }
+        Ok(())
+    }
+
+    /// Adds the page at a path.
+    fn push(
+        &self,
+        path: &str,
+        query: Option<&str>,
+        source: Source,
+        entries: &mut Vec<Entry>,
+    ) -> Result<(), SiteError>
+        ensures { IfErr result IsOfFiles }
+    {
+        let url = self.url_of(path, query)?;
+        add(url.as_str(), source, entries)
+    }
+
+    /// Adds the page of a folder without its slash, which is moved to the folder with it.
+    fn push_folder(&self, name: &str, entries: &mut Vec<Entry>) -> Result<(), SiteError>
+        ensures { IfErr result IsOfFiles }
+    {
+        let Some(folder) = name.strip_suffix("/") else {
+            return Ok(());
+        };
+        let url = self.url_of(folder, None)?;
+        let target = self.url_of(name, None)?;
+        add(url.as_str(), Source::Moved(target), entries)
+    }
+
+    /// The URL of a path below the top, with a query.
+    fn url_of(&self, path: &str, query: Option<&str>) -> Result<String, AllocError> {
+        let alloc = *self.top.allocator();
+        let mut url = self.top.clone()?;
+        push_name(path, &mut url)?;
+        if let Some(query) = query {
+            push_query(alloc, query, &mut url)?;
+        }
+        Ok(url)
+    }
+}
+
+/// What a server returns for the URL of a file's name, if the file has this index and path.
+fn name_source(path: &str, index: usize, rules: &Rules) -> Source {
+    match folder_of(path, rules) {
+        Some(_) => Source::Index(index),
+        None => Source::File(index),
+    }
+}
+
+/// The number of the page at the own URL of each of `count` files. If another file has the URL of its folder, the own URL of an index
+/// file is that of its name.
+fn own_numbers(
+    alloc: Global,
+    entries: &mut [Entry],
+    count: usize,
+) -> Result<Vec<Option<usize>>, AllocError> {
+    let mut own = vec![in alloc; None; count]?;
+    for (number, entry) in entries.iter().enumerate() {
+        if let Source::File(index) = &entry.source {
+            set_own(own.as_mut_slice(), *index, number);
+        }
+    }
+    set_own_names(entries, own.as_mut_slice());
+    Ok(own)
+}
+
+/// Gives each index file without an own URL that of its name.
+fn set_own_names(entries: &mut [Entry], own: &mut [Option<usize>]) {
+    for (number, entry) in entries.iter_mut().enumerate() {
+        if let Source::Index(index) = &entry.source {
+            let index = *index;
+            if set_own(own, index, number) {
+                entry.source = Source::File(index);
+            }
+        }
+    }
+}
+
+/// Keeps the number of the page at a file's own URL, if none is known, and returns whether it did.
+fn set_own(own: &mut [Option<usize>], index: usize, number: usize) -> bool {
+    match own.get_mut(index) {
+        Some(known) if known.is_none() => {
+            *known = Some(number);
+            true
+        }
+        _ => false,
+    }
+}
+
+fn add(url: &str, source: Source, entries: &mut Vec<Entry>) -> Result<(), SiteError>
+    ensures { IfErr result IsOfFiles }
+{
+    let url = url_at(*entries.allocator(), url)?;
+    entries.push(Entry { url, source })?;
+    Ok(())
+}
+
+/// The first page of each URL; a file that has no page by this is told.
+fn without_doubles(
+    entries: Vec<Entry>,
+    names: &[String],
+    notes: &mut Vec<Note>,
+) -> Result<Vec<Entry>, AllocError> {
+    let mut kept: Vec<Entry> = Vec::new(*entries.allocator());
+    for entry in entries {
+        if is_double(kept.as_slice(), &entry) {
+            tell_double(&entry, names, notes)?;
+        } else {
+            kept.push(entry)?;
+        }
+    }
+    Ok(kept)
+}
+
+/// The path and the query of a file's name; none of a folder's.
+fn file_path<'a>(name: &'a str, rules: &Rules) -> Option<(&'a str, Option<&'a str>)> {
+    if name.ends_with('/') {
+        return None;
+    }
+    Some(split_name(name, rules.queries))
+}
+
+/// The folder whose index file has this path.
+fn folder_of<'a>(path: &'a str, rules: &Rules) -> Option<&'a str> {
+    match path.strip_suffix(rules.index.as_str()) {
+        Some(folder) if folder.is_empty() || folder.ends_with('/') => Some(folder),
+        _ => None,
+    }
+}
+
+/// The order of URLs. Of pages with one URL, that of the first file comes first.
+fn order_of(a: &Entry, b: &Entry) -> Ordering {
+    match a.url.as_str().cmp(b.url.as_str()) {
+        Ordering::Equal => rank_of(a).cmp(&rank_of(b)),
+        order => order,
+    }
+}
+
+fn rank_of(entry: &Entry) -> usize {
+    match &entry.source {
+        Source::File(index) | Source::Index(index) => *index,
+        Source::Moved(_) => usize::MAX,
+    }
+}
+
+/// The canonical URL of a text.
+fn url_at(alloc: Global, text: &str) -> Result<CanonUrl, SiteError>
+    ensures error { IfErr result IsOfFiles }
+    ensures url { IfOk result (λ url. canonical text.now ≡ Ok url) }
+{
+    match canonical(alloc, text) {
+        Ok(url) => Ok(url),
+        Err(KeyError::NoMemory) => Err(SiteError::NoMemory),
+        Err(_) => Err(SiteError::BadBase),
+    }
+}
+
+/// The URL of the top with this text of a site at a URL, which has no query.
+fn top_at(alloc: Global, page: &CanonUrl, text: &str) -> Result<CanonUrl, SiteError>
+    ensures error { IfErr result IsOfFiles }
+    ensures top { IfOk result (λ _. (base : List ℕ) → canonical base ≡ Ok page.now → IsTop base text.now) }
+{
+    let url = url_at(alloc, text)?;
+    let is_top = is_top(alloc, page.as_str(), &url, text)?;
+    if is_top {
+        Ok(url)
+    } else {
+        Err(SiteError::BadBase)
+    }
+}
+
+/// Whether a text is its own URL, and with its escapes read another one, which has no query, with one slash at its end. It is, where
+/// it was made of that URL; it is looked at since it is promised.
+fn is_top(alloc: Global, page: &str, url: &CanonUrl, text: &str) -> Result<bool, AllocError>
+    ensures own { IfOk result (λ is. is ≡ true → url.now ≡ text.now) }
+    ensures plain { IfOk result (λ is. is ≡ true → list_any is_mark page.now ≡ false) }
+    ensures slashed { IfOk result (λ is. is ≡ true → percent_decode text.now ≡ percent_decode (without_slashes page.now) ++ 47 ∷ []) }
+{
+    if !is_same(url, text) || has_query(page) {
+        return Ok(false);
+    }
+    is_slashed(alloc, page, text)
+}
+
+fn has_query(url: &str) -> bool
+    ensures { result ≡ list_any is_mark url.now }
+{
+    url.as_bytes().contains(&b'?')
+}
+
+fn is_same(url: &CanonUrl, text: &str) -> bool
+    ensures { result ≡ true → url.now ≡ text.now }
+{
+    url.as_str() == text
+}
+
+/// Whether the last of the pages has the URL of this one.
+fn is_double(kept: &[Entry], entry: &Entry) -> bool {
+    match kept.last() {
+        Some(last) => last.url == entry.url,
+        None => false,
+    }
+}
+
+fn tell_double(entry: &Entry, names: &[String], notes: &mut Vec<Note>) -> Result<(), AllocError> {
+    if let Source::File(index) | Source::Index(index) = &entry.source
+        && let Some(name) = names.get(*index)
+    {
+        notes.push(Note {
+            left: Left::SameUrl,
+            place: name.clone()?,
+        })?;
+    }
+    Ok(())
+}
+
+/// The scheme and authority of a canonical URL, and what is behind them.
+fn split_origin(url: &str) -> Option<(&str, &str)> {
+    let (scheme, rest) = url.split_once("://")?;
+    let slash = rest.find('/')?;
+    let path = rest.get(slash..)?;
+    let origin = url.get(..url.len().checked_sub(path.len())?)?;
+    if scheme.is_empty() {
+        None
+    } else {
+        Some((origin, path))
+    }
+}
