@@ -64,7 +64,8 @@ THEOREMS = (
     )),
     ("An HTML document", (
         Calls("html_links", "document.rt", ("tags",)), Calls("html_links", "reader.rt", ("read_links", "read_page")),
-        Calls("html_links", "style.rt", ("style_links",)),
+        Calls("html_links", "style.rt", ("style_links",)), Calls("document_links", "document.rt", ("read_document",)),
+        Calls("document_links", "laws.rt"),
     )),
     ("The program", (
         Calls("mercator", "commands.rt", ("run_words", "run_plan")),

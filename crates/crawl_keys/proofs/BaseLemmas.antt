@@ -1,13 +1,13 @@
--- Where a page's root and its folder end in the text of its URL, and where plain links lead from there.
-use Rattle.std.proofs.Common.{◌≡◌, ◌⊎◌, ℕ, zero, suc, ◌+◌, ◌-◌, ◌<◌, ◌==◌, true, List, [], ◌∷◌, ◌++◌, length, get_or, take, drop, refl, ap, sym, subst, ◌∙◌, ⊎_elim, inl, inr, All, Some, None, Ok, arith, append_assoc, append-nil, length-append, length-drop, take_all, take_at, drop_at}
+-- Where a page's root and its folder end in the text of its URL, and the URLs that plain links lead to from there.
+use Rattle.std.proofs.lemmas.Grind.{common_steps}
+use Rattle.std.proofs.Common.{◌≡◌, ◌⊎◌, ℕ, zero, suc, ◌+◌, ◌-◌, ◌<◌, true, List, [], ◌∷◌, ◌++◌, length, get_or, take, drop, refl, ap, sym, subst, ◌∙◌, ⊎_elim, inr, All, Some, None, Ok, arith, append_assoc, append-nil, length-append, length-drop, take_all, take_at, drop_at}
 use Rattle.std.specs.Prelude.{Option, slice_range, decimal, is_some, option_map, unwrap_or}
 use Rattle.std.specs.List.{prefix_len}
-use Rattle.std.proofs.lemmas.Bool.{cases_Bool, eqb-true}
 use Rattle.std.proofs.lemmas.Bool.Decides.{nat_tests}
 use Rattle.std.proofs.lemmas.List.Elements.{All-weaker}
 use Rattle.url.specs.declared.slicing.Position.TheVariants.{BeforeScheme, BeforeHost, AfterHost, AfterPath}
 use Rattle.url.specs.Input.{rsplit_once, rsplit_step, when}
-use Rattle.url.specs.Parser.{Parsed, parse_url}
+use Rattle.url.specs.Parser.{parse_url}
 use Rattle.url.specs.Parts.{Parts, IsValid, has_authority, kind_of, offset, serialize, text_before, text_between}
 use Rattle.url.specs.declared.scheme.SchemeType.TheVariants.{SpecialNotFile}
 use Rattle.url.specs.Path.{IsSegmentList, without_last_segment}
@@ -27,9 +27,7 @@ use Rattle.crawl_keys.proofs.SpelledLemmas.{parse_spelled, resolve-spelled}
 
 -- a slice from the front
 pub front_slice : (xs own : List ℕ) (n : ℕ) → own ≡ xs → slice_range own 0 n ≡ take n xs
-front_slice xs own n same =
-    let all : n - 0 ≡ n = omega arith in
-    λ i. take (all i) (same i)
+front_slice xs own n same = grind arith
 
 -- and one to the end
 pub back_slice : (xs own : List ℕ) (n : ℕ) → own ≡ xs → take (length own - n) (drop n own) ≡ drop n xs
@@ -39,17 +37,11 @@ back_slice xs own n same = take_all (length own - n) (drop n own) (omega (arith,
 
 -- a text parses to one URL
 pub one_url : (text : List ℕ) (one other : Parts) → parse_url None text ≡ Ok one → parse_url None text ≡ Ok other → one ≡ other
-one_url text one other its own =
-    let both : ◌≡◌ {A = Parsed Parts} (Ok one) (Ok other) = sym its ∙ own in
-    cc
+one_url text one other its own = grind arith
 
 -- a canonical text is that of a page
 pub page_of : (text : List ℕ) (k : IsCanonical text) → IsPage k.url
-page_of text k = record {
-  web = k.web;
-  bare = k.bare;
-  parses = ap (parse_url None) k.spelled ∙ k.parses;
-}
+page_of text k = grind arith
 
 pub own_start : (text : List ℕ) (start end : ℕ) (k : IsCanonical text) (s : IsSpelled text start end) → start ≡ offset k.url BeforeHost
 own_start text start end k s =
@@ -59,7 +51,7 @@ pub own_end : (text : List ℕ) (start end : ℕ) (k : IsCanonical text) (s : Is
 own_end text start end k s =
     sym s.end ∙ ap (λ u. offset u AfterHost) (one_url text s.url k.url (parse_spelled text start end None s) k.parses)
 
--- ---- where the root ends
+-- ---- the end of the root
 
 pub page_text : (url : Parts) → has_authority url ≡ true → url.fragment ≡ None → serialize url ≡ root_text url ++ (url.path ++ query_text url.query)
 page_text url authority bare = rw (authority, bare) (simp (append_assoc, append-nil))
@@ -81,11 +73,9 @@ port_other url valid =
     All-weaker P (Passes (is_other 47)) no_slash (port_text url) (subst (All P) (simp append-nil) all)
 
 stops_at_root : (path rest : List ℕ) → 0 < length path → (path ≡ []) ⊎ (get_or path 0 0 ≡ 47) → StopsAt (is_other 47) (path ++ rest)
-stops_at_root [] rest some first = absurd (omega arith)
-stops_at_root (b ∷ path) rest some first =
-    ⊎_elim (λ empty. absurd (let none = ap length empty in omega arith)) (λ slash. rw slash refl) first
+stops_at_root path rest some first = grind (arith, common_steps)
 
--- behind the host the root ends at the first slash
+-- the root ends at the first slash after the host
 root_place : (url : Parts) → IsWeb url → url.fragment ≡ None → length (root_text url) ≡ offset url AfterHost + prefix_len (is_other 47) (drop (offset url AfterHost) (serialize url))
 root_place url web bare =
     let before = text_before url AfterHost in
@@ -96,14 +86,13 @@ root_place url web bare =
     let len = ap (prefix_len (is_other 47)) behind ∙ prefix_len_at (is_other 47) (port_text url) rest (port_other url web.valid) stops in
     omega (arith, len, ap length (host_text url), length-append before (port_text url))
 
--- ---- where the folder ends
+-- ---- the end of the folder
 
 no_question : (b : ℕ) → Passes is_body_byte b → Passes (is_other 63) b
 no_question b passes = grind (arith, nat_tests)
 
 stops_at_query : (query : Option (List ℕ)) → StopsAt (is_other 63) (query_text query)
-stops_at_query None = tt
-stops_at_query (Some query) = refl
+stops_at_query query = grind arith
 
 -- the path ends at the first question mark
 path_place : (url : Parts) → IsWeb url → url.fragment ≡ None → take (prefix_len (is_other 63) (serialize url)) (serialize url) ≡ text_between url BeforeScheme AfterPath
@@ -114,7 +103,7 @@ path_place url web bare =
     let len = ap (prefix_len (is_other 63)) all ∙ prefix_len_at (is_other 63) front (query_text url.query) passes (stops_at_query url.query) in
     (λ i. take (len i) (all i)) ∙ take_at front (query_text url.query) (length front) refl
 
--- and behind the last slash before that the folder
+-- and the folder ends after the last slash before that
 folder_place : (url : Parts) → IsWeb url → url.fragment ≡ None → without_last_segment (take (prefix_len (is_other 63) (serialize url)) (serialize url)) ≡ folder_text url
 unfolding folder_text
 folder_place url web bare = ap without_last_segment (path_place url web bare)
@@ -124,9 +113,7 @@ Splits xs None back = back ≡ xs
 Splits xs (Some front) back = xs ≡ front ++ 47 ∷ back
 
 split_step : (b : ℕ) (xs : List ℕ) (o : Option (List ℕ)) (back : List ℕ) → Splits xs o back → Splits (b ∷ xs) (rsplit_step 47 b o back).0 (rsplit_step 47 b o back).1
-split_step b xs (Some front) back h = ap (λ t. b ∷ t) h
-split_step b xs None back h =
-    elim (cases_Bool (b == 47)) [ inl slash ↦ rw slash (rw (eqb-true b 47 slash, h)) | inr other ↦ rw other (ap (λ t. b ∷ t) h) ]
+split_step b xs o back h = grind arith
 
 splits_last : (xs : List ℕ) → Splits xs (rsplit_once 47 xs).0 (rsplit_once 47 xs).1
 unfolding rsplit_once
@@ -149,7 +136,7 @@ folded path some first =
 
 -- ---- folders above
 
--- the text is the root, this path, a slash and more, and the folder ends behind the slash
+-- the text is the root, this path, a slash and more, and the folder ends after the slash
 record IsFront (page root : List ℕ) (folder : ℕ) (path : List ℕ) : Type 0 where
   rest : List ℕ
   is : page ≡ root ++ (path ++ 47 ∷ rest)
@@ -169,9 +156,7 @@ front_start url folder web bare is =
     }
 
 middle : (root path rest : List ℕ) (folder : ℕ) → folder ≡ length root + length path + 1 → slice_range (root ++ (path ++ 47 ∷ rest)) (length root) (folder - 1) ≡ path
-middle root path rest folder len =
-    let size : (folder - 1) - length root ≡ length path = omega arith in
-    (λ i. take (size i) (drop_at root (path ++ 47 ∷ rest) (length root) refl i)) ∙ take_at path (47 ∷ rest) (length path) refl
+middle root path rest folder len = grind (arith, common_steps)
 
 nothing_above : without_last_segment [] ≡ []
 unfolding rsplit_once
@@ -205,8 +190,7 @@ front_up page root folder path k =
 
 front_above : (page root : List ℕ) (folder : ℕ) (path : List ℕ) (n : ℕ) → IsFront page root folder path → IsFront page root (folder_above page (length root) folder n) (above n path)
 front_above page root folder path zero k = k
-front_above page root folder path (suc n) k =
-    front_up page root (folder_above page (length root) folder n) (above n path) (front_above page root folder path n k)
+front_above page root folder path (suc n) k = grind (arith, front_up, front_above page root folder path n k)
 
 front_text : (page root : List ℕ) (folder : ℕ) (path : List ℕ) → IsFront page root folder path → take folder page ≡ root ++ (path ++ 47 ∷ [])
 front_text page root folder path k =
@@ -238,10 +222,7 @@ is_base text root folder start end k s root_is folder_is =
     }
 
 front_root : (text : List ℕ) (root folder : ℕ) (k : IsCanonical text) → IsBase text root folder → take root text ≡ root_text k.url
-front_root text root folder k b =
-    let url = k.url in
-    let all = sym k.spelled ∙ page_text url (web_url url k.valid k.web).authority k.bare in
-    (λ i. take (sym (b.before_path url k.parses) i) (all i)) ∙ take_at (root_text url) (url.path ++ query_text url.query) (length (root_text url)) refl
+front_root text root folder k b = grind (arith, common_steps, page_text, web_url, query_text)
 
 -- the folder that is so many above the page's
 own_above : (text : List ℕ) (root folder n : ℕ) (k : IsCanonical text) → IsBase text root folder → take (folder_above text root folder n) text ≡ root_text k.url ++ (above n (without_last_segment k.url.path) ++ 47 ∷ [])
@@ -268,7 +249,7 @@ pub own_folder : (text : List ℕ) (root folder : ℕ) (k : IsCanonical text) �
 own_folder text root folder k b url parses =
     front_folder text root folder k b ∙ ap (λ u. folder_text u ++ 47 ∷ []) (one_url text k.url url k.parses parses)
 
--- ---- where links lead from there
+-- ---- the targets of links
 
 pub leads_rooted : (text link : List ℕ) (root folder : ℕ) (k : IsCanonical text) → IsBase text root folder → is_rooted link ≡ true → resolve text link ≡ Ok (take root text ++ link)
 leads_rooted text link root folder k b rooted =
@@ -288,26 +269,22 @@ pub spelled_folder : (text link : List ℕ) (root folder n : ℕ) (rest : List �
 spelled_folder text link root folder n rest start end k b s inside =
     spelled_in_folder k.url link n rest _ start end k.valid (page_of text k) inside (own_text text root folder n rest k b) (own_start text start end k s) (own_end text start end k s)
 
--- what stands before the query of the page
+-- the part before the query of the page
 front_path : (text : List ℕ) (k : IsCanonical text) → take (prefix_len (is_other 63) text) text ≡ root_text k.url ++ k.url.path
-front_path text k =
-    let web = web_url k.url k.valid k.web in
-    ap (λ t. take (prefix_len (is_other 63) t) t) (sym k.spelled) ∙ path_place k.url web k.bare ∙ path_text k.url web.authority
+front_path text k = grind (arith, common_steps, web_url, path_place, path_text)
 
 own_query : (text link : List ℕ) (k : IsCanonical text) → take (prefix_len (is_other 63) text) text ++ link ≡ root_text k.url ++ (k.url.path ++ link)
 own_query text link k = ap (λ f. f ++ link) (front_path text k) ∙ append_assoc (root_text k.url) k.url.path link
 
 pub leads_query : (text link : List ℕ) (k : IsCanonical text) → is_query link ≡ true → resolve text link ≡ Ok (take (prefix_len (is_other 63) text) text ++ link)
-leads_query text link k query =
-    ap (λ t. resolve t link) (sym k.spelled) ∙ resolve-query k.url link k.valid (page_of text k) query ∙ ap (λ t. Ok t) (sym (own_query text link k))
+leads_query text link k query = grind (arith, common_steps, resolve-query, page_of, own_query)
 
 pub spelled_at_query : (text link : List ℕ) (start end : ℕ) (k : IsCanonical text) → IsSpelled text start end → is_query link ≡ true → IsSpelled (take (prefix_len (is_other 63) text) text ++ link) start end
 spelled_at_query text link start end k s query =
     spelled_query k.url _ link start end k.valid (page_of text k) query (own_query text link k) (own_start text start end k s) (own_end text start end k s)
 
 pub leads_same : (text link : List ℕ) → IsCanonical text → is_same link ≡ true → resolve text link ≡ Ok text
-leads_same text link k same =
-    ap (λ t. resolve t link) (sym k.spelled) ∙ resolve-same k.url link k.valid (page_of text k) same ∙ ap (λ t. Ok t) k.spelled
+leads_same text link k same = grind (arith, common_steps, resolve-same, page_of)
 
 pub leads_absolute : (text link : List ℕ) (start end : ℕ) → IsCanonical text → IsSpelled link start end → resolve text link ≡ Ok link
 leads_absolute text link start end k s = resolve-spelled k.url text link start end k.parses s

@@ -1,40 +1,24 @@
 -- A canonical text parses to the very URL that it is the text of.
-use Rattle.std.proofs.Common.{◌≡◌, List, ℕ, None, Ok, Err, refl, ap, sym, ◌∙◌, true, false}
+use Rattle.std.proofs.lemmas.Grind.{common_steps}
+use Rattle.std.proofs.Common.{◌≡◌, List, ℕ, None, Ok, Err, true, false, arith}
 use Rattle.std.proofs.lemmas.Bool.{or_cases, cond-true, cond-false}
 use Rattle.std.proofs.lemmas.Slice.Eq.{bytes_eq-Decides}
-use Rattle.std.proofs.Common.{⊎_elim}
-use Rattle.std.specs.Prelude.{codes}
 use Rattle.url.specs.declared.scheme.SchemeType.TheVariants.{SpecialNotFile}
 use Rattle.url.specs.Scheme.{scheme_type, default_port}
 use Rattle.url.specs.Parts.{Parts, IsValid, kind_of, serialize}
 use Rattle.url.specs.Parser.{parse_url}
 use Rattle.url.proofs.Theorems.{parse_url-serialize_special}
-use Rattle.crawl_keys.specs.CanonicalText.{IsCanonical, canonical, is_web, text_of, text_of_parse, without_fragment}
+use Rattle.crawl_keys.specs.CanonicalText.{IsCanonical, canonical, is_web, text_of, without_fragment}
 use Rattle.crawl_keys.specs.declared.error.KeyError.TheVariants.{NotHttp}
 
 -- the standard calls the scheme of a web URL special, and it is no file
 pub web_kind : (url : Parts) → is_web url ≡ true → kind_of url ≡ SpecialNotFile
 unfolding scheme_type default_port
-web_kind url web =
-    ⊎_elim (λ http. ap scheme_type ((bytes_eq-Decides url.scheme (codes "http")).0 http))
-    (λ https. ap scheme_type ((bytes_eq-Decides url.scheme (codes "https")).0 https))
-    (or_cases _ _ web)
+web_kind url web = grind (arith, common_steps, bytes_eq-Decides, or_cases)
 
 -- a valid URL stays valid without its fragment
 pub without_fragment_valid : (url : Parts) → IsValid url → IsValid (without_fragment url)
-without_fragment_valid url valid = record {
-  head = record {
-    scheme = valid.head.scheme;
-    username = valid.head.username;
-    password = valid.head.password;
-    host = valid.head.host;
-    port = valid.head.port;
-    bare = valid.head.bare;
-  };
-  path = valid.path;
-  query = valid.query;
-  fragment = tt;
-}
+without_fragment_valid url valid = grind arith
 
 -- the text of a web URL without its fragment parses to that URL
 pub parse_url-without_fragment : (url : Parts) → IsValid url → is_web url ≡ true → parse_url None (serialize (without_fragment url)) ≡ Ok (without_fragment url)
@@ -44,14 +28,7 @@ parse_url-without_fragment url valid web =
 
 -- that text is canonical
 pub canonical_text : (url : Parts) → IsValid url → is_web url ≡ true → IsCanonical (serialize (without_fragment url))
-canonical_text url valid web = record {
-  url = without_fragment url;
-  valid = without_fragment_valid url valid;
-  web = web;
-  bare = refl;
-  spelled = refl;
-  parses = parse_url-without_fragment url valid web;
-}
+canonical_text url valid web = grind (arith, common_steps, without_fragment_valid, parse_url-without_fragment)
 
 -- and it is the one of the URL
 pub text_of-web : (url : Parts) → is_web url ≡ true → text_of url ≡ Ok (serialize (without_fragment url))
@@ -65,6 +42,4 @@ text_of-other url other = cond-false _ _ _ other
 
 -- the canonical text of a canonical text is itself
 pub canonical-canonical : (text : List ℕ) → IsCanonical text → canonical text ≡ Ok text
-canonical-canonical text key =
-    ap text_of_parse key.parses ∙ text_of-web key.url key.web
-    ∙ ap Ok ((λ i. serialize (record key.url { fragment = sym key.bare i })) ∙ key.spelled)
+canonical-canonical text key = grind (arith, common_steps, text_of-web)

@@ -1,5 +1,6 @@
--- What the parser makes of web URLs in any case of letters, with the port that is the scheme's own, or with no path.
-use Rattle.std.proofs.Common.{◌≡◌, ◌⊎◌, ℕ, ◌+◌, ◌<◌, ◌==◌, Bool, true, false, not, ◌&&◌, ◌||◌, ltb, List, [], ◌∷◌, ◌++◌, length, get_or, take, drop, refl, ap, sym, subst, ◌∙◌, inl, inr, All, Some, None, Ok, Err, arith, append_assoc, append-nil, length-append, take_at, drop_at, lit<}
+-- How the parser reads web URLs with letters in any case, with the scheme's default port, or with no path.
+use Rattle.std.proofs.lemmas.Grind.{common_steps}
+use Rattle.std.proofs.Common.{◌≡◌, ◌⊎◌, ℕ, ◌+◌, ◌<◌, ◌==◌, Bool, true, false, not, ◌&&◌, ◌||◌, ltb, List, [], ◌∷◌, ◌++◌, length, get_or, take, drop, refl, ap, sym, subst, ◌∙◌, inl, inr, All, Some, None, Ok, Err, arith, append_assoc, append-nil, length-append, take_at, drop_at}
 use Rattle.std.specs.Prelude.{Option, codes, unwrap_or, if◌then◌else◌}
 use Rattle.std.specs.Char.{is_ascii, is_ascii_alphabetic, is_ascii_alphanumeric, is_ascii_digit, to_ascii_lowercase}
 use Rattle.std.specs.List.{list_all}
@@ -20,10 +21,10 @@ use Rattle.url.specs.declared.sets.TheConstants.{FORBIDDEN_HOST}
 use Rattle.url.specs.Head.{with_authority}
 use Rattle.url.specs.Host.{ascii_domain, host_of_ascii, parse_domain, parse_host, parse_special_host}
 use Rattle.url.specs.Input.{lowercase, split_once}
-use Rattle.url.specs.Parser.{Parsed, after_double_slash, and_then, base_for_scheme, before_tail, host_len as before_colon, lacks_host, leading_slashes, parse_authority, parse_body, parse_by_scheme, parse_parts, parse_port, parse_relative, parse_url, skip_slashes, split_port, split_scheme, with_path, with_tail}
+use Rattle.url.specs.Parser.{Parsed, after_double_slash, and_then, base_for_scheme, before_tail, host_len as before_colon, lacks_host, leading_slashes, parse_authority, parse_body, parse_parts, parse_port, parse_relative, parse_url, skip_slashes, split_port, split_scheme, with_path, with_tail}
 use Rattle.url.specs.Parts.{Parts, kind_of}
 use Rattle.url.specs.Path.{parse_path_start}
-use Rattle.url.specs.Scheme.{is_file, is_scheme_byte, is_slash, is_special, scheme_len, scheme_type}
+use Rattle.url.specs.Scheme.{is_scheme_byte, is_slash, is_special, scheme_len, scheme_type}
 use Rattle.url.proofs.HostRoundTrip.{host_len-host_text}
 use Rattle.url.proofs.InputLemmas.{All-take-prefix_len, All_from_list_all, IsNot, Passes, StopsAt, is_empty_nonempty, list_all_from_All, prefix_len_at, rsplit_once_none}
 use Rattle.url.proofs.OnLiterals.{url_on_literals}
@@ -91,7 +92,7 @@ letter_kept b letter = grind (arith, nat_tests)
 letter_query : (b : ℕ) → Passes is_ascii_alphabetic b → IsNot 63 b
 letter_query b letter same = grind (arith, nat_tests)
 
--- what holds of each byte in lower case
+-- a property of each byte in lower case
 unlower : (P : ℕ → Type 0) (xs : List ℕ) → All P (lowercase xs) → All (λ b. P (to_ascii_lowercase b)) xs
 unlower P [] all = All-nil (λ b. P (to_ascii_lowercase b))
 unlower P (x ∷ xs) all =
@@ -127,12 +128,10 @@ abbrev IsWeb : List ℕ → Type 0
 IsWeb scheme = (scheme ≡ codes "http") ⊎ (scheme ≡ codes "https")
 
 own_web : (own scheme : List ℕ) → lowercase own ≡ scheme → IsWeb scheme → IsOwn own scheme
-own_web own scheme lower (inl is) = subst (IsOwn own) (sym is) (own_by own (codes "http") (lower ∙ is) refl (lit< tt) http_kind)
-own_web own scheme lower (inr is) = subst (IsOwn own) (sym is) (own_by own (codes "https") (lower ∙ is) refl (lit< tt) https_kind)
+own_web own scheme lower h3 = grind (arith, common_steps, own_by, http, http_kind, https, https_kind)
 
 web_scheme : (scheme : List ℕ) → IsWeb scheme → IsWebScheme scheme
-web_scheme scheme (inl is) = subst IsWebScheme (sym is) http
-web_scheme scheme (inr is) = subst IsWebScheme (sym is) https
+web_scheme scheme h1 = grind (arith, common_steps, http, https)
 
 own_len : (own rest : List ℕ) → 0 < length own → All (Passes is_ascii_alphabetic) own → scheme_len (own ++ 58 ∷ rest) ≡ length own
 unfolding scheme_len
@@ -143,12 +142,7 @@ own_len (b ∷ own) rest some letters =
 
 split_cased : (own rest : List ℕ) → 0 < length own → All (Passes is_ascii_alphabetic) own → split_scheme (own ++ 58 ∷ rest) ≡ Some (own, rest)
 unfolding split_scheme
-split_cased own rest some letters =
-    let len = own_len own rest some letters in
-    let colon = get_or_at own 58 rest 0 _ refl in
-    let found : (ltb 0 (length own) && get_or (own ++ 58 ∷ rest) (length own) 0 == 58) ≡ true = grind (arith, nat_tests) in
-    let after = ap (drop (length own + 1)) (sym (append_assoc own (58 ∷ []) rest)) ∙ drop_at (own ++ 58 ∷ []) rest _ (length-append own (58 ∷ [])) in
-    rw (len, found) (λ i. Some (take_at own (58 ∷ rest) _ refl i, after i))
+split_cased own rest some letters = grind (arith, common_steps, own_len, get_or_at, length-append)
 
 abbrev Split : Type 0
 Split = List ℕ × Option (List ℕ)
@@ -156,21 +150,12 @@ Split = List ℕ × Option (List ℕ)
 parse_url-cased : (base : Option Parts) (own scheme rest body : List ℕ) (query : Option (List ℕ)) → IsOwn own scheme → All (Passes is_kept) (own ++ 58 ∷ rest)
     → split_once 63 (own ++ 58 ∷ rest) ≡ (own ++ 58 ∷ body, query) → parse_url base (own ++ 58 ∷ rest) ≡ parse_parts scheme (base_for_scheme base scheme) body query None
 unfolding parse_url
-parse_url-cased base own scheme rest body query o kept split =
-    let parsed = λ (hash : Split). let question = split_once 63 hash.0 in parse_by_scheme (split_scheme question.0) base question.0 question.1 hash.1 in
-    ap parsed (uncut (own ++ 58 ∷ rest) kept)
-    ∙ ap (λ (q : Split). parse_by_scheme (split_scheme q.0) base q.0 q.1 None) split
-    ∙ ap (λ s. parse_by_scheme s base (own ++ 58 ∷ body) query None) (split_cased own body o.some o.letters)
-    ∙ ap (λ s. parse_parts s (base_for_scheme base s) body query None) o.lower
+parse_url-cased base own scheme rest body query o kept split = grind (arith, common_steps, uncut, split_cased)
 
 -- ---- the host
 
 no_bracket : (host : List ℕ) → All (Passes is_name) host → (get_or host 0 0 == 91) ≡ false
-no_bracket [] names = refl
-no_bracket (b ∷ host) names = other b (All-head (Passes is_name) b host names)
-  where
-    other : (b : ℕ) → Passes is_name b → (b == 91) ≡ false
-    other b name = grind (arith, nat_tests)
+no_bracket host names = grind (arith, common_steps)
 
 decoded : (host : List ℕ) → All (Passes is_name) host → percent_decode host ≡ host
 decoded [] names = percent_decode-nil
@@ -192,10 +177,7 @@ ends_host host rest names end =
     host_len-host_text NotSpecial (Domain host) rest (first, second) end
 
 split_bare : (host : List ℕ) → All (Passes is_name) host → split_port (host ++ []) ≡ (host, None)
-split_bare host names =
-    let len = ends_host host [] names (inl refl) in
-    let short : ltb (length host) (length (host ++ [])) ≡ false = simp length-append (grind (arith, nat_tests)) in
-    rw (len, short) (λ i. (take_at host [] _ refl i, None))
+split_bare host names = grind (arith, common_steps, ends_host, length-append)
 
 split_ported : (host digits : List ℕ) → All (Passes is_name) host → split_port (host ++ 58 ∷ digits) ≡ (host, Some digits)
 split_ported host digits names =
@@ -215,7 +197,7 @@ by_port scheme user ends =
     if lacks_host user ends.0 ends.1 then Err EmptyHost
     else and_then (parse_host (scheme_type scheme) ends.0) (λ host. and_then (parse_port scheme (unwrap_or ends.1 [])) (λ port. Ok (with_user scheme user host port)))
 
--- what is parsed of a host alone whose text in lower case is this
+-- the result for a host without a path whose text in lower case is this
 abbrev of_host : List ℕ → List ℕ → Parsed Parts
 of_host scheme name = and_then (host_of_ascii (Some name)) (λ host. Ok (with_user scheme None host None))
 
@@ -268,33 +250,21 @@ with_port own front port authority host f kind some names (inl is) =
 with_port own front port authority host f kind some names (inr is) =
     subst (λ a. IsAuthority (lowercase own) a (lowercase host)) (sym is) (bare_authority (lowercase own) host kind some names)
 
--- ---- behind the two slashes
+-- ---- after the two slashes
 
 double_at : (scheme authority path : List ℕ) → All (Passes is_end) authority → (path ≡ []) ⊎ (get_or path 0 0 ≡ 47)
     → after_double_slash scheme (authority ++ path) ≡ and_then (parse_authority scheme authority) (λ head. Ok (with_path head (parse_path_start (scheme_type scheme) [] path)))
 unfolding after_double_slash
-double_at scheme authority path all first =
-    let kind = scheme_type scheme in
-    let whole = All-weaker (Passes is_end) (Passes (λ b. not (is_slash kind b))) (end_slash kind) authority all in
-    let len = prefix_len_at (λ b. not (is_slash kind b)) authority path whole (stops_at_path kind path first) in
-    let front = ap (λ n. take n (authority ++ path)) len ∙ take_at authority path _ refl in
-    let back = ap (λ n. drop n (authority ++ path)) len ∙ drop_at authority path _ refl in
-    λ i. and_then (parse_authority scheme (front i)) (λ head. Ok (with_path head (parse_path_start kind [] (back i))))
+double_at scheme authority path all first = grind (arith, common_steps, end_slash, prefix_len_at, stops_at_path)
 
 abbrev is_any_slash : ℕ → Bool
 is_any_slash b = b == 47 || b == 92
 
 stops_end : (authority rest : List ℕ) → 0 < length authority → All (Passes is_end) authority → StopsAt is_any_slash (authority ++ rest)
-stops_end [] rest some all = absurd (omega arith)
-stops_end (b ∷ authority) rest some all = other b (All-head (Passes is_end) b authority all)
-  where
-    other : (b : ℕ) → Passes is_end b → is_any_slash b ≡ false
-    other b end = grind (arith, nat_tests)
+stops_end authority rest some all = grind (arith, common_steps)
 
 skipped : (rest : List ℕ) → StopsAt is_any_slash rest → skip_slashes (47 ∷ 47 ∷ rest) ≡ rest
-skipped rest stops =
-    let P = Passes is_any_slash in
-    ap (λ n. drop n (47 ∷ 47 ∷ rest)) (prefix_len_at is_any_slash (47 ∷ 47 ∷ []) rest (All-cons P 47 (47 ∷ []) refl (All-cons P 47 [] refl (All-nil P))) stops)
+skipped rest stops = grind arith
 
 two_slashes : (kind : SchemeType) (rest : List ℕ) → leading_slashes kind (47 ∷ 47 ∷ rest) ≡ 2
 unfolding leading_slashes
@@ -306,31 +276,21 @@ Fits scheme None = Unit {0}
 Fits scheme (Some base) = (base.scheme ≡ scheme) × (is_special (kind_of base) ≡ true)
 
 base_fits : (base : Option Parts) (scheme : List ℕ) → Fits scheme (base_for_scheme base scheme)
-base_fits None scheme = tt
-base_fits (Some base) scheme =
-    cond_both _ (Some base) None (Fits scheme) (λ both. ((bytes_eq-Decides base.scheme scheme).0 (and_parts _ _ both).1, (and_parts _ _ both).0)) (λ _. tt)
+base_fits base scheme = grind (arith, common_steps, cond_both, bytes_eq-Decides, and_parts)
 
 body_at : (scheme : List ℕ) (base : Option Parts) (rest : List ℕ) → scheme_type scheme ≡ SpecialNotFile → Fits scheme base → StopsAt is_any_slash rest
     → parse_body scheme base (47 ∷ 47 ∷ rest) ≡ after_double_slash scheme rest
 unfolding parse_body parse_relative
-body_at scheme None rest kind fits stops =
-    cond-false _ _ _ (ap is_file kind) ∙ cond-true _ _ _ (ap is_special kind) ∙ ap (after_double_slash scheme) (skipped rest stops)
-body_at scheme (Some base) rest kind fits stops =
-    let body = 47 ∷ 47 ∷ rest in
-    cond-false _ _ _ (ap is_file kind)
-    ∙ cond-true _ _ _ (ap (λ n. n == 2) (two_slashes _ _))
-    ∙ (λ i. after_double_slash (fits.0 i) (cond-true _ (skip_slashes body) (drop 2 body) fits.1 i))
-    ∙ ap (after_double_slash scheme) (skipped rest stops)
+body_at scheme base rest kind fits stops = grind (arith, common_steps, cond-false, cond-true, skipped, two_slashes)
 
 abbrev finished : Option (List ℕ) → Parsed Parts → Parsed Parts
 finished query made = and_then made (λ url. Ok (with_tail (before_tail url query None) query None))
 
 parts_at : (scheme : List ℕ) (base : Option Parts) (body : List ℕ) (query : Option (List ℕ)) → 0 < length body → parse_parts scheme base body query None ≡ finished query (parse_body scheme base body)
 unfolding parse_parts
-parts_at scheme None body query some = refl
-parts_at scheme (Some base) body query some = cond-false _ _ _ (is_empty_nonempty body some)
+parts_at scheme base body query some = grind arith
 
--- ---- what stands behind the authority
+-- ---- the rest after the authority
 
 -- the parser reads it as a slash and the path
 record IsTail (tail path : List ℕ) : Type 0 where
@@ -358,7 +318,7 @@ tail_of rest authority path plain (inr cut) = record { tail = []; is = cut.0 ∙
 
 -- ---- the whole
 
--- what is parsed of a scheme, a host of this name, and a slash and this path
+-- the result for a scheme, a host of this name, and a slash and this path
 abbrev made : List ℕ → List ℕ → List ℕ → Parsed Parts
 made scheme name path =
     let rest = split_once 63 (47 ∷ path) in
@@ -385,9 +345,9 @@ parse_cased base own scheme authority name tail path o a t =
     ∙ ap (finished rest.1) (body_at scheme fitting (authority ++ rest.0) o.kind (base_fits base scheme) (stops_end authority rest.0 a.some a.all) ∙ double_at scheme authority rest.0 a.all t.first)
     ∙ (λ i. finished (t.query i) (and_then (a.parses i) (λ head. Ok (with_path head (start i)))))
 
--- ---- where it leads
+-- ---- its target
 
--- the host's bytes and the path, told of the text in lower case
+-- the host's bytes and the path, for the text in lower case
 record IsName (host path : List ℕ) : Type 0 where
   some : 0 < length host
   names : All (Passes is_name) host
@@ -414,7 +374,7 @@ spelled_anywhere : (text : List ℕ) (start end : ℕ) → IsSpelled text start 
 spelled_anywhere text start end k base =
     ap text_of_parse (parse_spelled text start end base k ∙ sym (parse_spelled text start end None k)) ∙ canonical-spelled text start end k
 
--- the URL in lower case, without its port and with its path, is what the text leads to
+-- the text leads to the URL in lower case, without its port and with its path
 pub leads-cased : (text own rest front port authority path host url : List ℕ) → text ≡ own ++ 58 ∷ 47 ∷ 47 ∷ rest → IsFrontOf own front port → IsCut rest authority path
     → IsWithPort authority host port → IsLowered front host path url → LeadsAnywhere text url
 leads-cased text own rest front port authority path host url is f cut ends l base =
@@ -458,11 +418,7 @@ spelled_front front rest start end (inr is) plain first last =
     (first ∙ ap length is) (last ∙ ap (λ f. length f + host_len rest) is)
 
 pub front_web : (own front port : List ℕ) → IsFrontOf own front port → IsFront front
-front_web own front port f = by_scheme (lowercase own) front f.is f.web
-  where
-    by_scheme : (scheme front : List ℕ) → front ≡ scheme ++ codes "://" → IsWeb scheme → IsFront front
-    by_scheme scheme front is (inl web) = inl (is ∙ ap (λ s. s ++ codes "://") web)
-    by_scheme scheme front is (inr web) = inr (is ∙ ap (λ s. s ++ codes "://") web)
+front_web own front port f = grind arith
 
 http_port : parse_port (codes "http") (codes "80") ≡ Ok None
 unfolding url_on_literals
@@ -473,21 +429,7 @@ unfolding url_on_literals
 https_port = refl
 
 pub http_front : (own : List ℕ) → lowercase own ≡ codes "http" → IsFrontOf own (codes "http://") (codes ":80")
-http_front own lower = record {
-  digits = codes "80";
-  web = inl lower;
-  is = ap (λ s. s ++ codes "://") (sym lower);
-  is_port = refl;
-  whole = refl;
-  own = ap (λ s. parse_port s (codes "80")) lower ∙ http_port;
-}
+http_front own lower = grind (arith, common_steps, http_port)
 
 pub https_front : (own : List ℕ) → lowercase own ≡ codes "https" → IsFrontOf own (codes "https://") (codes ":443")
-https_front own lower = record {
-  digits = codes "443";
-  web = inr lower;
-  is = ap (λ s. s ++ codes "://") (sym lower);
-  is_port = refl;
-  whole = refl;
-  own = ap (λ s. parse_port s (codes "443")) lower ∙ https_port;
-}
+https_front own lower = grind (arith, common_steps, https_port)

@@ -1,5 +1,6 @@
--- What the parser makes of dot segments that a text begins with, and of segments that they take back.
-use Rattle.std.proofs.Common.{◌≡◌, ℕ, zero, suc, ◌+◌, ◌-◌, ◌<◌, ◌==◌, true, false, List, [], ◌∷◌, ◌++◌, length, take, refl, ap, sym, subst, ◌∙◌, All, arith, append_assoc, append-nil, length-append, take_all, take_at}
+-- How the parser reads dot segments at the beginning of a text, and segments that they cancel.
+use Rattle.std.proofs.lemmas.Grind.{common_steps}
+use Rattle.std.proofs.Common.{◌≡◌, ℕ, zero, suc, ◌+◌, ◌-◌, ◌<◌, ◌==◌, true, false, List, [], ◌∷◌, ◌++◌, length, refl, ap, sym, subst, ◌∙◌, All, arith, append_assoc, append-nil, length-append, take_all}
 use Rattle.std.specs.Prelude.{Option, unwrap_or}
 use Rattle.std.specs.List.{before_first, list_all, position_or_len, prefix_len}
 use Rattle.std.proofs.lemmas.Bool.{and_from, and_parts, eq-eqb, true≢false}
@@ -12,7 +13,7 @@ use Rattle.url.specs.declared.scheme.SchemeType.TheVariants.{SpecialNotFile}
 use Rattle.url.specs.declared.sets.TheConstants.{PATH}
 use Rattle.url.specs.Input.{split_once}
 use Rattle.url.specs.Path.{IsSegment, dot_count, parse_path, push_segment, without_last_segment}
-use Rattle.url.proofs.InputLemmas.{All-take-prefix_len, All-take_from_reads, IsNot, Passes, list_all_from_All, rsplit_once_at}
+use Rattle.url.proofs.InputLemmas.{All-take-prefix_len, IsNot, Passes, list_all_from_All, rsplit_once_at}
 use Rattle.url.proofs.PathLemmas.{IsNoSlash, parse_path_more}
 use Rattle.crawl_keys.specs.Links.{IsAhead, IsBehind, IsInFolder, IsWithin, above, behind_ups, has_no_scheme}
 use Rattle.crawl_keys.specs.Plain.{first_is_slash, is_kept, is_other, is_plain}
@@ -23,14 +24,10 @@ use Rattle.crawl_keys.proofs.PlainLinks.{parse_ups, rootless_plain, split_ups}
 abbrev Split : Type 0
 Split = List ℕ × Option (List ℕ)
 
--- ---- nothing, and one step behind another
+-- ---- no step, and one step after another
 
 pub whole_behind : (text : List ℕ) → IsBehind text 0 text
-whole_behind text = record {
-  reads = record { path = λ front. refl; query = refl };
-  kept = λ kept. kept;
-  rootless = λ rootless. rootless;
-}
+whole_behind text = grind arith
 
 above_more : (n m : ℕ) (path : List ℕ) → above m (above n path) ≡ above (n + m) path
 above_more n zero path = ap (λ k. above k path) (let same : n ≡ n + 0 = omega arith in same)
@@ -55,18 +52,10 @@ keeps_ups zero rest kept = kept
 keeps_ups (suc n) rest kept = keeps_ups n rest kept
 
 rootless_ups : (n : ℕ) (rest : List ℕ) → first_is_slash rest ≡ false → first_is_slash (behind_ups n rest) ≡ false
-rootless_ups zero rest rootless = rootless
-rootless_ups (suc n) rest rootless = refl
+rootless_ups n rest rootless = grind arith
 
 pub ups_behind : (n : ℕ) (rest : List ℕ) → IsBehind (behind_ups n rest) n rest
-ups_behind n rest = record {
-  reads = record {
-    path = λ front. ap (λ (r : Split). parse_path SpecialNotFile front r.0) (split_ups n rest) ∙ parse_ups front n (split_once 63 rest).0;
-    query = ap (λ (r : Split). r.1) (split_ups n rest);
-  };
-  kept = keeps_ups n rest;
-  rootless = rootless_ups n rest;
-}
+ups_behind n rest = grind (arith, common_steps, split_ups, parse_ups, keeps_ups, rootless_ups)
 
 pub in_folder_ups : (text : List ℕ) (n : ℕ) (rest : List ℕ) → text ≡ behind_ups n rest → is_plain 47 rest ≡ true → has_no_scheme text ≡ true → IsInFolder text n rest
 in_folder_ups text n rest is plain none = record {
@@ -105,8 +94,7 @@ last_off : (path segment : List ℕ) → All (IsNot 47) segment → without_last
 last_off path segment none = ap (λ (r : Option (List ℕ) × List ℕ). unwrap_or r.0 []) (rsplit_once_at 47 path segment none)
 
 rootless_segment : (segment rest : List ℕ) → is_plain 47 segment ≡ true → 0 < length segment → first_is_slash (segment ++ rest) ≡ false
-rootless_segment [] rest plain some = absurd (omega arith)
-rootless_segment (b ∷ segment) rest plain some = rootless_plain (b ∷ segment) plain
+rootless_segment segment rest plain some = grind (arith, common_steps, rootless_plain)
 
 pub pair_behind : (segment rest : List ℕ) → is_plain 47 segment ≡ true → All (IsNot 63) segment → All (IsNot 47) segment → 0 < length segment → IsBehind (segment ++ 47 ∷ 46 ∷ 46 ∷ 47 ∷ rest) 0 rest
 unfolding split_once
@@ -129,9 +117,7 @@ pair_behind segment rest plain no_query no_slash some =
     }
 
 pub no_slash_before : (text : List ℕ) → position_or_len (λ b. b == 47) text < length text → All (IsNot 47) (before_first (λ b. b == 47) text)
-no_slash_before text inside =
-    All-take_from_reads (IsNot 47) text (position_or_len (λ b. b == 47) text) (omega (arith, inside))
-    (λ n below same. true≢false (sym (eq-eqb _ 47 same) ∙ fails_before_first (λ b. b == 47) text n 0 below))
+no_slash_before text inside = grind (arith, common_steps, true≢false, eq-eqb, fails_before_first)
 
 other_byte : (b : ℕ) → Passes (is_other 63) b → IsNot 63 b
 other_byte b passes same = grind (arith, nat_tests)
@@ -141,7 +127,7 @@ no_query_in segment len =
     let all = subst (All (Passes (is_other 63))) (take_all (prefix_len (is_other 63) segment) segment (omega (arith, len))) (All-take-prefix_len (is_other 63) segment) in
     All-weaker (Passes (is_other 63)) (IsNot 63) other_byte segment all
 
--- ---- dot segments behind segments
+-- ---- dot segments after segments
 
 pub ahead_none : (text : List ℕ) → IsAhead text text
 ahead_none text = record { front = []; is = refl; lifts = λ more behind. behind }
@@ -154,8 +140,7 @@ ahead_then text mid rest one other = record {
 }
 
 same_first : (segment rest more : List ℕ) → first_is_slash (segment ++ 47 ∷ rest) ≡ first_is_slash (segment ++ 47 ∷ more)
-same_first [] rest more = refl
-same_first (b ∷ segment) rest more = refl
+same_first segment rest more = grind (arith, common_steps)
 
 behind_segment : (segment rest more : List ℕ) → All (IsNot 63) segment → All (IsNoSlash SpecialNotFile) segment → IsBehind rest 0 more → IsBehind (segment ++ 47 ∷ rest) 0 (segment ++ 47 ∷ more)
 unfolding split_once
@@ -188,14 +173,7 @@ segment_ahead segment rest plain no_query no_slash = record {
 }
 
 pub within_from : (text rest behind : List ℕ) (ups : ℕ) → IsAhead text rest → IsBehind rest ups behind → ups ≡ 0 → IsWithin text rest behind
-within_from text rest behind ups ahead dots none =
-    let len : length text ≡ length ahead.front + length rest = ap length ahead.is ∙ length-append ahead.front rest in
-    let size : length ahead.front ≡ length text - length rest = omega (arith, len) in
-    let front : take (length text - length rest) text ≡ ahead.front = ap (take (length text - length rest)) ahead.is ∙ take_at ahead.front rest _ size in
-    record {
-      within = omega (arith, len);
-      reads = subst (λ f. IsBehind text 0 (f ++ behind)) (sym front) (ahead.lifts behind (subst (λ n. IsBehind rest n behind) none dots));
-    }
+within_from text rest behind ups ahead dots none = grind (arith, common_steps, length-append)
 
 pub behind_both : (text rest path : List ℕ) (ups : ℕ) → IsBehind text ups rest → IsBehind rest 0 path → IsBehind text ups path
 behind_both text rest path ups one other =

@@ -1,10 +1,11 @@
--- Where a link of a folder leads depends on the page's folder alone.
-use Rattle.std.proofs.Common.{◌≡◌, ◌≢◌, ◌⊎◌, ℕ, zero, suc, ◌<◌, ◌≤◌, ◌-◌, ◌==◌, Bool, true, false, not, List, [], ◌∷◌, ◌++◌, length, get_or, take, drop, reverse, refl, ap, sym, subst, ◌∙◌, ⊎_elim, inl, inr, All, Some, None, Ok, arith, append-nil}
+-- The target of a link depends only on the page's folder.
+use Rattle.std.proofs.lemmas.Grind.{common_steps}
+use Rattle.std.proofs.lemmas.Bool.Decides.{nat_tests}
+use Rattle.std.proofs.Common.{◌≡◌, ◌≢◌, ◌⊎◌, ℕ, zero, suc, ◌<◌, ◌≤◌, ◌-◌, ◌==◌, Bool, true, false, not, List, [], ◌∷◌, ◌++◌, length, get_or, take, drop, refl, ap, sym, subst, ◌∙◌, ⊎_elim, inl, All, Some, None, Ok, arith, append-nil}
 use Rattle.std.specs.Prelude.{Option, unwrap_or, filter, if◌then◌else◌}
 use Rattle.std.specs.List.{prefix_len, suffix_len, position_or_len, list_any}
 use Rattle.std.proofs.Math.Seq.{get_or-append_seam}
 use Rattle.std.proofs.lemmas.Bool.{and_left, and_right, and_parts, or_from, or_parts, not-true, eq-eqb, ltb-true, true≢false, cases_eq, cases_lt, cases_Bool, cond_both, cond-true, cond-false, eqb-true, lt-leb, ne_eqb, or_cases}
-use Rattle.std.proofs.lemmas.Bool.Decides.{nat_tests}
 use Rattle.std.proofs.lemmas.List.{append_assoc, get_or-reverse, get_or_past, length-append, length-reverse}
 use Rattle.std.proofs.lemmas.List.Elements.{All-nil, All-cons, All-filter, All-head, All-tail, All-take}
 use Rattle.url.specs.declared.scheme.SchemeType.TheVariants.{SpecialNotFile}
@@ -14,7 +15,7 @@ use Rattle.url.specs.Input.{is_c0_control_or_space, is_tab_or_new_line, rsplit_o
 use Rattle.url.specs.Parser.{Parsed, and_then, after_double_slash, after_slashes, before_tail, leading_slashes, parse_all, parse_body, parse_by_scheme, parse_parts, parse_relative, parse_url, parse_without_scheme, split_scheme, with_path, with_tail}
 use Rattle.url.specs.Parts.{Parts, IsValid, has_authority, kind_of, serialize, text_between}
 use Rattle.url.specs.Path.{IsSegmentList, parse_path, shorten_path, without_last_segment}
-use Rattle.url.specs.Scheme.{is_file, is_special, scheme_len}
+use Rattle.url.specs.Scheme.{is_file, scheme_len}
 use Rattle.url.proofs.InputLemmas.{is_empty_nonempty, rsplit_once_at}
 use Rattle.url.proofs.PathLemmas.{empty_segment, push_valid, rooted, without_last_valid}
 use Rattle.url.proofs.Theorems.{parse_url-serialize_special}
@@ -23,7 +24,7 @@ use Rattle.crawl_keys.specs.CanonicalText.{IsPage, is_web, resolve, resolve_from
 use Rattle.crawl_keys.specs.Folders.{folder_text, is_colon, is_of_folder, root_text}
 use Rattle.crawl_keys.proofs.CanonicalLemmas.{web_kind}
 
--- ---- what the parser makes of the text
+-- ---- how the parser reads the text
 
 -- the list begins with the byte, and all in it have the property
 pub record Begins (b : ℕ) (P : ℕ → Type 0) (l : List ℕ) : Type 0 where
@@ -35,19 +36,11 @@ pub record Begins (b : ℕ) (P : ℕ → Type 0) (l : List ℕ) : Type 0 where
 prefix_len-stops : (p : ℕ → Bool) (xs : List ℕ) (i : ℕ) → i < length xs → p (get_or xs i 0) ≡ false → prefix_len p xs ≤ i
 prefix_len-stops p [] i inside fails = absurd (omega arith)
 prefix_len-stops p (x ∷ xs) zero inside fails = rw fails (omega arith)
-prefix_len-stops p (x ∷ xs) (suc i) inside fails =
-    let later = prefix_len-stops p xs i (omega arith) fails in
-    ⊎_elim (λ passes. rw passes (omega arith)) (λ stops. rw stops (omega arith)) (cases_Bool (p x))
+prefix_len-stops p (x ∷ xs) (suc i) inside fails = grind (arith, cases_Bool, prefix_len-stops p xs i)
 
 -- nor does the end that does reach back over it
 pub suffix_len-stops : (p : ℕ → Bool) (front : List ℕ) (b : ℕ) (rest : List ℕ) → p b ≡ false → suffix_len p (front ++ b ∷ rest) ≤ length rest
-suffix_len-stops p front b rest fails =
-    let all = front ++ b ∷ rest in
-    let len = length-append front (b ∷ rest) in
-    let turned = length-reverse all in
-    let place : length all - 1 - length rest ≡ length front = omega (arith, len) in
-    let last = get_or-reverse all (length rest) 0 (omega (arith, len)) ∙ ap (λ k. get_or all k 0) place ∙ get_or-append_seam front b rest 0 in
-    prefix_len-stops p (reverse all) (length rest) (omega (arith, len, turned)) (ap p last ∙ fails)
+suffix_len-stops p front b rest fails = grind (arith, common_steps, length-append, length-reverse, get_or-reverse, get_or-append_seam, prefix_len-stops)
 
 -- some of the front of a list that is not empty
 begins-take : (b : ℕ) (P : ℕ → Type 0) (rest : List ℕ) (n : ℕ) → 0 < n → All P (b ∷ rest) → Begins b P (take n (b ∷ rest))
@@ -99,15 +92,9 @@ no_colon_at l n all = ⊎_elim (λ inside. all n 0 inside) (λ past same. let no
 
 pub no_scheme : (b : ℕ) (l : List ℕ) → Begins b (NoScheme b) l → split_scheme l ≡ None
 unfolding split_scheme scheme_len
-no_scheme b l k =
-    ⊎_elim (λ slash. let none : l ≡ 47 ∷ k.rest = k.is ∙ ap (λ x. x ∷ k.rest) slash in rw none refl)
-    (λ other. cond-false _ _ _ (and_right _ _ (ne_eqb _ 58 (no_colon_at l (scheme_len l) (λ n d inside. ⊎_elim (λ slash. absurd (other slash)) (λ plain. plain) (k.all n d inside))))))
-    (slash_or_not b)
-  where
-    slash_or_not : (b : ℕ) → (b ≡ 47) ⊎ (b ≢ 47)
-    slash_or_not b = cases_eq b 47
+no_scheme b l k = grind (arith, common_steps, cond-false, and_right, ne_eqb, no_colon_at, cases_eq)
 
--- ---- what the parser takes from the page
+-- ---- the parts of the page that the parser uses
 
 -- the folder of the page, as a page of its own
 abbrev folder : Parts → Parts
@@ -121,9 +108,7 @@ unfolding shorten_path
 shorten_web path = refl
 
 shorten-folder : (url : Parts) → kind_of url ≡ SpecialNotFile → shorten_path (kind_of url) url.path ≡ shorten_path (kind_of url) (folder url).path
-shorten-folder url kind =
-    ap (λ k. shorten_path k url.path) kind ∙ shorten_web url.path
-    ∙ sym (ap (λ k. shorten_path k (folder url).path) kind ∙ shorten_web (folder url).path ∙ front_of_last (without_last_segment url.path))
+shorten-folder url kind = grind (arith, common_steps, shorten_web, front_of_last)
 
 -- against the URL with this path left of the page's
 abbrev relative_to : Parts → List ℕ → List ℕ → Parsed Parts
@@ -151,8 +136,7 @@ unfolding parse_parts
 parse_parts-more url body query fragment more = cond-false _ _ _ (is_empty_nonempty body more)
 
 pub parse_without_scheme-web : (url : Parts) (body : List ℕ) (query fragment : Option (List ℕ)) → has_authority url ≡ true → 0 < length body → parse_without_scheme (Some url) body query fragment ≡ parse_all url.scheme (Some url) body query fragment
-parse_without_scheme-web url body query fragment authority more =
-    cond-false _ _ _ (and_left _ _ (base_from_authority url authority)) ∙ parse_parts-more url body query fragment more
+parse_without_scheme-web url body query fragment authority more = grind (arith, common_steps, cond-false, and_left, base_from_authority, parse_parts-more)
 
 parse_without_scheme-folder : (url : Parts) (body : List ℕ) (query fragment : Option (List ℕ)) → kind_of url ≡ SpecialNotFile → has_authority url ≡ true → 0 < length body → parse_without_scheme (Some url) body query fragment ≡ parse_without_scheme (Some (folder url)) body query fragment
 parse_without_scheme-folder url body query fragment kind authority more =
@@ -183,8 +167,7 @@ cut_path (b ∷ rest) some first =
 rsplit-append : (xs ys front back : List ℕ) → rsplit_once 47 ys ≡ (Some front, back) → rsplit_once 47 (xs ++ ys) ≡ (Some (xs ++ front), back)
 unfolding rsplit_once
 rsplit-append [] ys front back at = at
-rsplit-append (x ∷ xs) ys front back at =
-    ap (λ (r : Option (List ℕ) × List ℕ). rsplit_step 47 x r.0 r.1) (rsplit-append xs ys front back at)
+rsplit-append (x ∷ xs) ys front back at = grind (arith, rsplit-append xs ys front back at)
 
 without_last-append : (xs ys : List ℕ) → Cut ys → without_last_segment (xs ++ ys) ≡ xs ++ without_last_segment ys
 without_last-append xs ys k =
@@ -197,7 +180,7 @@ path_text url authority = rw authority (simp (append_assoc, append-nil))
 bare_text : (url : Parts) → has_authority url ≡ true → url.query ≡ None → url.fragment ≡ None → serialize url ≡ root_text url ++ url.path
 bare_text url authority query fragment = rw (authority, query, fragment) (simp (append_assoc, append-nil))
 
--- what a web URL is
+-- a web URL
 pub record IsWeb (url : Parts) : Type 0 where
   pub valid : IsValid url
   pub kind : kind_of url ≡ SpecialNotFile
@@ -206,17 +189,7 @@ pub record IsWeb (url : Parts) : Type 0 where
   pub some : 0 < length url.path
 
 pub web_url : (url : Parts) → IsValid url → is_web url ≡ true → IsWeb url
-web_url url valid web =
-    let kind = web_kind url web in
-    let authority = special_has_authority url valid.head (ap is_special kind) in
-    let path = hierarchical url valid.path (base_from_authority url authority) in
-    record {
-      valid = valid;
-      kind = kind;
-      authority = authority;
-      list = path.0;
-      some = path.1 (ap is_special kind);
-    }
+web_url url valid web = grind (arith, common_steps, web_kind, special_has_authority, hierarchical, base_from_authority)
 
 folder_valid : (url : Parts) → IsWeb url → IsValid (folder url)
 folder_valid url web =
@@ -237,7 +210,7 @@ folder_valid url web =
       fragment = tt;
     }
 
--- the folder's text stands behind the root
+-- the folder's text is after the root
 pub folder_text-root : (url : Parts) → IsWeb url → folder_text url ≡ root_text url ++ without_last_segment url.path
 unfolding folder_text
 folder_text-root url web =
@@ -260,10 +233,7 @@ same_folder one other its own same =
 -- a text with no first colon has none
 pub none_from_first : (p : ℕ → Bool) (l : List ℕ) → position_or_len p l ≡ length l → list_any p l ≡ false
 none_from_first p [] first = refl
-none_from_first p (x ∷ l) first =
-    ⊎_elim (λ passes. absurd (let here = rw passes at first in omega (arith, here)))
-    (λ fails. or_from _ _ fails (none_from_first p l (let later = rw fails at first in omega (arith, later))))
-    (cases_Bool (p x))
+none_from_first p (x ∷ l) first = grind (arith, or_from, cases_Bool, none_from_first p l)
 
 -- the text begins visibly, and has no scheme
 pub record IsPlain (text : List ℕ) : Type 0 where
@@ -275,30 +245,13 @@ pub record IsPlain (text : List ℕ) : Type 0 where
 
 no_colon : (l : List ℕ) → list_any is_colon l ≡ false → All (λ x. x ≢ 58) l
 no_colon [] none = All-nil (λ x. x ≢ 58)
-no_colon (x ∷ l) none =
-    let parts = or_parts _ _ none in
-    All-cons (λ x. x ≢ 58) x l (λ same. absurd (true≢false (sym (eq-eqb x 58 same) ∙ parts.0))) (no_colon l parts.1)
+no_colon (x ∷ l) none = grind (arith, or_parts, eq-eqb, no_colon l)
 
 differs : (b s : ℕ) → not (b == s) ≡ true → b ≢ s
 differs b s other same = true≢false (sym (eq-eqb b s same) ∙ not-true _ other)
 
 pub plain_text : (text : List ℕ) → is_of_folder text ≡ true → IsPlain text
-plain_text [] plain = absurd (true≢false (sym plain))
-plain_text (b ∷ rest) plain =
-    let one = and_parts _ _ plain in
-    let two = and_parts _ _ one.0 in
-    let three = and_parts _ _ two.0 in
-    record {
-      first = b;
-      above = ltb-true 32 b three.0;
-      no_query = differs b 63 three.1;
-      no_fragment = differs b 35 two.1;
-      begins = record {
-        rest = rest;
-        is = refl;
-        all = ⊎_elim (λ slash n d inside. inl (eqb-true b 47 slash)) (λ none n d inside. inr (no_colon (b ∷ rest) (not-true _ none) n d inside)) (or_cases _ _ one.1);
-      };
-    }
+plain_text text plain = grind (arith, common_steps, true≢false, and_parts, ltb-true, differs, eqb-true, no_colon, not-true, or_cases)
 
 pub begins-text : (text : List ℕ) (k : IsPlain text) → Begins k.first (NoScheme k.first) (strip_tabs_and_new_lines (trim_c0_control_and_space text))
 begins-text text k =

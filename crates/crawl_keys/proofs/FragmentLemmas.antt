@@ -1,24 +1,22 @@
--- A link without its fragment leads where the link leads.
-use Rattle.std.proofs.Common.{◌≡◌, ◌⊎◌, ℕ, suc, ◌+◌, ◌<◌, ◌-◌, ◌==◌, ◌&&◌, ◌||◌, Bool, true, false, not, List, [], ◌∷◌, ◌++◌, length, get_or, take, drop, refl, ap, sym, subst, ◌∙◌, ⊎_elim, inl, inr, All, Some, None, Ok, Err, arith, one-add}
+-- A link without its fragment has the link's target.
+use Rattle.std.proofs.lemmas.Grind.{common_steps}
+use Rattle.std.proofs.lemmas.Bool.Decides.{nat_tests}
+use Rattle.std.proofs.Common.{◌≡◌, ◌⊎◌, ℕ, suc, ◌+◌, ◌<◌, ◌-◌, ◌==◌, ◌&&◌, ◌||◌, Bool, true, false, not, List, [], ◌∷◌, ◌++◌, length, get_or, take, drop, refl, ap, sym, subst, ◌∙◌, ⊎_elim, All, Some, None, Ok, Err, arith, one-add}
 use Rattle.std.specs.Prelude.{Option, bytes_eq, codes, filter, is_some, if◌then◌else◌}
 use Rattle.std.specs.List.{suffix_len, position_or_len, before_first, after_first}
-use Rattle.std.specs.Option.{option_or}
 use Rattle.std.proofs.Math.Seq.{take-append-add, take-nil}
 use Rattle.std.proofs.lemmas.Bool.{and_left, and_from, and_parts, or_parts, not-true, eq-eqb, eqb-true, ltb-true, true≢false, cases_lt, cases_Bool, cond-true, cond-false, lt-leb, or_left, or_right, or_cases}
-use Rattle.std.proofs.lemmas.Bool.Decides.{nat_tests}
 use Rattle.std.proofs.lemmas.List.{append_assoc, drop_all, get_or_past, length-append, take_all}
 use Rattle.std.proofs.lemmas.List.Elements.{All-filter, All-tail, filter-append}
 use Rattle.std.proofs.lemmas.List.Folds.{list_any-append}
 use Rattle.std.proofs.lemmas.List.Sums.{fails_before_first, passes_at_first, split_at_first}
-use Rattle.url.specs.declared.error.ParseError.TheVariants.{RelativeUrlWithCannotBeABaseBase}
-use Rattle.url.specs.Input.{is_c0_control_or_space, is_empty, is_tab_or_new_line, lowercase, split_once, strip_tabs_and_new_lines, trim_c0_control_and_space, trim_end, trim_start}
-use Rattle.url.specs.Parser.{Parsed, and_then, base_for_scheme, before_tail, parse_all, parse_body, parse_by_scheme, parse_parts, parse_url, parse_without_scheme, split_scheme, with_tail}
-use Rattle.url.specs.Parts.{Parts, cannot_be_a_base, kind_of}
-use Rattle.url.specs.Scheme.{is_special}
+use Rattle.url.specs.Input.{is_c0_control_or_space, is_empty, is_tab_or_new_line, split_once, strip_tabs_and_new_lines, trim_c0_control_and_space, trim_end, trim_start}
+use Rattle.url.specs.Parser.{Parsed, and_then, before_tail, parse_by_scheme, parse_parts, parse_url, parse_without_scheme, with_tail}
+use Rattle.url.specs.Parts.{Parts}
 use Rattle.url.proofs.InputLemmas.{All-take_from_reads, IsNot, is_empty_nonempty, split_around, split_once_at, split_once_none}
 use Rattle.crawl_keys.specs.declared.error.KeyError.TheVariants.{NotHttp}
 use Rattle.crawl_keys.specs.CanonicalText.{canonical, is_web, resolve, resolve_from, text_of, text_of_parse}
-use Rattle.crawl_keys.specs.Folders.{is_colon, is_of_folder}
+use Rattle.crawl_keys.specs.Folders.{is_of_folder}
 use Rattle.crawl_keys.specs.Fragments.{before_fragment, ends_visibly, is_number_sign}
 use Rattle.crawl_keys.proofs.CanonicalLemmas.{web_kind}
 use Rattle.crawl_keys.proofs.FolderLemmas.{suffix_len-stops}
@@ -33,18 +31,9 @@ record EndsVisibly (l : List ℕ) : Type 0 where
   above : 32 < last
 
 visible_end : (l : List ℕ) → ends_visibly l ≡ true → EndsVisibly l
-visible_end l visible =
-    let i = length l - 1 in
-    let above = ltb-true 32 (get_or l i 0) visible in
-    let inside : i < length l = ⊎_elim (λ inside. inside) (λ past. absurd (let none = get_or_past l i 0 past in omega (arith, none, above))) (cases_lt i (length l)) in
-    record {
-      front = take i l;
-      last = get_or l i 0;
-      is = split_around l i (get_or l i 0) inside refl ∙ ap (λ r. take i l ++ get_or l i 0 ∷ r) (drop_all (i + 1) l (omega (arith, inside)));
-      above = above;
-    }
+visible_end l visible = grind (arith, common_steps, ltb-true, get_or_past, cases_lt, split_around, drop_all)
 
--- what trimming leaves of the front of such a text, whatever follows
+-- the trimmed front of such a text, for any rest
 record Kept (trims : ℕ → Bool) (P : ℕ → Type 0) (front : List ℕ) (c : ℕ) : Type 0 where
   kept : List ℕ
   is : (rest : List ℕ) → trim_start trims (front ++ c ∷ rest) ≡ kept ++ c ∷ rest
@@ -67,7 +56,7 @@ trim_end-stops front b rest stops =
     let more : length all - suffix_len is_c0_control_or_space all ≡ length front + suc (length rest - suffix_len is_c0_control_or_space all) = omega (arith, end, len) in
     ap (λ n. take n all) more ∙ take-append-add front (b ∷ rest) (suc (length rest - suffix_len is_c0_control_or_space all))
 
--- what the parser splits the text and its front into
+-- the parts into which the parser splits the text and its front
 record IsCut (text front : List ℕ) : Type 0 where
   body : List ℕ
   fragment : List ℕ
@@ -104,23 +93,14 @@ cut_parts front c fragment above plain =
 abbrev is_web_scheme : List ℕ → Bool
 is_web_scheme scheme = bytes_eq scheme (codes "http") || bytes_eq scheme (codes "https")
 
-end_path-scheme : (b : Bool) (url other : Parts) → other.scheme ≡ url.scheme → (if b then other else url).scheme ≡ url.scheme
-end_path-scheme true url other same = same
-end_path-scheme false url other same = refl
-
--- the URL with a tail, of which its text keeps the query alone
+-- the URL with a tail, of which its text keeps only the query
 text_of-web : (url : Parts) (query : Option (List ℕ)) (fragment : Option (List ℕ)) → is_web url ≡ true → text_of (with_tail (before_tail url query fragment) query fragment) ≡ text_of (with_tail url query None)
 unfolding text_of
-text_of-web url query fragment web =
-    let special : not (is_special (kind_of url)) ≡ false = ap (λ k. not (is_special k)) (web_kind url web) in
-    let same : before_tail url query fragment ≡ url = cond-false _ _ _ (and_left _ _ special) in
-    ap (λ u. text_of (with_tail u query fragment)) same
+text_of-web url query fragment web = grind (arith, common_steps, web_kind, cond-false, and_left)
 
 text_of-other : (url : Parts) (query : Option (List ℕ)) (fragment : Option (List ℕ)) → is_web url ≡ false → text_of (with_tail (before_tail url query fragment) query fragment) ≡ Err NotHttp
 unfolding text_of
-text_of-other url query fragment other =
-    let scheme = end_path-scheme (not (is_special (kind_of url)) && (is_some query || is_some fragment)) url _ refl in
-    cond-false _ _ _ (ap is_web_scheme scheme ∙ other)
+text_of-other url query fragment other = grind arith
 
 text_of-tail : (url : Parts) (query : Option (List ℕ)) (one other : Option (List ℕ)) → text_of (with_tail (before_tail url query one) query one) ≡ text_of (with_tail (before_tail url query other) query other)
 text_of-tail url query one other =
@@ -130,8 +110,7 @@ text_of-tail url query one other =
     (cases_Bool (is_web url))
 
 text_of_parse-tail : (made : Parsed Parts) (query : Option (List ℕ)) (one other : Option (List ℕ)) → text_of_parse (and_then made (λ url. Ok (with_tail (before_tail url query one) query one))) ≡ text_of_parse (and_then made (λ url. Ok (with_tail (before_tail url query other) query other)))
-text_of_parse-tail (Ok url) query one other = text_of-tail url query one other
-text_of_parse-tail (Err e) query one other = refl
+text_of_parse-tail made query one other = grind (arith, common_steps, text_of-tail)
 
 text_of-fragment : (url : Parts) (query : Option (List ℕ)) (one other : Option (List ℕ)) → text_of (with_tail url query one) ≡ text_of (with_tail url query other)
 unfolding text_of
@@ -139,27 +118,17 @@ text_of-fragment url query one other = refl
 
 parse_parts-fragment : (scheme : List ℕ) (base : Option Parts) (body : List ℕ) (query : Option (List ℕ)) (one other : Option (List ℕ)) → text_of_parse (parse_parts scheme base body query one) ≡ text_of_parse (parse_parts scheme base body query other)
 unfolding parse_parts
-parse_parts-fragment scheme None body query one other = text_of_parse-tail (parse_body scheme None body) query one other
-parse_parts-fragment scheme (Some base) body query one other =
-    elim (is_empty body) as (λ v. text_of_parse (if v then Ok (with_tail base (option_or query base.query) one) else parse_all scheme (Some base) body query one) ≡ text_of_parse (if v then Ok (with_tail base (option_or query base.query) other) else parse_all scheme (Some base) body query other))
-    [ true ↦ text_of-fragment base (option_or query base.query) one other | false ↦ text_of_parse-tail (parse_body scheme (Some base) body) query one other ]
+parse_parts-fragment scheme base body query one other = grind (arith, common_steps, text_of_parse-tail, text_of-fragment)
 
 -- more than a fragment
 abbrev IsMore : List ℕ → Option (List ℕ) → Type 0
 IsMore body query = (is_empty body && not (is_some query)) ≡ false
 
 parse_without_scheme-fragment : (base : Option Parts) (body : List ℕ) (query : Option (List ℕ)) (one other : Option (List ℕ)) → IsMore body query → text_of_parse (parse_without_scheme base body query one) ≡ text_of_parse (parse_without_scheme base body query other)
-parse_without_scheme-fragment None body query one other more = refl
-parse_without_scheme-fragment (Some base) body query one other more =
-    let parts = parse_parts-fragment base.scheme (Some base) body query in
-    let refused = Err RelativeUrlWithCannotBeABaseBase in
-    ap (λ m. text_of_parse (if cannot_be_a_base base && not (m && is_some one) then refused else parse_parts base.scheme (Some base) body query one)) more
-    ∙ (elim (cannot_be_a_base base && true) as (λ v. text_of_parse (if v then refused else parse_parts base.scheme (Some base) body query one) ≡ text_of_parse (if v then refused else parse_parts base.scheme (Some base) body query other)) [ true ↦ refl | false ↦ parts one other ])
-    ∙ sym (ap (λ m. text_of_parse (if cannot_be_a_base base && not (m && is_some other) then refused else parse_parts base.scheme (Some base) body query other)) more)
+parse_without_scheme-fragment base body query one other more = grind (arith, common_steps, parse_parts-fragment)
 
 parse_by_scheme-fragment : (split : Option (List ℕ × List ℕ)) (base : Option Parts) (body : List ℕ) (query : Option (List ℕ)) (one other : Option (List ℕ)) → IsMore body query → text_of_parse (parse_by_scheme split base body query one) ≡ text_of_parse (parse_by_scheme split base body query other)
-parse_by_scheme-fragment None base body query one other more = parse_without_scheme-fragment base body query one other more
-parse_by_scheme-fragment (Some split) base body query one other more = parse_parts-fragment (lowercase split.0) (base_for_scheme base (lowercase split.0)) split.1 query one other
+parse_by_scheme-fragment split base body query one other more = grind (arith, common_steps, parse_without_scheme-fragment, parse_parts-fragment)
 
 more_than_fragment : (text : List ℕ) → 0 < length text → IsMore (split_once 63 text).0 (split_once 63 text).1
 unfolding split_once
@@ -170,12 +139,7 @@ more_than_fragment (x ∷ text) some =
 
 parse_url-cut : (base : Option Parts) (text front : List ℕ) → IsCut text front → text_of_parse (parse_url base front) ≡ text_of_parse (parse_url base text)
 unfolding parse_url
-parse_url-cut base text front cut =
-    let question = split_once 63 cut.body in
-    let parsed = λ (hash : List ℕ × Option (List ℕ)). let question = split_once 63 hash.0 in text_of_parse (parse_by_scheme (split_scheme question.0) base question.0 question.1 hash.1) in
-    ap parsed cut.alone
-    ∙ parse_by_scheme-fragment (split_scheme question.0) base question.0 question.1 None (Some cut.fragment) (more_than_fragment cut.body cut.some)
-    ∙ sym (ap parsed cut.whole)
+parse_url-cut base text front cut = grind (arith, common_steps, parse_by_scheme-fragment, more_than_fragment)
 
 -- ---- the whole
 
@@ -207,19 +171,10 @@ long_text text visible inside =
 
 -- the text stays, or is cut
 long_or_whole : (text : List ℕ) → (before_fragment text ≡ text) ⊎ IsLong text
-long_or_whole text =
-    let front = before_first is_number_sign text in
-    ⊎_elim
-    (λ visible. ⊎_elim
-    (λ inside. inr (long_text text visible inside))
-    (λ past. inl (cond-true _ _ _ visible ∙ take_all (position_or_len is_number_sign text) text past))
-    (cases_lt (position_or_len is_number_sign text) (length text)))
-    (λ other. inl (cond-false _ _ _ other))
-    (cases_Bool (ends_visibly front))
+long_or_whole text = grind (arith, common_steps, long_text, cond-true, take_all, cases_lt, cond-false, cases_Bool)
 
 resolve_from-cut : (base : Parsed Parts) (text front : List ℕ) → IsCut text front → resolve_from base front ≡ resolve_from base text
-resolve_from-cut (Ok base) text front cut = parse_url-cut (Some base) text front cut
-resolve_from-cut (Err e) text front cut = refl
+resolve_from-cut base text front cut = grind (arith, common_steps, parse_url-cut)
 
 pub resolve-before_fragment : (text base : List ℕ) → resolve base (before_fragment text) ≡ resolve base text
 resolve-before_fragment text base =
@@ -237,14 +192,7 @@ canonical-before_fragment text =
     (long_or_whole text)
 
 front_of_folder : (front rest : List ℕ) → 0 < length front → is_of_folder (front ++ rest) ≡ true → is_of_folder front ≡ true
-front_of_folder [] rest some folder = absurd (omega arith)
-front_of_folder (b ∷ front) rest some folder =
-    let parts = and_parts _ _ folder in
-    and_from _ _ parts.0
-    (⊎_elim
-    (λ slash. or_left _ _ slash)
-    (λ none. or_right _ _ (ap not ((or_parts _ _ (sym (list_any-append is_colon (b ∷ front) rest) ∙ not-true _ none)).0)))
-    (or_cases _ _ parts.1))
+front_of_folder front rest some folder = grind (arith, common_steps, and_parts, and_from, or_left, or_right, or_parts, list_any-append, not-true, or_cases)
 
 pub is_of_folder-before_fragment : (text : List ℕ) → is_of_folder text ≡ true → is_of_folder (before_fragment text) ≡ true
 is_of_folder-before_fragment text folder =

@@ -1,12 +1,13 @@
--- Where links that begin with two slashes lead: the page's scheme stands before them.
-use Rattle.std.proofs.Common.{◌≡◌, ◌⊎◌, ℕ, ◌+◌, ◌==◌, Bool, true, not, ◌&&◌, ◌≢◌, List, [], ◌∷◌, ◌++◌, length, take, drop, refl, ap, sym, subst, ◌∙◌, ⊎_elim, inl, inr, All, Some, None, Ok, arith, append_assoc, length-append, take-append-drop}
+-- The targets of links that begin with two slashes: the page's scheme comes before them.
+use Rattle.std.proofs.lemmas.Grind.{common_steps}
+use Rattle.std.proofs.Common.{◌≡◌, ◌⊎◌, ℕ, ◌+◌, ◌==◌, Bool, true, not, ◌&&◌, List, [], ◌∷◌, ◌++◌, length, take, drop, refl, ap, sym, subst, ◌∙◌, ⊎_elim, All, Some, None, Ok, arith, append_assoc, length-append, take-append-drop}
 use Rattle.std.specs.Prelude.{Option, codes}
 use Rattle.std.proofs.lemmas.Bool.{and_from, and_left, and_parts, cond-false, cond-true, ne_eqb, or_cases}
 use Rattle.std.proofs.lemmas.Bool.Decides.{nat_tests}
 use Rattle.std.proofs.lemmas.List.Elements.{All-append, All-cons, All-head, All-tail, All-weaker}
 use Rattle.std.proofs.lemmas.Slice.Eq.{bytes_eq-Decides}
 use Rattle.url.specs.Input.{split_once}
-use Rattle.url.specs.Parser.{base_for_scheme, parse_by_scheme, parse_parts, parse_url, split_scheme}
+use Rattle.url.specs.Parser.{base_for_scheme, parse_parts, parse_url}
 use Rattle.url.specs.Parts.{Parts, IsValid, serialize}
 use Rattle.url.specs.Scheme.{IsScheme, is_special}
 use Rattle.url.proofs.InputLemmas.{All-take-prefix_len, All_from_list_all, IsNot, Passes}
@@ -25,14 +26,12 @@ use Rattle.crawl_keys.proofs.SpelledLemmas.{IsWebScheme, resolve-spelled, spelle
 
 -- ---- the scheme of a page
 
--- the byte stands in a text before its query as it is
+-- the byte is left as it is in a text before its query
 abbrev stands : ℕ → Bool
 stands b = is_kept b && not (b == 63)
 
 http_or_https : (base : Parts) → is_web base ≡ true → (base.scheme ≡ codes "http") ⊎ (base.scheme ≡ codes "https")
-http_or_https base web =
-    ⊎_elim (λ http. inl ((bytes_eq-Decides base.scheme (codes "http")).0 http)) (λ https. inr ((bytes_eq-Decides base.scheme (codes "https")).0 https))
-    (or_cases _ _ web)
+http_or_https base web = grind (arith, common_steps, bytes_eq-Decides, or_cases)
 
 scheme_bytes : (base : Parts) → is_web base ≡ true → All (Passes stands) base.scheme
 scheme_bytes base web =
@@ -40,7 +39,7 @@ scheme_bytes base web =
     (λ https. subst (All (Passes stands)) (sym https) (All_from_list_all stands (codes "https") refl))
     (http_or_https base web)
 
--- ---- the parser reads a link behind the page's scheme as it reads the link
+-- ---- the parser reads the link after the page's scheme as it reads the link itself
 
 abbrev Split : Type 0
 Split = List ℕ × Option (List ℕ)
@@ -51,16 +50,11 @@ split_behind [] rest none = refl
 split_behind (b ∷ front) rest none =
     cond-false _ _ _ (ne_eqb b 63 (All-head (IsNot 63) b front none)) ∙ ap (λ (r : Split). (b ∷ r.0, r.1)) (split_behind front rest (All-tail (IsNot 63) b front none))
 
--- what the parser makes of a kept text with a scheme
+-- how the parser reads a kept text with a scheme
 pub parse_url-scheme : (base : Option Parts) (scheme rest body : List ℕ) (query : Option (List ℕ)) → IsScheme scheme → All (Passes is_kept) (scheme ++ 58 ∷ rest)
     → split_once 63 (scheme ++ 58 ∷ rest) ≡ (scheme ++ 58 ∷ body, query) → parse_url base (scheme ++ 58 ∷ rest) ≡ parse_parts scheme (base_for_scheme base scheme) body query None
 unfolding parse_url
-parse_url-scheme base scheme rest body query valid kept split =
-    let parsed = λ (hash : Split). let question = split_once 63 hash.0 in parse_by_scheme (split_scheme question.0) base question.0 question.1 hash.1 in
-    ap parsed (uncut (scheme ++ 58 ∷ rest) kept)
-    ∙ ap (λ (q : Split). parse_by_scheme (split_scheme q.0) base q.0 q.1 None) split
-    ∙ ap (λ s. parse_by_scheme s base (scheme ++ 58 ∷ body) query None) (split_own_scheme scheme body valid)
-    ∙ ap (λ s. parse_parts s (base_for_scheme base s) body query None) valid.lower
+parse_url-scheme base scheme rest body query valid kept split = grind (arith, common_steps, uncut, split_own_scheme)
 
 own_base : (base : Parts) → IsWeb base → base_for_scheme (Some base) base.scheme ≡ Some base
 own_base base web = cond-true _ _ _ (and_from _ _ (ap is_special web.kind) ((bytes_eq-Decides base.scheme base.scheme).1 refl))
@@ -79,7 +73,7 @@ parse_url-by_scheme base more page web kept =
     ∙ ap (λ b. parse_parts base.scheme b body query None) (sym (own_base base page))
     ∙ sym (parse_url-scheme (Some base) base.scheme (47 ∷ more) body query page.valid.head.scheme all (split_behind base.scheme (58 ∷ 47 ∷ more) none))
 
--- ---- where it leads
+-- ---- its target
 
 web_scheme : (base : Parts) → IsValid base → is_web base ≡ true → IsWebScheme base.scheme
 web_scheme base valid web = record { is = valid.head.scheme; web = web }

@@ -1,5 +1,6 @@
 -- Suffixes in order are the suffixes given.
-use Rattle.std.proofs.Common.{◌≡◌, ◌↔◌, ℕ, Bool, true, false, ◌||◌, List, [], ◌∷◌, Ok, Result, refl, ap, sym, subst, ◌∙◌, fold, bytes_eq, Contains}
+use Rattle.std.proofs.lemmas.Grind.{common_steps}
+use Rattle.std.proofs.Common.{◌≡◌, ◌↔◌, ℕ, Bool, true, false, ◌||◌, List, [], ◌∷◌, Ok, Result, refl, ap, sym, subst, ◌∙◌, fold, bytes_eq, Contains, arith}
 use Rattle.std.specs.BTreeSet.{insert_key}
 use Rattle.std.specs.Cmp.Lexicographic.{slice_cmp, nat_list_eq_equiv}
 use Rattle.std.specs.List.{list_any}
@@ -14,7 +15,7 @@ use Rattle.crawl_keys.specs.HostFilter.{allows, in_order, is_within}
 use Rattle.crawl_keys.specs.HostKey.{host_key}
 use Rattle.crawl_keys.specs.declared.filter.error.FilterError.{FilterError}
 
--- what passes a test with one text more
+-- the texts that pass a test, with one more text
 pub list_any-insert_key : (test : List ℕ → Bool) (texts : List (List ℕ)) (text : List ℕ) → list_any test (insert_key (slice_cmp nat_cmp) texts text) ≡ (list_any test texts || test text)
 list_any-insert_key test [] text = or-false (test text)
 list_any-insert_key test (x ∷ more) text = at_order (slice_cmp nat_cmp text x) refl (list_any-insert_key test more text)
@@ -79,14 +80,12 @@ allows-in_order (suffix ∷ more) url = at_some (in_order (suffix ∷ more)) (li
     at_some [] some = cc
     at_some (x ∷ xs) some = refl
 
--- what is kept are the suffixes given
+-- the kept suffixes are those given
 pub Contains-kept : (given kept : List (List ℕ)) → ◌≡◌ {A = Result (List (List ℕ)) FilterError} (Ok (in_order given)) (Ok kept) → (suffix : List ℕ) → Contains kept suffix ↔ Contains given suffix
 Contains-kept given kept same suffix =
     let is : in_order given ≡ kept = cc in
     subst (λ texts. Contains texts suffix ↔ Contains given suffix) is (Contains-in_order given suffix)
 
--- and allows what they do
+-- and the filter allows the same hosts
 pub allows-kept : (given kept : List (List ℕ)) → ◌≡◌ {A = Result (List (List ℕ)) FilterError} (Ok (in_order given)) (Ok kept) → (url : List ℕ) → allows kept url ≡ allows given url
-allows-kept given kept same url =
-    let is : in_order given ≡ kept = cc in
-    ap (λ texts. allows texts url) (sym is) ∙ allows-in_order given url
+allows-kept given kept same url = grind (arith, common_steps, allows-in_order)

@@ -1,4 +1,4 @@
--- A canonical text whose host stands where the URL's own text has it.
+-- A canonical text with its host at the same position as in the URL's own text.
 use Rattle.std.proofs.Common.{◌≡◌, refl, ap, sym, ◌∙◌, true, arith, append-nil}
 use Rattle.std.specs.Prelude.{slice_range, IsAscii}
 use Rattle.url.specs.declared.slicing.Position.TheVariants.{BeforeHost, AfterHost}
@@ -12,7 +12,7 @@ use Rattle.crawl_keys.specs.Layout.{IsLaidOut}
 use Rattle.crawl_keys.specs.Spelled.{IsSpelled}
 use Rattle.crawl_keys.proofs.CanonicalLemmas.{canonical_text, parse_url-without_fragment}
 
--- between the places before and after the host stands the host key
+-- the host key is between the start and the end of the host
 pub slice_range-host : (url : Parts) → IsValid url → is_web url ≡ true → slice_range (serialize (without_fragment url)) (offset url BeforeHost) (offset url AfterHost) ≡ host_key (serialize (without_fragment url))
 slice_range-host url valid web =
     slice_at _ (pieces (without_fragment url)) 6 7 _ _ refl (omega arith) refl refl ∙ append-nil _

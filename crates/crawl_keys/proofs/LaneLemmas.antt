@@ -17,14 +17,14 @@ splat v y long = splat_is_map v 16 y long
 pub joined : (h : ℕ → ℕ → ℕ) (f g : ℕ → ℕ) (v : List ℕ) {a b : List ℕ} → a ≡ map f v → b ≡ map g v → zip2 h a b ≡ map (λ x. h (f x) (g x)) v
 joined h f g v p q = zip2_of_maps h f g v p q
 
--- where no bit of the mask is set, no lane has its top bit
+-- if no bit of the mask is set, no lane has its top bit set
 none_set : (z : List ℕ) → length z ≤ 64 → mask_l (map (top 7) z) % 2 ^ 64 ≡ 0 → (k : ℕ) → k < length z → top 7 (get_or z k 0) ≡ false
 none_set z few none k inside =
     let mask : mask_l (map (top 7) z) ≡ 0 = sym (mask_l-mod (map (top 7) z) 64 (omega (arith, length-map z (top 7)))) ∙ none in
     let all = leading_from_mask_l (top 7) z mask in
     not-true _ (prefix_len_passes (λ x. not (top 7 x)) z k 0 (omega (arith, all)))
 
--- Of 16 bytes and the one before each: what a byte shows by itself, which ones before are slashes, and what a byte shows behind
+-- For 16 bytes and the byte before each: the test of each byte, the slashes among the bytes before, and the test of each byte after
 -- one.
 module _ (own slashes begins : ℕ → ℕ) (other : (a : ℕ) → a ≢ 47 → slashes a ≡ 0)
     (first : agree_below (λ b. top 7 (bit_or (own b) (bit_and (slashes 47) (begins b))) || may_begin b) (λ _. true) 256 ≡ true)
@@ -48,7 +48,7 @@ abbrev Lanes : List ℕ → ℕ → (ℕ → ℕ) → (ℕ → ℕ) → (ℕ →
 Lanes text at own slashes begins =
     zip2 bit_or (map own (chunk (at + 1) 16 text)) (zip2 bit_and (map slashes (chunk at 16 text)) (map begins (chunk (at + 1) 16 text)))
 
--- what one of them shows
+-- the test at one index
 record Lane (text : List ℕ) (at : ℕ) (own slashes begins : ℕ → ℕ) : Type 0 where
   long : length (Lanes text at own slashes begins) ≡ 16
   shows : (i : ℕ) → i < 16 → get_or (Lanes text at own slashes begins) i 0 ≡ bit_or (own (get_or text (at + 1 + i) 0)) (bit_and (slashes (get_or text (at + i) 0)) (begins (get_or text (at + 1 + i) 0)))
@@ -75,7 +75,7 @@ lanes text at own slashes begins room =
           ∙ (λ j. bit_or (alone j) ((get_or-zip2 bit_and (map slashes p) (map begins v) i 0 0 0 (omega (arith, slashes_long)) (omega (arith, begins_long)) ∙ (λ m. bit_and (before m) (behind m))) j));
     }
 
--- where no lane has its top bit, each byte may follow the one before it
+-- if no lane has its top bit set, each byte may follow the one before it
 pub all_follow : (text : List ℕ) (at : ℕ) (z : List ℕ) (own slashes begins : ℕ → ℕ) → at + 17 ≤ length text → ((k : ℕ) → Fits w8 (get_or text k 0))
     → z ≡ Lanes text at own slashes begins → ((a : ℕ) → a ≢ 47 → slashes a ≡ 0)
     → agree_below (λ b. top 7 (bit_or (own b) (bit_and (slashes 47) (begins b))) || may_begin b) (λ _. true) 256 ≡ true
@@ -93,7 +93,7 @@ all_follow text at z own slashes begins room fits is other first later none k fr
     (subst (λ j. may_follow (get_or text (at + i) 0) (get_or text j 0) ≡ true) next
     (follows own slashes begins other first later (get_or text (at + i) 0) (get_or text (at + 1 + i) 0) (fits (at + 1 + i)).fits test))
 
--- a lane stops just where the byte fails the test
+-- a lane stops exactly if its byte fails the test
 run_of : (test : ℕ → Bool) (text : List ℕ) (at r : ℕ) (z : List ℕ) (f : ℕ → ℕ) → at + 16 ≤ length text → ((k : ℕ) → Fits w8 (get_or text k 0))
     → r ≡ first_set (mask_l (map (top 7) z) % 2 ^ 64) → z ≡ map f (chunk at 16 text)
     → ((x : ℕ) → x < 256 → top 7 (f x) ≡ not (test x)) → IsRun test text at r
@@ -110,14 +110,14 @@ run_of test text at r z f room fits found lanes told =
       stops = λ short. not-true _ (sym (at_byte (at + r)) ∙ run_in_chunk_stops stops text at 16 r 0 room counted short);
     }
 
--- where the byte may not stand in a host
+-- if the byte may not be in a host
 pub host_run : (text : List ℕ) (at r : ℕ) (z : List ℕ) (f : ℕ → ℕ) → at + 16 ≤ length text → ((k : ℕ) → Fits w8 (get_or text k 0))
     → r ≡ first_set (mask_l (map (top 7) z) % 2 ^ 64) → z ≡ map f (chunk at 16 text)
     → agree_below (λ x. top 7 (f x)) (λ x. not (is_host_byte x)) 256 ≡ true → IsRun is_host_byte text at r
 host_run text at r z f room fits found lanes all =
     run_of is_host_byte text at r z f room fits found lanes (λ x below. agree_below_at (λ y. top 7 (f y)) (λ y. not (is_host_byte y)) 256 x all below)
 
--- where the byte is the mark
+-- if the byte is the mark
 pub other_run : (text : List ℕ) (at mark r : ℕ) (z : List ℕ) → at + 16 ≤ length text → ((k : ℕ) → Fits w8 (get_or text k 0))
     → r ≡ first_set (mask_l (map (top 7) z) % 2 ^ 64) → z ≡ map (λ x. cond (x == mark) 255 0) (chunk at 16 text) → IsRun (is_other mark) text at r
 other_run text at mark r z room fits found lanes =

@@ -1,5 +1,6 @@
 -- URLs whose path is opaque have no canonical text.
-use Rattle.std.proofs.Common.{◌≡◌, ℕ, ◌==◌, Bool, true, false, not, ◌&&◌, ◌||◌, List, [], ◌∷◌, get_or, drop, refl, ap, sym, subst, ◌∙◌, ⊎_elim, All, Some, None, Ok, Err, arith, append-nil, take_all}
+use Rattle.std.proofs.lemmas.Grind.{common_steps}
+use Rattle.std.proofs.Common.{◌≡◌, ℕ, ◌==◌, Bool, true, false, List, [], ◌∷◌, get_or, drop, refl, ap, sym, subst, ◌∙◌, All, Some, None, Ok, Err, arith, append-nil, take_all}
 use Rattle.std.specs.Prelude.{Option, bytes_eq, codes, is_some, if◌then◌else◌}
 use Rattle.std.specs.Char.{is_ascii_alphabetic, is_ascii_lowercase, to_ascii_lowercase}
 use Rattle.std.specs.List.{prefix_len}
@@ -13,9 +14,9 @@ use Rattle.url.specs.declared.scheme.SchemeType.TheVariants.{NotSpecial, Special
 use Rattle.url.specs.declared.sets.TheConstants.{OPAQUE_PATH}
 use Rattle.url.specs.Head.{scheme_only}
 use Rattle.url.specs.Input.{split_once}
-use Rattle.url.specs.Parser.{Parsed, after_double_slash, and_then, base_for_scheme, before_tail, parse_body, parse_file, parse_non_special, parse_parts, parse_url, skip_slashes, with_path, with_tail}
+use Rattle.url.specs.Parser.{Parsed, after_double_slash, base_for_scheme, before_tail, parse_body, parse_file, parse_non_special, parse_parts, parse_url, skip_slashes, with_path}
 use Rattle.url.specs.Parts.{Parts, kind_of}
-use Rattle.url.specs.Path.{escape_end, parse_path}
+use Rattle.url.specs.Path.{parse_path}
 use Rattle.url.specs.Scheme.{IsScheme, default_port, is_file, is_scheme_byte, is_slash, is_special, scheme_len, scheme_type}
 use Rattle.url.proofs.InputLemmas.{All-take-prefix_len, IsNot, Passes, StopsAt, lowercase_other, map_fixed, prefix_len_at}
 use Rattle.url.proofs.SchemeLemmas.{not_special_from}
@@ -59,19 +60,11 @@ word_scheme scheme word =
     }
 
 not_web : (url : Parts) → is_special (kind_of url) ≡ false → is_web url ≡ false
-not_web url other =
-    ⊎_elim (λ web. absurd (true≢false (sym (ap is_special (web_kind url web)) ∙ other))) (λ no. no) (cases_Bool (is_web url))
+not_web url other = grind (arith, common_steps, true≢false, web_kind, cases_Bool)
 
 -- a page of the web is no base for it
 other_base : (base : Parts) (scheme : List ℕ) → is_special (scheme_type scheme) ≡ false → base_for_scheme (Some base) scheme ≡ None
-other_base base scheme other =
-    cond_both {A = Option Parts} (is_special (kind_of base) && bytes_eq base.scheme scheme) (Some base) None (λ (b : Option Parts). b ≡ None)
-    (λ both. absurd (true≢false (special_twice base scheme (and_parts _ _ both) other)))
-    (λ _. refl)
-  where
-    special_twice : (base : Parts) (scheme : List ℕ) → (is_special (kind_of base) ≡ true) × (bytes_eq base.scheme scheme ≡ true) → is_special (scheme_type scheme) ≡ false → true ≡ false
-    special_twice base scheme both other =
-        sym both.0 ∙ ap (λ s. is_special (scheme_type s)) ((bytes_eq-Decides base.scheme scheme).0 both.1) ∙ other
+other_base base scheme other = grind (arith, common_steps, cond_both, true≢false, and_parts, bytes_eq-Decides)
 
 -- ---- the path
 
@@ -93,27 +86,19 @@ by_slashes scheme body slashes =
 
 opaque_body : (scheme body : List ℕ) → is_special (scheme_type scheme) ≡ false → StopsAt (is_slash NotSpecial) body → parse_body scheme None body ≡ Ok (opaque scheme body)
 unfolding parse_body parse_non_special
-opaque_body scheme body other stops =
-    ap (by_kind scheme body) (not_special_from (scheme_type scheme) other) ∙ ap (by_slashes scheme body) (no_slashes NotSpecial body stops)
+opaque_body scheme body other stops = grind (arith, common_steps, not_special_from, no_slashes)
 
 tail_scheme : (url : Parts) (query : Option (List ℕ)) → (before_tail url query None).scheme ≡ url.scheme
-tail_scheme url query =
-    cond_both {A = Parts} (not (is_special (kind_of url)) && (is_some query || false)) (with_path url (escape_end url.path)) url (λ (v : Parts). v.scheme ≡ url.scheme) (λ _. refl) (λ _. refl)
+tail_scheme url query = grind arith
 
 opaque_refused : (scheme body : List ℕ) (query : Option (List ℕ)) → is_special (scheme_type scheme) ≡ false → StopsAt (is_slash NotSpecial) body
     → text_of_parse (parse_parts scheme None body query None) ≡ Err NotHttp
 unfolding parse_parts
-opaque_refused scheme body query other stops =
-    let made = opaque scheme body in
-    ap (λ (r : Parsed Parts). text_of_parse (and_then r (λ u. Ok (with_tail (before_tail u query None) query None)))) (opaque_body scheme body other stops)
-    ∙ text_of-other (with_tail (before_tail made query None) query None) (not_web (with_tail (before_tail made query None) query None) (ap (λ s. is_special (scheme_type s)) (tail_scheme made query) ∙ other))
+opaque_refused scheme body query other stops = grind (arith, common_steps, opaque_body, text_of-other, not_web, tail_scheme)
 
 before_query : (path : List ℕ) → first_is_slash path ≡ false → StopsAt (is_slash NotSpecial) (split_once 63 path).0
 unfolding split_once
-before_query [] rootless = tt
-before_query (b ∷ path) rootless =
-    cond_both {A = Split} (b == 63) ([], Some path) (b ∷ (split_once 63 path).0, (split_once 63 path).1) (λ (r : Split). StopsAt (is_slash NotSpecial) r.0)
-    (λ _. tt) (λ _. or_from _ _ rootless (and_right _ _ refl))
+before_query path rootless = grind (arith, common_steps, cond_both, or_from, and_right)
 
 -- a link of that kind is refused on each page
 pub refuses-opaque : (page text : List ℕ) → IsCanonical page → IsOpaque text → resolve page text ≡ Err NotHttp
@@ -137,8 +122,7 @@ unfolding scheme_type
 file_special scheme file = rw file refl
 
 by_port : (port : Bool) → is_special (if port then SpecialNotFile else NotSpecial) ≡ port
-by_port true = refl
-by_port false = refl
+by_port port = grind arith
 
 pub other_special : (scheme : List ℕ) → bytes_eq scheme (codes "file") ≡ false → is_special (scheme_type scheme) ≡ is_some (default_port scheme)
 unfolding scheme_type

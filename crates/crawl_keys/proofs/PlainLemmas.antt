@@ -1,7 +1,8 @@
--- What a plain text is made of: the segments of a path, and a query.
-use Rattle.std.proofs.Common.{◌≡◌, ◌≢◌, ℕ, suc, ◌+◌, ◌-◌, ◌<◌, ◌==◌, Bool, true, false, not, ◌&&◌, List, [], ◌∷◌, ◌++◌, length, take, drop, get_or, take-append-drop, refl, ap, sym, subst, ◌∙◌, ⊎_elim, All, Some, IfSome, arith, bit_and, nat_eq}
+-- The parts of a plain text: the segments of a path, and a query.
+use Rattle.std.proofs.lemmas.Grind.{common_steps}
+use Rattle.std.proofs.Common.{◌≡◌, ◌≢◌, ℕ, suc, ◌+◌, ◌-◌, ◌<◌, ◌==◌, Bool, true, not, ◌&&◌, List, [], ◌∷◌, ◌++◌, length, take, drop, get_or, take-append-drop, refl, ap, sym, subst, ◌∙◌, ⊎_elim, All, Some, IfSome, arith, bit_and, nat_eq}
 use Rattle.std.specs.Prelude.{Option, is_some, unwrap_or}
-use Rattle.std.proofs.lemmas.Bool.{agree_below, agree_below_at, and_from, and_parts, cases_eq, cond-false, cond-true, cond_both, eq-eqb, eqb-true, ne_eqb, not-false, true≢false}
+use Rattle.std.proofs.lemmas.Bool.{agree_below, agree_below_at, and_from, and_parts, cases_eq, cond-false, cond-true, cond_both, eq-eqb, eqb-true, ne_eqb, true≢false}
 use Rattle.std.proofs.lemmas.Bool.Decides.{nat_tests}
 use Rattle.std.proofs.lemmas.List.Elements.{All-nil, All-cons, All-head, All-tail, All-weaker}
 use Rattle.std.proofs.lemmas.List.Folds.{list_all-append}
@@ -54,18 +55,15 @@ all_kept last (b ∷ text) plain =
     (λ _ kept. All_from_list_all is_kept text kept) (λ _ more. all_kept b text more) parts.1 in
     All-cons (Passes is_kept) b text (follows_kept last b parts.0) later
 
--- a plain text is plain behind a byte that may stand there
+-- a plain text is plain after a byte that may precede it
 pub plain_then : (last b : ℕ) (text : List ℕ) → may_follow last b ≡ true → is_plain b text ≡ true → is_plain last (b ∷ text) ≡ true
-plain_then last b text first plain =
-    and_from _ _ first (cond_both {A = Bool} (b == 63) (list_all is_kept text) (is_plain b text) (λ (v : Bool). v ≡ true)
-    (λ _. list_all_from_All is_kept text (all_kept b text plain)) (λ _. plain))
+plain_then last b text first plain = grind (arith, common_steps, and_from, cond_both, list_all_from_All, all_kept)
 
--- and what stands behind a byte of the path is plain
+-- and the rest after a byte of the path is plain
 plain_after : (last b : ℕ) (text : List ℕ) → is_plain last (b ∷ text) ≡ true → b ≢ 63 → is_plain b text ≡ true
-plain_after last b text plain other =
-    sym (cond-false (b == 63) (list_all is_kept text) (is_plain b text) (ne_eqb b 63 other)) ∙ (and_parts _ _ plain).1
+plain_after last b text plain other = grind arith
 
--- ---- bytes behind bytes
+-- ---- bytes after bytes
 
 plain_behind : (last b : ℕ) (text : List ℕ) → may_follow last b ≡ true → Follow (b ∷ text) 0 (length text) → is_plain last (b ∷ text) ≡ true
 plain_behind last b [] first each = plain_then last b [] first refl
@@ -77,7 +75,7 @@ plain_behind last b (c ∷ text) first each =
         let next : suc k + 1 ≡ suc (k + 1) = omega arith in
         subst (λ j. may_follow (get_or (c ∷ text) k 0) (get_or (b ∷ c ∷ text) j 0) ≡ true) next each
 
--- a text is plain where each byte may follow the one before it
+-- a text is plain if each byte may follow the one before it
 pub plain_from : (last : ℕ) (text : List ℕ) → 0 < length text → may_follow last (get_or text 0 0) ≡ true → Follow text 0 (length text - 1) → is_plain last text ≡ true
 plain_from last [] some first each = absurd (omega arith)
 plain_from last (b ∷ text) some first each = plain_behind last b text first (λ k from to. each k from (omega arith))
@@ -89,10 +87,7 @@ unfolding dot_count
 dots_none segment none = rw none
 
 begins_segment : (b : ℕ) (segment : List ℕ) → may_begin b ≡ true → dot_count (b ∷ segment) ≡ 0
-begins_segment b segment begins =
-    let no_dot : (b == 46) ≡ false = grind (arith, nat_tests) in
-    let no_escape : (b == 37) ≡ false = grind (arith, nat_tests) in
-    dots_none (b ∷ segment) (rw (no_dot, no_escape) refl)
+begins_segment b segment begins = grind (arith, common_steps, dots_none)
 
 dots_none_of : (segment : List ℕ) → is_plain 47 segment ≡ true → dot_count segment ≡ 0
 dots_none_of [] plain = dots_none [] refl
@@ -100,25 +95,17 @@ dots_none_of (b ∷ segment) plain = begins_segment b segment (behind_slash 47 b
 
 whole_bytes : (segment : List ℕ) → All (Passes is_kept) segment → All (IsNot 47) segment → All (IsNoSlash SpecialNotFile) segment
 whole_bytes [] kept none = All-nil (IsNoSlash SpecialNotFile)
-whole_bytes (b ∷ segment) kept none =
-    All-cons (IsNoSlash SpecialNotFile) b segment (no_slash_byte b (All-head (Passes is_kept) b segment kept) (All-head (IsNot 47) b segment none))
-    (whole_bytes segment (All-tail (Passes is_kept) b segment kept) (All-tail (IsNot 47) b segment none))
+whole_bytes (b ∷ segment) kept none = grind (arith, no_slash_byte, whole_bytes segment)
 
 path_bytes : (segment : List ℕ) → All (Passes is_kept) segment → All (IsNot 63) segment → All (IsKept PATH) segment
 path_bytes [] kept none = All-nil (IsKept PATH)
-path_bytes (b ∷ segment) kept none =
-    All-cons (IsKept PATH) b segment (path_byte b (All-head (Passes is_kept) b segment kept) (All-head (IsNot 63) b segment none))
-    (path_bytes segment (All-tail (Passes is_kept) b segment kept) (All-tail (IsNot 63) b segment none))
+path_bytes (b ∷ segment) kept none = grind (arith, path_byte, path_bytes segment)
 
 -- a plain text with no slash and no query is a segment
 pub plain_segment : (segment : List ℕ) → is_plain 47 segment ≡ true → All (IsNot 63) segment → All (IsNot 47) segment → IsSegment SpecialNotFile segment
-plain_segment segment plain no_query no_slash = record {
-  escaped = path_bytes segment (all_kept 47 segment plain) no_query;
-  whole = whole_bytes segment (all_kept 47 segment plain) no_slash;
-  resolved = dots_none_of segment plain;
-}
+plain_segment segment plain no_query no_slash = grind (arith, common_steps, path_bytes, all_kept, whole_bytes, dots_none_of)
 
--- the text goes on with the segment that this byte stands in or begins, and has whole segments behind it
+-- the text continues the segment that this byte is in or begins, and whole segments follow
 pub record IsRun (last : ℕ) (text : List ℕ) : Type 0 where
   pub first : List ℕ
   pub others : List (List ℕ)
@@ -128,7 +115,7 @@ pub record IsRun (last : ℕ) (text : List ℕ) : Type 0 where
   pub begins : last ≡ 47 → dot_count first ≡ 0
   pub each : All (IsSegment SpecialNotFile) others
 
--- what goes on behind a slash is a segment
+-- the text after a slash begins with a segment
 pub run_segment : (text : List ℕ) (k : IsRun 47 text) → IsSegment SpecialNotFile k.first
 run_segment text k = record { escaped = k.escaped; whole = k.whole; resolved = k.begins refl }
 
@@ -187,7 +174,7 @@ rooted_path last b text slash plain none =
 abbrev pub query_text : Option (List ℕ) → List ℕ
 query_text query = when (is_some query) (63 ∷ []) ++ unwrap_or query []
 
--- what stands before the first `?`, and the query behind it
+-- the part before the first `?`, and the query after it
 pub record IsSplit (last : ℕ) (text path : List ℕ) (query : Option (List ℕ)) : Type 0 where
   pub plain : is_plain last path ≡ true
   pub none : All (IsNot 63) path
@@ -223,23 +210,12 @@ splits last (b ∷ text) plain =
       whole = ap (λ l. b ∷ l) later.whole;
     }
 
-mark_follows : (last b : ℕ) → b ≡ 63 → may_follow last b ≡ true
-mark_follows last b mark =
-    ap (may_follow last) mark ∙ cond_both {A = Bool} (last == 47) (may_begin 63) (is_kept 63) (λ (v : Bool). v ≡ true) (λ _. refl) (λ _. refl)
-
 plain_mark : (last : ℕ) (query : List ℕ) → 0 < length query → StopsAt (is_other 63) query → list_all is_kept query ≡ true → is_plain last query ≡ true
-plain_mark last [] some stops kept = absurd (omega arith)
-plain_mark last (b ∷ query) some stops kept =
-    let mark = not-false (b == 63) stops in
-    and_from _ _ (mark_follows last b (eqb-true b 63 mark)) (cond-true (b == 63) (list_all is_kept query) (is_plain b query) mark ∙ (and_parts _ _ kept).1)
+plain_mark last query some stops kept = grind arith
 
 plain_parts : (last : ℕ) (path query : List ℕ) → is_plain last path ≡ true → 0 < length query → StopsAt (is_other 63) query → list_all is_kept query ≡ true → is_plain last (path ++ query) ≡ true
 plain_parts last [] query plain some stops kept = plain_mark last query some stops kept
-plain_parts last (b ∷ path) query plain some stops kept =
-    let parts = and_parts _ _ plain in
-    and_from _ _ parts.0 (cond_both {A = Bool} (b == 63) (list_all is_kept (path ++ query)) (is_plain b (path ++ query)) (λ (v : Bool). v ≡ true)
-    (λ mark. list_all-append is_kept path query ∙ and_from _ _ (sym (cond-true (b == 63) (list_all is_kept path) (is_plain b path) mark) ∙ parts.1) kept)
-    (λ other. plain_parts b path query (sym (cond-false (b == 63) (list_all is_kept path) (is_plain b path) other) ∙ parts.1) some stops kept))
+plain_parts last (b ∷ path) query plain some stops kept = grind (arith, and_parts, and_from, cond_both, list_all-append, cond-true, cond-false, plain_parts b path query)
 
 -- a plain path and a query that is kept are a plain text
 pub plain_query : (last : ℕ) (text path query : List ℕ) (n : ℕ) → n ≡ prefix_len (is_other 63) text → path ≡ take n text → query ≡ drop n text

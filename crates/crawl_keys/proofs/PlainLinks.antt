@@ -1,29 +1,30 @@
--- Where plain links lead: the parser's relative state on texts that it leaves as they are.
-use Rattle.std.proofs.Common.{◌≡◌, ℕ, zero, suc, ◌+◌, ◌<◌, ◌==◌, true, false, not, List, [], ◌∷◌, ◌++◌, length, get_or, drop, reverse, refl, ap, sym, subst, ◌∙◌, ⊎_elim, inl, All, Some, None, Ok, IfSome, arith, append_assoc, append-nil, length-append, take_all, add-one}
+-- The targets of plain links: the parser's relative state on texts that it leaves as they are.
+use Rattle.std.proofs.lemmas.Grind.{common_steps}
+use Rattle.std.proofs.Common.{◌≡◌, ℕ, zero, suc, ◌+◌, ◌<◌, ◌==◌, true, false, List, [], ◌∷◌, ◌++◌, length, get_or, drop, reverse, refl, ap, sym, subst, ◌∙◌, ⊎_elim, inl, All, Some, None, Ok, IfSome, arith, append_assoc, append-nil, length-append, take_all, add-one}
 use Rattle.std.specs.Prelude.{Option, if◌then◌else◌}
 use Rattle.std.specs.List.{prefix_len}
 use Rattle.std.proofs.lemmas.Bool.{and_left, and_parts, cond-false, cond_both, eqb-true, lt-leb, or_cases, true≢false}
 use Rattle.std.proofs.lemmas.Bool.Decides.{nat_tests}
 use Rattle.std.proofs.lemmas.Grind.{flat_map-append}
 use Rattle.std.proofs.lemmas.List.{get_or-reverse, length-reverse}
-use Rattle.std.proofs.lemmas.List.Elements.{All-nil, All-cons, All-append, All-from_get_or, All-head, All-tail, All-weaker}
+use Rattle.std.proofs.lemmas.List.Elements.{All-nil, All-cons, All-append, All-from_get_or, All-head, All-weaker}
 use Rattle.percent_encoding.specs.Percent.{IsKept}
 use Rattle.url.specs.declared.scheme.SchemeType.{SchemeType}
 use Rattle.url.specs.declared.scheme.SchemeType.TheVariants.{SpecialNotFile}
 use Rattle.url.specs.declared.sets.TheConstants.{SPECIAL_QUERY}
 use Rattle.url.specs.declared.slicing.Position.TheVariants.{BeforeHost, AfterHost}
 use Rattle.url.specs.Head.{head_only}
-use Rattle.url.specs.Input.{is_c0_control_or_space, is_tab_or_new_line, split_once, strip_tabs_and_new_lines, trim_c0_control_and_space}
+use Rattle.url.specs.Input.{is_c0_control_or_space, split_once, strip_tabs_and_new_lines, trim_c0_control_and_space}
 use Rattle.url.specs.Parser.{Parsed, after_double_slash, after_slashes, and_then, before_tail, inherit, leading_slashes, parse_by_scheme, parse_parts, parse_relative, parse_url, parse_without_scheme, split_scheme, with_path, with_tail}
 use Rattle.url.specs.Parts.{Parts, IsValid, kind_of, offset, query_set, serialize}
 use Rattle.url.specs.Path.{IsSegment, IsSegmentList, dot_count, join_segments, parse_path, push_segment, shorten_path, without_last_segment}
-use Rattle.url.specs.Scheme.{is_file, is_slash, is_special, scheme_len}
+use Rattle.url.specs.Scheme.{is_file, is_slash, scheme_len}
 use Rattle.url.proofs.InputLemmas.{All_from_list_all, IsNot, Passes, StopsAt, filter_all, list_all_from_All, split_once_none}
 use Rattle.url.proofs.ParsedCanonical.{before_special}
 use Rattle.url.proofs.PathLemmas.{IsNoSlash, parse_path_more, without_last_valid}
 use Rattle.url.proofs.RoundTrip.{parse_after_slash, parse_own_segments, stays_unless_file}
 use Rattle.url.proofs.ValidLemmas.{base_from_authority, option_unchanged}
-use Rattle.crawl_keys.specs.CanonicalText.{IsPage, resolve, resolve_from, text_of, text_of_parse}
+use Rattle.crawl_keys.specs.CanonicalText.{IsPage, resolve, text_of, text_of_parse}
 use Rattle.crawl_keys.specs.Folders.{is_of_folder, root_text}
 use Rattle.crawl_keys.specs.Links.{IsInFolder, above, behind_ups, has_no_scheme, is_query, is_rooted, is_same}
 use Rattle.crawl_keys.specs.Plain.{first_is_slash, is_kept, is_plain, may_follow}
@@ -39,8 +40,7 @@ abbrev Visible : ℕ → Type 0
 Visible b = 32 < b
 
 none_in_front : (xs : List ℕ) → All Visible xs → prefix_len is_c0_control_or_space xs ≡ 0
-none_in_front [] all = refl
-none_in_front (x ∷ xs) all = cond-false _ _ _ (lt-leb x 32 (All-head Visible x xs all))
+none_in_front xs all = grind (arith, common_steps, cond-false, lt-leb)
 
 untrimmed : (xs : List ℕ) → All Visible xs → trim_c0_control_and_space xs ≡ xs
 unfolding trim_c0_control_and_space
@@ -53,8 +53,7 @@ untrimmed xs all =
 
 unstripped : (xs : List ℕ) → All Visible xs → strip_tabs_and_new_lines xs ≡ xs
 unfolding strip_tabs_and_new_lines
-unstripped xs all =
-    filter_all _ xs (All-weaker Visible (Passes (λ b. not (is_tab_or_new_line b))) (λ b above. grind (arith, nat_tests)) xs all)
+unstripped xs all = grind (arith, common_steps, filter_all)
 
 -- the whole text is left
 pub uncut : (text : List ℕ) → All (Passes is_kept) text → split_once 35 (strip_tabs_and_new_lines (trim_c0_control_and_space text)) ≡ (text, None)
@@ -67,26 +66,18 @@ uncut text kept =
 abbrev Split : Type 0
 Split = List ℕ × Option (List ℕ)
 
--- what the parser makes of a kept text with no scheme
+-- how the parser reads a kept text with no scheme
 pub parse_url-kept : (base : Parts) (text body : List ℕ) (query : Option (List ℕ)) → All (Passes is_kept) text → split_once 63 text ≡ (body, query) → split_scheme body ≡ None
     → parse_url (Some base) text ≡ parse_without_scheme (Some base) body query None
 unfolding parse_url
-parse_url-kept base text body query kept split none =
-    let parsed = λ (hash : Split). let question = split_once 63 hash.0 in parse_by_scheme (split_scheme question.0) (Some base) question.0 question.1 hash.1 in
-    ap parsed (uncut text kept)
-    ∙ ap (λ (q : Split). parse_by_scheme (split_scheme q.0) (Some base) q.0 q.1 None) split
-    ∙ ap (λ s. parse_by_scheme s (Some base) body query None) none
+parse_url-kept base text body query kept split none = grind (arith, common_steps, uncut)
 
 -- the last step leaves a kept query as it is
 tail_of : (base : Parts) (path : List ℕ) (query : Option (List ℕ)) → kind_of base ≡ SpecialNotFile → IfSome query (All (IsKept SPECIAL_QUERY))
     → with_tail (before_tail (with_path (head_only base) path) query None) query None ≡ with_rest base path query
-tail_of base path query kind kept =
-    let own = with_path (head_only base) path in
-    let same = option_unchanged (query_set (kind_of base)) query (subst (λ k. IfSome query (All (IsKept (query_set k)))) (sym kind) kept) in
-    ap (λ u. with_tail u query None) (before_special own query None (ap is_special kind))
-    ∙ (λ i. with_rest base path (same i))
+tail_of base path query kind kept = grind (arith, common_steps, option_unchanged, before_special, with_rest)
 
--- a kept text leads to the page's URL with this path, where the relative state gives that
+-- a kept text leads to the page's URL with this path, if the relative state gives that path
 pub parse_url-path : (base : Parts) (text body path : List ℕ) (query : Option (List ℕ)) → IsWeb base → All (Passes is_kept) text → split_once 63 text ≡ (body, query) → split_scheme body ≡ None
     → 0 < length body → IfSome query (All (IsKept SPECIAL_QUERY)) → parse_relative base body ≡ Ok (with_path (head_only base) path)
     → parse_url (Some base) text ≡ Ok (with_rest base path query)
@@ -105,16 +96,11 @@ rooted_scheme more =
 
 pub one_slash : (kind : SchemeType) (rest : List ℕ) → StopsAt (is_slash kind) rest → leading_slashes kind (47 ∷ rest) ≡ 1
 unfolding leading_slashes
-one_slash kind [] stops = refl
-one_slash kind (b ∷ rest) stops = rw stops refl
+one_slash kind rest stops = grind arith
 
--- a plain text behind a slash does not begin with one
+-- a plain text after a slash does not begin with a slash
 stops_plain : (text : List ℕ) → is_plain 47 text ≡ true → StopsAt (is_slash SpecialNotFile) text
-stops_plain [] plain = tt
-stops_plain (b ∷ text) plain = no_slash b (and_parts _ _ plain).0
-  where
-    no_slash : (b : ℕ) → may_follow 47 b ≡ true → is_slash SpecialNotFile b ≡ false
-    no_slash b test = grind (arith, nat_tests)
+stops_plain text plain = grind arith
 
 -- the relative state, by the number of slashes in front
 abbrev pub relative_by : Parts → List ℕ → ℕ → Parsed Parts
@@ -144,20 +130,14 @@ rooted_more base more web plain =
 
 parse_url-rooted : (base : Parts) (text : List ℕ) → IsWeb base → get_or text 0 0 ≡ 47 → is_plain 0 text ≡ true
     → parse_url (Some base) text ≡ Ok (with_rest base (split_once 63 text).0 (split_once 63 text).1)
-parse_url-rooted base [] web slash plain = absurd (omega arith)
-parse_url-rooted base (b ∷ more) web slash plain =
-    subst (λ x. is_plain 0 (x ∷ more) ≡ true → parse_url (Some base) (x ∷ more) ≡ Ok (with_rest base (split_once 63 (x ∷ more)).0 (split_once 63 (x ∷ more)).1))
-    (sym slash) (rooted_more base more web) plain
+parse_url-rooted base text web slash plain = grind (arith, common_steps, with_rest, rooted_more)
 
--- where the page's URL with a rest leads
+-- the target of the page's URL with a rest
 pub resolve-rest : (base : Parts) (link text path : List ℕ) (query : Option (List ℕ)) → IsValid base → IsPage base → IsRest text path query
     → parse_url (Some base) link ≡ Ok (with_rest base path query) → resolve (serialize base) link ≡ Ok (root_text base ++ text)
-resolve-rest base link text path query valid page rest parses =
-    let web = web_url base valid page.web in
-    ap (λ p. resolve_from p link) page.parses ∙ ap text_of_parse parses ∙ text_of-web (with_rest base path query) page.web
-    ∙ ap (λ t. Ok t) (rest_text base path query web.authority ∙ ap (λ t. root_text base ++ t) (sym rest.whole))
+resolve-rest base link text path query valid page rest parses = grind (arith, common_steps, web_url, text_of-web, with_rest, rest_text)
 
--- where a link that begins with a slash leads
+-- the target of a link that begins with a slash
 pub resolve-rooted : (base : Parts) (text : List ℕ) → IsValid base → IsPage base → is_rooted text ≡ true → resolve (serialize base) text ≡ Ok (root_text base ++ text)
 resolve-rooted base text valid page rooted =
     let parts = and_parts _ _ rooted in
@@ -165,17 +145,13 @@ resolve-rooted base text valid page rooted =
     resolve-rest base text text _ _ valid page (plain_rest 0 text slash parts.1) (parse_url-rooted base text (web_url base valid page.web) slash parts.1)
 
 pub spelled_rooted : (base : Parts) (root text : List ℕ) (start end : ℕ) → IsValid base → IsPage base → is_rooted text ≡ true → root ≡ root_text base → start ≡ offset base BeforeHost → end ≡ offset base AfterHost → IsSpelled (root ++ text) start end
-spelled_rooted base root text start end valid page rooted is first last =
-    let parts = and_parts _ _ rooted in
-    let k = spelled_rest base text _ _ valid.head page.web (plain_rest 0 text (eqb-true (get_or text 0 0) 47 parts.0) parts.1) in
-    spelled_at (root ++ text) (offset base BeforeHost) (offset base AfterHost) start end (subst (λ r. IsSpelled (r ++ text) (offset base BeforeHost) (offset base AfterHost)) (sym is) k) first last
+spelled_rooted base root text start end valid page rooted is first last = grind (arith, common_steps, and_parts, spelled_rest, plain_rest, eqb-true, spelled_at)
 
 -- ---- `path`, and `../path`
 
 pub no_slashes : (kind : SchemeType) (body : List ℕ) → StopsAt (is_slash kind) body → leading_slashes kind body ≡ 0
 unfolding leading_slashes
-no_slashes kind [] stops = refl
-no_slashes kind (b ∷ body) stops = rw stops refl
+no_slashes kind body stops = grind arith
 
 pub split_ups : (n : ℕ) (text : List ℕ) → split_once 63 (behind_ups n text) ≡ (behind_ups n (split_once 63 text).0, (split_once 63 text).1)
 unfolding split_once
@@ -199,7 +175,7 @@ parse_ups path (suc n) body =
     ∙ parse_ups (without_last_segment path) n body
     ∙ ap (λ p. parse_path SpecialNotFile p body) (up_last n path)
 
--- the page's folder, or one above it, and a path behind it
+-- the page's folder, or one above it, and a path after it
 abbrev pub in_folder : Parts → ℕ → List ℕ → List ℕ
 in_folder base n body = above n (without_last_segment base.path) ++ 47 ∷ body
 
@@ -295,8 +271,7 @@ begins_other : (b : ℕ) → may_follow 47 b ≡ true → (b == 47) ≡ false
 begins_other b test = grind (arith, nat_tests)
 
 pub rootless_plain : (rest : List ℕ) → is_plain 47 rest ≡ true → first_is_slash rest ≡ false
-rootless_plain [] plain = refl
-rootless_plain (b ∷ rest) plain = begins_other b (and_parts _ _ plain).0
+rootless_plain rest plain = grind (arith, common_steps, begins_other, and_parts)
 
 parse_url-folder : (base : Parts) (text : List ℕ) (n : ℕ) (rest : List ℕ) → IsWeb base → IsInFolder text n rest
     → parse_url (Some base) text ≡ Ok (with_rest base (in_folder base n (split_once 63 rest).0) (split_once 63 rest).1)
@@ -313,7 +288,7 @@ parse_url-folder base text n rest web k =
     (folder_relative base n body own web stops reads.path split.plain split.none)
     ∙ ap (λ q. Ok (with_rest base (in_folder base n own) q)) reads.query
 
--- where a link to a path in the page's folder, or in one above it, leads
+-- the target of a link to a path in the page's folder, or in one above it
 pub resolve-in_folder : (base : Parts) (text : List ℕ) (n : ℕ) (rest : List ℕ) → IsValid base → IsPage base → IsInFolder text n rest → resolve (serialize base) text ≡ Ok (root_text base ++ in_folder base n rest)
 resolve-in_folder base text n rest valid page link =
     let web = web_url base valid page.web in
@@ -343,16 +318,10 @@ unfolding split_once
 query_split query = refl
 
 query_rest : (base : Parts) (query : List ℕ) → IsWeb base → All (IsKept SPECIAL_QUERY) query → IsRest (base.path ++ 63 ∷ query) base.path (Some query)
-query_rest base query web kept = record {
-  list = subst (λ k. IsSegmentList k base.path) web.kind web.list;
-  some = web.some;
-  kept = kept;
-  whole = refl;
-}
+query_rest base query web kept = grind arith
 
 query_kept : (query : List ℕ) → is_plain 0 (63 ∷ query) ≡ true → All (IsKept SPECIAL_QUERY) query
-query_kept query plain =
-    All-weaker (Passes is_kept) (IsKept SPECIAL_QUERY) query_byte query (All-tail (Passes is_kept) 63 query (all_kept 0 (63 ∷ query) plain))
+query_kept query plain = grind (arith, common_steps, query_byte, all_kept)
 
 resolve_query : (base : Parts) (query : List ℕ) → IsValid base → IsPage base → is_plain 0 (63 ∷ query) ≡ true → resolve (serialize base) (63 ∷ query) ≡ Ok (root_text base ++ (base.path ++ 63 ∷ query))
 resolve_query base query valid page plain =
@@ -361,12 +330,9 @@ resolve_query base query valid page plain =
     resolve-rest base (63 ∷ query) (base.path ++ 63 ∷ query) base.path (Some query) valid page (query_rest base query web kept)
     (parse_url-kept base (63 ∷ query) [] (Some query) (all_kept 0 (63 ∷ query) plain) (query_split query) no_text_scheme ∙ query_parts base query web kept)
 
--- where a query alone leads
+-- the target of a link that is only a query
 pub resolve-query : (base : Parts) (text : List ℕ) → IsValid base → IsPage base → is_query text ≡ true → resolve (serialize base) text ≡ Ok (root_text base ++ (base.path ++ text))
-resolve-query base [] valid page query = absurd (true≢false (sym query))
-resolve-query base (b ∷ text) valid page query =
-    let parts = and_parts _ _ query in
-    subst (λ x. is_plain 0 (x ∷ text) ≡ true → resolve (serialize base) (x ∷ text) ≡ Ok (root_text base ++ (base.path ++ x ∷ text))) (sym (eqb-true b 63 parts.0)) (resolve_query base text valid page) parts.1
+resolve-query base text valid page query = grind (arith, common_steps, true≢false, and_parts, eqb-true, resolve_query)
 
 spelled_alone : (base : Parts) (query : List ℕ) → IsValid base → IsPage base → is_plain 0 (63 ∷ query) ≡ true → IsSpelled (root_text base ++ (base.path ++ 63 ∷ query)) (offset base BeforeHost) (offset base AfterHost)
 spelled_alone base query valid page plain =
@@ -379,26 +345,20 @@ spelled_any base (b ∷ text) valid page query =
     subst (λ x. is_plain 0 (x ∷ text) ≡ true → IsSpelled (root_text base ++ (base.path ++ x ∷ text)) (offset base BeforeHost) (offset base AfterHost)) (sym (eqb-true b 63 parts.0)) (spelled_alone base text valid page) parts.1
 
 pub spelled_query : (base : Parts) (own text : List ℕ) (start end : ℕ) → IsValid base → IsPage base → is_query text ≡ true → own ≡ root_text base ++ (base.path ++ text) → start ≡ offset base BeforeHost → end ≡ offset base AfterHost → IsSpelled own start end
-spelled_query base own text start end valid page query is first last =
-    spelled_at own (offset base BeforeHost) (offset base AfterHost) start end (subst (λ t. IsSpelled t (offset base BeforeHost) (offset base AfterHost)) (sym is) (spelled_any base text valid page query)) first last
+spelled_query base own text start end valid page query is first last = grind (arith, common_steps, spelled_at, spelled_any)
 
--- ---- nothing, or a fragment alone
+-- ---- an empty link, or only a fragment
 
 same_tail : (base : Parts) (fragment : Option (List ℕ)) → IsWeb base → IsPage base → text_of (with_tail base base.query fragment) ≡ Ok (serialize base)
-same_tail base fragment web page =
-    let same = option_unchanged (query_set (kind_of base)) base.query web.valid.query in
-    text_of-web (with_tail base base.query fragment) page.web
-    ∙ (λ i. Ok (serialize (record base { query = same i; fragment = sym page.bare i })))
+same_tail base fragment web page = grind (arith, common_steps, option_unchanged, text_of-web)
 
 same_parts : (base : Parts) (fragment : Option (List ℕ)) → IsWeb base → IsPage base → text_of_parse (parse_without_scheme (Some base) [] None fragment) ≡ Ok (serialize base)
 unfolding parse_parts
-same_parts base fragment web page =
-    ap text_of_parse (cond-false _ _ _ (and_left _ _ (base_from_authority base web.authority))) ∙ same_tail base fragment web page
+same_parts base fragment web page = grind (arith, common_steps, cond-false, and_left, base_from_authority, same_tail)
 
 same_empty : (base : Parts) → IsWeb base → IsPage base → text_of_parse (parse_url (Some base) []) ≡ Ok (serialize base)
 unfolding parse_url trim_c0_control_and_space strip_tabs_and_new_lines split_once
-same_empty base web page =
-    ap (λ s. text_of_parse (parse_by_scheme s (Some base) [] None None)) no_text_scheme ∙ same_parts base None web page
+same_empty base web page = grind (arith, common_steps, no_text_scheme, same_parts)
 
 same_fragment : (base : Parts) (text : List ℕ) → IsWeb base → IsPage base → text_of_parse (parse_url (Some base) (35 ∷ text)) ≡ Ok (serialize base)
 unfolding parse_url split_once
@@ -412,14 +372,11 @@ same_fragment base text web page =
     ∙ same_parts base (Some begins.rest) web page
 
 same_text : (base : Parts) (text : List ℕ) → IsWeb base → IsPage base → is_same text ≡ true → text_of_parse (parse_url (Some base) text) ≡ Ok (serialize base)
-same_text base [] web page same = same_empty base web page
-same_text base (b ∷ text) web page same =
-    subst (λ x. text_of_parse (parse_url (Some base) (x ∷ text)) ≡ Ok (serialize base)) (sym (eqb-true b 35 same)) (same_fragment base text web page)
+same_text base text web page same = grind (arith, common_steps, same_empty, eqb-true, same_fragment)
 
 -- such a link leads to the page
 pub resolve-same : (base : Parts) (text : List ℕ) → IsValid base → IsPage base → is_same text ≡ true → resolve (serialize base) text ≡ Ok (serialize base)
-resolve-same base text valid page same =
-    ap (λ p. resolve_from p text) page.parses ∙ same_text base text (web_url base valid page.web) page same
+resolve-same base text valid page same = grind (arith, common_steps, same_text, web_url)
 
 -- one `../` more
 pub behind_more : (n : ℕ) (text : List ℕ) → behind_ups n (46 ∷ 46 ∷ 47 ∷ text) ≡ behind_ups (n + 1) text

@@ -1,5 +1,6 @@
--- Where links lead that begin with a slash and have dot segments: above the root there is no folder.
-use Rattle.std.proofs.Common.{◌≡◌, ◌⊎◌, ℕ, zero, suc, ◌+◌, ◌<◌, true, List, [], ◌∷◌, ◌++◌, length, get_or, take, drop, refl, ap, sym, subst, ◌∙◌, ⊎_elim, All, Some, Ok, IfSome, arith, append_assoc, length-append, take_at}
+-- The targets of links that begin with a slash and have dot segments: there is no folder above the root.
+use Rattle.std.proofs.lemmas.Grind.{common_steps}
+use Rattle.std.proofs.Common.{◌≡◌, ◌⊎◌, ℕ, zero, suc, ◌+◌, ◌<◌, true, List, [], ◌∷◌, ◌++◌, length, get_or, take, drop, refl, ap, sym, subst, ◌∙◌, All, Some, Ok, IfSome, arith, append_assoc, length-append, take_at}
 use Rattle.std.proofs.lemmas.Bool.{and_from}
 use Rattle.std.proofs.lemmas.List.Elements.{All-cons}
 use Rattle.percent_encoding.specs.Percent.{IsKept}
@@ -39,11 +40,7 @@ root_relative : (base : Parts) (n : ℕ) (text body : List ℕ) → kind_of base
     → ((front : List ℕ) → parse_path SpecialNotFile front text ≡ parse_path SpecialNotFile (above n front) body) → is_plain 47 body ≡ true → All (IsNot 63) body
     → parse_relative base (47 ∷ text) ≡ Ok (with_path (head_only base) (47 ∷ body))
 unfolding parse_relative
-root_relative base n text body kind stops reads plain none =
-    let own = subst (λ k. StopsAt (is_slash k) text) (sym kind) stops in
-    let path = ap (λ k. parse_path k [] text) kind ∙ reads [] ∙ ap (λ p. parse_path SpecialNotFile p body) (none_above n) ∙ parse_run [] body plain none in
-    ap (relative_by base (47 ∷ text)) (one_slash (kind_of base) text own)
-    ∙ ap (λ p. Ok (with_path (head_only base) p)) path
+root_relative base n text body kind stops reads plain none = grind (arith, common_steps, none_above, parse_run, relative_by, one_slash)
 
 parse_url-root : (base : Parts) (text : List ℕ) (n : ℕ) (rest : List ℕ) → IsWeb base → IsBehind text n rest → is_plain 47 rest ≡ true
     → parse_url (Some base) (47 ∷ text) ≡ Ok (with_rest base (47 ∷ (split_once 63 rest).0) (split_once 63 rest).1)
@@ -74,9 +71,7 @@ resolve-root base text rest valid page link =
 -- ---- the page's text up to the slash of its root
 
 path_slash : (path : List ℕ) → 0 < length path → (path ≡ []) ⊎ (get_or path 0 0 ≡ 47) → path ≡ 47 ∷ drop 1 path
-path_slash [] some first = absurd (omega arith)
-path_slash (b ∷ path) some first =
-    ⊎_elim (λ empty. absurd (let none = ap length empty in omega arith)) (λ slash. ap (λ x. x ∷ path) slash) first
+path_slash path some first = grind arith
 
 front_slash : (text : List ℕ) (root folder : ℕ) (k : IsCanonical text) → IsBase text root folder → take (root + 1) text ≡ root_text k.url ++ 47 ∷ []
 front_slash text root folder k b =

@@ -1,11 +1,12 @@
 -- Texts of web URLs that are made of a head, a path and a query.
-use Rattle.std.proofs.Common.{◌≡◌, ℕ, ◌+◌, ◌<◌, ◌==◌, true, false, not, ◌&&◌, ◌||◌, List, [], ◌∷◌, ◌++◌, length, get_or, take, drop, refl, ap, sym, subst, ◌∙◌, inl, All, Some, None, Ok, IfSome, arith, append_assoc, append-nil, length-append, length-take-le, take-append-drop, lit<}
+use Rattle.std.proofs.lemmas.Grind.{common_steps}
+use Rattle.std.proofs.Common.{◌≡◌, ℕ, ◌+◌, ◌<◌, true, false, not, ◌&&◌, ◌||◌, List, [], ◌∷◌, ◌++◌, length, get_or, take, drop, refl, ap, sym, subst, ◌∙◌, All, Some, None, Ok, IfSome, arith, append_assoc, append-nil, length-append, length-take-le, take-append-drop, lit<}
 use Rattle.std.specs.Prelude.{Option, IsAscii, bytes_eq, codes}
-use Rattle.std.specs.Char.{is_ascii_digit, is_digit, to_ascii_lowercase}
+use Rattle.std.specs.Char.{is_ascii_digit, to_ascii_lowercase}
 use Rattle.std.specs.List.{list_all}
-use Rattle.std.proofs.lemmas.Bool.{and_left, and_parts, and_right, cond-false, eqb-true, or_from, true≢false}
+use Rattle.std.proofs.lemmas.Bool.{and_left, and_right, or_from, true≢false}
 use Rattle.std.proofs.lemmas.Bool.Decides.{nat_tests}
-use Rattle.std.proofs.lemmas.List.Elements.{All-nil, All-weaker}
+use Rattle.std.proofs.lemmas.List.Elements.{All-nil}
 use Rattle.std.proofs.lemmas.List.Sums.{prefix_len-le-length}
 use Rattle.percent_encoding.specs.Percent.{IsKept}
 use Rattle.hash_order.specs.HashOrder.{hash_of}
@@ -17,7 +18,7 @@ use Rattle.url.specs.Host.{IsDomain, IsHostOf}
 use Rattle.url.specs.Input.{is_empty, rsplit_once, split_once}
 use Rattle.url.specs.Ipv4.{ends_in_a_number, is_number, last_label_of, parse_number}
 use Rattle.url.specs.Parser.{parse_url}
-use Rattle.url.specs.Parts.{Parts, IsValid, IsValidHead, has_authority, offset, query_set, serialize}
+use Rattle.url.specs.Parts.{Parts, IsValid, IsValidHead, has_authority, offset, serialize}
 use Rattle.url.specs.Path.{IsSegmentList}
 use Rattle.url.specs.Scheme.{IsScheme, is_special, scheme_len}
 use Rattle.url.proofs.InputLemmas.{Passes, All-take-prefix_len, is_empty_nonempty, lowercase_other, map_fixed}
@@ -34,11 +35,10 @@ use Rattle.crawl_keys.proofs.CanonicalLemmas.{canonical-canonical, web_kind, wit
 use Rattle.crawl_keys.proofs.LaidLemmas.{laid_out}
 use Rattle.crawl_keys.proofs.PlainLemmas.{query_text, rooted_path, splits}
 
--- ---- what a text that is spelled so parses to
+-- ---- the parsed form of such a text
 
 pub parse_spelled : (text : List ℕ) (start end : ℕ) (base : Option Parts) (k : IsSpelled text start end) → parse_url base text ≡ Ok k.url
-parse_spelled text start end base k =
-    ap (parse_url base) (sym k.spelled) ∙ parse_url-serialize_special k.url base k.valid (web_kind k.url k.web)
+parse_spelled text start end base k = grind (arith, common_steps, parse_url-serialize_special, web_kind)
 
 pub canonical_spelled : (text : List ℕ) (start end : ℕ) → IsSpelled text start end → IsCanonical text
 canonical_spelled text start end k = record {
@@ -69,27 +69,11 @@ laid_spelled u k hashed =
 
 -- the same by other numbers that are equal
 pub spelled_at : (text : List ℕ) (start end own its : ℕ) → IsSpelled text start end → own ≡ start → its ≡ end → IsSpelled text own its
-spelled_at text start end own its k first last = record {
-  url = k.url;
-  valid = k.valid;
-  web = k.web;
-  bare = k.bare;
-  spelled = k.spelled;
-  start = k.start ∙ sym first;
-  end = k.end ∙ sym last;
-}
+spelled_at text start end own its k first last = grind arith
 
 -- the text of a web URL without its fragment
 pub spelled_own : (url : Parts) (text : List ℕ) (start end : ℕ) → IsValid url → is_web url ≡ true → text ≡ serialize (without_fragment url) → start ≡ offset url BeforeHost → end ≡ offset url AfterHost → IsSpelled text start end
-spelled_own url text start end valid web spelled first last = record {
-  url = without_fragment url;
-  valid = without_fragment_valid url valid;
-  web = web;
-  bare = refl;
-  spelled = sym spelled;
-  start = sym first;
-  end = sym last;
-}
+spelled_own url text start end valid web spelled first last = grind (arith, common_steps, without_fragment_valid)
 
 -- ---- a head with a path and a query
 
@@ -97,7 +81,7 @@ spelled_own url text start end valid web spelled first last = record {
 abbrev pub with_rest : Parts → List ℕ → Option (List ℕ) → Parts
 with_rest head path query = record head { path = path; query = query; fragment = None }
 
--- a path, and a query where there is one, of which the text is made
+-- the path of a text, and its query if it has one
 pub record IsRest (text path : List ℕ) (query : Option (List ℕ)) : Type 0 where
   pub list : IsSegmentList SpecialNotFile path
   pub some : 0 < length path
@@ -105,21 +89,7 @@ pub record IsRest (text path : List ℕ) (query : Option (List ℕ)) : Type 0 wh
   pub whole : text ≡ path ++ query_text query
 
 pub rest_valid : (head : Parts) (text path : List ℕ) (query : Option (List ℕ)) → IsValidHead head → is_web head ≡ true → IsRest text path query → IsValid (with_rest head path query)
-rest_valid head text path query valid web rest =
-    let kind = web_kind head web in
-    record {
-      head = record {
-        scheme = valid.scheme;
-        username = valid.username;
-        password = valid.password;
-        host = valid.host;
-        port = valid.port;
-        bare = valid.bare;
-      };
-      path = inl (subst (λ k. IsSegmentList k path) (sym kind) rest.list, λ _. rest.some);
-      query = subst (λ k. IfSome query (All (IsKept (query_set k)))) (sym kind) rest.kept;
-      fragment = tt;
-    }
+rest_valid head text path query valid web rest = grind (arith, common_steps, web_kind)
 
 pub rest_text : (head : Parts) (path : List ℕ) (query : Option (List ℕ)) → has_authority head ≡ true → serialize (with_rest head path query) ≡ root_text head ++ (path ++ query_text query)
 rest_text head path query authority = rw authority (simp (append_assoc, append-nil))
@@ -157,23 +127,15 @@ plain_rest last (b ∷ more) slash plain =
 -- ---- a plain host
 
 last_of : (front : Option (List ℕ)) (last : List ℕ) → 0 < length last → last_label_of front last ≡ last
-last_of None last some = refl
-last_of (Some front) last some = cond-false _ _ _ (is_empty_nonempty last some)
+last_of front last some = grind arith
 
--- what begins with a letter is no number
+-- a text that begins with a letter is not a number
 no_number : (b : ℕ) (last : List ℕ) → is_lower b ≡ true → ((not (is_empty (b ∷ last)) && list_all is_ascii_digit (b ∷ last)) || is_number (parse_number (b ∷ last))) ≡ false
 unfolding parse_number
-no_number b last letter =
-    let no_digit : is_ascii_digit b ≡ false = grind (arith, nat_tests) in
-    let no_zero : (b == 48) ≡ false = grind (arith, nat_tests) in
-    let no_ten : is_digit b 10 ≡ false = grind (arith, nat_tests) in
-    let no : is_number (parse_number (b ∷ last)) ≡ false = rw (is_empty_nonempty (b ∷ last) (omega arith), no_zero, no_ten) refl in
-    or_from _ _ (and_right _ _ (and_left _ _ no_digit)) no
+no_number b last letter = grind (arith, common_steps, is_empty_nonempty, or_from, and_right, and_left)
 
 named_last : (front : Option (List ℕ)) (last : List ℕ) → is_lower (get_or last 0 0) ≡ true → ((not (is_empty (last_label_of front last)) && list_all is_ascii_digit (last_label_of front last)) || is_number (parse_number (last_label_of front last))) ≡ false
-named_last front [] letter = absurd (true≢false (sym letter))
-named_last front (b ∷ last) letter =
-    subst (λ l. ((not (is_empty l) && list_all is_ascii_digit l) || is_number (parse_number l)) ≡ false) (sym (last_of front (b ∷ last) (omega arith))) (no_number b last letter)
+named_last front last letter = grind (arith, common_steps, true≢false, last_of, no_number)
 
 pub named : (host : List ℕ) → is_named host ≡ true → ends_in_a_number host ≡ false
 unfolding ends_in_a_number
@@ -181,8 +143,7 @@ named host letter = named_last (rsplit_once 46 host).0 (rsplit_once 46 host).1 l
 
 pub named_some : (host : List ℕ) → is_named host ≡ true → 0 < length host
 unfolding rsplit_once
-named_some [] letter = absurd (true≢false (sym letter))
-named_some (b ∷ host) letter = omega arith
+named_some host letter = grind (arith, common_steps, true≢false)
 
 host_below : (b : ℕ) → is_host_byte b ≡ true → b < 128
 host_below b host = grind (arith, nat_tests)
@@ -194,11 +155,7 @@ host_lower : (b : ℕ) → Passes is_host_byte b → to_ascii_lowercase b ≡ b
 host_lower b host = lowercase_other b (grind (arith, nat_tests))
 
 host_domain : (host : List ℕ) → All (Passes is_host_byte) host → is_named host ≡ true → IsDomain host
-host_domain host all letter = record {
-  allowed = All-weaker (Passes is_host_byte) (IsKept FORBIDDEN_DOMAIN) host_kept host all;
-  lower = map_fixed to_ascii_lowercase host (All-weaker (Passes is_host_byte) (λ b. to_ascii_lowercase b ≡ b) host_lower host all);
-  named = named host letter;
-}
+host_domain host all letter = grind (arith, common_steps, host_kept, map_fixed, host_lower, named)
 
 -- a scheme of the web
 pub record IsWebScheme (scheme : List ℕ) : Type 0 where
@@ -236,23 +193,16 @@ host_head scheme host k domain some = record {
   bare = λ _. (refl, refl, refl);
 }
 
--- what stands behind the host
+-- the text after the host
 record Behind (rest : List ℕ) : Type 0 where
   slash : get_or (drop (host_len rest) rest) 0 0 ≡ 47
   plain : is_plain 0 (drop (host_len rest) rest) ≡ true
   named : is_named (take (host_len rest) rest) ≡ true
 
 behind : (rest : List ℕ) → is_plain_host rest ≡ true → Behind rest
-behind rest plain =
-    let parts = and_parts _ _ plain in
-    let tests = and_parts _ _ parts.0 in
-    record {
-      slash = eqb-true (get_or (drop (host_len rest) rest) 0 0) 47 tests.0;
-      plain = parts.1;
-      named = tests.1;
-    }
+behind rest plain = grind arith
 
--- a scheme, a plain host and what stands behind it are the text of a URL
+-- a scheme, a plain host and the text after it are the text of a URL
 pub spelled_host : (scheme rest : List ℕ) → IsWebScheme scheme → is_plain_host rest ≡ true → IsSpelled (scheme ++ 58 ∷ 47 ∷ 47 ∷ rest) (length scheme + 3) (length scheme + 3 + host_len rest)
 spelled_host scheme rest k plain =
     let b = behind rest plain in

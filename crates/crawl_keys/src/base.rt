@@ -201,6 +201,7 @@ impl Base {
     }
 
     /// The canonical URL of a link that is a query.
+    #[tactic(auto, using(crate::proofs::BaseLemmas::front_slice, crate::proofs::BaseLemmas::spelled_at_query, crate::proofs::BaseLemmas::leads_query))]
     fn query(&self, alloc: Global, text: &str) -> Result<CanonUrl, KeyError>
         requires { is_query text.now ≡ true }
         ensures { Gives KeyError.NoMemory (λ url. url) result (spec.resolve self.now text.now) }
@@ -235,6 +236,7 @@ impl Base {
     }
 
     /// The result of a link with dot segments after another segment. `None` means unknown.
+    #[tactic(auto, using(crate::proofs::DotLinks::behind_both))]
     fn dotted_within(&self, alloc: Global, text: &str) -> Option<Result<CanonUrl, KeyError>>
         ensures { IfSome result (λ answer. Gives KeyError.NoMemory (λ url. url) answer (spec.resolve self.now text.now)) }
     {
@@ -323,6 +325,7 @@ impl Base {
     }
 
     /// The canonical URL of a link that leads `ups` folders up from the page's folder, and from there to `rest`.
+    #[tactic(auto, using(crate::proofs::BaseLemmas::front_slice, crate::proofs::BaseLemmas::spelled_folder, crate::proofs::BaseLemmas::leads_in_folder))]
     fn in_folder(
         &self,
         alloc: Global,
@@ -340,6 +343,7 @@ impl Base {
     }
 
     /// The canonical URL of a link to the page itself, or to an anchor on it.
+    #[tactic(auto, using(crate::proofs::BaseLemmas::leads_same))]
     fn same(&self, text: &str) -> Result<CanonUrl, KeyError>
         requires { is_same text.now ≡ true }
         ensures { Gives KeyError.NoMemory (λ url. url) result (spec.resolve self.now text.now) }

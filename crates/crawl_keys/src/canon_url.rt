@@ -98,6 +98,7 @@ impl CanonUrl {
     }
 
     /// The position of the host in the text.
+    #[tactic(auto, using(crate::proofs::SpelledLemmas::spelled_at))]
     pub(crate) fn host(&self) -> HostPlace
         ensures spelled { IsSpelled self.now result.start result.end }
         ensures within { result.end ≤ length self.now }

@@ -33,6 +33,7 @@ pub fn respelled(alloc: Global, text: &str) -> Result<Option<CanonUrl>, KeyError
 }
 
 /// The scheme `http` or `https` in lower case, with its slashes, and its default port.
+#[tactic(auto, using(crate::proofs::CasedLinks::http_front, crate::proofs::CasedLinks::https_front))]
 fn front_of(scheme: &str) -> Option<(&'static str, &'static str)>
     ensures front { IfSome result (λ pair. IsFrontOf scheme.now pair.0.now pair.1.now) }
     ensures short { IfSome result (λ pair. length pair.0.now ≤ 8) }
@@ -47,6 +48,7 @@ fn front_of(scheme: &str) -> Option<(&'static str, &'static str)>
 }
 
 /// The text before the first slash, and the text after it.
+#[tactic(auto, using(crate::proofs::PlainLemmas::cut_at))]
 fn before_path(text: &str) -> (&str, &str)
     ensures { IsCut text.now result.0.now result.1.now }
 {
@@ -67,6 +69,7 @@ fn without_port<'a>(authority: &'a str, port: &str) -> &'a str
 }
 
 /// The canonical URL that is `front`, the host in lower case, a slash and the path, if all of it is plain.
+#[tactic(auto, using(crate::proofs::CasedLinks::spelled_front))]
 fn in_lower_case(
     alloc: Global,
     front: &str,

@@ -18,6 +18,7 @@ pub fn is_opaque(text: &str) -> bool
 }
 
 /// The same for a text that begins with a letter.
+#[tactic(auto, using(crate::proofs::PlainLemmas::cut_at))]
 fn has_opaque_path(text: &str) -> bool
     ensures { result ≡ true → IsOpaque text.now }
 {
@@ -45,6 +46,7 @@ fn is_word(bytes: &[u8]) -> bool
 }
 
 /// The number of lower-case letters that the bytes begin with.
+#[tactic(auto, using(url::proofs::InputLemmas::prefix_len_is, crate::proofs::OpaqueLinks::letter_test))]
 fn letters_len(bytes: &[u8]) -> usize
     ensures value { result ≡ prefix_len is_lower bytes.now }
     ensures within { result ≤ length bytes.now }
@@ -57,6 +59,7 @@ fn letters_len(bytes: &[u8]) -> usize
 }
 
 /// Whether the URL Standard calls the scheme special.
+#[tactic(auto, using(crate::proofs::OpaqueLinks::file_special, crate::proofs::OpaqueLinks::other_special))]
 fn is_special(scheme: &str) -> bool
     ensures { result ≡ spec.is_special (spec.scheme_type scheme.now) }
 {
@@ -64,6 +67,7 @@ fn is_special(scheme: &str) -> bool
 }
 
 /// The port that the URL Standard gives the scheme.
+#[tactic(auto, unfolding(url::specs::Scheme::default_port))]
 fn default_port(scheme: &str) -> Option<u16>
     ensures { result ≡ spec.default_port scheme.now }
 {

@@ -59,6 +59,7 @@ pub fn plain_link(text: &str) -> PlainLink
 }
 
 /// How many times the text begins with `../`, and the text after that.
+#[tactic(auto, using(crate::proofs::PlainLinks::behind_more))]
 pub fn behind_ups(text: &str) -> (usize, &str)
     ensures { text.now ≡ links.behind_ups result.0 result.1.now }
 {
@@ -126,6 +127,7 @@ fn host_len(bytes: &[u8]) -> usize
 }
 
 /// The number of bytes before the first `mark`.
+#[tactic(auto, using(url::proofs::InputLemmas::prefix_len_is, std::proofs::lemmas::Bool::cases_lt))]
 pub fn len_before(bytes: &[u8], mark: u8) -> usize
     ensures value { result ≡ prefix_len (spec.is_other mark) bytes.now }
     ensures within { result ≤ length bytes.now }
@@ -147,6 +149,7 @@ pub fn len_before(bytes: &[u8], mark: u8) -> usize
 }
 
 /// The same, one byte at a time.
+#[tactic(auto, using(url::proofs::InputLemmas::prefix_len_is))]
 fn len_before_short(bytes: &[u8], mark: u8) -> usize
     ensures value { result ≡ prefix_len (spec.is_other mark) bytes.now }
     ensures within { result ≤ length bytes.now }
@@ -215,6 +218,7 @@ fn plain_run(last: u8, text: &[u8]) -> usize
 
 /// At least how far each byte of a text of more than 16 bytes may follow the byte before it: to the end, or to the position
 /// before 16 bytes of which one may not.
+#[tactic(auto, using(std::proofs::lemmas::Bool::cases_lt))]
 fn follow_run(text: &[u8]) -> usize
     requires { LANES < length text.now }
     ensures value { result ≡ length text.now → Follow text.now 0 (length text.now - 1) }
@@ -234,6 +238,7 @@ fn follow_run(text: &[u8]) -> usize
 
 /// Whether the text stays unchanged if the rule for a path ends at the first `?`. At least `run` bytes of it stay unchanged
 /// by that rule. `false` means unknown.
+#[tactic(auto, using(crate::proofs::PlainLemmas::plain_query))]
 fn has_plain_query(last: u8, text: &[u8], run: usize) -> bool
     requires { run ≤ length text.now }
     ensures { result ≡ true → spec.is_plain last text.now ≡ true }
@@ -262,6 +267,7 @@ fn are_kept(bytes: &[u8]) -> bool
 }
 
 /// Whether each byte may follow the one before it, tested one byte at a time. `false` means unknown.
+#[tactic(auto, using(std::proofs::lemmas::List::drop_more, crate::proofs::PlainLemmas::plain_then, std::proofs::lemmas::List::drop_all))]
 fn is_plain_short(last: u8, text: &[u8]) -> bool
     ensures { result ≡ true → spec.is_plain last text.now ≡ true }
 {

@@ -1,6 +1,6 @@
 -- The order of results, in the words of URLs.
-use Rattle.std.proofs.Common.{◌≡◌, ℕ, not, ◌&&◌, List, filter, map, Ordering, Bor, refl, sym, ap, ◌∙◌}
-use Rattle.std.specs.declared.cmp.Ordering.TheVariants.{Less, Equal, Greater}
+use native.Mathlib.Omega.{arith}
+use Rattle.std.proofs.Common.{◌≡◌, ℕ, not, ◌&&◌, List, filter, map, Ordering, Bor, sym, ap, ◌∙◌}
 use Rattle.std.specs.Ordering.{is_lt, is_eq, nat_cmp, ordering_reverse}
 use Rattle.std.specs.Cmp.{IsStrictWeakOrder}
 use Rattle.std.specs.Cmp.Lexicographic.{slice_cmp}
@@ -31,9 +31,7 @@ results_by_url-from_sort given sorted ascends stable =
 -- ---- results that tie have one URL
 
 tied : (o : Ordering) → not (is_lt (ordering_reverse o)) && not (is_lt o) ≡ is_eq o
-tied Less = refl
-tied Equal = refl
-tied Greater = refl
+tied o = grind arith
 
 ties-url : (x r : PageResult) → ties is_before x r ≡ bytes_eq r.url x.url
 ties-url x r =
@@ -49,10 +47,7 @@ results_at-results_by_url url results =
     sym (results_at-ties x (results_by_url results)) ∙ filter-stable_sort is_before before_ranks x results ∙ results_at-ties x results
 
 pub results_by_url-in_order : (results : List PageResult) → IsInOrder results (results_by_url results)
-results_by_url-in_order results = record {
-  ascends = sorted-stable_sort is_before before_ranks results;
-  keeps = λ url. results_at-results_by_url url results;
-}
+results_by_url-in_order results = grind (arith, sorted-stable_sort, before_ranks, results_at-results_by_url)
 
 pub results_by_url-alone : (results ordered : List PageResult) → IsInOrder results ordered → ordered ≡ results_by_url results
 results_by_url-alone results ordered h =

@@ -1,5 +1,5 @@
--- A stable sort by a test has one answer: the list that ascends by it and keeps what ties.
-use Rattle.std.proofs.Common.{◌≡◌, ℕ, zero, suc, ◌<◌, ◌≤◌, Bool, true, false, not, cond, List, [], ◌∷◌, length, get_or, filter, map, refl, sym, ap, ◌∙◌, subst, arith, inl, inr, suc-le-suc, zero-le, add-one}
+-- A stable sort by a test has one result: the list that ascends by it and keeps the order of what ties.
+use Rattle.std.proofs.Common.{◌≡◌, ℕ, zero, suc, ◌<◌, ◌≤◌, Bool, true, false, not, List, [], ◌∷◌, length, get_or, filter, map, refl, sym, ap, ◌∙◌, subst, arith, inl, inr, suc-le-suc, zero-le, add-one}
 use Rattle.std.proofs.lemmas.Bool.{cond-true, cond-false, cases_Bool, and_parts, not-true, false≢true}
 use Rattle.std.specs.Cmp.{IsStrictWeakOrder}
 use Rattle.std.specs.List.Sorted.{ties, IsPermutation, IsSortedBy, IsStableBy}
@@ -29,31 +29,11 @@ tie lt x y left right = rw (left, right) refl
 
 filter-insertion : {X : Type 0} (lt : X → X → Bool) → IsStrictWeakOrder lt → (x c : X) (ds : List X) → filter (ties lt x) (insertion lt c ds) ≡ filter (ties lt x) (c ∷ ds)
 filter-insertion lt o x c [] = refl
-filter-insertion lt o x c (d ∷ ds) =
-    let p = ties lt x in
-    elim (cases_Bool (lt d c)) [
-      | inr stays ↦ ap (filter p) (cond-false _ _ _ stays)
-      | inl past ↦
-          ap (filter p) (cond-true _ _ _ past)
-          ∙ elim (cases_Bool (p d)) [
-            | inr without ↦
-                filter-dropped p d (insertion lt c ds) without ∙ filter-insertion lt o x c ds
-                ∙ ap (λ l. cond (p c) (c ∷ l) l) (sym (filter-dropped p d ds without))
-            | inl with ↦
-                elim (cases_Bool (p c)) [
-                  | inl both ↦
-                      absurd (false≢true (sym (o.chain d x c (neither lt x d with).1 (neither lt x c both).0) ∙ past))
-                  | inr only ↦
-                      filter-kept p d (insertion lt c ds) with ∙ ap (λ l. d ∷ l) (filter-insertion lt o x c ds ∙ filter-dropped p c ds only)
-                      ∙ sym (filter-dropped p c (d ∷ ds) only ∙ filter-kept p d ds with)
-                ]
-          ]
-    ]
+filter-insertion lt o x c (d ∷ ds) = grind (arith, cases_Bool, cond-false, cond-true, filter-dropped, false≢true, neither, filter-kept, filter-insertion lt o x c ds)
 
 pub filter-stable_sort : {X : Type 0} (lt : X → X → Bool) → IsStrictWeakOrder lt → (x : X) (cs : List X) → filter (ties lt x) (stable_sort lt cs) ≡ filter (ties lt x) cs
 filter-stable_sort lt o x [] = refl
-filter-stable_sort lt o x (c ∷ cs) =
-    filter-insertion lt o x c (stable_sort lt cs) ∙ ap (λ l. cond (ties lt x c) (c ∷ l) l) (filter-stable_sort lt o x cs)
+filter-stable_sort lt o x (c ∷ cs) = grind (arith, filter-insertion, filter-stable_sort lt o x cs)
 
 -- ---- lists that ascend, by recursion
 
@@ -72,23 +52,11 @@ AreAtLeast-less lt o x y (z ∷ zs) below h = (o.chain z y x h.0 below, AreAtLea
 
 AreAtLeast-insertion : {X : Type 0} (lt : X → X → Bool) (x c : X) (ds : List X) → lt c x ≡ false → AreAtLeast lt x ds → AreAtLeast lt x (insertion lt c ds)
 AreAtLeast-insertion lt x c [] above h = (above, tt)
-AreAtLeast-insertion lt x c (d ∷ ds) above h =
-    let P : List _ → Type 0 = AreAtLeast lt x in
-    elim (cases_Bool (lt d c)) [
-      | inl past ↦ subst P (sym (cond-true _ _ _ past)) (h.0, AreAtLeast-insertion lt x c ds above h.1)
-      | inr stays ↦ subst P (sym (cond-false _ _ _ stays)) (above, h)
-    ]
+AreAtLeast-insertion lt x c (d ∷ ds) above h = grind (arith, cases_Bool, cond-true, cond-false, AreAtLeast-insertion lt x c ds above h.1)
 
 Ascends-insertion : {X : Type 0} (lt : X → X → Bool) → IsStrictWeakOrder lt → (c : X) (ds : List X) → Ascends lt ds → Ascends lt (insertion lt c ds)
 Ascends-insertion lt o c [] h = (tt, tt)
-Ascends-insertion lt o c (d ∷ ds) h =
-    let P : List _ → Type 0 = Ascends lt in
-    elim (cases_Bool (lt d c)) [
-      | inl past ↦
-          subst P (sym (cond-true _ _ _ past)) (AreAtLeast-insertion lt d c ds (o.one_way d c past) h.0, Ascends-insertion lt o c ds h.1)
-      | inr stays ↦
-          subst P (sym (cond-false _ _ _ stays)) ((stays, AreAtLeast-less lt o c d ds stays h.0), h)
-    ]
+Ascends-insertion lt o c (d ∷ ds) h = grind (arith, cases_Bool, cond-true, AreAtLeast-insertion, cond-false, AreAtLeast-less, Ascends-insertion lt o c ds h.1)
 
 Ascends-stable_sort : {X : Type 0} (lt : X → X → Bool) → IsStrictWeakOrder lt → (cs : List X) → Ascends lt (stable_sort lt cs)
 Ascends-stable_sort lt o [] = tt
@@ -144,11 +112,7 @@ IsPermutation-stable_sort lt (c ∷ cs) =
 -- what ties with x occurs among them
 AreAtLeast-found : {X : Type 0} (lt : X → X → Bool) → IsStrictWeakOrder lt → (n x : X) (ys : List X) (w : X) (ws : List X) → AreAtLeast lt n ys → filter (ties lt x) ys ≡ w ∷ ws → lt x n ≡ false
 AreAtLeast-found lt o n x [] w ws h e = cc
-AreAtLeast-found lt o n x (y ∷ ys) w ws h e =
-    elim (cases_Bool (ties lt x y)) [
-      | inl with ↦ o.chain x y n (neither lt x y with).0 h.0
-      | inr without ↦ AreAtLeast-found lt o n x ys w ws h.1 (sym (filter-dropped (ties lt x) y ys without) ∙ e)
-    ]
+AreAtLeast-found lt o n x (y ∷ ys) w ws h e = grind (arith, cases_Bool, neither, filter-dropped, AreAtLeast-found lt o n x ys w ws h.1)
 
 same_from_ties : {X : Type 0} (lt : X → X → Bool) → IsStrictWeakOrder lt → (ys zs : List X) → Ascends lt ys → Ascends lt zs → ((x : X) → filter (ties lt x) ys ≡ filter (ties lt x) zs) → ys ≡ zs
 same_from_ties lt o [] [] left right same = refl
@@ -191,5 +155,4 @@ map-insertion v lt c (d ∷ ds) =
 
 pub map-stable_sort : {X Y : Type 0} (v : Y → X) (lt : X → X → Bool) (cs : List Y) → map v (stable_sort (λ a b. lt (v a) (v b)) cs) ≡ stable_sort lt (map v cs)
 map-stable_sort v lt [] = refl
-map-stable_sort v lt (c ∷ cs) =
-    map-insertion v lt c (stable_sort (λ a b. lt (v a) (v b)) cs) ∙ ap (insertion lt (v c)) (map-stable_sort v lt cs)
+map-stable_sort v lt (c ∷ cs) = grind (arith, map-insertion, map-stable_sort v lt cs)

@@ -4,7 +4,7 @@ use Rattle.std.proofs.lemmas.Grind.{common_steps}
 use Rattle.std.proofs.lemmas.Bool.Decides.{nat_tests}
 use Rattle.std.specs.List.{All, slice_split, onto_first}
 use Rattle.std.specs.Str.Lines.{lines, lines_of_parts, strip_carriage_return}
-use Rattle.std.proofs.lemmas.List.Elements.{All-nil, All-cons, All-head, All-tail, All-take}
+use Rattle.std.proofs.lemmas.List.Elements.{All-nil, All-cons, All-head, All-tail}
 use Rattle.std.proofs.lemmas.List.Splits.{slice_split-cons_yes, slice_split-cons_no}
 use Rattle.std.proofs.Math.Seq.{get_or-append_seam, take-append_seam}
 use Rattle.crawl_session.specs.Compacting.{Had, having, is_needed, needed, log_line, log_text}
@@ -32,11 +32,7 @@ parts_whole [] = All-cons IsUnfinished [] [] (All-nil IsOther) (All-nil IsUnfini
 parts_whole (x ∷ xs) = grind (arith, nat_tests, parts_whole xs, AllWhole, All-cons, All-nil, is_lf, slice_split-cons_yes, slice_split-cons_no, onto_whole)
 
 stripped_whole : (line : List ℕ) → IsUnfinished line → IsUnfinished (strip_carriage_return line)
-stripped_whole line whole = by_end (slice_index line (length line - 1) == 13)
-  where
-    by_end : (b : Bool) → IsUnfinished (if b then take (length line - 1) line else line)
-    by_end true = All-take IsOther (length line - 1) line whole
-    by_end false = whole
+stripped_whole line whole = grind (arith, common_steps)
 
 of_parts : (parts : List (List ℕ)) → AllWhole parts → AllWhole (lines_of_parts parts)
 unfolding AllWhole
@@ -64,7 +60,7 @@ needed_whole settings had state (line ∷ more) all =
 -- ---- lines as they stand in a log are those lines
 
 strip_return : (line : List ℕ) → strip_carriage_return (line ++ 13 ∷ []) ≡ line
-strip_return line = grind (arith, nat_tests, common_steps, length-append, slice_index, get_or-append_seam, take-append_seam)
+strip_return line = grind (arith, common_steps, length-append, slice_index, get_or-append_seam, take-append_seam)
 
 line_stands : (line more : List ℕ) → IsUnfinished line → lines (log_line line ++ more) ≡ line ∷ lines more
 line_stands line more whole = by_end (slice_index line (length line - 1) == 13) refl

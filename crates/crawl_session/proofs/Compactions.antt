@@ -1,5 +1,5 @@
 -- The lines of a log that are needed bring a new session to the same state, but for the words that senders remember.
-use Rattle.std.proofs.Common.{◌≡◌, ℕ, suc, arith, ◌<◌, ◌≤◌, Bool, true, false, not, ◌&&◌, ◌||◌, if◌then◌else◌, List, [], ◌∷◌, ◌++◌, length, nat_eq, get_or, slice_get, Option, Some, None, Result, Ok, Err, IfOk, refl, sym, ap, subst, ◌∙◌, true≢false}
+use Rattle.std.proofs.Common.{◌≡◌, ℕ, suc, arith, ◌<◌, ◌≤◌, Bool, true, false, ◌||◌, if◌then◌else◌, List, [], ◌∷◌, ◌++◌, length, get_or, slice_get, Option, Some, None, Result, Ok, Err, IfOk, refl, sym, ap, subst, ◌∙◌, true≢false}
 use Rattle.std.specs.BTreeMap.{is_at}
 use Rattle.std.specs.Ordering.{nat_cmp}
 use Rattle.std.specs.Map.{remove_entry}
@@ -11,15 +11,13 @@ use Rattle.crawl_core.specs.declared.event.Event.TheVariants as event
 use Rattle.crawl_core.specs.declared.reply.Reply.{Reply}
 use Rattle.crawl_core.specs.declared.reply.Reply.TheVariants as told
 use Rattle.crawl_core.specs.declared.reply.Refusal.TheVariants as why
-use Rattle.crawl_core.specs.declared.word.Word.{Word}
-use Rattle.crawl_core.specs.GateSide.{GateSide, GateTurn, back, close, end_seeds, enter, enter_with, gave_back, grant, holds, let_go, remembers, same_word, shown_word, turned_away, units_out}
-use Rattle.crawl_core.specs.Messages.{Message, has_url}
+use Rattle.crawl_core.specs.GateSide.{GateSide, GateTurn, back, close, end_seeds, enter, holds}
 use Rattle.crawl_core.specs.Run.{Run}
 use Rattle.crawl_core.specs.Fetching.{in_fetch}
 use Rattle.crawl_core.specs.Handing.{can_hand_over}
 use Rattle.crawl_core.specs.State.{State, unfinished_in}
-use Rattle.crawl_core.specs.Step.{Turn, turn, admit_to, counted, done_with, put, refused, take_from, take_oldest, with_subqueue}
-use Rattle.crawl_core.specs.Subqueue.{Subqueue, after_finishing, empty_subqueue, oldest}
+use Rattle.crawl_core.specs.Step.{Turn, turn, admit_to, done_with, refused, take_from}
+use Rattle.crawl_core.specs.Subqueue.{Subqueue, empty_subqueue}
 use Rattle.crawl_core.proofs.Sound.{Sound, gate_effect}
 use Rattle.crawl_session.specs.declared.answer.Answer.{Answer}
 use Rattle.crawl_session.specs.declared.answer.Answer.TheVariants.{Told, Counted, Unasked}
@@ -65,51 +63,23 @@ record Idle (had : Had) (state : State) (done : Turn) : Type 0 where
   same : changes had done.reply ≡ false → done.state ≡ state
 
 end_idle : (had : Had) (gate : GateSide) (messages : ℕ) → IdleGate had gate (end_seeds gate messages)
-end_idle had gate messages =
-    either_way (IdleGate had gate) gate.opening (gave_back (record gate { opening = false }) messages) (turned_away gate why.Nothing)
-    (record { same = λ e. absurd (true≢false e) }) (record { same = λ _. refl })
-
-closed_again : (gate : GateSide) (b : Bool) → (b ≡ true → gate.closed ≡ true) → not b ≡ false → record gate { closed = true } ≡ gate
-closed_again gate true known e = ap (λ c. record gate { closed = c }) (sym (known refl))
-closed_again gate false known e = absurd (true≢false e)
+end_idle had gate messages = grind arith
 
 close_idle : (had : Had) (gate : GateSide) (messages : ℕ) → (had.closed ≡ true → gate.closed ≡ true) → IdleGate had gate (close gate messages)
-close_idle had gate messages known =
-    either_way (IdleGate had gate) (gate.closed || nat_eq (units_out gate messages) 0) (record { reply = told.Closed; gate = record gate { closed = true } }) (record { reply = told.Pending (units_out gate messages); gate = gate })
-    (record { same = closed_again gate had.closed known }) (record { same = λ _. refl })
+close_idle had gate messages known = grind arith
 
 done_idle : (had : Had) (state : State) (named : ℕ) (queue : Option Subqueue) → Idle had state (done_with state named queue)
-done_idle had state named None = record { same = λ _. refl }
-done_idle had state named (Some queue) =
-    either_way (Idle had state) queue.busy (counted (with_subqueue state named (after_finishing queue))) (refused state why.Nothing)
-    (record { same = λ e. absurd (true≢false e) }) (record { same = λ _. refl })
-
-oldest_idle : (had : Had) (state : State) (named : ℕ) (queue : Subqueue) (message : Option Message) → Idle had state (take_oldest state named queue message)
-oldest_idle had state named queue None = record { same = λ _. refl }
-oldest_idle had state named queue (Some message) = record { same = λ e. absurd (true≢false e) }
+done_idle had state named queue = grind arith
 
 take_idle : (had : Had) (state : State) (named : ℕ) (queue : Option Subqueue) → Idle had state (take_from state named queue)
-take_idle had state named None = record { same = λ _. refl }
-take_idle had state named (Some queue) =
-    either_way (Idle had state) queue.busy (refused state why.Busy) (take_oldest state named queue (oldest queue)) (record { same = λ _. refl }) (oldest_idle had state named queue (oldest queue))
+take_idle had state named queue = grind arith
 
 -- an entry that is refused leaves the gate
 record Refuses (gate : GateSide) (done : GateTurn) : Type 0 where
   same : is_entered done.reply ≡ false → done.gate ≡ gate
 
-with_refuses : (gate : GateSide) (messages : ℕ) (word : Option Word) → Refuses gate (enter_with gate messages client word)
-with_refuses gate messages None = record { same = λ _. refl }
-with_refuses gate messages (Some word) =
-    let room = if nat_eq (units_out gate messages) gate.max then turned_away gate why.Full else grant gate messages client in
-    let within = if gate.closed then turned_away gate why.Closed else room in
-    either_way (Refuses gate) (not (same_word word (shown_word gate messages))) (record { reply = told.Lost; gate = gate }) within (record { same = λ _. refl })
-    (either_way (Refuses gate) gate.closed (turned_away gate why.Closed) room (record { same = λ _. refl })
-    (either_way (Refuses gate) (nat_eq (units_out gate messages) gate.max) (turned_away gate why.Full) (grant gate messages client) (record { same = λ _. refl }) (record { same = λ e. absurd (true≢false e) })))
-
 enter_refuses : (gate : GateSide) (messages : ℕ) → Refuses gate (enter gate messages client)
-enter_refuses gate messages =
-    either_way (Refuses gate) (holds gate client) (turned_away gate why.Busy) (enter_with gate messages client (remembers gate client)) (record { same = λ _. refl })
-    (with_refuses gate messages (remembers gate client))
+enter_refuses gate messages = grind arith
 
 -- a URL that is admitted by the one unit was seen, or is accepted
 record Admits (had : Had) (state : State) (done : Turn) : Type 0 where
@@ -117,12 +87,7 @@ record Admits (had : Had) (state : State) (done : Turn) : Type 0 where
   other : is_seen done.reply ≡ false → changes had done.reply ≡ true
 
 admits : (had : Had) (state : State) (url : List ℕ) (named : ℕ) (queue : Subqueue) → holds state.gate client ≡ true → Admits had state (admit_to state client url named (Some queue))
-admits had state url named queue held =
-    let seen : Turn = record { reply = told.Seen; state = state } in
-    let inner : Admits had state (if has_url queue.accepted url then seen else put state client url named queue) =
-    either_way (Admits had state) (has_url queue.accepted url) seen (put state client url named queue)
-    (record { seen = λ _. refl; other = λ e. absurd (true≢false e) }) (record { seen = λ e. absurd (true≢false (sym e)); other = λ _. refl }) in
-    subst (λ b. Admits had state (if not b then refused state why.Nothing else (if has_url queue.accepted url then seen else put state client url named queue))) (sym held) inner
+admits had state url named queue held = grind arith
 
 -- ---- requests whose answers change nothing
 
@@ -141,20 +106,10 @@ as_it_was : (state next : State) → next ≡ state → SameMachine state next
 as_it_was state next same = (state.gate.remembered, same)
 
 quiet_empty : (had : Had) (reply : Reply) → is_empty reply ≡ true → changes had reply ≡ false
-quiet_empty had told.Empty is = refl
-quiet_empty had _ is = absurd (true≢false (sym is))
+quiet_empty had reply is = grind arith
 
 next_stays : (had : Had) (state : State) (named : ℕ) → (had.closed ≡ true → state.gate.closed ≡ true) → Stays had state (taking state named)
-next_stays had state named known =
-    let done = turn state (event.Take named) in
-    let idle = take_idle had state named (slice_get state.subqueues named) in
-    let still : is_empty done.reply ≡ true → done.state ≡ state = λ empty. idle.same (quiet_empty had done.reply empty) in
-    stays_after had state state (event.Take named) (λ reply taken. if is_empty reply then after taken event.Close ends else ends reply taken)
-    (cond_both (is_empty done.reply) (after done.state event.Close ends) (ends done.reply done.state) (Stays had state)
-    (λ empty.
-    let closing = close_idle had done.state.gate (unfinished_in done.state) (λ closed. ap (λ (s : State). s.gate.closed) (still empty) ∙ known closed) in
-    record { same = λ quiet. as_it_was state _ (ap (λ (g : GateSide). record done.state { gate = g }) (closing.same quiet) ∙ still empty) })
-    (λ some. record { same = λ quiet. as_it_was state _ (idle.same quiet) }))
+next_stays had state named known = grind (arith, take_idle, quiet_empty, stays_after, cond_both, close_idle, as_it_was)
 
 admitting_stays : (had : Had) (workers : ℕ) (url : List ℕ) (named : ℕ) (state old : State) → named < workers → length state.subqueues ≡ workers → holds state.gate client ≡ true → SameMachine old (turn state (event.Back client)).state
     → Stays had old (admitting state url named)
@@ -219,9 +174,7 @@ quiet_count : (had : Had) (reply : Reply) → changes had reply ≡ false → is
 quiet_count had reply quiet = grind arith
 
 back_idle : (had : Had) (gate : GateSide) (messages sender : ℕ) → IdleGate had gate (back gate messages sender)
-back_idle had gate messages sender =
-    either_way (IdleGate had gate) (holds gate sender) (gave_back (let_go gate sender) messages) (turned_away gate why.Nothing)
-    (record { same = λ e. absurd (true≢false e) }) (record { same = λ _. refl })
+back_idle had gate messages sender = grind arith
 
 finishing_keeps : (had : Had) (state : Frontier) (named : ℕ) (fetched : Option Deferred) → Keeps had state (finishing state named fetched)
 finishing_keeps had state named None =
@@ -264,9 +217,7 @@ request_stays had workers state EndSeeds assigned some rest known =
 -- ---- lines that are not needed
 
 quiet_of : (had : Had) (request : Request) (answer : Answer) → asks_again request ≡ false → is_needed had (Ok request) answer ≡ false → Quiet had answer
-quiet_of had request (Told reply) other is = ap (λ b. not b && changes had reply) (sym other) ∙ is
-quiet_of had request (Unasked why) other is = tt
-quiet_of had request (Counted stats) other is = tt
+quiet_of had request answer other is = grind arith
 
 again_same : (state : Frontier) (named : ℕ) (fetched : Option Deferred) → Same state (taking_again state named fetched).state
 again_same state named None = (state.machine.gate.remembered, refl)
@@ -287,20 +238,14 @@ line_stays had workers state (Err why) assigned some rest known none = (state.ma
 
 pub stays_closed : (old : State) (history : List (Event × Reply)) (new : State) → Sound old → old.gate.closed ≡ true → Run old history new → new.gate.closed ≡ true
 stays_closed old [] new sound closed run = ap (λ (s : State). s.gate.closed) run ∙ closed
-stays_closed old (x ∷ xs) new sound closed run =
-    let effect = gate_effect old sound x.0 in
-    stays_closed run.0 xs new (subst Sound (sym run.1.state_is) effect.sound) (ap (λ (s : State). s.gate.closed) run.1.state_is ∙ (effect.stays closed).0) run.2
+stays_closed old (x ∷ xs) new sound closed run = grind (arith, gate_effect, stays_closed run.0 xs new)
 
 pub closes_run : (old : State) (front : List (Event × Reply)) (last : Event) (new : State) → Sound old → Run old (front ++ (last, told.Closed) ∷ []) new → new.gate.closed ≡ true
-closes_run old [] last new sound run =
-    ap (λ (s : State). s.gate.closed) (run.2 ∙ run.1.state_is) ∙ (gate_effect old sound last).closes (sym run.1.reply_is)
+closes_run old [] last new sound run = grind arith
 closes_run old (x ∷ xs) last new sound run = closes_run run.0 xs last new (subst Sound (sym run.1.state_is) (gate_effect old sound x.0).sound) run.2
 
 closed_is : (answer : Answer) → says_closed answer ≡ true → answer ≡ Told told.Closed
-closed_is (Told told.Closed) is = refl
-closed_is (Told _) is = absurd (true≢false (sym is))
-closed_is (Counted stats) is = absurd (true≢false (sym is))
-closed_is (Unasked why) is = absurd (true≢false (sym is))
+closed_is answer is = grind arith
 
 knows : (had : Had) (state : Frontier) (r : Result Request RequestError) → Sound state.machine → (had.closed ≡ true → state.machine.gate.closed ≡ true) → (having had (answered state r).answer).closed ≡ true → (answered state r).state.machine.gate.closed ≡ true
 knows had state r sound known closed = by_answer (says_closed (answered state r).answer) refl closed

@@ -1,5 +1,6 @@
 -- What waited in a queue, and then what joined it, is what was taken from it, and then what waits.
-use Rattle.std.proofs.Common.{◌≡◌, ℕ, zero, suc, ◌+◌, Bool, true, false, cond, ◌||◌, if◌then◌else◌, is_some, List, [], ◌∷◌, ◌++◌, length, get_or, replicate, slice_get, Option, Some, None, Result, Ok, Err, refl, sym, ap, subst, ◌∙◌, arith, append_assoc, append-nil, true≢false}
+use Rattle.std.proofs.lemmas.Grind.{common_steps}
+use Rattle.std.proofs.Common.{◌≡◌, ℕ, zero, suc, ◌+◌, Bool, true, cond, ◌||◌, if◌then◌else◌, is_some, List, [], ◌∷◌, ◌++◌, length, get_or, replicate, slice_get, Option, Some, None, Result, refl, sym, ap, subst, ◌∙◌, arith, append-nil}
 use Rattle.std.specs.List.{cons_option}
 use Rattle.std.specs.Option.{option_or, option_to_list}
 use Rattle.std.proofs.lemmas.List.{length-replicate}
@@ -13,7 +14,6 @@ use Rattle.crawl_core.specs.Subqueue.{Subqueue, empty_subqueue}
 use Rattle.crawl_core.proofs.Sound.{Sound, gate_effect}
 use Rattle.crawl_session.specs.declared.answer.Answer.{Answer}
 use Rattle.crawl_session.specs.declared.request.Request.{Request}
-use Rattle.crawl_session.specs.declared.request.Request.TheVariants.{Offer, Next, Again, Later, Done, EndSeeds, Stats}
 use Rattle.crawl_session.specs.declared.request.RequestError.{RequestError}
 use Rattle.crawl_session.specs.Clients.{Asked, accepted_of, accepts, asked, busy_after, done_of, finishes, joined_from, joins, put_back_of, puts_back, taken_of, takes}
 use Rattle.crawl_session.specs.Frontiers.{Deferrals, Frontier, deferrals_at, no_deferrals, start}
@@ -21,7 +21,7 @@ use Rattle.crawl_session.specs.Parts.{request_for}
 use Rattle.crawl_session.specs.Sessions.{line_exchange, state_after}
 use Rattle.crawl_session.specs.Settings.{Settings}
 use Rattle.crawl_session.proofs.Flows.{answered_passes}
-use Rattle.crawl_session.proofs.Joined.{Fine, busy_at, line_at}
+use Rattle.crawl_session.proofs.Joined.{busy_at, line_at}
 use Rattle.crawl_session.proofs.Queues.{Settled, busy_of, queue_at}
 use Rattle.crawl_session.proofs.Runs.{answered_runs}
 
@@ -43,19 +43,11 @@ line_sound settings state line sound =
 -- ---- the URLs
 
 put_on : {A : Type 0} (o : Option A) (xs : List A) → cons_option o xs ≡ option_to_list o ++ xs
-put_on None xs = refl
-put_on (Some x) xs = refl
+put_on o xs = grind arith
 
 -- a line, between what was before and what comes
 joint : (waits next more taken last : List (List ℕ)) (j t : Option (List ℕ)) → waits ++ option_to_list j ≡ option_to_list t ++ next → next ++ more ≡ taken ++ last → waits ++ cons_option j more ≡ cons_option t taken ++ last
-joint waits next more taken last j t here later =
-    ap (λ (l : List (List ℕ)). waits ++ l) (put_on j more)
-    ∙ sym (append_assoc waits (option_to_list j) more)
-    ∙ ap (λ (l : List (List ℕ)). l ++ more) here
-    ∙ append_assoc (option_to_list t) next more
-    ∙ ap (λ (l : List (List ℕ)). option_to_list t ++ l) later
-    ∙ sym (append_assoc (option_to_list t) taken last)
-    ∙ ap (λ (l : List (List ℕ)). l ++ last) (sym (put_on t taken))
+joint waits next more taken last j t here later = grind (arith, common_steps, put_on)
 
 pub conserved : (settings : Settings) (state : Frontier) (lines : List (List ℕ)) (queue : ℕ) → Sound state.machine → Settled state
     → line_of state queue ++ joined_from queue (busy_of state queue) (asked settings state lines) ≡ taken_of queue (asked settings state lines) ++ line_of (state_after settings state lines) queue
@@ -87,50 +79,12 @@ abbrev Line : ℕ → Result Request RequestError → Answer → Option (List �
 Line queue r answer busy next =
     one_if (is_some (takes queue r answer)) + one_if (is_some busy) ≡ (count (finishes queue r answer) + count (puts_back queue r answer)) + one_if (is_some next)
 
--- a fetch begins
-begins : (t busy next : Option (List ℕ)) → next ≡ option_or t busy → (is_some t ≡ true → busy ≡ None) → one_if (is_some t) + one_if (is_some busy) ≡ (0 + 0) + one_if (is_some next)
-begins None busy next is free =
-    let same : one_if (is_some next) ≡ one_if (is_some busy) = ap (λ (o : Option (List ℕ)). one_if (is_some o)) is in
-    omega (arith, same)
-begins (Some url) busy next is free =
-    let none : one_if (is_some busy) ≡ 0 = ap (λ (o : Option (List ℕ)). one_if (is_some o)) (free refl) in
-    let one : one_if (is_some next) ≡ 1 = ap (λ (o : Option (List ℕ)). one_if (is_some o)) is in
-    omega (arith, none, one)
-
--- one ends, or nothing happens
-ends_by : (e : Bool) (busy next : Option (List ℕ)) → next ≡ (if e then None else busy) → (e ≡ true → is_some busy ≡ true) → one_if (is_some busy) ≡ count e + one_if (is_some next)
-ends_by true busy next is was =
-    let one : one_if (is_some busy) ≡ 1 = ap one_if (was refl) in
-    let none : one_if (is_some next) ≡ 0 = ap (λ (o : Option (List ℕ)). one_if (is_some o)) is in
-    omega (arith, one, none)
-ends_by false busy next is was =
-    let same : one_if (is_some next) ≡ one_if (is_some busy) = ap (λ (o : Option (List ℕ)). one_if (is_some o)) is in
-    omega (arith, same)
-
-or_false : (b : Bool) → (b || false) ≡ b
-or_false true = refl
-or_false false = refl
-
 counts_line : (queue : ℕ) (r : Result Request RequestError) (answer : Answer) (busy next : Option (List ℕ)) → next ≡ (if finishes queue r answer || puts_back queue r answer then None else option_or (takes queue r answer) busy)
     → ((finishes queue r answer || puts_back queue r answer) ≡ true → is_some busy ≡ true) → (is_some (takes queue r answer) ≡ true → busy ≡ None) → Line queue r answer busy next
-counts_line queue (Ok (Next named)) answer busy next is was free = begins (takes queue (Ok (Next named)) answer) busy next is free
-counts_line queue (Ok (Done named)) answer busy next is was free =
-    let e = finishes queue (Ok (Done named)) answer in
-    let same = or_false e in
-    let ended = ends_by e busy next (is ∙ ap (λ b. if b then None else busy) same) (λ done. was (same ∙ done)) in
-    omega (arith, ended)
-counts_line queue (Ok (Later named)) answer busy next is was free =
-    let ended = ends_by (puts_back queue (Ok (Later named)) answer) busy next is was in
-    omega (arith, ended)
-counts_line queue (Ok (Offer url named)) answer busy next is was free = begins None busy next is (λ e. absurd (true≢false (sym e)))
-counts_line queue (Ok (Again named)) answer busy next is was free = begins None busy next is (λ e. absurd (true≢false (sym e)))
-counts_line queue (Ok (Stats named)) answer busy next is was free = begins None busy next is (λ e. absurd (true≢false (sym e)))
-counts_line queue (Ok EndSeeds) answer busy next is was free = begins None busy next is (λ e. absurd (true≢false (sym e)))
-counts_line queue (Err why) answer busy next is was free = begins None busy next is (λ e. absurd (true≢false (sym e)))
+counts_line queue r answer busy next is was free = grind arith
 
 length_on : {A : Type 0} (o : Option A) (xs : List A) → length (cons_option o xs) ≡ one_if (is_some o) + length xs
-length_on None xs = omega arith
-length_on (Some x) xs = omega arith
+length_on o xs = grind arith
 
 -- as many were taken as fetches ended, but for those that are on
 pub counted_takes : (settings : Settings) (state : Frontier) (lines : List (List ℕ)) (queue : ℕ) → Sound state.machine → Settled state
@@ -152,21 +106,7 @@ counted_takes settings state (line ∷ more) queue sound settled =
 
 -- as many joined as were accepted and put back
 join_counts : (queue : ℕ) (r : Result Request RequestError) (answer : Answer) (busy : Option (List ℕ)) → ((finishes queue r answer || puts_back queue r answer) ≡ true → is_some busy ≡ true) → one_if (is_some (joins queue busy (record { request = r; answer = answer }))) ≡ one_if (is_some (accepts queue r answer)) + count (puts_back queue r answer)
-join_counts queue (Ok (Later named)) answer busy was = by_put (puts_back queue (Ok (Later named)) answer) was
-  where
-    by_put : (b : Bool) → (b ≡ true → is_some busy ≡ true) → one_if (is_some (if b then busy else None)) ≡ 0 + count b
-    by_put true was = let one : one_if (is_some busy) ≡ 1 = ap one_if (was refl) in omega (arith, one)
-    by_put false was = omega arith
-join_counts queue (Ok (Next named)) answer busy was = omega arith
-join_counts queue (Ok (Done named)) answer busy was = omega arith
-join_counts queue (Ok (Offer url named)) answer busy was = plus_zero (one_if (is_some (accepts queue (Ok (Offer url named)) answer)))
-  where
-    plus_zero : (n : ℕ) → n ≡ n + 0
-    plus_zero n = omega arith
-join_counts queue (Ok (Again named)) answer busy was = omega arith
-join_counts queue (Ok EndSeeds) answer busy was = omega arith
-join_counts queue (Ok (Stats named)) answer busy was = omega arith
-join_counts queue (Err why) answer busy was = omega arith
+join_counts queue r answer busy was = grind arith
 
 pub counted_joins : (settings : Settings) (state : Frontier) (lines : List (List ℕ)) (queue : ℕ) → Sound state.machine → Settled state
     → length (joined_from queue (busy_of state queue) (asked settings state lines)) ≡ length (accepted_of queue (asked settings state lines)) + put_back_of queue (asked settings state lines)
@@ -199,11 +139,7 @@ new_deferrals (suc workers) zero = refl
 new_deferrals (suc workers) (suc queue) = new_deferrals workers queue
 
 pub starts_settled : (workers max : ℕ) → Settled (start workers max)
-starts_settled workers max = record {
-  shape = length-replicate workers no_deferrals ∙ sym (length-replicate workers empty_subqueue);
-  fine = λ queue. subst (Fine (queue_at (start workers max) queue)) (sym (new_deferrals workers queue))
-      (record { within = tt; apart = λ some. absurd (true≢false (sym some)) });
-}
+starts_settled workers max = grind (arith, length-replicate, queue_at, new_deferrals)
 
 pub starts_empty : (workers max queue : ℕ) → line_of (start workers max) queue ≡ []
 starts_empty workers max queue =

@@ -1,6 +1,5 @@
 -- The numbers of a queue are those of the answers before.
-use Rattle.std.proofs.Common.{◌≡◌, ℕ, ◌+◌, ◌-◌, Bool, true, false, is_some, List, [], ◌∷◌, length, map, take, drop, Option, Some, None, refl, sym, ap, subst, ◌∙◌, arith}
-use Rattle.std.specs.Option.{option_map}
+use Rattle.std.proofs.Common.{◌≡◌, ℕ, ◌+◌, ◌-◌, true, false, is_some, List, [], ◌∷◌, length, map, take, drop, Option, Some, None, sym, ap, subst, ◌∙◌, arith}
 use Rattle.std.proofs.lemmas.List.{length-append, length-drop, length-map, take-append-drop}
 use Rattle.crawl_core.specs.Flags.{one_if}
 use Rattle.crawl_core.specs.Handing.{progress}
@@ -11,13 +10,13 @@ use Rattle.crawl_core.proofs.RunParts.{start_sound}
 use Rattle.crawl_session.specs.declared.deferrals.Deferred.{Deferred}
 use Rattle.crawl_session.specs.declared.stats.Stats.{Stats}
 use Rattle.crawl_session.specs.Clients.{IsTold, accepted_of, asked, joined_from, joined_of, put_back_of, taken_of}
-use Rattle.crawl_session.specs.Frontiers.{Frontier, deferrals_at, start}
+use Rattle.crawl_session.specs.Frontiers.{deferrals_at, start}
 use Rattle.crawl_session.specs.Sessions.{history_of, state_after}
 use Rattle.crawl_session.specs.Settings.{Settings}
 use Rattle.crawl_session.specs.Stats.{stats_at, stats_of}
 use Rattle.crawl_session.proofs.Conserved.{counted_joins, counted_takes, line_of, settled_after_lines, starts_free, starts_settled}
 use Rattle.crawl_session.proofs.InLine.{in_line}
-use Rattle.crawl_session.proofs.Joined.{Fine, busy_at, idle_fetch, line_at, some_fetch, url_of}
+use Rattle.crawl_session.proofs.Joined.{Fine, busy_at, line_at, some_fetch, url_of}
 use Rattle.crawl_session.proofs.Onces.{joined_is}
 use Rattle.crawl_session.proofs.Queues.{busy_of, queue_at}
 use Rattle.crawl_session.proofs.Returns.{busy_is}
@@ -36,18 +35,7 @@ length_in_line taken urls (d ∷ ds) =
 
 -- whether a queue is busy
 busy_flags : (found : Subqueue) (fetched : Option Deferred) → (is_some fetched ≡ true → found.busy ≡ false) → (found.busy ≡ true → is_some (busy_at (Some found) None) ≡ true) → one_if found.busy + one_if (is_some fetched) ≡ one_if (is_some (busy_at (Some found) fetched))
-busy_flags found (Some d) apart some = let idle : one_if found.busy ≡ 0 = ap one_if (apart refl) in omega (arith, idle)
-busy_flags found None apart some = by_busy found.busy refl
-  where
-    by_busy : (b : Bool) → found.busy ≡ b → one_if found.busy + 0 ≡ one_if (is_some (busy_at (Some found) None))
-    by_busy true is =
-        let own : one_if found.busy ≡ 1 = ap one_if is in
-        let said : one_if (is_some (busy_at (Some found) None)) ≡ 1 = ap one_if (some is) in
-        omega (arith, own, said)
-    by_busy false is =
-        let own : one_if found.busy ≡ 0 = ap one_if is in
-        let said : one_if (is_some (busy_at (Some found) None)) ≡ 0 = ap (λ (o : Option (List ℕ)). one_if (is_some o)) (idle_fetch found is) in
-        omega (arith, own, said)
+busy_flags found fetched apart some = grind arith
 
 queue_told : (settings : Settings) (max : ℕ) (lines : List (List ℕ)) (queue : ℕ) (found : Subqueue) → queue_at (state_after settings (start settings.workers max) lines) queue ≡ Some found
     → IsTold queue (asked settings (start settings.workers max) lines) (stats_of (progress found) (length (deferrals_at (state_after settings (start settings.workers max) lines) queue).waiting) (is_some (deferrals_at (state_after settings (start settings.workers max) lines) queue).fetched))
@@ -87,12 +75,4 @@ queue_told settings max lines queue found at =
     }
 
 pub stats_told : (settings : Settings) (max : ℕ) (lines : List (List ℕ)) (queue : ℕ) (stats : Stats) → stats_at (state_after settings (start settings.workers max) lines) queue ≡ Some stats → IsTold queue (asked settings (start settings.workers max) lines) stats
-stats_told settings max lines queue stats is = by_queue (queue_at state queue) refl is
-  where
-    state : Frontier
-    state = state_after settings (start settings.workers max) lines
-
-    by_queue : (o : Option Subqueue) → queue_at state queue ≡ o → option_map (λ p. stats_of p (length (deferrals_at state queue).waiting) (is_some (deferrals_at state queue).fetched)) (option_map progress o) ≡ Some stats → IsTold queue (asked settings (start settings.workers max) lines) stats
-    by_queue None at is = absurd (cc)
-    by_queue (Some found) at is =
-        subst (IsTold queue (asked settings (start settings.workers max) lines)) (let same : stats_of (progress found) (length (deferrals_at state queue).waiting) (is_some (deferrals_at state queue).fetched) ≡ stats = cc in same) (queue_told settings max lines queue found at)
+stats_told settings max lines queue stats is = grind (arith, queue_at, queue_told)

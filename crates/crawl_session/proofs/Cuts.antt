@@ -1,7 +1,6 @@
 -- Lines of bytes that are cut in two, and of bytes behind an unfinished line that was cut short.
 use Rattle.std.proofs.Common.{◌≡◌, ◌⊎◌, ℕ, ◌+◌, ◌<◌, ◌==◌, inl, inr, Bool, true, false, List, [], ◌∷◌, ◌++◌, length, take, map, nat_lt, slice_index, Option, Result, Err, refl, sym, ap, subst, ◌∙◌, arith, append-nil, append_assoc, eqb-true, ltb-true, ltb-false, lt-ltb, ne_eqb}
 use Rattle.std.proofs.lemmas.Grind.{common_steps}
-use Rattle.std.proofs.lemmas.Bool.Decides.{nat_tests}
 use Rattle.std.specs.List.{slice_split}
 use Rattle.std.specs.Str.{bytes_eq}
 use Rattle.std.proofs.lemmas.Slice.Eq.{bytes_eq-Decides}
@@ -140,7 +139,7 @@ front_asks settings tail front unfinished = by_cut (cut_or_whole tail)
 
 -- what was cut short, and cut short again with what follows
 pub take_cut : (n : ℕ) (xs ys : List ℕ) → take n (take n xs ++ ys) ≡ take n (xs ++ ys)
-take_cut n xs ys = grind (arith, nat_tests, common_steps)
+take_cut n xs ys = grind (arith, common_steps)
 
 pub unfinished-append : (xs ys : List ℕ) → IsUnfinished xs → IsUnfinished ys → IsUnfinished (xs ++ ys)
 unfinished-append xs ys first second = All-append IsOther xs ys first second

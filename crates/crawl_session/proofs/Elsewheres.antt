@@ -1,30 +1,20 @@
 -- A compacted log tells elsewhere what the whole one does, each URL once.
-use Rattle.std.proofs.Common.{◌≡◌, Bool, true, false, not, ◌||◌, if◌then◌else◌, ℕ, suc, slice_get, List, [], ◌∷◌, ◌++◌, Option, Some, None, Result, Ok, Err, refl, ap, ◌∙◌, arith}
-use Rattle.std.proofs.lemmas.Bool.Decides.{nat_tests}
+use Rattle.std.proofs.Common.{◌≡◌, Bool, true, false, not, ◌||◌, if◌then◌else◌, ℕ, List, [], ◌∷◌, ◌++◌, Option, Some, None, Result, Ok, Err, refl, ap, ◌∙◌, arith}
 use Rattle.std.specs.List.{cons_option, filter_map}
 use Rattle.std.specs.Str.Lines.{lines}
 use Rattle.crawl_core.specs.Kept.{has_text}
 use Rattle.crawl_session.specs.declared.answer.Answer.{Answer}
 use Rattle.crawl_session.specs.declared.answer.Answer.TheVariants.{Unasked}
 use Rattle.crawl_session.specs.declared.request.Request.{Request}
-use Rattle.crawl_session.specs.declared.request.Request.TheVariants.{Offer, Next, Again, Later, Done, EndSeeds, Stats}
 use Rattle.crawl_session.specs.declared.request.RequestError.{RequestError}
 use Rattle.crawl_session.specs.declared.request.RequestError.TheVariants as wrong
 use Rattle.crawl_session.specs.Clients.{asked, elsewhere_of, first_of_each, told_elsewhere}
 use Rattle.crawl_session.specs.Compacting.{Had, had_none, having, is_needed, log_text, needed, says_closed, with_told}
-use Rattle.crawl_session.specs.declared.deferrals.Deferred.{Deferred}
-use Rattle.crawl_core.specs.declared.reply.Reply.TheVariants as told
-use Rattle.crawl_core.specs.declared.reply.Refusal.TheVariants as why
-use Rattle.crawl_core.specs.Fetching.{in_fetch}
-use Rattle.crawl_core.specs.Handing.{can_hand_over}
-use Rattle.crawl_session.specs.Exchanges.{Outcome, by_machine, deferring, deferring_taken, exchange, finishing, handing, is_due, offering, put_back, replies, retaking, stats_answer, taking, taking_again, taking_next}
-use Rattle.crawl_session.specs.Frontiers.{Frontier, deferrals_at, start}
+use Rattle.crawl_session.specs.Exchanges.{Outcome, exchange}
+use Rattle.crawl_session.specs.Frontiers.{Frontier, start}
 use Rattle.crawl_session.specs.Parts.{request_for}
 use Rattle.crawl_session.specs.Sessions.{answered, line_exchange}
 use Rattle.crawl_session.specs.Settings.{Settings}
-use Rattle.crawl_session.specs.Stats.{stats_for}
-use Rattle.crawl_session.specs.declared.stats.Stats as counts
-use Rattle.crawl_session.proofs.Choices.{either_way}
 use Rattle.crawl_session.proofs.CompactText.{needed_stands}
 
 -- ---- what is told elsewhere follows from what a line asks
@@ -36,52 +26,8 @@ told_by _ = None
 abbrev IsTold : Outcome → Type 0
 IsTold x = told_elsewhere x.answer ≡ None
 
-taking_told : (state : Frontier) (queue : ℕ) → IsTold (by_machine state (taking state.machine queue))
-taking_told state queue = grind (arith, nat_tests, either_way)
-
-offering_told : (state : Frontier) (url : List ℕ) (queue : ℕ) → IsTold (by_machine state (offering state.machine url queue))
-offering_told state url queue = grind (arith, nat_tests, either_way)
-
-next_told : (state : Frontier) (queue : ℕ) (waiting : List Deferred) (fetched : Option Deferred) → IsTold (taking_next state queue waiting fetched)
-next_told state queue waiting (Some url) = refl
-next_told state queue waiting None =
-    either_way IsTold (is_due (slice_get state.machine.subqueues queue) waiting) (retaking state queue waiting) (by_machine state (taking state.machine queue)) (by_waiting waiting) (taking_told state queue)
-  where
-    by_waiting : (waiting : List Deferred) → IsTold (retaking state queue waiting)
-    by_waiting [] = refl
-    by_waiting (first ∷ more) = refl
-
-again_told : (state : Frontier) (queue : ℕ) (fetched : Option Deferred) → IsTold (taking_again state queue fetched)
-again_told state queue None = refl
-again_told state queue (Some url) = refl
-
-finishing_told : (state : Frontier) (queue : ℕ) (fetched : Option Deferred) → IsTold (finishing state queue fetched)
-finishing_told state queue None = refl
-finishing_told state queue (Some url) = refl
-
-taken_told : (state : Frontier) (queue : ℕ) (found : Option (Option (List ℕ))) → IsTold (deferring_taken state queue found)
-taken_told state queue None = refl
-taken_told state queue (Some None) = refl
-taken_told state queue (Some (Some url)) =
-    let sender = suc state.senders in
-    either_way IsTold (can_hand_over state.machine queue sender) (by_machine (record (put_back state queue url sender) { senders = sender }) (handing state.machine queue sender)) (replies (told.Refused why.Nothing) state) refl refl
-
-deferring_told : (state : Frontier) (queue : ℕ) (fetched : Option Deferred) → IsTold (deferring state queue fetched)
-deferring_told state queue None = taken_told state queue (in_fetch state.machine queue)
-deferring_told state queue (Some url) = refl
-
-counted_told : (found : Option counts.Stats) → told_elsewhere (stats_answer found) ≡ None
-counted_told None = refl
-counted_told (Some stats) = refl
-
 request_told : (state : Frontier) (request : Request) → IsTold (exchange state request)
-request_told state (Offer url queue) = offering_told state url queue
-request_told state (Next queue) = next_told state queue (deferrals_at state queue).waiting (deferrals_at state queue).fetched
-request_told state (Again queue) = again_told state queue (deferrals_at state queue).fetched
-request_told state (Later queue) = deferring_told state queue (deferrals_at state queue).fetched
-request_told state (Done queue) = finishing_told state queue (deferrals_at state queue).fetched
-request_told state EndSeeds = refl
-request_told state (Stats queue) = counted_told (stats_for state queue)
+request_told state request = grind arith
 
 answer_tells : (state : Frontier) (r : Result Request RequestError) → told_elsewhere (answered state r).answer ≡ told_by r
 answer_tells state r = grind (arith, request_told)

@@ -1,8 +1,6 @@
 -- A session that was told that the frontier is closed: all is done, and nothing comes after.
-use Rattle.std.proofs.Common.{◌≡◌, ℕ, ◌+◌, ◌≤◌, ◌<◌, Bool, true, false, cond, is_some, List, [], ◌∷◌, ◌++◌, length, map, Option, Some, None, Result, Ok, Err, refl, sym, ap, subst, ◌∙◌, arith, append-nil}
-use Rattle.std.specs.BTreeMap.{is_at}
-use Rattle.std.specs.Ordering.{nat_cmp}
-use Rattle.std.specs.List.{cons_option, list_any, sum_by}
+use Rattle.std.proofs.Common.{◌≡◌, ℕ, ◌+◌, ◌≤◌, ◌<◌, Bool, true, false, cond, is_some, List, [], ◌∷◌, ◌++◌, length, map, Option, Some, None, Result, refl, sym, ap, subst, ◌∙◌, arith, append-nil}
+use Rattle.std.specs.List.{cons_option, sum_by}
 use Rattle.std.specs.Option.{option_to_list}
 use Rattle.std.proofs.Math.ListN.{drop_of_length-le, get_or-eq_default}
 use Rattle.std.proofs.lemmas.List.Sums.{sum_by-cons, sum_by-set}
@@ -11,7 +9,6 @@ use Rattle.crawl_core.specs.declared.event.Event.{Event}
 use Rattle.crawl_core.specs.declared.reply.Reply.{Reply}
 use Rattle.crawl_core.specs.declared.reply.Reply.TheVariants as told
 use Rattle.crawl_core.specs.Flags.{one_if}
-use Rattle.crawl_core.specs.GateSide.{holds}
 use Rattle.crawl_core.specs.History.{accepted_by, accepted_in, is_quiet}
 use Rattle.crawl_core.specs.Messages.{Message}
 use Rattle.crawl_core.specs.Run.{Run}
@@ -24,7 +21,6 @@ use Rattle.crawl_session.specs.declared.answer.Answer.{Answer}
 use Rattle.crawl_session.specs.declared.answer.Answer.TheVariants.{Told}
 use Rattle.crawl_session.specs.declared.deferrals.Deferred.{Deferred}
 use Rattle.crawl_session.specs.declared.request.Request.{Request}
-use Rattle.crawl_session.specs.declared.request.Request.TheVariants.{Offer, Next, Again, Later, Done, EndSeeds, Stats}
 use Rattle.crawl_session.specs.declared.request.RequestError.{RequestError}
 use Rattle.crawl_session.specs.Clients.{AllDone, accepted_of, asked, busy_in, done_of, joined_from, joined_of, joins, put_back_of, taken_of, takes, times}
 use Rattle.crawl_session.specs.Frontiers.{Deferrals, Frontier, deferrals_at, no_deferrals, start}
@@ -42,6 +38,7 @@ use Rattle.crawl_session.proofs.Queues.{Settled, busy_of, queue_at}
 use Rattle.crawl_session.proofs.Returns.{busy_is, sums}
 use Rattle.crawl_session.proofs.Runs.{answered_runs, session_runs}
 use Rattle.crawl_session.proofs.Sees.{sees_accepted}
+use Rattle.std.proofs.lemmas.List.{nil_from_length}
 
 -- ---- a state in which no unit is out
 
@@ -50,17 +47,8 @@ record Empties (state : Frontier) (queue : ℕ) : Type 0 where
   line : line_of state queue ≡ []
   busy : busy_of state queue ≡ None
 
-no_holders : {A : Type 0} (xs : List A) → length xs ≡ 0 → xs ≡ []
-no_holders [] none = refl
-no_holders (x ∷ xs) none = absurd (omega (arith, none))
-
 no_units : (state : Frontier) → Owned state → count_of state.machine ≡ 0 → (sender : ℕ) → units_of sender state ≡ 0
-no_units state owned none sender =
-    let empty : state.machine.gate.holders ≡ [] = no_holders state.machine.gate.holders (omega (arith, none)) in
-    let free : holds state.machine.gate sender ≡ false = ap (λ (hs : List ℕ). list_any (is_at (nat_cmp sender)) hs) empty in
-    let few = owned.held sender in
-    let zero_units : one_if (holds state.machine.gate sender) ≡ 0 = ap one_if free in
-    omega (arith, few, zero_units)
+no_units state owned none sender = grind (arith, nil_from_length)
 
 own_sender : (d : Deferred) → has_sender d.sender d ≡ 1
 own_sender d = ap {B = ℕ} (λ b. cond b 1 0) (eqb_same d.sender)
@@ -203,18 +191,7 @@ closed_run queue old (x ∷ xs) new sound closed run = grind (arith, nat_tests, 
 
 -- nothing is taken where nothing waits, then and afterwards
 takes_none : (queue : ℕ) (r : Result Request RequestError) (answer : Answer) (busy : Option (List ℕ)) → option_to_list (joins queue busy (record { request = r; answer = answer })) ≡ option_to_list (takes queue r answer) ++ [] → takes queue r answer ≡ None
-takes_none queue (Ok (Next named)) answer busy same = by_taken (takes queue (Ok (Next named)) answer) same
-  where
-    by_taken : (t : Option (List ℕ)) → [] ≡ option_to_list t ++ [] → t ≡ None
-    by_taken None same = refl
-    by_taken (Some url) same = absurd (cc)
-takes_none queue (Ok (Offer url named)) answer busy same = refl
-takes_none queue (Ok (Again named)) answer busy same = refl
-takes_none queue (Ok (Later named)) answer busy same = refl
-takes_none queue (Ok (Done named)) answer busy same = refl
-takes_none queue (Ok EndSeeds) answer busy same = refl
-takes_none queue (Ok (Stats named)) answer busy same = refl
-takes_none queue (Err why) answer busy same = refl
+takes_none queue r answer busy same = grind arith
 
 closed_takes : (settings : Settings) (state : Frontier) (lines : List (List ℕ)) (queue : ℕ) → Sound state.machine → Settled state → Owned state → state.machine.gate.closed ≡ true → taken_of queue (asked settings state lines) ≡ []
 closed_takes settings state [] queue sound settled owned closed = refl

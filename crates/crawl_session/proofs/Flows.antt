@@ -1,12 +1,13 @@
 -- In each queue happens what the client is told.
-use Rattle.std.proofs.Common.{◌≡◌, ◌⊎◌, inl, inr, ℕ, zero, suc, ◌≤◌, Bool, true, false, not, ◌&&◌, ◌||◌, if◌then◌else◌, is_some, nat_eq, List, [], ◌∷◌, length, slice_get, slice_set, Option, Some, None, Result, Ok, Err, refl, sym, ap, subst, ◌∙◌, arith, true≢false}
+use Rattle.std.proofs.lemmas.Grind.{common_steps}
+use Rattle.std.proofs.Common.{◌≡◌, ◌⊎◌, inl, inr, ℕ, zero, suc, ◌≤◌, Bool, true, false, not, ◌&&◌, ◌||◌, if◌then◌else◌, is_some, List, [], ◌∷◌, length, slice_get, slice_set, Option, Some, None, Result, Ok, Err, refl, sym, ap, subst, ◌∙◌, arith, true≢false}
 use Rattle.std.proofs.Math.ListN.{get_or-eq_default}
 use Rattle.crawl_core.specs.declared.event.Event.TheVariants as event
 use Rattle.crawl_core.specs.declared.reply.Reply.{Reply}
 use Rattle.crawl_core.specs.declared.reply.Reply.TheVariants as told
 use Rattle.crawl_core.specs.declared.reply.Refusal.TheVariants as why
 use Rattle.crawl_core.specs.Fetching.{fetch_of, in_fetch}
-use Rattle.crawl_core.specs.GateSide.{GateTurn, gave_back, holds, let_go, turned_away, units_out}
+use Rattle.crawl_core.specs.GateSide.{GateTurn, gave_back, holds, let_go, turned_away}
 use Rattle.crawl_core.specs.Handing.{can_hand_over, is_fetching}
 use Rattle.crawl_core.specs.Messages.{Message, has_url}
 use Rattle.crawl_core.specs.State.{State, count_of, unfinished_in}
@@ -23,12 +24,12 @@ use Rattle.crawl_session.specs.declared.request.Request.TheVariants.{Offer, Next
 use Rattle.crawl_session.specs.declared.request.RequestError.{RequestError}
 use Rattle.crawl_session.specs.Clients.{finishes, joins, puts_back, takes}
 use Rattle.crawl_session.specs.Exchanges as exchanges
-use Rattle.crawl_session.specs.Exchanges.{Exchange, Outcome, accepted_at, admitting, after, by_machine, client, deferring, deferring_taken, ends, entering, exchange, finishing, handing, is_count, is_due, is_empty, is_entered, is_seen, offering, put_back, replies, retaking, seeds_ended, taking, taking_again, taking_next, told_again}
-use Rattle.crawl_session.specs.Frontiers.{Deferrals, Frontier, deferrals_at, no_deferrals, waits_again, with_deferrals}
+use Rattle.crawl_session.specs.Exchanges.{Exchange, Outcome, accepted_at, admitting, after, by_machine, client, deferring, deferring_taken, ends, exchange, finishing, handing, is_count, is_due, is_empty, is_entered, is_seen, offering, put_back, replies, retaking, seeds_ended, taking, taking_again, taking_next}
+use Rattle.crawl_session.specs.Frontiers.{Deferrals, Frontier, deferrals_at, waits_again, with_deferrals}
 use Rattle.crawl_session.specs.Sessions.{answered}
 use Rattle.crawl_session.proofs.Choices.{either_way}
 use Rattle.crawl_session.proofs.InLine.{Within, within_push}
-use Rattle.crawl_session.proofs.Joined.{Fine, Flow, busy_at, fine_accepts, flow_accepts, flow_defers, flow_defers_again, flow_finishes, flow_finishes_again, flow_retakes, flow_still, flow_takes, idle_fetch}
+use Rattle.crawl_session.proofs.Joined.{Fine, Flow, busy_at, fine_accepts, flow_accepts, flow_defers, flow_defers_again, flow_finishes, flow_finishes_again, flow_retakes, flow_still, flow_takes}
 use Rattle.crawl_session.proofs.Queues.{Change, Passes, Quietly, Settled, as_told, busy_of, change_both, change_deferrals, change_queue, flow_after, passes_gate, passes_still, queue_at, settled_after}
 use Rattle.crawl_session.proofs.Sees.{entry_tells, is_other}
 
@@ -47,8 +48,7 @@ Offers state url named x = ((x.state.subqueues ≡ state.subqueues) × Quietly (
 
 other_quiet : (url : List ℕ) (named : ℕ) (reply : Reply) → is_other reply ≡ true → Quietly (as_offer url named) (Told reply)
 unfolding is_other
-other_quiet url named (told.Accepted there number) other = absurd (true≢false (sym other))
-other_quiet url named _ other = λ queue busy. (refl, (refl, refl))
+other_quiet url named reply other = grind arith
 
 -- what comes of an admission by its turn
 abbrev admitted_by : Turn → List ℕ → ℕ → Exchange
@@ -104,15 +104,8 @@ taken_by done named =
     let rest = if is_empty done.reply then after done.state event.Close ends else ends done.reply done.state in
     record rest { history = (event.Take named, done.reply) ∷ rest.history }
 
-close_quiet : (state : State) (named : ℕ) → Quietly (as_next named) (Told (turn state event.Close).reply)
-close_quiet state named =
-    let count = units_out state.gate (unfinished_in state) in
-    either_way (λ (t : GateTurn). Quietly (as_next named) (Told t.reply)) (state.gate.closed || nat_eq count 0) (record { reply = told.Closed; gate = record state.gate { closed = true } }) (record { reply = told.Pending count; gate = state.gate })
-    (λ queue busy. (refl, (refl, refl))) (λ queue busy. (refl, (refl, refl)))
-
 takes_oldest : (state : State) (named : ℕ) (found : Subqueue) → slice_get state.subqueues named ≡ Some found → found.busy ≡ false → (m : Option Message) → oldest found ≡ m → Takes state named (taken_by (take_oldest state named found m) named)
-takes_oldest state named found at idle None none = inl (refl, close_quiet state named)
-takes_oldest state named found at idle (Some m) first = inr (found, (m, (at, (idle, (first, (refl, refl))))))
+takes_oldest state named found at idle m none = grind arith
 
 takes_from : (state : State) (named : ℕ) (queue : Option Subqueue) → slice_get state.subqueues named ≡ queue → Takes state named (taken_by (take_from state named queue) named)
 takes_from state named None at = inl (refl, λ queue busy. (refl, (refl, refl)))
@@ -183,11 +176,7 @@ ends_from state named (Some found) at =
 
 -- a fetch of another URL than those that were put back
 idle_deferrals : (queue : Subqueue) (deferrals : Deferrals) → Fine (Some queue) deferrals → queue.busy ≡ true → deferrals.fetched ≡ None
-idle_deferrals queue deferrals fine busy = by_fetched deferrals.fetched refl
-  where
-    by_fetched : (o : Option Deferred) → deferrals.fetched ≡ o → o ≡ None
-    by_fetched None is = refl
-    by_fetched (Some d) is = absurd (true≢false (sym busy ∙ fine.apart (ap is_some is)))
+idle_deferrals queue deferrals fine busy = grind arith
 
 done_passes : (state : Frontier) (named : ℕ) (x : Exchange) → Sound state.machine → Settled state → Ends state.machine named x → Passes state (as_done named) (by_machine state x)
 done_passes state named x sound settled (inl same) = passes_gate state (as_done named) x settled same.0 same.1
@@ -211,14 +200,7 @@ past (x ∷ xs) zero none = absurd (cc)
 past (x ∷ xs) (suc i) none = let more = past xs i none in omega (arith, more)
 
 pub in_range : (state : Frontier) (named : ℕ) (d : Deferred) → Settled state → (deferrals_at state named).fetched ≡ Some d → (found : Subqueue) × (queue_at state named ≡ Some found)
-in_range state named d settled is = by_queue (queue_at state named) refl
-  where
-    by_queue : (o : Option Subqueue) → queue_at state named ≡ o → (found : Subqueue) × (queue_at state named ≡ Some found)
-    by_queue (Some found) at = (found, at)
-    by_queue None none =
-        let beyond : length state.deferrals ≤ named = subst (λ n. n ≤ named) (sym settled.shape) (past state.machine.subqueues named none) in
-        let empty : (deferrals_at state named).fetched ≡ None = ap (λ (e : Deferrals). e.fetched) (get_or-eq_default state.deferrals no_deferrals beyond) in
-        absurd (let clash : None ≡ Some d = sym empty ∙ is in cc)
+in_range state named d settled is = grind (arith, queue_at, past, get_or-eq_default)
 
 -- what comes of a sender's unit that is given back
 abbrev back_by : Frontier → ℕ → ℕ → GateTurn → Outcome
@@ -267,19 +249,10 @@ as_later named = Ok (Later named)
 
 -- the URL stands behind all that was accepted
 pushed_fine : (queue : Subqueue) (next : Subqueue) (deferrals : Deferrals) (url : List ℕ) (sender n : ℕ) → n ≡ length queue.accepted → next.accepted ≡ queue.accepted → Fine (Some queue) deferrals → Fine (Some next) (waits_again deferrals (record { url = url; sender = sender; after = n }))
-pushed_fine queue next deferrals url sender n is same fine =
-    let as_many = ap length same in
-    record {
-      within = within_push (length next.accepted) deferrals.waiting (record { url = url; sender = sender; after = n }) (omega (arith, is, as_many)) (subst (λ m. Within m deferrals.waiting) (sym as_many) fine.within);
-      apart = λ some. absurd (true≢false (sym some));
-    }
+pushed_fine queue next deferrals url sender n is same fine = grind (arith, within_push)
 
 pub fetches_busy : (queue : Subqueue) (url : List ℕ) → fetch_of queue ≡ Some url → queue.busy ≡ true
-fetches_busy queue url fetched = by_busy queue.busy refl
-  where
-    by_busy : (b : Bool) → queue.busy ≡ b → b ≡ true
-    by_busy true is = refl
-    by_busy false is = absurd (let clash : None ≡ Some url = sym (idle_fetch queue is) ∙ fetched in cc)
+fetches_busy queue url fetched = grind arith
 
 defer_passes : (state : Frontier) (named : ℕ) (url : List ℕ) (found : Subqueue) → queue_at state named ≡ Some found → fetch_of found ≡ Some url → Sound state.machine → Settled state
     → Passes state (as_later named) (by_machine (record (put_back state named url (suc state.senders)) { senders = suc state.senders }) (handing state.machine named (suc state.senders)))
@@ -340,8 +313,7 @@ deferring_passes state named (Some u) is sound settled = let found = in_range st
 -- ---- what a line asks
 
 again_passes : (state : Frontier) (named : ℕ) (fetched : Option Deferred) → Settled state → Passes state (Ok (Again named)) (taking_again state named fetched)
-again_passes state named None settled = passes_still state (Ok (Again named)) (told_again (in_fetch state.machine named)) settled (λ queue busy. (refl, (refl, refl)))
-again_passes state named (Some url) settled = passes_still state (Ok (Again named)) (told.Taken url.url) settled (λ queue busy. (refl, (refl, refl)))
+again_passes state named fetched settled = grind (arith, common_steps, passes_still)
 
 request_passes : (state : Frontier) (request : Request) → Sound state.machine → Settled state → Passes state (Ok request) (exchange state request)
 request_passes state (Offer url named) sound settled = offer_passes state url named (offering state.machine url named) sound settled (offers state.machine url named)

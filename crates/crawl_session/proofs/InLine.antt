@@ -25,9 +25,7 @@ within_push most (e ∷ ds) d below within = (within.0, within_push most ds d be
 
 -- what is left behind the first that was put back
 rest_within : (taken n : ℕ) (urls : List (List ℕ)) (ds : List Deferred) → n ≤ length urls → Within (taken + length urls) ds → Within (taken + n + length (drop n urls)) ds
-rest_within taken n urls ds below within =
-    let left = length-drop n urls in
-    within_more (taken + length urls) (taken + n + length (drop n urls)) ds (omega (arith, left, below)) within
+rest_within taken n urls ds below within = grind (arith, length-drop, within_more)
 
 -- one more is accepted
 pub line_accepts : (taken : ℕ) (urls : List (List ℕ)) (url : List ℕ) (ds : List Deferred) → Within (taken + length urls) ds → in_line taken (urls ++ url ∷ []) ds ≡ in_line taken urls ds ++ url ∷ []
@@ -60,15 +58,8 @@ line_defers taken urls (e ∷ ds) d within is =
 
 -- the first that was put back is due
 pub line_retakes : (taken : ℕ) (urls : List (List ℕ)) (d : Deferred) (ds : List Deferred) → d.after ≤ taken → in_line taken urls (d ∷ ds) ≡ d.url ∷ in_line taken urls ds
-line_retakes taken urls d ds due =
-    let none : d.after - taken ≡ 0 = omega (arith, due) in
-    ap (λ (n : ℕ). take n urls ++ d.url ∷ in_line (taken + n) (drop n urls) ds) none
-    ∙ ap (λ (n : ℕ). d.url ∷ in_line n urls ds) (omega arith)
+line_retakes taken urls d ds due = grind arith
 
 -- it is not, so the first that was not taken is next
 pub line_takes : (taken : ℕ) (url : List ℕ) (urls : List (List ℕ)) (d : Deferred) (ds : List Deferred) → taken < d.after → in_line taken (url ∷ urls) (d ∷ ds) ≡ url ∷ in_line (suc taken) urls (d ∷ ds)
-line_takes taken url urls d ds early =
-    let k = d.after - suc taken in
-    let n_is : d.after - taken ≡ suc k = omega (arith, early) in
-    ap (λ (n : ℕ). take n (url ∷ urls) ++ d.url ∷ in_line (taken + n) (drop n (url ∷ urls)) ds) n_is
-    ∙ ap (λ (n : ℕ). url ∷ take k urls ++ d.url ∷ in_line n (drop k urls) ds) (omega arith)
+line_takes taken url urls d ds early = grind arith

@@ -1,8 +1,7 @@
 -- A queue gives out the URLs that joined it, in order: each when it was accepted, and each time that it was put back.
-use Rattle.std.proofs.Common.{◌≡◌, ℕ, zero, suc, ◌+◌, ◌-◌, ◌<◌, Bool, true, false, not, ◌&&◌, if◌then◌else◌, is_some, nat_lt, List, [], ◌∷◌, ◌++◌, length, map, drop, slice_get, Option, Some, None, refl, sym, ap, ◌∙◌, arith, append-nil, ltb-true, ltb-false, true≢false}
+use Rattle.std.proofs.Common.{◌≡◌, ℕ, zero, suc, ◌+◌, ◌-◌, ◌<◌, Bool, true, false, not, ◌&&◌, if◌then◌else◌, is_some, nat_lt, List, [], ◌∷◌, ◌++◌, length, map, drop, slice_get, Option, Some, None, refl, ap, ◌∙◌, arith, append-nil, ltb-true, ltb-false}
 use Rattle.std.specs.Option.{option_map, option_or, option_to_list}
 use Rattle.std.proofs.lemmas.List.{length-map, length-drop, map-append, drop-append-le, length_push}
-use Rattle.crawl_core.specs.Flags.{one_if}
 use Rattle.crawl_core.specs.Handing.{is_fetching}
 use Rattle.crawl_core.specs.Messages.{Message}
 use Rattle.crawl_core.specs.Invariants.{SubqueueInvariant}
@@ -54,24 +53,14 @@ pub record Flow (old : Option Subqueue) (before : Deferrals) (joins takes : Opti
   pub free : is_some takes ≡ true → busy_at old before.fetched ≡ None
 
 pub flow_still : (queue : Option Subqueue) (deferrals : Deferrals) → Flow queue deferrals None None false queue deferrals
-flow_still queue deferrals = record {
-  line = append-nil (line_at queue deferrals.waiting);
-  busy = refl;
-  was = λ e. absurd (true≢false (sym e));
-  free = λ e. absurd (true≢false (sym e));
-}
+flow_still queue deferrals = grind (arith, append-nil)
 
 -- how many wait
 all_there : (queue : Subqueue) → SubqueueInvariant queue → queue.taken + length (map url_of (waiting queue)) ≡ length queue.accepted
-all_there queue inv =
-    let n = length-map (waiting queue) url_of in
-    let left = length-drop queue.taken queue.accepted in
-    omega (arith, n, left, inv.within)
+all_there queue inv = grind (arith, length-map, length-drop)
 
 fits_in : (queue : Subqueue) (ds : List Deferred) → SubqueueInvariant queue → Within (length queue.accepted) ds → Within (queue.taken + length (map url_of (waiting queue))) ds
-fits_in queue ds inv within =
-    let all = all_there queue inv in
-    within_more (length queue.accepted) (queue.taken + length (map url_of (waiting queue))) ds (omega (arith, all)) within
+fits_in queue ds inv within = grind (arith, all_there, within_more)
 
 got_before : {A : Type 0} (xs : List A) (y : A) (i : ℕ) → i < length xs → slice_get (xs ++ y ∷ []) i ≡ slice_get xs i
 got_before [] y i below = absurd (omega (arith, below))
@@ -79,13 +68,7 @@ got_before (x ∷ xs) y zero below = refl
 got_before (x ∷ xs) y (suc i) below = got_before xs y i (omega (arith, below))
 
 fetch_stays : (queue : Subqueue) (m : Message) → SubqueueInvariant queue → fetch_of (after_accepting queue m) ≡ fetch_of queue
-fetch_stays queue m inv = by_busy queue.busy refl
-  where
-    by_busy : (b : Bool) → queue.busy ≡ b → (if b then option_map url_of (slice_get (queue.accepted ++ m ∷ []) (queue.taken - 1)) else None) ≡ (if b then option_map url_of (slice_get queue.accepted (queue.taken - 1)) else None)
-    by_busy true is =
-        let one : one_if queue.busy ≡ 1 = ap one_if is in
-        ap (option_map url_of) (got_before queue.accepted m (queue.taken - 1) (omega (arith, one, inv.begun, inv.within)))
-    by_busy false is = refl
+fetch_stays queue m inv = grind (arith, got_before)
 
 -- the URL that is fetched, by what was put back, and by the machine
 abbrev busy_of_kept : Option Deferred → Option (List ℕ) → Option (List ℕ)
@@ -93,25 +76,13 @@ busy_of_kept (Some d) found = Some d.url
 busy_of_kept None found = found
 
 busy_is : (queue : Subqueue) (fetched : Option Deferred) → busy_at (Some queue) fetched ≡ busy_of_kept fetched (fetch_of queue)
-busy_is queue None = refl
-busy_is queue (Some d) = refl
+busy_is queue fetched = grind arith
 
 pub flow_accepts : (queue : Subqueue) (m : Message) (deferrals : Deferrals) → SubqueueInvariant queue → Fine (Some queue) deferrals → Flow (Some queue) deferrals (Some m.url) None false (Some (after_accepting queue m)) deferrals
-flow_accepts queue m deferrals inv fine =
-    let longer : map url_of (drop queue.taken (queue.accepted ++ m ∷ [])) ≡ map url_of (waiting queue) ++ m.url ∷ [] =
-    ap (map url_of) (drop-append-le queue.taken queue.accepted (m ∷ []) inv.within) ∙ map-append url_of (waiting queue) (m ∷ []) in
-    record {
-      line =
-          sym (line_accepts queue.taken (map url_of (waiting queue)) m.url deferrals.waiting (fits_in queue deferrals.waiting inv fine.within))
-          ∙ ap (λ (l : List (List ℕ)). in_line queue.taken l deferrals.waiting) (sym longer);
-      busy = busy_is (after_accepting queue m) deferrals.fetched ∙ ap (busy_of_kept deferrals.fetched) (fetch_stays queue m inv) ∙ sym (busy_is queue deferrals.fetched);
-      was = λ e. absurd (true≢false (sym e));
-      free = λ e. absurd (true≢false (sym e));
-    }
+flow_accepts queue m deferrals inv fine = grind (arith, drop-append-le, map-append, line_accepts, fits_in, in_line, busy_is, fetch_stays)
 
-is_some_map : {A B : Type 0} (f : A → B) (o : Option A) → is_some (option_map f o) ≡ is_some o
-is_some_map f None = refl
-is_some_map f (Some x) = refl
+pub is_some_map : {A B : Type 0} (f : A → B) (o : Option A) → is_some (option_map f o) ≡ is_some o
+is_some_map f o = grind arith
 
 there_is : {A : Type 0} (xs : List A) (i : ℕ) → i < length xs → is_some (slice_get xs i) ≡ true
 there_is [] i below = absurd (omega (arith, below))
@@ -119,12 +90,7 @@ there_is (x ∷ xs) zero below = refl
 there_is (x ∷ xs) (suc i) below = there_is xs i (omega (arith, below))
 
 pub fine_accepts : (queue : Subqueue) (m : Message) (deferrals : Deferrals) → Fine (Some queue) deferrals → Fine (Some (after_accepting queue m)) deferrals
-fine_accepts queue m deferrals fine =
-    let longer = length_push queue.accepted m in
-    record {
-      within = within_more (length queue.accepted) (length (queue.accepted ++ m ∷ [])) deferrals.waiting (omega (arith, longer)) fine.within;
-      apart = fine.apart;
-    }
+fine_accepts queue m deferrals fine = grind (arith, length_push, within_more)
 
 -- a free queue fetches nothing
 pub idle_fetch : (queue : Subqueue) → queue.busy ≡ false → fetch_of queue ≡ None
@@ -153,84 +119,27 @@ one_less : (n : ℕ) → suc n - 1 ≡ n
 one_less n = omega arith
 
 pub flow_takes : (queue : Subqueue) (m : Message) (deferrals : Deferrals) → oldest queue ≡ Some m → queue.busy ≡ false → deferrals.fetched ≡ None → is_due (Some queue) deferrals.waiting ≡ false → Flow (Some queue) deferrals None (Some m.url) false (Some (after_taking queue)) deferrals
-flow_takes queue m deferrals first idle none due = record {
-  line = append-nil (line_at (Some queue) deferrals.waiting) ∙ line_of_first queue m deferrals.waiting first idle due;
-  busy = ap (busy_at (Some (after_taking queue))) none ∙ ap (λ (n : ℕ). option_map url_of (slice_get queue.accepted n)) (one_less queue.taken) ∙ ap (option_map url_of) first;
-  was = λ e. absurd (true≢false (sym e));
-  free = λ _. idle_busy queue deferrals.fetched idle none;
-}
+flow_takes queue m deferrals first idle none due = grind (arith, append-nil, line_of_first, one_less, idle_busy)
 
 pub flow_retakes : (queue : Subqueue) (d : Deferred) (more : List Deferred) (deferrals : Deferrals) → deferrals.waiting ≡ d ∷ more → deferrals.fetched ≡ None → is_due (Some queue) (d ∷ more) ≡ true → Flow (Some queue) deferrals None (Some d.url) false (Some queue) (record { waiting = more; fetched = Some d })
-flow_retakes queue d more deferrals waits none due =
-    let flags = both_set queue.busy (nat_lt queue.taken d.after) due in
-    record {
-      line =
-          append-nil (line_at (Some queue) deferrals.waiting)
-          ∙ ap (line_at (Some queue)) waits
-          ∙ line_retakes queue.taken (map url_of (waiting queue)) d more (ltb-false queue.taken d.after flags.1);
-      busy = refl;
-      was = λ e. absurd (true≢false (sym e));
-      free = λ _. idle_busy queue deferrals.fetched flags.0 none;
-    }
-  where
-    both_set : (b c : Bool) → (not b && not c) ≡ true → (b ≡ false) × (c ≡ false)
-    both_set b c e = grind arith
+flow_retakes queue d more deferrals waits none due = grind (arith, append-nil, line_retakes, ltb-false, idle_busy)
 
 pub some_fetch : (queue : Subqueue) → SubqueueInvariant queue → queue.busy ≡ true → is_some (fetch_of queue) ≡ true
-some_fetch queue inv busy =
-    let one : one_if queue.busy ≡ 1 = ap one_if busy in
-    let below : queue.taken - 1 < length queue.accepted = omega (arith, one, inv.begun, inv.within) in
-    ap (λ b. is_some (if b then option_map url_of (slice_get queue.accepted (queue.taken - 1)) else None)) busy
-    ∙ is_some_map url_of (slice_get queue.accepted (queue.taken - 1))
-    ∙ there_is queue.accepted (queue.taken - 1) below
+some_fetch queue inv busy = grind (arith, is_some_map, there_is)
 
 idle_fetched : (queue : Option Subqueue) → is_fetching queue ≡ false → fetched_at queue ≡ None
-idle_fetched None idle = refl
-idle_fetched (Some queue) idle = idle_fetch queue idle
+idle_fetched queue idle = grind arith
 
 pub flow_finishes : (queue : Subqueue) (deferrals : Deferrals) → SubqueueInvariant queue → queue.busy ≡ true → deferrals.fetched ≡ None → Flow (Some queue) deferrals None None true (Some (after_finishing queue)) deferrals
-flow_finishes queue deferrals inv busy none = record {
-  line = append-nil (line_at (Some queue) deferrals.waiting);
-  busy = ap (busy_at (Some (after_finishing queue))) none;
-  was = λ _. ap (λ (f : Option Deferred). is_some (busy_at (Some queue) f)) none ∙ some_fetch queue inv busy;
-  free = λ e. absurd (true≢false (sym e));
-}
+flow_finishes queue deferrals inv busy none = grind (arith, append-nil, some_fetch)
 
 pub flow_finishes_again : (queue : Option Subqueue) (d : Deferred) (deferrals : Deferrals) → is_fetching queue ≡ false → deferrals.fetched ≡ Some d → Flow queue deferrals None None true queue (record { waiting = deferrals.waiting; fetched = None })
-flow_finishes_again queue d deferrals idle is = record {
-  line = append-nil (line_at queue deferrals.waiting);
-  busy = idle_fetched queue idle;
-  was = λ _. ap (λ (f : Option Deferred). is_some (busy_at queue f)) is;
-  free = λ e. absurd (true≢false (sym e));
-}
+flow_finishes_again queue d deferrals idle is = grind (arith, append-nil, idle_fetched)
 
 pub flow_defers : (queue : Subqueue) (url : List ℕ) (sender : ℕ) (deferrals : Deferrals) → SubqueueInvariant queue → Fine (Some queue) deferrals → fetch_of queue ≡ Some url → deferrals.fetched ≡ None
     → Flow (Some queue) deferrals (busy_at (Some queue) deferrals.fetched) None true (Some (after_finishing queue)) (waits_again deferrals (record { url = url; sender = sender; after = length queue.accepted }))
-flow_defers queue url sender deferrals inv fine fetched none =
-    let d : Deferred = record { url = url; sender = sender; after = length queue.accepted } in
-    let all = all_there queue inv in
-    let found : busy_at (Some queue) deferrals.fetched ≡ Some url = ap (busy_at (Some queue)) none ∙ fetched in
-    record {
-      line =
-          ap (λ o. line_at (Some queue) deferrals.waiting ++ option_to_list o) found
-          ∙ sym (line_defers queue.taken (map url_of (waiting queue)) deferrals.waiting d (fits_in queue deferrals.waiting inv fine.within) (sym all));
-      busy = refl;
-      was = λ _. ap is_some found;
-      free = λ e. absurd (true≢false (sym e));
-    }
+flow_defers queue url sender deferrals inv fine fetched none = grind (arith, all_there, line_defers, fits_in)
 
 pub flow_defers_again : (queue : Subqueue) (u : Deferred) (deferrals : Deferrals) → SubqueueInvariant queue → Fine (Some queue) deferrals → deferrals.fetched ≡ Some u
     → Flow (Some queue) deferrals (busy_at (Some queue) deferrals.fetched) None true (Some queue) (waits_again deferrals (record { url = u.url; sender = u.sender; after = length queue.accepted }))
-flow_defers_again queue u deferrals inv fine is =
-    let d : Deferred = record { url = u.url; sender = u.sender; after = length queue.accepted } in
-    let all = all_there queue inv in
-    let found : busy_at (Some queue) deferrals.fetched ≡ Some u.url = ap (busy_at (Some queue)) is in
-    let idle : queue.busy ≡ false = fine.apart (ap is_some is) in
-    record {
-      line =
-          ap (λ o. line_at (Some queue) deferrals.waiting ++ option_to_list o) found
-          ∙ sym (line_defers queue.taken (map url_of (waiting queue)) deferrals.waiting d (fits_in queue deferrals.waiting inv fine.within) (sym all));
-      busy = idle_fetch queue idle;
-      was = λ _. ap is_some found;
-      free = λ e. absurd (true≢false (sym e));
-    }
+flow_defers_again queue u deferrals inv fine is = grind (arith, all_there, line_defers, fits_in, idle_fetch)

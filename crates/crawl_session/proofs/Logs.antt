@@ -18,24 +18,7 @@ use Rattle.crawl_replay.specs.declared.script.header.Header.{Header}
 use Rattle.crawl_replay.proofs.HeaderWords.{header_said}
 use Rattle.crawl_replay.proofs.NumberText.{at_space-joined, joined-at_space}
 use Rattle.text_lines.specs.Fields.{at_space, is_space}
-use Rattle.crawl_session.specs.declared.answer.Answer.{Answer}
-use Rattle.crawl_session.specs.Logs.{Reruns, within_text, numbers_text, settings_line, suffix_from, next_suffix}
-use Rattle.crawl_session.specs.Serving.{Serves}
-use Rattle.crawl_session.specs.Settings.{SessionView}
-use Rattle.crawl_session.proofs.Lines.{state_after-append}
-
--- ---- the state after the lines
-
-pub reruns_more : (old : SessionView) (front : List (List ℕ)) (mid : SessionView) (line : List ℕ) (answer : Answer) (new : SessionView) → Reruns old front mid → Serves mid line answer new → Reruns old (front ++ line ∷ []) new
-reruns_more old front mid line answer new reruns one = grind (arith, state_after-append)
-
-pub reruns_on : (old mid new : SessionView) (all rest : List (List ℕ)) (line : List ℕ) (more : List (List ℕ)) (answer : Answer) → ((front : List (List ℕ)) × (all ≡ front ++ rest) × Reruns old front mid) → rest ≡ line ∷ more → Serves mid line answer new
-    → (front : List (List ℕ)) × (all ≡ front ++ more) × Reruns old front new
-reruns_on old mid new all rest line more answer so_far cut one = (
-  so_far.0 ++ line ∷ [],
-  so_far.1 ∙ ap (λ l. so_far.0 ++ l) cut ∙ sym (append_assoc so_far.0 (line ∷ []) more),
-  reruns_more old so_far.0 mid line answer new so_far.2 one,
-)
+use Rattle.crawl_session.specs.Logs.{within_text, numbers_text, settings_line, suffix_from, next_suffix}
 
 -- ---- the first line
 

@@ -1,5 +1,5 @@
 -- Each URL once, in order, by its host's subqueue, as a client is told.
-use Rattle.std.proofs.Common.{◌≡◌, ◌≤◌, ℕ, zero, suc, Bool, true, false, if◌then◌else◌, is_some, List, [], ◌∷◌, ◌++◌, slice_get, Option, Some, None, refl, sym, ap, subst, ◌∙◌, arith}
+use Rattle.std.proofs.Common.{◌≡◌, ◌≤◌, ℕ, zero, suc, Bool, if◌then◌else◌, is_some, List, [], ◌∷◌, ◌++◌, slice_get, Option, Some, None, refl, sym, ap, subst, ◌∙◌, arith}
 use Rattle.std.specs.List.{cons_option}
 use Rattle.crawl_core.specs.Flags.{one_if}
 use Rattle.crawl_core.specs.History.{accepted_urls, AcceptsOnce}
@@ -40,8 +40,7 @@ plain_joins queue busy (x ∷ more) none =
     ∙ ap (cons_option (accepts queue x.request x.answer)) (plain_joins queue (busy_after queue busy x) more rest)
 
 flag_small : (b : Bool) → one_if b ≤ 1
-flag_small true = omega arith
-flag_small false = omega arith
+flag_small b = grind arith
 
 pub each_once : (settings : Settings) (max : ℕ) (lines : List (List ℕ)) → EachOnceInOrder settings.workers (asked settings (start settings.workers max) lines)
 each_once settings max lines =

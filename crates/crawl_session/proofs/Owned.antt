@@ -1,5 +1,6 @@
 -- A URL that was put back has its sender's unit until it is done.
-use Rattle.std.proofs.Common.{◌≡◌, ℕ, zero, suc, ◌+◌, ◌≤◌, ◌<◌, Bool, true, false, cond, ◌&&◌, ◌||◌, if◌then◌else◌, nat_eq, List, [], ◌∷◌, length, replicate, slice_get, slice_set, Option, Some, None, Result, Ok, Err, refl, sym, ap, subst, ◌∙◌, arith, eqb-true, ne_eqb, true≢false}
+use Rattle.std.proofs.lemmas.Grind.{common_steps}
+use Rattle.std.proofs.Common.{◌≡◌, ℕ, zero, suc, ◌+◌, ◌≤◌, Bool, true, false, cond, ◌&&◌, ◌||◌, if◌then◌else◌, nat_eq, List, ◌∷◌, replicate, slice_get, slice_set, Option, Some, None, Result, Ok, Err, refl, sym, ap, subst, ◌∙◌, arith, eqb-true, ne_eqb}
 use Rattle.std.proofs.lemmas.Bool.Decides.{nat_tests}
 use Rattle.std.specs.List.{sum_by}
 use Rattle.std.specs.Ordering.{nat_cmp}
@@ -32,7 +33,7 @@ use Rattle.crawl_session.specs.declared.request.Request.{Request}
 use Rattle.crawl_session.specs.declared.request.Request.TheVariants.{Offer, Next, Again, Later, Done, EndSeeds, Stats}
 use Rattle.crawl_session.specs.declared.request.RequestError.{RequestError}
 use Rattle.crawl_session.specs.Exchanges as exchanges
-use Rattle.crawl_session.specs.Exchanges.{Exchange, Outcome, accepted_at, admitting, after, by_machine, client, deferring, deferring_taken, ends, exchange, finishing, handing, is_count, is_due, is_empty, is_entered, is_seen, offering, put_back, replies, retaking, seeds_ended, taking, taking_again, taking_next}
+use Rattle.crawl_session.specs.Exchanges.{Exchange, Outcome, accepted_at, admitting, after, by_machine, client, deferring, deferring_taken, ends, exchange, finishing, handing, is_count, is_due, is_entered, offering, put_back, replies, retaking, seeds_ended, taking, taking_again, taking_next}
 use Rattle.crawl_session.specs.Frontiers.{Deferrals, Frontier, deferrals_at, no_deferrals, start, waits_again, with_deferrals}
 use Rattle.crawl_session.specs.Sessions.{answered}
 use Rattle.crawl_session.proofs.Choices.{either_way}
@@ -87,12 +88,7 @@ others_both : (a b c : State) → Others a b → Others b c → Others a c
 others_both a b c first second n = second n ∙ first n
 
 admitting_others : (state : State) (url : List ℕ) (named : ℕ) → Sound state → Others state (admitting state url named).state
-admitting_others state url named sound =
-    let done = turn state (event.Admit client url named) in
-    let effect = gate_effect state sound (event.Admit client url named) in
-    let first = admit_others state url named sound in
-    either_way (λ (x : Exchange). Others state x.state) (is_seen done.reply) (after done.state (event.Back client) (λ _ left. ends told.Seen left)) (ends done.reply done.state)
-    (others_both state done.state (turn done.state (event.Back client)).state first (back_others done.state effect.sound)) first
+admitting_others state url named sound = grind (arith, gate_effect, admit_others, either_way, others_both, back_others)
 
 offering_others : (state : State) (url : List ℕ) (named : ℕ) → Sound state → Others state (offering state url named).state
 offering_others state url named sound =
@@ -105,12 +101,7 @@ offering_others state url named sound =
     (λ n. admitting_others entered.state url named entering_it.sound n ∙ first n) first
 
 taking_others : (state : State) (named : ℕ) → Sound state → Others state (taking state named).state
-taking_others state named sound =
-    let done = turn state (event.Take named) in
-    let effect = gate_effect state sound (event.Take named) in
-    let first : Others state done.state = λ n. (gate_history.held state sound (event.Take named)).holders (suc n) in
-    either_way (λ (x : Exchange). Others state x.state) (is_empty done.reply) (after done.state event.Close ends) (ends done.reply done.state)
-    (λ n. (gate_history.held done.state effect.sound event.Close).holders (suc n) ∙ first n) first
+taking_others state named sound = grind arith
 
 owned_machine : (state : Frontier) (new : State) → Others state.machine new → Owned state → Owned (record state { machine = new })
 owned_machine state new others owned = record { mine = owned.mine; held = by_sender; fresh = λ n past. others n ∙ owned.fresh n past }
@@ -124,32 +115,19 @@ owned_machine state new others owned = record { mine = owned.mine; held = by_sen
 -- the units after a change of one queue
 units_after : (state : Frontier) (named : ℕ) (deferrals : Deferrals) (found : Subqueue) → Settled state → queue_at state named ≡ Some found → (sender : ℕ)
     → sum_by (units_in sender) (slice_set state.deferrals named deferrals) + units_in sender (deferrals_at state named) ≡ units_of sender state + units_in sender deferrals
-units_after state named deferrals found settled at sender =
-    let below : named < length state.deferrals = subst (λ n. named < n) (sym settled.shape) (slice_get_within state.machine.subqueues named found at) in
-    sum_by-set (units_in sender) state.deferrals named deferrals no_deferrals below
+units_after state named deferrals found settled at sender = grind (arith, slice_get_within, sum_by-set)
 
 -- the same URLs in another way
 owned_same : (state : Frontier) (named : ℕ) (deferrals : Deferrals) (found : Subqueue) → Settled state → queue_at state named ≡ Some found → ((sender : ℕ) → units_in sender deferrals ≡ units_in sender (deferrals_at state named)) → Owned state → Owned (with_deferrals state named deferrals)
-owned_same state named deferrals found settled at same owned = record {
-  mine = let sum = units_after state named deferrals found settled at client in let is = same client in let none = owned.mine in omega (arith, sum, is, none);
-  held = λ sender. let sum = units_after state named deferrals found settled at sender in let is = same sender in let few = owned.held sender in omega (arith, sum, is, few);
-  fresh = owned.fresh;
-}
+owned_same state named deferrals found settled at same owned = grind (arith, units_after)
 
 -- ---- requests
 
 retake_units : (sender : ℕ) (first : Deferred) (more : List Deferred) (deferrals : Deferrals) → deferrals.waiting ≡ first ∷ more → deferrals.fetched ≡ None → units_in sender (record { waiting = more; fetched = Some first }) ≡ units_in sender deferrals
-retake_units sender first more deferrals waits none =
-    let sum = sum_by-cons (has_sender sender) first more in
-    let all = ap (sum_by (has_sender sender)) waits in
-    let no : fetched_units sender deferrals.fetched ≡ 0 = ap (fetched_units sender) none in
-    omega (arith, sum, all, no)
+retake_units sender first more deferrals waits none = grind (arith, common_steps, sum_by-cons)
 
 retake_owned : (state : Frontier) (named : ℕ) (queue : Option Subqueue) (waiting : List Deferred) → queue_at state named ≡ queue → (deferrals_at state named).waiting ≡ waiting → Settled state → (deferrals_at state named).fetched ≡ None → is_due queue waiting ≡ true → Owned state → Owned (retaking state named waiting).state
-retake_owned state named queue [] at waits settled none due owned = owned
-retake_owned state named None (first ∷ more) at waits settled none due owned = absurd (true≢false (sym due))
-retake_owned state named (Some found) (first ∷ more) at waits settled none due owned =
-    owned_same state named (record { waiting = more; fetched = Some first }) found settled at (λ sender. retake_units sender first more (deferrals_at state named) waits none) owned
+retake_owned state named queue waiting at waits settled none due owned = grind (arith, common_steps, owned_same, retake_units)
 
 next_owned : (state : Frontier) (named : ℕ) (fetched : Option Deferred) → (deferrals_at state named).fetched ≡ fetched → Sound state.machine → Settled state → Owned state → Owned (taking_next state named (deferrals_at state named).waiting fetched).state
 next_owned state named (Some d) is sound settled owned = owned
@@ -160,35 +138,14 @@ next_owned state named None is sound settled owned =
 
 -- one that was put back is done
 finish_units : (sender : ℕ) (d : Deferred) (deferrals : Deferrals) → deferrals.fetched ≡ Some d → units_in sender (record { waiting = deferrals.waiting; fetched = None }) + has_sender sender d ≡ units_in sender deferrals
-finish_units sender d deferrals is =
-    let one : fetched_units sender deferrals.fetched ≡ has_sender sender d = ap (fetched_units sender) is in
-    omega (arith, one)
+finish_units sender d deferrals is = grind arith
 
 less_held : (b h : Bool) (n m : ℕ) → n ≡ m + cond b 1 0 → n ≤ one_if h → m ≤ one_if (if b then false else h)
-less_held true h n m is few = by_held h few
-  where
-    by_held : (h : Bool) → n ≤ one_if h → m ≤ 0
-    by_held true few = omega (arith, is, few)
-    by_held false few = omega (arith, is, few)
-less_held false h n m is few = omega (arith, is, few)
+less_held b h n m is few = grind arith
 
 given_owned : (state : Frontier) (named : ℕ) (d : Deferred) (found : Subqueue) → queue_at state named ≡ Some found → (deferrals_at state named).fetched ≡ Some d → Sound state.machine → Settled state → Owned state
     → Owned (with_deferrals (record state { machine = record state.machine { gate = let_go state.machine.gate d.sender } }) named (record { waiting = (deferrals_at state named).waiting; fetched = None }))
-given_owned state named d found at is sound settled owned =
-    let old = deferrals_at state named in
-    let new : Deferrals = record { waiting = old.waiting; fetched = None } in
-    let sums : (sender : ℕ) → units_of sender state ≡ sum_by (units_in sender) (slice_set state.deferrals named new) + has_sender sender d =
-    λ sender. (let sum = units_after state named new found settled at sender in let one = finish_units sender d old is in omega (arith, sum, one)) in
-    record {
-      mine = let sum = sums client in let none = owned.mine in omega (arith, sum, none);
-      held = λ sender. subst (λ b. sum_by (units_in sender) (slice_set state.deferrals named new) ≤ one_if b) (sym (holds_less state.machine.gate.holders d.sender sender sound.holders))
-          (less_held (nat_eq d.sender sender) (holds state.machine.gate sender) (units_of sender state) (sum_by (units_in sender) (slice_set state.deferrals named new)) (sums sender) (owned.held sender));
-      fresh = λ n past. holds_less state.machine.gate.holders d.sender (suc n) sound.holders ∙ stays_free (nat_eq d.sender (suc n)) (holds state.machine.gate (suc n)) (owned.fresh n past);
-    }
-  where
-    stays_free : (b h : Bool) → h ≡ false → (if b then false else h) ≡ false
-    stays_free true h free = refl
-    stays_free false h free = free
+given_owned state named d found at is sound settled owned = grind (arith, units_after, finish_units, holds_less, less_held)
 
 finish_again_owned : (state : Frontier) (named : ℕ) (d : Deferred) (found : Subqueue) → queue_at state named ≡ Some found → (deferrals_at state named).fetched ≡ Some d → Sound state.machine → Settled state → Owned state → Owned (finishing state named (Some d)).state
 finish_again_owned state named d found at is sound settled owned =
@@ -207,10 +164,7 @@ push_units : (sender : ℕ) (d : Deferred) (deferrals : Deferrals) → units_in 
 push_units sender d deferrals = let sum = sum_by_push (has_sender sender) deferrals.waiting d in omega (arith, sum)
 
 defer_again_units : (sender n : ℕ) (u : Deferred) (deferrals : Deferrals) → deferrals.fetched ≡ Some u → units_in sender (waits_again deferrals (record { url = u.url; sender = u.sender; after = n })) ≡ units_in sender deferrals
-defer_again_units sender n u deferrals is =
-    let sum = push_units sender (record { url = u.url; sender = u.sender; after = n }) deferrals in
-    let one : fetched_units sender deferrals.fetched ≡ has_sender sender u = ap (fetched_units sender) is in
-    omega (arith, sum, one)
+defer_again_units sender n u deferrals is = grind (arith, push_units)
 
 and_parts : (a b c : Bool) → (a && (b && c)) ≡ true → (a ≡ true) × ((b ≡ true) × (c ≡ true))
 and_parts a b c e = grind arith
@@ -219,8 +173,7 @@ is_at_number : (s sender : ℕ) → is_at (nat_cmp s) sender ≡ nat_eq sender s
 is_at_number s sender = grind (arith, nat_tests)
 
 more_held : (b h : Bool) (n m : ℕ) → m ≡ n + cond b 1 0 → n ≤ one_if h → (b ≡ true → h ≡ false) → m ≤ one_if (b || h)
-more_held true h n m is few free = let none : one_if h ≡ 0 = ap one_if (free refl) in omega (arith, is, few, none)
-more_held false h n m is few free = omega (arith, is, few)
+more_held b h n m is few free = grind arith
 
 defer_owned : (state : Frontier) (named : ℕ) (url : List ℕ) (found : Subqueue) → queue_at state named ≡ Some found → fetch_of found ≡ Some url → (deferrals_at state named).fetched ≡ None → Sound state.machine → Settled state → Owned state → can_hand_over state.machine named (suc state.senders) ≡ true
     → Owned (by_machine (record (put_back state named url (suc state.senders)) { senders = suc state.senders }) (handing state.machine named (suc state.senders))).state
@@ -275,8 +228,7 @@ deferring_owned state named (Some u) is sound settled owned =
     owned_same state named (waits_again (deferrals_at state named) (record { url = u.url; sender = u.sender; after = n })) found.0 settled found.1 (λ sender. defer_again_units sender n u (deferrals_at state named) is) owned
 
 again_owned : (state : Frontier) (named : ℕ) (fetched : Option Deferred) → Owned state → Owned (taking_again state named fetched).state
-again_owned state named None owned = owned
-again_owned state named (Some d) owned = owned
+again_owned state named fetched owned = grind arith
 
 request_owned : (state : Frontier) (request : Request) → Sound state.machine → Settled state → Owned state → Owned (exchange state request).state
 request_owned state (Offer url named) sound settled owned = owned_machine state (offering state.machine url named).state (offering_others state.machine url named sound) owned
@@ -295,14 +247,7 @@ answered_owned state (Err why) sound settled owned = owned
 
 none_new : (workers sender : ℕ) → sum_by (units_in sender) (replicate workers no_deferrals) ≡ 0
 none_new zero sender = refl
-none_new (suc workers) sender =
-    let first = sum_by-cons (units_in sender) no_deferrals (replicate workers no_deferrals) in
-    let rest = none_new workers sender in
-    omega (arith, first, rest)
+none_new (suc workers) sender = grind (arith, sum_by-cons, none_new workers sender)
 
 pub starts_owned : (workers max : ℕ) → Owned (start workers max)
-starts_owned workers max = record {
-  mine = none_new workers client;
-  held = λ sender. let none = none_new workers sender in omega (arith, none);
-  fresh = λ n past. refl;
-}
+starts_owned workers max = grind (arith, none_new)

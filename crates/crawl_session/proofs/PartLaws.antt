@@ -1,55 +1,38 @@
 -- Parts of one crawl: each accepts what its own queues' hosts have, and tells of every other URL where it belongs.
-use Rattle.std.proofs.Common.{◌≡◌, ◌≢◌, ℕ, ◌/◌, Bool, true, false, nat_eq, nat_lt, if◌then◌else◌, List, [], length, codes, slice_get, Some, None, ok_or, Result, Ok, Err, IfOk, refl, sym, ap, subst, ◌∙◌, eqb-true, ne_eqb}
-use Rattle.std.specs.Str.{bytes_eq, is_utf8}
+use Rattle.std.proofs.Common.{◌≡◌, ◌≢◌, ℕ, ◌/◌, Bool, false, nat_lt, if◌then◌else◌, List, [], length, codes, slice_get, Some, None, Result, Ok, Err, IfOk, refl, sym, ap, ◌∙◌, arith}
+use Rattle.std.specs.Str.{bytes_eq}
 use Rattle.std.proofs.lemmas.Slice.Eq.{bytes_eq-Decides}
 use Rattle.crawl_core.proofs.RunParts.{eqb_same}
 use Rattle.crawl_keys.specs.Assignment.{subqueue_of}
 use Rattle.crawl_limits.specs.Limits.{line_limit}
 use Rattle.text_lines.specs.Fields.{at_space}
-use Rattle.text_lines.specs.declared.lines.LineError.TheVariants.{NotText, TooLong}
+use Rattle.text_lines.specs.declared.lines.LineError.TheVariants.{NotText}
 use Rattle.crawl_session.specs.declared.answer.Answer.TheVariants.{Unasked}
 use Rattle.crawl_session.specs.declared.part.Part.{Part}
 use Rattle.crawl_session.specs.declared.request.Request.{Request}
-use Rattle.crawl_session.specs.declared.request.Request.TheVariants.{Offer, Next, Again, Later, Done, EndSeeds, Stats}
+use Rattle.crawl_session.specs.declared.request.Request.TheVariants.{Offer}
 use Rattle.crawl_session.specs.declared.request.RequestError.{RequestError}
 use Rattle.crawl_session.specs.declared.request.RequestError.TheVariants as wrong
 use Rattle.crawl_session.specs.Clients.{asked, accepted_of}
 use Rattle.crawl_session.specs.Exchanges.{exchange}
 use Rattle.crawl_session.specs.Frontiers.{Frontier}
-use Rattle.crawl_session.specs.Parts.{asked_of, is_own, part_with, placed, placed_if, request_for}
-use Rattle.crawl_session.specs.Requests.{plain_request, request_from, request_in, request_of}
+use Rattle.crawl_session.specs.Parts.{asked_of, part_with, placed, placed_if, request_for}
+use Rattle.crawl_session.specs.Requests.{plain_request, request_in, request_of}
 use Rattle.crawl_session.specs.Sessions.{answered, line_exchange}
 use Rattle.crawl_session.specs.Settings.{Settings}
 use Rattle.crawl_session.proofs.Assigned.{accepted_as_assigned, accepted_where}
-use Rattle.crawl_session.proofs.Placed.{OffersWhere, by_words, either}
+use Rattle.crawl_session.proofs.Placed.{OffersWhere, by_words}
 
 -- ---- what is accepted is the part's own
 
 abbrev Owns : Part → ℕ → List ℕ → Type 0
 Owns part queue url = part_with part queue ≡ part.number
 
-placed_owns : (part : Part) (request : Request) → IfOk (placed part request) (OffersWhere (Owns part))
-placed_owns part (Offer url queue) = by_own (is_own part queue) refl
-  where
-    by_own : (b : Bool) → is_own part queue ≡ b → IfOk (if b then Ok (Offer url queue) else Err (wrong.Elsewhere (part_with part queue) url)) (OffersWhere (Owns part))
-    by_own true is = eqb-true (part_with part queue) part.number is
-    by_own false is = tt
-placed_owns part (Next queue) = either (is_own part queue) (OffersWhere (Owns part)) (Ok (Next queue)) (Err wrong.OtherQueue) tt tt
-placed_owns part (Again queue) = either (is_own part queue) (OffersWhere (Owns part)) (Ok (Again queue)) (Err wrong.OtherQueue) tt tt
-placed_owns part (Later queue) = either (is_own part queue) (OffersWhere (Owns part)) (Ok (Later queue)) (Err wrong.OtherQueue) tt tt
-placed_owns part (Done queue) = either (is_own part queue) (OffersWhere (Owns part)) (Ok (Done queue)) (Err wrong.OtherQueue) tt tt
-placed_owns part EndSeeds = tt
-placed_owns part (Stats None) = tt
-placed_owns part (Stats (Some queue)) = either (is_own part queue) (OffersWhere (Owns part)) (Ok (Stats (Some queue))) (Err wrong.OtherQueue) tt tt
-
 if_owns : (part : Part) (r : Result Request RequestError) → IfOk (placed_if part r) (OffersWhere (Owns part))
-if_owns part (Ok request) = placed_owns part request
-if_owns part (Err why) = tt
+if_owns part r = grind arith
 
 line_owns : (settings : Settings) (part : Part) → settings.part ≡ Some part → (line : List ℕ) → IfOk (request_for settings line) (OffersWhere (Owns part))
-line_owns settings part is line =
-    let asks = request_of settings.workers settings.suffixes line in
-    subst (λ p. IfOk (asked_of p line asks) (OffersWhere (Owns part))) (sym is) (by_words (OffersWhere (Owns part)) part line asks (if_owns part asks))
+line_owns settings part is line = grind (arith, by_words, if_owns)
 
 pub accepts_its_own : (settings : Settings) (part : Part) (state : Frontier) (lines : List (List ℕ)) (queue k : ℕ) (url : List ℕ) → settings.part ≡ Some part → slice_get (accepted_of queue (asked settings state lines)) k ≡ Some url
     → (queue ≡ subqueue_of url settings.workers) × (part_with part queue ≡ part.number)
@@ -68,22 +51,11 @@ shares_no_url first second own other old older lines others queue there k l url 
 
 -- a word without a space that is no request asks nothing, whatever else it is
 asks_nothing : (workers : ℕ) (suffixes : List (List ℕ)) (word : List ℕ) (request : Request) (b : Bool) → at_space word ≡ None → plain_request word ≡ None → request_in workers suffixes (if b then Ok word else Err (NotText 1)) ≡ Ok request → ⊥
-asks_nothing workers suffixes word request true single plain asks =
-    let bad : Err wrong.BadLine ≡ Ok request = sym (ap (request_from workers suffixes word) single ∙ ap (λ r. ok_or r wrong.BadLine) plain) ∙ asks in
-    absurd (cc (bad))
-asks_nothing workers suffixes word request false single plain asks = absurd (cc (asks))
+asks_nothing workers suffixes word request b single plain asks = grind arith
 
 -- a line that offers is no such word
 no_word : (workers : ℕ) (suffixes : List (List ℕ)) (line word : List ℕ) (request : Request) → nat_lt line_limit (length word) ≡ false → at_space word ≡ None → plain_request word ≡ None → request_of workers suffixes line ≡ Ok request → bytes_eq line word ≡ false
-no_word workers suffixes line word request short single plain asks = by_test (bytes_eq line word) refl
-  where
-    by_test : (b : Bool) → bytes_eq line word ≡ b → b ≡ false
-    by_test true is =
-        let same : request_of workers suffixes word ≡ Ok request = ap (request_of workers suffixes) (sym ((bytes_eq-Decides line word).0 is)) ∙ asks in
-        let text : request_in workers suffixes (if is_utf8 word then Ok word else Err (NotText 1)) ≡ Ok request =
-        ap (λ c. request_in workers suffixes (if c then Err (TooLong 1) else if is_utf8 word then Ok word else Err (NotText 1))) (sym short) ∙ same in
-        absurd (asks_nothing workers suffixes word request (is_utf8 word) single plain text)
-    by_test false is = refl
+no_word workers suffixes line word request short single plain asks = grind (arith, bytes_eq-Decides, asks_nothing)
 
 -- of an offer, the part asks what its queue says
 offer_placed : (settings : Settings) (part : Part) (line url : List ℕ) (queue : ℕ) → settings.part ≡ Some part → request_of settings.workers settings.suffixes line ≡ Ok (Offer url queue) → request_for settings line ≡ placed part (Offer url queue)
@@ -100,14 +72,12 @@ placed_by part url queue b = if b then Ok (Offer url queue) else Err (wrong.Else
 pub tells_elsewhere : (settings : Settings) (part : Part) (state : Frontier) (line url : List ℕ) (queue : ℕ) → settings.part ≡ Some part → request_of settings.workers settings.suffixes line ≡ Ok (Offer url queue) → part_with part queue ≢ part.number
     → line_exchange settings state line ≡ record { history = []; answer = Unasked (wrong.Elsewhere (part_with part queue) url); state = state }
 unfolding placed_by
-tells_elsewhere settings part state line url queue is asks other =
-    ap (answered state) (offer_placed settings part line url queue is asks ∙ ap (placed_by part url queue) (ne_eqb (part_with part queue) part.number other))
+tells_elsewhere settings part state line url queue is asks other = grind (arith, offer_placed)
 
 pub offers_its_own : (settings : Settings) (part : Part) (state : Frontier) (line url : List ℕ) (queue : ℕ) → settings.part ≡ Some part → request_of settings.workers settings.suffixes line ≡ Ok (Offer url queue) → part_with part queue ≡ part.number
     → line_exchange settings state line ≡ exchange state (Offer url queue)
 unfolding placed_by
-offers_its_own settings part state line url queue is asks own =
-    ap (answered state) (offer_placed settings part line url queue is asks ∙ ap (placed_by part url queue) (ap (λ n. nat_eq n part.number) own ∙ eqb_same part.number))
+offers_its_own settings part state line url queue is asks own = grind (arith, offer_placed, eqb_same)
 
 -- ---- no part
 

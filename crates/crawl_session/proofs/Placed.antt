@@ -1,5 +1,5 @@
 -- What a line asks of a frontier that may be a part: what it asks of any, or nothing.
-use Rattle.std.proofs.Common.{◌≡◌, inl, ℕ, Bool, if◌then◌else◌, List, Option, Result, Ok, Err, IfOk, refl, sym, ap, subst, ◌∙◌, arith}
+use Rattle.std.proofs.Common.{◌≡◌, ℕ, List, Option, Result, Ok, IfOk, sym, ap, subst, ◌∙◌, arith}
 use Rattle.crawl_keys.specs.Outcome.{Gives}
 use Rattle.crawl_session.specs.declared.part.Part.{Part}
 use Rattle.crawl_session.specs.declared.request.Request.{Request}
@@ -13,9 +13,6 @@ use Rattle.crawl_session.specs.Settings.{Settings}
 abbrev Asked : Type 0
 Asked = Result Request RequestError
 
-pub either : (b : Bool) (P : Request → Type 0) (x y : Asked) → IfOk x P → IfOk y P → IfOk (if b then x else y) P
-either b P x y first second = grind arith
-
 -- what holds where a part is asked by its own words, and else, holds of what a line asks of it
 pub by_words : (P : Request → Type 0) (part : Part) (line : List ℕ) (asked : Asked) → IfOk (placed_if part asked) P → IfOk (asked_by part line asked) P
 by_words P part line asked holds = grind arith
@@ -27,8 +24,6 @@ asked_keeps P part line asked holds = grind arith
 pub for_keeps : (P : Request → Type 0) (settings : Settings) (line : List ℕ) → IfOk (request_of settings.workers settings.suffixes line) P → IfOk (request_for settings line) P
 for_keeps P settings line holds = asked_keeps P settings.part line (request_of settings.workers settings.suffixes line) holds
 
--- ---- what calls give
-
 -- ---- a part
 
 -- an offer names a queue of which this holds, and its URL
@@ -39,8 +34,7 @@ OffersWhere P _ = Unit {0}
 -- ---- what a part makes of a request
 
 gives_itself : (asks : Asked) → Gives wrong.NoMemory (λ (r : Request). r) asks asks
-gives_itself (Ok request) = refl
-gives_itself (Err why) = inl refl
+gives_itself asks = grind arith
 
 pub placed_gives : (part : Part) (asks own : Asked) (request : Request) → asks ≡ Ok request → own ≡ placed part request → Gives wrong.NoMemory (λ (r : Request). r) own (placed_if part asks)
 placed_gives part asks own request is same = subst (λ (r : Asked). Gives wrong.NoMemory (λ (q : Request). q) own r) (same ∙ ap (placed_if part) (sym is)) (gives_itself own)

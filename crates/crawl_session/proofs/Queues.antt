@@ -1,5 +1,5 @@
 -- What each request does to each queue: a URL joins its end, one is taken, or a fetch ends.
-use Rattle.std.proofs.Common.{◌≡◌, ℕ, ◌<◌, Bool, true, false, ◌||◌, nat_eq, List, length, slice_get, slice_set, Option, Some, None, Result, refl, sym, ap, subst, ◌∙◌, eqb-true}
+use Rattle.std.proofs.Common.{◌≡◌, ℕ, Bool, true, false, ◌||◌, nat_eq, List, length, slice_get, slice_set, Option, Some, None, Result, refl, sym, ap, subst, ◌∙◌, arith}
 use Rattle.std.proofs.lemmas.Bool.{eqb-false}
 use Rattle.std.proofs.lemmas.List.{get_or-set_same, get_or-set_other}
 use Rattle.std.proofs.lemmas.Option.{slice_get_within}
@@ -13,7 +13,7 @@ use Rattle.crawl_session.specs.declared.request.Request.{Request}
 use Rattle.crawl_session.specs.declared.request.RequestError.{RequestError}
 use Rattle.crawl_session.specs.Clients.{Asked, finishes, joins, puts_back, takes}
 use Rattle.crawl_session.specs.Exchanges.{Exchange, Outcome, by_machine, replies}
-use Rattle.crawl_session.specs.Frontiers.{Deferrals, Frontier, deferrals_at, no_deferrals, with_deferrals}
+use Rattle.crawl_session.specs.Frontiers.{Deferrals, Frontier, deferrals_at, with_deferrals}
 use Rattle.crawl_session.proofs.Joined.{Fine, Flow, busy_at, flow_still}
 
 -- ---- all queues
@@ -43,10 +43,7 @@ abbrev pub Quietly : Result Request RequestError → Answer → Type 0
 Quietly r answer = (queue : ℕ) (busy : Option (List ℕ)) → (joins queue busy (as_told r answer) ≡ None) × ((takes queue r answer ≡ None) × ((finishes queue r answer || puts_back queue r answer) ≡ false))
 
 still_as : (queue : Option Subqueue) (deferrals : Deferrals) (j t : Option (List ℕ)) (e : Bool) → j ≡ None → t ≡ None → e ≡ false → Flow queue deferrals j t e queue deferrals
-still_as queue deferrals j t e no_join no_take no_end =
-    subst (λ (b : Bool). Flow queue deferrals j t b queue deferrals) (sym no_end)
-    (subst (λ (o : Option (List ℕ)). Flow queue deferrals j o false queue deferrals) (sym no_take)
-    (subst (λ (o : Option (List ℕ)). Flow queue deferrals o None false queue deferrals) (sym no_join) (flow_still queue deferrals)))
+still_as queue deferrals j t e no_join no_take no_end = grind (arith, flow_still)
 
 pub passes_still : (state : Frontier) (r : Result Request RequestError) (reply : Reply) → Settled state → Quietly r (Told reply) → Passes state r (replies reply state)
 passes_still state r reply settled quiet = record {
@@ -73,19 +70,7 @@ passes_gate state r x settled same quiet =
 
 -- what holds of this queue where a test of it is passed, and of the others where it is not
 one_queue : (named queue : ℕ) (P : Bool → ℕ → Type 0) → P true named → (nat_eq named queue ≡ false → P false queue) → P (nat_eq named queue) queue
-one_queue named queue P here other = by_test (nat_eq named queue) refl
-  where
-    by_test : (b : Bool) → nat_eq named queue ≡ b → P b queue
-    by_test true same = subst (P true) (eqb-true named queue same) here
-    by_test false apart = other apart
-
--- the state with another machine's queue and other deferrals there
-abbrev changed : Frontier → State → ℕ → Subqueue → Deferrals → ℕ → Frontier
-changed state machine named queue deferrals senders = record {
-  machine = machine;
-  deferrals = slice_set state.deferrals named deferrals;
-  senders = senders;
-}
+one_queue named queue P here other = grind arith
 
 -- the change of one queue
 pub record Change (state new : Frontier) (named : ℕ) (queue : Option Subqueue) (deferrals : Deferrals) : Type 0 where
@@ -96,12 +81,7 @@ pub record Change (state new : Frontier) (named : ℕ) (queue : Option Subqueue)
   pub other_too : (there : ℕ) → nat_eq named there ≡ false → deferrals_at new there ≡ deferrals_at state there
 
 pub settled_after : (state new : Frontier) (named : ℕ) (queue : Option Subqueue) (deferrals : Deferrals) → Settled state → Change state new named queue deferrals → Fine queue deferrals → Settled new
-settled_after state new named queue deferrals settled change fine = record {
-  shape = change.shape;
-  fine = λ there. one_queue named there (λ b q. Fine (queue_at new q) (deferrals_at new q))
-      (subst (λ (o : Option Subqueue). Fine o (deferrals_at new named)) (sym change.here) (subst (λ (d : Deferrals). Fine queue d) (sym change.here_too) fine))
-      (λ apart. subst (λ (o : Option Subqueue). Fine o (deferrals_at new there)) (sym (change.other there apart)) (subst (λ (d : Deferrals). Fine (queue_at state there) d) (sym (change.other_too there apart)) (settled.fine there)));
-}
+settled_after state new named queue deferrals settled change fine = grind arith
 
 -- what happens there, and nothing in the others
 pub flow_after : (state new : Frontier) (named : ℕ) (queue : Option Subqueue) (deferrals : Deferrals) (j t : ℕ → Bool → Option (List ℕ)) (e : Bool → Bool) → Change state new named queue deferrals
@@ -134,15 +114,7 @@ apart_from : (named there : ℕ) → nat_eq named there ≡ false → (there ≡
 apart_from named there apart same = eqb-false named there apart (sym same)
 
 pub change_deferrals : (state : Frontier) (named : ℕ) (queue : Subqueue) (deferrals : Deferrals) → Settled state → queue_at state named ≡ Some queue → Change state (with_deferrals state named deferrals) named (Some queue) deferrals
-change_deferrals state named queue deferrals settled at =
-    let below : named < length state.deferrals = subst (λ n. named < n) (sym settled.shape) (slice_get_within state.machine.subqueues named queue at) in
-    record {
-      shape = length-slice_set state.deferrals named deferrals ∙ settled.shape;
-      here = at;
-      here_too = get_or-set_same state.deferrals named deferrals no_deferrals below;
-      other = λ there apart. refl;
-      other_too = λ there apart. get_or-set_other state.deferrals named there deferrals no_deferrals (apart_from named there apart);
-    }
+change_deferrals state named queue deferrals settled at = grind (arith, slice_get_within, length-slice_set, get_or-set_same, get_or-set_other, apart_from)
 
 -- both, with so many senders
 pub change_both : (state : Frontier) (machine : State) (named senders : ℕ) (old new : Subqueue) (deferrals : Deferrals) → Settled state → queue_at state named ≡ Some old → machine.subqueues ≡ slice_set state.machine.subqueues named new

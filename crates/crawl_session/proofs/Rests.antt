@@ -1,5 +1,5 @@
 -- Between two requests the client holds no unit; so what each request can be answered is what the table says.
-use Rattle.std.proofs.Common.{◌≡◌, ℕ, suc, arith, ◌<◌, ◌≤◌, Bool, true, false, not, ◌||◌, if◌then◌else◌, List, [], ◌∷◌, length, nat_eq, get_or, slice_get, Option, Some, None, Result, Ok, Err, IfOk, refl, sym, ap, subst, ◌∙◌, true≢false}
+use Rattle.std.proofs.Common.{◌≡◌, ℕ, suc, arith, ◌<◌, ◌≤◌, Bool, true, false, ◌||◌, if◌then◌else◌, List, [], ◌∷◌, length, nat_eq, get_or, slice_get, Option, Some, None, Result, Ok, Err, IfOk, refl, sym, ap, subst, ◌∙◌, true≢false}
 use Rattle.std.proofs.lemmas.Bool.Decides.{nat_tests}
 use Rattle.std.specs.List.{All, list_any}
 use Rattle.std.proofs.lemmas.List.{length-replicate}
@@ -14,20 +14,17 @@ use Rattle.crawl_core.specs.declared.event.Event.TheVariants as event
 use Rattle.crawl_core.specs.declared.reply.Reply.{Reply}
 use Rattle.crawl_core.specs.declared.reply.Reply.TheVariants as told
 use Rattle.crawl_core.specs.declared.reply.Refusal.TheVariants as why
-use Rattle.crawl_core.specs.declared.word.Word.{Word}
 use Rattle.crawl_core.specs.Fetching.{in_fetch}
-use Rattle.crawl_core.specs.Flags.{same_flag}
-use Rattle.crawl_core.specs.GateSide.{GateSide, GateTurn, back, enter, enter_with, gave_back, grant, holds, let_go, look, remembers, same_word, shown_word, turned_away, units_out}
-use Rattle.crawl_core.specs.Messages.{Message, has_url}
+use Rattle.crawl_core.specs.GateSide.{GateSide, GateTurn, back, enter, gave_back, grant, holds, let_go, look, remembers, shown_word, turned_away, units_out}
 use Rattle.crawl_core.specs.Handing.{can_hand_over}
 use Rattle.crawl_core.specs.History.{holds_after}
 use Rattle.crawl_core.specs.State.{State, unfinished_in}
-use Rattle.crawl_core.specs.Step.{Turn, turn, admit_to, counted, done_with, put, refused, take_from, take_oldest, with_subqueue}
-use Rattle.crawl_core.specs.Subqueue.{Subqueue, after_finishing, empty_subqueue, oldest}
+use Rattle.crawl_core.specs.Step.{Turn, turn, admit_to, done_with, put, refused, take_from}
+use Rattle.crawl_core.specs.Subqueue.{Subqueue, empty_subqueue}
 use Rattle.crawl_core.proofs.GateHistory as gate_history
 use Rattle.crawl_core.proofs.GateHistory.{holds_less}
 use Rattle.crawl_core.proofs.Holders.{Rising}
-use Rattle.crawl_core.proofs.RunParts.{eqb_same, start_sound}
+use Rattle.crawl_core.proofs.RunParts.{start_sound}
 use Rattle.crawl_core.proofs.Sets.{list_any-insert_key, lookup-insert_entry}
 use Rattle.crawl_core.proofs.Sound.{Sound, gate_effect}
 use Rattle.crawl_session.specs.declared.request.Request.{Request}
@@ -36,13 +33,12 @@ use Rattle.crawl_session.specs.declared.request.RequestError.{RequestError}
 use Rattle.crawl_session.specs.Clients.{Asked, asked}
 use Rattle.crawl_session.specs.declared.deferrals.Deferred.{Deferred}
 use Rattle.crawl_session.specs.Exchanges as exchanges
-use Rattle.crawl_session.specs.Exchanges.{Exchange, Outcome, by_machine, client, after, deferring, deferring_taken, ends, admitting, entering, exchange, finishing, handing, is_count, is_due, is_entered, is_seen, is_empty, offering, put_back, replies, retaking, seeds_ended, stats_answer, taking, taking_again, taking_next, told_again}
+use Rattle.crawl_session.specs.Exchanges.{Exchange, Outcome, by_machine, client, after, deferring, deferring_taken, ends, admitting, entering, exchange, finishing, handing, is_count, is_due, is_entered, is_seen, is_empty, offering, put_back, replies, retaking, seeds_ended, stats_answer, taking, taking_again, taking_next}
 use Rattle.crawl_session.specs.Frontiers.{Frontier, deferrals_at, start, with_deferrals}
 use Rattle.crawl_session.specs.Parts.{request_for}
 use Rattle.crawl_session.specs.Sessions.{answered}
 use Rattle.crawl_session.specs.Settings.{Settings}
-use Rattle.crawl_session.specs.Stats.{stats_at, stats_for}
-use Rattle.crawl_session.specs.declared.stats.Stats as counts
+use Rattle.crawl_session.specs.Stats.{stats_for}
 use Rattle.crawl_session.specs.Tables.{can_be_told, CanBeAnswered}
 use Rattle.crawl_session.proofs.Choices.{either_way}
 use Rattle.crawl_session.proofs.Assigned.{IsAssigned, as_asked, assigns_for, assigned_below}
@@ -58,9 +54,7 @@ pub record AtRest (workers : ℕ) (state : State) : Type 0 where
 
 -- an event after which the client holds no unit
 rests_after : (workers : ℕ) (state : State) (e : Event) → Sound state → length state.subqueues ≡ workers → holds (turn state e).state.gate client ≡ false → AtRest workers (turn state e).state
-rests_after workers state e sound shape nobody =
-    let effect = gate_effect state sound e in
-    record { sound = effect.sound; nobody = nobody; shape = effect.as_many ∙ shape }
+rests_after workers state e sound shape nobody = grind (arith, gate_effect)
 
 -- what comes of a request: the client holds nothing afterwards, and the answer is one of the table
 record Fits (workers : ℕ) (request : Request) (x : Exchange) : Type 0 where
@@ -85,22 +79,12 @@ record Leaves (holders : List ℕ) (test : Reply → Bool) (done : Turn) : Type 
 taken_or_empty : ℕ → Reply → Bool
 taken_or_empty named reply = is_empty reply || can_be_told (Next named) reply
 
-oldest_leaves : (state : State) (named : ℕ) (queue : Subqueue) (message : Option Message) → Leaves state.gate.holders (taken_or_empty named) (take_oldest state named queue message)
-unfolding taken_or_empty
-oldest_leaves state named queue None = record { same = refl; passes = refl }
-oldest_leaves state named queue (Some message) = record { same = refl; passes = refl }
-
 take_leaves : (state : State) (named : ℕ) (queue : Option Subqueue) → Leaves state.gate.holders (taken_or_empty named) (take_from state named queue)
 unfolding taken_or_empty
-take_leaves state named None = record { same = refl; passes = refl }
-take_leaves state named (Some queue) =
-    either_way (Leaves state.gate.holders (taken_or_empty named)) queue.busy (refused state why.Busy) (take_oldest state named queue (oldest queue)) (record { same = refl; passes = refl })
-    (oldest_leaves state named queue (oldest queue))
+take_leaves state named queue = grind arith
 
 done_leaves : (state : State) (named : ℕ) (queue : Option Subqueue) → Leaves state.gate.holders (can_be_told (Done named)) (done_with state named queue)
-done_leaves state named None = record { same = refl; passes = refl }
-done_leaves state named (Some queue) =
-    either_way (Leaves state.gate.holders (can_be_told (Done named))) queue.busy (counted (with_subqueue state named (after_finishing queue))) (refused state why.Nothing) (record { same = refl; passes = refl }) (record { same = refl; passes = refl })
+done_leaves state named queue = grind arith
 
 -- the same of a gate's turn
 record Keeps (holders : List ℕ) (test : Reply → Bool) (done : GateTurn) : Type 0 where
@@ -110,12 +94,8 @@ record Keeps (holders : List ℕ) (test : Reply → Bool) (done : GateTurn) : Ty
 close_keeps : (named : ℕ) (gate : GateSide) (messages : ℕ) → Keeps gate.holders (can_be_told (Next named)) (if gate.closed || nat_eq (units_out gate messages) 0 then record { reply = told.Closed; gate = record gate { closed = true } } else record { reply = told.Pending (units_out gate messages); gate = gate })
 close_keeps named gate messages = either_way (Keeps gate.holders (can_be_told (Next named))) (gate.closed || nat_eq (units_out gate messages) 0) _ _ (record { same = refl; passes = refl }) (record { same = refl; passes = refl })
 
-end_keeps : (gate : GateSide) (messages : ℕ) → Keeps gate.holders (can_be_told EndSeeds) (if gate.opening then gave_back (record gate { opening = false }) messages else turned_away gate why.Nothing)
-end_keeps gate messages = either_way (Keeps gate.holders (can_be_told EndSeeds)) gate.opening _ _ (record { same = refl; passes = refl }) (record { same = refl; passes = refl })
-
 or_other : (a b : Bool) → (a || b) ≡ true → a ≡ false → b ≡ true
-or_other true b passes none = absurd (true≢false none)
-or_other false b passes none = passes
+or_other a b passes none = grind arith
 
 next_fits : (workers named : ℕ) (state : State) → AtRest workers state → Fits workers (Next named) (taking state named)
 unfolding taken_or_empty
@@ -131,13 +111,6 @@ next_fits workers named state rest =
 
 -- ---- an offer
 
-same_word_same : (word : Word) → same_word word word ≡ true
-same_word_same word = rw (eqb_same word.count) (flags word.closed)
-  where
-    flags : (b : Bool) → same_flag b b ≡ true
-    flags true = refl
-    flags false = refl
-
 -- the client, which holds nothing and remembers this very word, is told that the gate is closed or full, or enters
 abbrev pub tried : GateSide → ℕ → GateTurn
 tried gate messages =
@@ -146,10 +119,7 @@ tried gate messages =
     else grant gate messages client
 
 pub entry_is : (gate : GateSide) (messages : ℕ) → holds gate client ≡ false → remembers gate client ≡ Some (shown_word gate messages) → enter gate messages client ≡ tried gate messages
-entry_is gate messages nobody word =
-    ap (λ b. if b then turned_away gate why.Busy else enter_with gate messages client (remembers gate client)) nobody
-    ∙ ap (enter_with gate messages client) word
-    ∙ ap (λ b. if not b then record { reply = told.Lost; gate = gate } else tried gate messages) (same_word_same (shown_word gate messages))
+entry_is gate messages nobody word = grind arith
 
 pub record Entry (url : List ℕ) (named : ℕ) (done : GateTurn) : Type 0 where
   pub refused : is_entered done.reply ≡ false → (can_be_told (Offer url named) done.reply ≡ true) × (holds done.gate client ≡ false)
@@ -172,18 +142,10 @@ record Admission (state : State) (url : List ℕ) (named : ℕ) (done : Turn) : 
   other : is_seen done.reply ≡ false → (can_be_told (Offer url named) done.reply ≡ true) × (holds done.state.gate client ≡ false)
 
 admits : (state : State) (url : List ℕ) (named : ℕ) (queue : Subqueue) → Sound state → holds state.gate client ≡ true → Admission state url named (admit_to state client url named (Some queue))
-admits state url named queue sound held =
-    let seen : Turn = record { reply = told.Seen; state = state } in
-    let inner : Admission state url named (if has_url queue.accepted url then seen else put state client url named queue) =
-    either_way (Admission state url named) (has_url queue.accepted url) seen (put state client url named queue)
-    (record { seen = λ _. refl; other = λ e. absurd (true≢false e) })
-    (record { seen = λ e. absurd (true≢false (sym e)); other = λ _. (refl, holds_less state.gate.holders client client sound.holders) }) in
-    subst (λ b. Admission state url named (if not b then refused state why.Nothing else (if has_url queue.accepted url then seen else put state client url named queue))) (sym held) inner
+admits state url named queue sound held = grind (arith, either_way, holds_less)
 
 back_leaves : (gate : GateSide) (messages : ℕ) → Rising 0 gate.holders → holds gate client ≡ true → holds (back gate messages client).gate client ≡ false
-back_leaves gate messages rising held =
-    ap (λ b. holds (if b then gave_back (let_go gate client) messages else turned_away gate why.Nothing).gate client) held
-    ∙ holds_less gate.holders client client rising
+back_leaves gate messages rising held = grind (arith, holds_less)
 
 admitting_fits : (workers : ℕ) (url : List ℕ) (named : ℕ) (state : State) → named < workers → Sound state → length state.subqueues ≡ workers → holds state.gate client ≡ true → Fits workers (Offer url named) (admitting state url named)
 admitting_fits workers url named state below sound shape held =
@@ -270,14 +232,8 @@ next_suits workers named frontier waiting None rest =
     by_waiting [] = record { rests = rest; told = refl }
     by_waiting (first ∷ more) = record { rests = rest; told = refl }
 
-again_told : (named : ℕ) (found : Option (Option (List ℕ))) → can_be_told (Again named) (told_again found) ≡ true
-again_told named None = refl
-again_told named (Some None) = refl
-again_told named (Some (Some url)) = refl
-
 again_suits : (workers named : ℕ) (frontier : Frontier) (fetched : Option Deferred) → AtRest workers frontier.machine → Suits workers (Again named) (taking_again frontier named fetched)
-again_suits workers named frontier None rest = record { rests = rest; told = again_told named (in_fetch frontier.machine named) }
-again_suits workers named frontier (Some url) rest = suits_still workers (Again named) frontier (told.Taken url.url) rest refl
+again_suits workers named frontier fetched rest = grind arith
 
 done_fits : (workers named : ℕ) (state : State) → AtRest workers state → Fits workers (Done named) (done_with_it state named)
 done_fits workers named state rest =
@@ -313,17 +269,10 @@ deferring_suits workers named frontier None rest = taken_suits workers named fro
 deferring_suits workers named frontier (Some url) rest = record { rests = rest; told = refl }
 
 seeds_fit : (workers : ℕ) (state : State) → AtRest workers state → Fits workers EndSeeds (seeds_ended state)
-seeds_fit workers state rest =
-    let keeps = end_keeps state.gate (unfinished_in state) in
-    record { rests = rests_after workers state event.EndSeeds rest.sound rest.shape (ap has_client keeps.same ∙ rest.nobody); told = keeps.passes }
+seeds_fit workers state rest = grind arith
 
 stats_told : (frontier : Frontier) (queue : Option ℕ) → CanBeAnswered (Ok (Stats queue)) (stats_answer (stats_for frontier queue))
-stats_told frontier None = tt
-stats_told frontier (Some queue) = by_queue (stats_at frontier queue)
-  where
-    by_queue : (found : Option counts.Stats) → CanBeAnswered (Ok (Stats (Some queue))) (stats_answer found)
-    by_queue None = refl
-    by_queue (Some stats) = tt
+stats_told frontier queue = grind arith
 
 request_suits : (workers : ℕ) (frontier : Frontier) (request : Request) → IfOk (as_asked request) (IsAssigned workers) → 1 ≤ workers → AtRest workers frontier.machine → Suits workers request (exchange frontier request)
 request_suits workers frontier (Offer url named) assigned some rest =

@@ -1,17 +1,17 @@
 -- How often a URL is taken, done and put back, as a client is told.
-use Rattle.std.proofs.Common.{◌≡◌, ℕ, zero, suc, ◌+◌, ◌≤◌, Bool, true, false, cond, ◌||◌, if◌then◌else◌, is_some, List, [], ◌∷◌, ◌++◌, slice_get, Option, Some, None, Result, Ok, Err, refl, sym, ap, subst, ◌∙◌, arith, true≢false}
+use Rattle.std.proofs.lemmas.Grind.{common_steps}
+use Rattle.std.proofs.Common.{◌≡◌, ℕ, zero, suc, ◌+◌, ◌≤◌, Bool, true, false, cond, ◌||◌, if◌then◌else◌, is_some, List, [], ◌∷◌, ◌++◌, slice_get, Option, Some, None, Result, refl, sym, ap, subst, ◌∙◌, arith}
 use Rattle.std.specs.List.{All, cons_option}
 use Rattle.std.specs.Option.{IfSome, option_or, option_to_list}
 use Rattle.std.specs.Str.{bytes_eq}
 use Rattle.std.proofs.lemmas.List.Sums.{sum_by-append, sum_by-cons}
-use Rattle.std.proofs.lemmas.List.Elements.{All-append, All-cons, All-head, All-nil, All-tail}
+use Rattle.std.proofs.lemmas.List.Elements.{All-append, All-head, All-nil, All-tail}
 use Rattle.hash_index.proofs.Listed.{same_text}
 use Rattle.crawl_core.proofs.RunParts.{start_sound}
 use Rattle.crawl_core.proofs.Sound.{Sound}
 use Rattle.crawl_keys.specs.Assignment.{subqueue_of}
 use Rattle.crawl_session.specs.declared.answer.Answer.{Answer}
 use Rattle.crawl_session.specs.declared.request.Request.{Request}
-use Rattle.crawl_session.specs.declared.request.Request.TheVariants.{Offer, Next, Again, Later, Done, EndSeeds, Stats}
 use Rattle.crawl_session.specs.declared.request.RequestError.{RequestError}
 use Rattle.crawl_session.specs.Clients.{AgainIfPutBack, Asked, accepted_of, accepts, asked, busy_after, busy_before, busy_from, busy_in, done_urls, finishes, joined_from, joined_of, joins, put_back_urls, puts_back, taken_of, takes, times}
 use Rattle.crawl_session.specs.Frontiers.{Frontier, start}
@@ -33,11 +33,7 @@ abbrev pub times_in : List ℕ → Option (List ℕ) → ℕ
 times_in url o = times url (option_to_list o)
 
 times_on : (url : List ℕ) (o : Option (List ℕ)) (urls : List (List ℕ)) → times url (cons_option o urls) ≡ times_in url o + times url urls
-times_on url None urls = omega arith
-times_on url (Some u) urls =
-    let all = sum_by-cons (one url) u urls in
-    let alone = sum_by-cons (one url) u [] in
-    omega (arith, all, alone)
+times_on url o urls = grind (arith, common_steps, sum_by-cons)
 
 pub times_append : (url : List ℕ) (front back : List (List ℕ)) → times url (front ++ back) ≡ times url front + times url back
 times_append url front back = sum_by-append (one url) front back
@@ -71,22 +67,9 @@ one_place url (u ∷ urls) once = by_first (bytes_eq u url) refl (one_place url 
 
 -- ---- a URL joins when it is accepted, and when it is put back
 
-plus_none : (n : ℕ) → n ≡ n + 0
-plus_none n = omega arith
-
 join_times : (url : List ℕ) (queue : ℕ) (r : Result Request RequestError) (answer : Answer) (busy : Option (List ℕ))
     → times_in url (joins queue busy (record { request = r; answer = answer })) ≡ times_in url (accepts queue r answer) + times_in url (if puts_back queue r answer then busy else None)
-join_times url queue (Ok (Later named)) answer busy = by_put (puts_back queue (Ok (Later named)) answer)
-  where
-    by_put : (b : Bool) → times_in url (if b then busy else None) ≡ 0 + times_in url (if b then busy else None)
-    by_put b = omega arith
-join_times url queue (Ok (Offer u named)) answer busy = plus_none (times_in url (accepts queue (Ok (Offer u named)) answer))
-join_times url queue (Ok (Next named)) answer busy = omega arith
-join_times url queue (Ok (Again named)) answer busy = omega arith
-join_times url queue (Ok (Done named)) answer busy = omega arith
-join_times url queue (Ok EndSeeds) answer busy = omega arith
-join_times url queue (Ok (Stats named)) answer busy = omega arith
-join_times url queue (Err why) answer busy = omega arith
+join_times url queue r answer busy = grind arith
 
 abbrev was_put_back : ℕ → Asked → Bool
 was_put_back queue x = puts_back queue x.request x.answer
@@ -112,42 +95,9 @@ abbrev Line : List ℕ → ℕ → Result Request RequestError → Answer → Op
 Line url queue r answer busy next =
     times_in url (takes queue r answer) + times_in url busy ≡ (times_in url (if finishes queue r answer then busy else None) + times_in url (if puts_back queue r answer then busy else None)) + times_in url next
 
-begins : (url : List ℕ) (t busy next : Option (List ℕ)) → next ≡ option_or t busy → (is_some t ≡ true → busy ≡ None) → times_in url t + times_in url busy ≡ (0 + 0) + times_in url next
-begins url None busy next is free =
-    let same : times_in url next ≡ times_in url busy = ap (times_in url) is in
-    omega (arith, same)
-begins url (Some u) busy next is free =
-    let none : times_in url busy ≡ 0 = ap (times_in url) (free refl) in
-    let same : times_in url next ≡ times_in url (Some u) = ap (times_in url) is in
-    omega (arith, none, same)
-
-ends_by : (url : List ℕ) (e : Bool) (busy next : Option (List ℕ)) → next ≡ (if e then None else busy) → times_in url busy ≡ times_in url (if e then busy else None) + times_in url next
-ends_by url true busy next is =
-    let none : times_in url next ≡ 0 = ap (times_in url) is in
-    omega (arith, none)
-ends_by url false busy next is =
-    let same : times_in url next ≡ times_in url busy = ap (times_in url) is in
-    omega (arith, same)
-
-or_false : (b : Bool) → (b || false) ≡ b
-or_false true = refl
-or_false false = refl
-
 line_times : (url : List ℕ) (queue : ℕ) (r : Result Request RequestError) (answer : Answer) (busy next : Option (List ℕ)) → next ≡ (if finishes queue r answer || puts_back queue r answer then None else option_or (takes queue r answer) busy)
     → (is_some (takes queue r answer) ≡ true → busy ≡ None) → Line url queue r answer busy next
-line_times url queue (Ok (Next named)) answer busy next is free = begins url (takes queue (Ok (Next named)) answer) busy next is free
-line_times url queue (Ok (Done named)) answer busy next is free =
-    let e = finishes queue (Ok (Done named)) answer in
-    let ended = ends_by url e busy next (is ∙ ap (λ b. if b then None else busy) (or_false e)) in
-    omega (arith, ended)
-line_times url queue (Ok (Later named)) answer busy next is free =
-    let ended = ends_by url (puts_back queue (Ok (Later named)) answer) busy next is in
-    omega (arith, ended)
-line_times url queue (Ok (Offer u named)) answer busy next is free = begins url None busy next is (λ e. absurd (true≢false (sym e)))
-line_times url queue (Ok (Again named)) answer busy next is free = begins url None busy next is (λ e. absurd (true≢false (sym e)))
-line_times url queue (Ok (Stats named)) answer busy next is free = begins url None busy next is (λ e. absurd (true≢false (sym e)))
-line_times url queue (Ok EndSeeds) answer busy next is free = begins url None busy next is (λ e. absurd (true≢false (sym e)))
-line_times url queue (Err why) answer busy next is free = begins url None busy next is (λ e. absurd (true≢false (sym e)))
+line_times url queue r answer busy next is free = grind arith
 
 taken_times : (url : List ℕ) (settings : Settings) (state : Frontier) (lines : List (List ℕ)) (queue : ℕ) (busy : Option (List ℕ)) → Sound state.machine → Settled state → busy ≡ busy_of state queue
     → times url (taken_of queue (asked settings state lines)) + times_in url busy
@@ -182,30 +132,23 @@ busy_is settings state (line ∷ more) queue busy sound settled is =
 -- ---- what holds of each URL that is accepted holds of each that is taken
 
 some_all : (P : List ℕ → Type 0) (o : Option (List ℕ)) → IfSome o P → All P (option_to_list o)
-some_all P None holds = All-nil P
-some_all P (Some url) holds = All-cons P url [] holds (All-nil P)
+some_all P o holds = grind arith
 
 all_behind : (P : List ℕ → Type 0) (o : Option (List ℕ)) (urls : List (List ℕ)) → All P (option_to_list o ++ urls) → IfSome o P × All P urls
 all_behind P None urls all = (tt, all)
 all_behind P (Some url) urls all = (All-head P url urls all, All-tail P url urls all)
 
 joins_hold : (P : List ℕ → Type 0) (b : Bool) (busy accepted : Option (List ℕ)) → IfSome busy P → IfSome accepted P → IfSome (if b then busy else accepted) P
-joins_hold P true busy accepted first second = first
-joins_hold P false busy accepted first second = second
+joins_hold P b busy accepted first second = grind arith
 
 busy_holds : (P : List ℕ → Type 0) (b : Bool) (taken busy : Option (List ℕ)) → IfSome taken P → IfSome busy P → IfSome (if b then None else option_or taken busy) P
-busy_holds P true taken busy first second = tt
-busy_holds P false None busy first second = second
-busy_holds P false (Some url) busy first second = first
+busy_holds P b taken busy first second = grind arith
 
 got : (P : List ℕ → Type 0) (o : Option (List ℕ)) (urls : List (List ℕ)) → IfSome o P → ((k : ℕ) (url : List ℕ) → slice_get urls k ≡ Some url → P url) → (k : ℕ) (url : List ℕ) → slice_get (cons_option o urls) k ≡ Some url → P url
-got P None urls first rest k url at = rest k url at
-got P (Some u) urls first rest zero url at = subst P (let e : u ≡ url = cc in e) first
-got P (Some u) urls first rest (suc k) url at = rest k url at
+got P o urls first rest k url at = grind arith
 
 if_some : (P : List ℕ → Type 0) (o : Option (List ℕ)) → ((url : List ℕ) → o ≡ Some url → P url) → IfSome o P
-if_some P None each = tt
-if_some P (Some url) each = each url refl
+if_some P o each = grind arith
 
 taken_where : (P : List ℕ → Type 0) (settings : Settings) (queue : ℕ) → ((state : Frontier) (line url : List ℕ) → accepts queue (request_for settings line) (line_exchange settings state line).answer ≡ Some url → P url)
     → (state : Frontier) (lines : List (List ℕ)) → Sound state.machine → Settled state → All P (line_of state queue) → IfSome (busy_of state queue) P

@@ -1,12 +1,11 @@
 -- A busy queue can put its URL back.
-use Rattle.std.proofs.Common.{◌≡◌, ℕ, suc, ◌≤◌, Bool, true, false, not, ◌&&◌, if◌then◌else◌, is_some, List, slice_get, Option, Some, None, Ok, refl, sym, ap, ◌∙◌, arith, ne_eqb}
+use Rattle.std.proofs.Common.{◌≡◌, ℕ, suc, ◌≤◌, Bool, true, false, not, ◌&&◌, if◌then◌else◌, is_some, List, Option, Some, None, Ok, refl, sym, ap, ◌∙◌, arith}
 use Rattle.std.specs.Option.{option_map}
 use Rattle.crawl_core.specs.declared.reply.Reply.TheVariants as told
 use Rattle.crawl_core.specs.declared.reply.Refusal.TheVariants as why
 use Rattle.crawl_core.specs.Fetching.{fetch_of}
 use Rattle.crawl_core.specs.Flags.{one_if}
-use Rattle.crawl_core.specs.GateSide.{holds}
-use Rattle.crawl_core.specs.Handing.{can_hand_over, has_room, is_fetching, lets_in}
+use Rattle.crawl_core.specs.Handing.{can_hand_over}
 use Rattle.crawl_core.specs.Invariants.{HasRoom}
 use Rattle.crawl_core.specs.State.{count_of}
 use Rattle.crawl_core.specs.Subqueue.{Subqueue}
@@ -49,15 +48,7 @@ stays_open state named found sound at busy = by_gate state.machine.gate.closed r
         absurd (omega (arith, left, one, inv.begun, inv.within))
 
 can_defer : (state : Frontier) (named : ℕ) (url : List ℕ) (found : Subqueue) → Sound state.machine → Owned state → count_of state.machine ≤ state.machine.gate.max → queue_at state named ≡ Some found → fetch_of found ≡ Some url → can_hand_over state.machine named (suc state.senders) ≡ true
-can_defer state named url found sound owned within at fetched =
-    let machine = state.machine in
-    let s = suc state.senders in
-    let busy = fetches_busy found url fetched in
-    let free : holds machine.gate s ≡ false = owned.fresh state.senders (omega arith) in
-    all_set (is_fetching (slice_get machine.subqueues named)) (lets_in machine.gate s) (has_room machine)
-    (ap is_fetching at ∙ busy)
-    (both_unset machine.gate.closed (holds machine.gate s) (stays_open state named found sound at busy) free)
-    (ap not (ne_eqb (count_of machine) (suc machine.gate.max) (λ (full : count_of machine ≡ suc machine.gate.max). omega (arith, within, full))))
+can_defer state named url found sound owned within at fetched = grind (arith, fetches_busy, all_set, both_unset, stays_open)
 
 -- ---- what `later` is answered
 
@@ -73,12 +64,10 @@ fetch_back state named found at sound owned within (Some url) is =
     ∙ eqb_same named
 
 taken_back : (state : Frontier) (named : ℕ) (queue : Option Subqueue) → queue_at state named ≡ queue → Sound state.machine → Owned state → count_of state.machine ≤ state.machine.gate.max → PutsBack named (deferring_taken state named (option_map fetch_of queue)) (is_some (busy_at queue None))
-taken_back state named None at sound owned within = refl
-taken_back state named (Some found) at sound owned within = fetch_back state named found at sound owned within (fetch_of found) refl
+taken_back state named queue at sound owned within = grind (arith, fetch_back)
 
 deferring_back : (state : Frontier) (named : ℕ) (fetched : Option Deferred) → Sound state.machine → Owned state → count_of state.machine ≤ state.machine.gate.max → PutsBack named (deferring state named fetched) (is_some (busy_at (queue_at state named) fetched))
-deferring_back state named None sound owned within = taken_back state named (queue_at state named) refl sound owned within
-deferring_back state named (Some d) sound owned within = eqb_same named
+deferring_back state named fetched sound owned within = grind (arith, taken_back, queue_at, eqb_same)
 
 pub later_if_busy : (settings : Settings) (max : ℕ) (front : List (List ℕ)) (line : List ℕ) (queue : ℕ) → HasRoom max → request_for settings line ≡ Ok (Later queue)
     → puts_back queue (Ok (Later queue)) (line_exchange settings (state_after settings (start settings.workers max) front) line).answer ≡ is_some (busy_in queue (asked settings (start settings.workers max) front))

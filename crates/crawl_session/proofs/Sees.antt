@@ -94,43 +94,19 @@ abbrev AcceptsSo : ℕ → Result Request RequestError → Outcome → Type 0
 AcceptsSo queue r x = accepted_urls queue x.history ≡ cons_option (accepts queue r x.answer) []
 
 next_accepts : (queue named : ℕ) (frontier : Frontier) (waiting : List Deferred) (fetched : Option Deferred) → AcceptsSo queue (Ok (Next named)) (taking_next frontier named waiting fetched)
-next_accepts queue named frontier waiting (Some url) = refl
-next_accepts queue named frontier waiting None =
-    either_way (AcceptsSo queue (Ok (Next named))) (is_due (slice_get frontier.machine.subqueues named) waiting) (retaking frontier named waiting) (by_machine frontier (taking frontier.machine named))
-    (by_waiting waiting) (next_agrees queue named frontier.machine).accepted
-  where
-    by_waiting : (waiting : List Deferred) → AcceptsSo queue (Ok (Next named)) (retaking frontier named waiting)
-    by_waiting [] = refl
-    by_waiting (first ∷ more) = refl
+next_accepts queue named frontier waiting fetched = grind arith
 
 again_accepts : (queue named : ℕ) (frontier : Frontier) (fetched : Option Deferred) → AcceptsSo queue (Ok (Again named)) (taking_again frontier named fetched)
-again_accepts queue named frontier None = refl
-again_accepts queue named frontier (Some url) = refl
+again_accepts queue named frontier fetched = grind arith
 
 later_accepts : (queue named : ℕ) (frontier : Frontier) (fetched : Option Deferred) (found : Option (Option (List ℕ))) → in_fetch frontier.machine named ≡ found → AcceptsSo queue (Ok (Later named)) (deferring frontier named fetched)
-later_accepts queue named frontier (Some url) found is = refl
-later_accepts queue named frontier None found is = subst (λ o. AcceptsSo queue (Ok (Later named)) (deferring_taken frontier named o)) (sym is) (by_found found)
-  where
-    by_found : (o : Option (Option (List ℕ))) → AcceptsSo queue (Ok (Later named)) (deferring_taken frontier named o)
-    by_found None = refl
-    by_found (Some None) = refl
-    by_found (Some (Some url)) =
-        let sender = suc frontier.senders in
-        either_way (AcceptsSo queue (Ok (Later named))) (can_hand_over frontier.machine named sender) (by_machine (record (put_back frontier named url sender) { senders = sender }) (handing frontier.machine named sender)) (replies (told.Refused why.Nothing) frontier) refl refl
+later_accepts queue named frontier fetched found is = grind arith
 
 done_accepts : (queue named : ℕ) (frontier : Frontier) (fetched : Option Deferred) → AcceptsSo queue (Ok (Done named)) (finishing frontier named fetched)
-done_accepts queue named frontier None = (done_agrees queue named (turn frontier.machine (event.Done named)).reply (turn frontier.machine (event.Done named)).state).accepted
-done_accepts queue named frontier (Some url) = refl
+done_accepts queue named frontier fetched = grind arith
 
 answered_accepts : (queue : ℕ) (frontier : Frontier) (r : Result Request RequestError) → AcceptsSo queue r (answered frontier r)
-answered_accepts queue frontier (Err why) = refl
-answered_accepts queue frontier (Ok (Offer url named)) = (offer_agrees queue named url frontier.machine).accepted
-answered_accepts queue frontier (Ok (Next named)) = next_accepts queue named frontier (deferrals_at frontier named).waiting (deferrals_at frontier named).fetched
-answered_accepts queue frontier (Ok (Again named)) = again_accepts queue named frontier (deferrals_at frontier named).fetched
-answered_accepts queue frontier (Ok (Later named)) = later_accepts queue named frontier (deferrals_at frontier named).fetched (in_fetch frontier.machine named) refl
-answered_accepts queue frontier (Ok (Done named)) = done_accepts queue named frontier (deferrals_at frontier named).fetched
-answered_accepts queue frontier (Ok EndSeeds) = refl
-answered_accepts queue frontier (Ok (Stats named)) = refl
+answered_accepts queue frontier r = grind (arith, offer_agrees, next_accepts, again_accepts, later_accepts, done_accepts)
 
 -- ---- what was taken and done, where nothing is put back
 
@@ -145,9 +121,8 @@ record AgreesOn (r : Result Request RequestError) (x : Outcome) : Type 0 where
 agrees_by_machine : (r : Result Request RequestError) (frontier : Frontier) (x : Exchange) → NoneDeferred frontier → ((queue : ℕ) → Agree queue r x) → AgreesOn r (by_machine frontier x)
 agrees_by_machine r frontier x none agree = record { agree = agree; none = none }
 
-not_due : (queue : Option Subqueue) → false ≡ is_due queue []
-not_due None = refl
-not_due (Some queue) = refl
+pub not_due : (queue : Option Subqueue) → false ≡ is_due queue []
+not_due queue = grind arith
 
 later_agrees : (frontier : Frontier) (named : ℕ) → NoneDeferred frontier → (found : Option (Option (List ℕ))) → in_fetch frontier.machine named ≡ found → puts_back named (Ok (Later named)) (deferring frontier named None).answer ≡ false → AgreesOn (Ok (Later named)) (deferring frontier named None)
 later_agrees frontier named none found is quiet =

@@ -53,9 +53,6 @@ gives_up_at_once old new same state shown = record {
 pub goes_back_at_once : (old new : Kept) → new ≡ old → GoesBack old new
 goes_back_at_once old new same state shown = inl (subst (λ (kept : Kept). Shows kept state) (sym same) shown)
 
-pub goes_back_entered : {X E : Type 0} (old : Kept) (reply : Reply) (mid : Kept) (result : Result X E) (new : Kept) → is_entered reply ≡ true → Makes old (Enter client) reply mid → OnErr result (Leads mid (Back client) new) → OnErr result (GoesBack old new)
-goes_back_entered old reply mid result new entered makes goes = grind arith
-
 -- an entry that is granted
 record Granted (gate : GateSide) (messages : ℕ) (done : GateTurn) : Type 0 where
   same : is_entered done.reply ≡ true → done.gate ≡ (grant gate messages client).gate
@@ -120,5 +117,3 @@ looked_back old reply mid new makes more state shown = by_end state new (more (l
 
 pub gives_up_looking : {X E : Type 0} (old : Kept) (reply : Reply) (mid : Kept) (result : Result X E) (new : Kept) → Makes old (Look client) reply mid → OnErr result (GoesBack mid new) → OnErr result (GivesUp old new)
 gives_up_looking old reply mid result new makes more = grind (arith, looked_back)
-
--- ---- a line

@@ -1,5 +1,5 @@
 -- No answer depends on the words that senders remember from before.
-use Rattle.std.proofs.Common.{◌≡◌, ℕ, zero, suc, length, unwrap_or, Bool, true, false, cond, if◌then◌else◌, List, [], ◌∷◌, slice_get, Option, Some, None, Result, Ok, Err, refl, sym, ap, ◌∙◌, arith}
+use Rattle.std.proofs.Common.{◌≡◌, ℕ, suc, Bool, true, cond, if◌then◌else◌, List, [], ◌∷◌, slice_get, Option, Some, None, Result, Ok, Err, refl, sym, ap, ◌∙◌, arith}
 use Rattle.std.proofs.lemmas.Bool.Decides.{nat_tests}
 use Rattle.std.specs.BTreeMap.{is_at, insert_entry}
 use Rattle.std.specs.Map.{lookup}
@@ -32,8 +32,7 @@ use Rattle.crawl_session.specs.Serving as serving
 use Rattle.crawl_session.specs.Steps.{with_words}
 use Rattle.crawl_session.specs.Sessions.{answered, answers, line_exchange}
 use Rattle.crawl_session.specs.Settings.{Settings}
-use Rattle.crawl_session.specs.Stats.{no_stats, plus, stats_at, stats_below, stats_for}
-use Rattle.crawl_session.specs.declared.stats.Stats as counts
+use Rattle.crawl_session.specs.Stats.{stats_for}
 
 abbrev pub Words : Type 0
 Words = List (ℕ × Word)
@@ -62,8 +61,7 @@ record AlikeGate (x y : GateTurn) : Type 0 where
   gate : x.gate ≡ record y.gate { remembered = words }
 
 alike_if : (b : Bool) (x y v w : Exchange) → Alike x v → Alike y w → Alike (if b then x else y) (if b then v else w)
-alike_if true x y v w first second = first
-alike_if false x y v w first second = second
+alike_if b x y v w first second = grind arith
 
 turn_if : (b : Bool) (x y v w : Turn) → AlikeTurn x v → AlikeTurn y w → AlikeTurn (if b then x else y) (if b then v else w)
 turn_if b x y v w first second = grind arith
@@ -210,8 +208,7 @@ machine_alike : (frontier : Frontier) (words : Words) (x y : Exchange) → Alike
 machine_alike frontier words x y alike = record { answer = alike.answer; words = alike.words; state = ap (λ (s : State). record frontier { machine = s }) alike.state }
 
 outcome_if : (b : Bool) (x y v w : Outcome) → AlikeOutcome x v → AlikeOutcome y w → AlikeOutcome (if b then x else y) (if b then v else w)
-outcome_if true x y v w first second = first
-outcome_if false x y v w first second = second
+outcome_if b x y v w first second = grind arith
 
 still_alike : (reply : Reply) (frontier : Frontier) (words : Words) → AlikeOutcome (replies reply (with_words_of frontier words)) (replies reply frontier)
 still_alike reply frontier words = record { answer = refl; words = words; state = refl }
@@ -238,12 +235,7 @@ freed frontier named reply state =
 
 freed_alike : (frontier : Frontier) (named : ℕ) (reply : Reply) (state : State) (words : Words) → freed frontier named reply (with_words state words) ≡ with_words_of (freed frontier named reply state) words
 unfolding freed
-freed_alike frontier named reply state words = by_test (is_count reply)
-  where
-    by_test : (b : Bool) → (if b then with_deferrals (record frontier { machine = with_words state words }) named (record { waiting = (deferrals_at frontier named).waiting; fetched = None }) else record frontier { machine = with_words state words })
-        ≡ with_words_of (if b then with_deferrals (record frontier { machine = state }) named (record { waiting = (deferrals_at frontier named).waiting; fetched = None }) else record frontier { machine = state }) words
-    by_test true = refl
-    by_test false = refl
+freed_alike frontier named reply state words = grind arith
 
 finishing_alike : (frontier : Frontier) (words : Words) (named : ℕ) (fetched : Option Deferred) → AlikeOutcome (finishing (with_words_of frontier words) named fetched) (finishing frontier named fetched)
 unfolding freed
@@ -272,13 +264,8 @@ deferring_alike : (frontier : Frontier) (words : Words) (named : ℕ) (fetched :
 deferring_alike frontier words named None = taken_alike frontier words named (in_fetch frontier.machine named)
 deferring_alike frontier words named (Some url) = record { answer = refl; words = words; state = refl }
 
-below_alike : (frontier : Frontier) (words : Words) (queues : ℕ) → stats_below (with_words_of frontier words) queues ≡ stats_below frontier queues
-below_alike frontier words zero = refl
-below_alike frontier words (suc queue) = ap (λ (sum : counts.Stats). plus sum (unwrap_or (stats_at frontier queue) no_stats)) (below_alike frontier words queue)
-
 stats_alike : (frontier : Frontier) (words : Words) (queue : Option ℕ) → stats_for (with_words_of frontier words) queue ≡ stats_for frontier queue
-stats_alike frontier words None = ap Some (below_alike frontier words (length frontier.deferrals))
-stats_alike frontier words (Some queue) = refl
+stats_alike frontier words queue = grind arith
 
 exchange_alike : (frontier : Frontier) (words : Words) (request : Request) → AlikeOutcome (exchange (with_words_of frontier words) request) (exchange frontier request)
 exchange_alike frontier words (Offer url named) = machine_alike frontier words (offering (with_words frontier.machine words) url named) (offering frontier.machine url named) (offering_alike frontier.machine words url named)

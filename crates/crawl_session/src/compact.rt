@@ -85,7 +85,7 @@ impl Compactor {
         ensures { IfOk result (λ is. GivesRequest self.old session.old request is self.new session.new) }
     {
         let again = asks_again(&request);
-        let Answer::Told(reply) = session.perform(request)? else {
+        let Answer::Told(reply) = session.frontier.exchange(request)? else {
             return Ok(false);
         };
         let changes = self.changes(&reply);

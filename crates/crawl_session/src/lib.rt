@@ -19,7 +19,7 @@ mod texts;
 
 pub use answer::Answer;
 pub use compact::Compactor;
-pub use log::{read_settings, rerun, settings_line, whole_len};
+pub use log::{read_settings, settings_line, whole_len};
 pub use log_start::{read_start, start_text};
 pub use part::Part;
 pub use request::{Request, RequestError};

@@ -1,38 +1,20 @@
-//! A log of requests: what a session has to be given to go on where another stood.
+//! A log of requests: its first line, and where its last whole line ends.
 ghost use Rattle.std.specs.Prelude.{◌≡◌, ◌<◌, ◌≤◌, ◌++◌, ◌∷◌, [], ℕ, List, Some, length, map, take, drop, true, IfOk, IfSome, MatchOption, string_bytes};
 ghost use Rattle.std.specs.List.{All};
 ghost use Rattle.std.specs.Option.{option_map};
-ghost use Rattle.std.specs.Str.Lines.{lines};
 ghost use Rattle.crawl_limits.specs.Limits.{AreLimits};
 ghost use Rattle.crawl_keys.specs.HostFilter.{is_good};
 ghost use Rattle.crawl_replay.specs.Script.{header_of};
 ghost use Rattle.crawl_session.specs.Input.{IsUnfinished};
 ghost use Rattle.crawl_session.specs.Logs as spec;
-ghost use Rattle.crawl_session.specs.Logs.{Reruns};
 
-use crate::session::Session;
 use crawl_core::NoMemory;
 use crawl_replay::{Header, header_of};
 use memchr::memrchr;
 use std::alloc::Global;
-use text_lines::{first_line, split_space};
+use text_lines::split_space;
 
-/// Gives the session the lines of these bytes, and drops their answers.
-///
-/// # Errors
-/// Out of memory. The session then has had a front of the lines.
-pub fn rerun(session: &mut Session, log: &[u8]) -> Result<(), NoMemory>
-    ensures { IfOk result (λ _. Reruns session.old (lines log.now) session.new) }
-{
-    let mut rest = log;
-    while let Some((line, more)) = first_line(rest) {
-        rest = more;
-        let _answer = session.answer(line)?;
-    }
-    Ok(())
-}
-
-/// How many bytes stand before the unfinished line at the end.
+/// The number of bytes before the unfinished line at the end.
 pub fn whole_len(bytes: &[u8]) -> usize
     ensures within { result ≤ length bytes.now }
     ensures whole { 0 < result → (front : List ℕ) × (take result bytes.now ≡ front ++ 10 ∷ []) }
@@ -68,7 +50,7 @@ fn within_text(alloc: Global, suffixes: &[&str]) -> Result<String, NoMemory>
     Ok(text)
 }
 
-/// What the first line of a log says: the numbers of its frontier, and the suffixes of its filter. `None` where the line is none.
+/// The settings in the first line of a log: the numbers of its frontier, and the suffixes of its filter. `None` if the line is not a first line.
 ///
 /// # Errors
 /// Out of memory.
@@ -76,7 +58,7 @@ pub fn read_settings(alloc: Global, line: &str) -> Result<Option<(Header, Vec<&s
     // What `settings_line` wrote is read.
     ensures back { IfOk result (λ found. (workers max : ℕ) (suffixes : List (List ℕ)) → AreLimits workers max → All (λ suffix. is_good suffix ≡ true) suffixes → line.now ≡ spec.settings_line workers max suffixes → MatchOption found ⊥ (λ x. (x.0.workers ≡ workers) × ((x.0.max ≡ max) × (map (λ suffix. suffix.now) x.1.items ≡ suffixes)))) }
 
-    // What is read stands there, and is within the limits of a frontier.
+    // What is read is in the line, and is within the limits of a frontier.
     ensures stands { IfOk result (λ found. IfSome found (λ x. (rest : List ℕ) × ((line.now ≡ spec.within_text (map (λ suffix. suffix.now) x.1.items) ++ rest) × (header_of rest ≡ Some x.0)))) }
     ensures limits { IfOk result (λ found. IfSome found (λ x. AreLimits x.0.workers x.0.max)) }
 {
@@ -92,7 +74,7 @@ pub fn read_settings(alloc: Global, line: &str) -> Result<Option<(Header, Vec<&s
     }
 }
 
-/// The suffix that the text begins with, and what stands behind it.
+/// The suffix that the text begins with, and what follows it.
 fn next_suffix(text: &str) -> Option<(&str, &str)>
     ensures cut { option_map (λ x. (x.0.now, x.1.now)) result ≡ spec.next_suffix text.now }
     ensures shorter { IfSome result (λ x. length x.1.now < length text.now) }

@@ -25,7 +25,7 @@ use std::marker::Model;
 #[derive(Drop)]
 pub struct Session {
     alloc: Global,
-    frontier: Frontier,
+    pub(crate) frontier: Frontier,
     /// The queues of all parts.
     workers: u32,
     filter: Filter,
@@ -150,16 +150,6 @@ impl Session {
         }
     }
 
-    /// Returns the answer to a request.
-    #[tactic(auto, using(crate::proofs::Lifts::given_up_at_once))]
-    pub(crate) fn perform(&mut self, request: Request) -> Result<Answer, NoMemory>
-        ensures comes { IfOk result (λ answer. Comes (λ state. spec.exchange state request) self.old.core answer self.new.core) }
-        ensures same { self.new.settings ≡ self.old.settings }
-        ensures err { OnErr result (GivesUp self.old.core self.new.core) }
-    {
-        self.frontier.exchange(request)
-    }
-
     /// Returns the answer to a line. The line has no LF, and no CR that came just before it.
     ///
     /// # Errors
@@ -171,7 +161,7 @@ impl Session {
         ensures err { OnErr result (GivesUp self.old.core self.new.core) }
     {
         match self.request(line) {
-            Ok(request) => self.perform(request),
+            Ok(request) => self.frontier.exchange(request),
             Err(RequestError::NoMemory) => Err(AllocError),
             Err(why) => Ok(Answer::Unasked(why)),
         }

@@ -1,5 +1,5 @@
 -- A URL parser reads a text as it reads what it does not drop of the text.
-use Rattle.std.proofs.Common.{◌≡◌, ◌∙◌, ◌⊎◌, ℕ, ◌-◌, ◌<◌, ◌≤◌, zero, suc, Bool, true, false, not, List, [], ◌∷◌, ◌++◌, length, take, drop, reverse, filter, Ok, Err, refl, sym, ap, subst, inl, inr, arith, length-append, length-drop, take-append-drop}
+use Rattle.std.proofs.Common.{◌≡◌, ◌∙◌, ◌⊎◌, ℕ, ◌-◌, ◌≤◌, zero, suc, Bool, true, false, not, List, [], ◌∷◌, ◌++◌, length, take, drop, reverse, filter, Ok, Err, refl, sym, ap, subst, inl, inr, arith, length-drop, take-append-drop}
 use Rattle.std.specs.Prelude.{Option, Some, None}
 use Rattle.std.specs.List.{prefix_len, suffix_len}
 use Rattle.std.proofs.Math.Seq.{take-append_seam}
@@ -14,7 +14,7 @@ use Rattle.url.proofs.InputLemmas.{StopsAt, StopsAt-drop-prefix_len}
 use Rattle.crawl_keys.specs.CanonicalText.{resolve, resolve_from, text_of_parse}
 use Rattle.crawl_keys.proofs.FolderLemmas.{suffix_len-stops}
 use Rattle.document_links.specs.Texts.{fits}
-use Rattle.document_links.specs.Written.{clean, shortened, without_fragment, written}
+use Rattle.document_links.specs.Written.{clean, without_fragment, written}
 
 abbrev trims : ℕ → Bool
 trims = is_c0_control_or_space

@@ -1,9 +1,9 @@
 -- What a URL parser drops of a text, and the text before its fragment.
-use Rattle.std.proofs.Common.{◌≡◌, ◌∙◌, ◌<◌, ◌≤◌, ℕ, Bool, true, false, not, ◌||◌, List, [], ◌∷◌, length, take, reverse, filter, get_or, Option, Some, None, refl, sym, ap, inl, inr, arith}
+use Rattle.std.proofs.Common.{◌≡◌, ◌∙◌, ◌<◌, ℕ, Bool, false, not, List, [], ◌∷◌, length, filter, get_or, Option, Some, None, refl, sym, ap, inl, inr, arith}
 use Rattle.std.specs.Prelude.{is_some}
-use Rattle.std.specs.List.{list_all, list_any, position_or_len, prefix_len}
+use Rattle.std.specs.List.{list_any, position_or_len}
 use Rattle.std.proofs.lemmas.Bool.{cases_Bool, cond-true, false_from_ne_true, or_parts}
-use Rattle.std.proofs.lemmas.List.{get_or_default, take_all}
+use Rattle.std.proofs.lemmas.List.{get_or_default}
 use Rattle.std.proofs.lemmas.List.Folds.{list_any_none, list_any_at}
 use Rattle.memchr.specs.Find.{IsFirstByte, Passes, is_byte, is_byte3}
 use Rattle.url.specs.Input.{is_tab_or_new_line, strip_tabs_and_new_lines, trim_c0_control_and_space}

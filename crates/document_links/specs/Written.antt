@@ -1,5 +1,5 @@
 -- The text of a link, as it is written in the line of a page.
-use Rattle.std.specs.Prelude.{◌≡◌, ◌≤◌, ℕ, Bool, true, false, ◌&&◌, ◌||◌, List, ◌++◌, length, map, Option, None, if◌then◌else◌}
+use Rattle.std.specs.Prelude.{◌≡◌, ◌≤◌, ℕ, Bool, true, false, ◌&&◌, ◌||◌, List, ◌++◌, length, map, None, if◌then◌else◌}
 use Rattle.std.specs.List.{before_first, flat_map, list_all}
 use Rattle.url.specs.Input.{strip_tabs_and_new_lines, trim_c0_control_and_space}
 use Rattle.crawl_keys.specs.Fragments.{is_number_sign}

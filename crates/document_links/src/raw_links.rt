@@ -41,6 +41,7 @@ impl RawLinks {
         self.texts.len()
     }
 
+    /// The allocator of their memory.
     pub(crate) fn allocator(&self) -> Global {
         *self.positions.allocator()
     }

@@ -2,13 +2,9 @@ use Rattle.std.proofs.Common.{◌≡◌, ◌<◌, ◌==◌, ◌∷◌, ◌++◌,
 use Rattle.std.specs.List.{after_first, before_first, position_or_len}
 use Rattle.std.proofs.lemmas.Option.{IfSome_then}
 use Rattle.std.proofs.lemmas.Result.{IfOk-weaker}
-use Rattle.crawl_keys.proofs.CasedLinks.{front_web, leads-cased}
+use Rattle.crawl_keys.proofs.CasedLinks.{leads-cased}
 use Rattle.crawl_keys.proofs.PlainLemmas.{cut_at}
 use Rattle.crawl_keys.proofs.cased.respelled.Goals as goal
-
-pub in_lower_case-requires-clause-web : goal.in_lower_case-requires-clause-web
-in_lower_case-requires-clause-web c =
-    front_web c.in-Some.scheme.now c.in-Some-front_of.front.now c.in-Some-front_of.port.now c.in-Some-front_of.ensures.front
 
 pub returns-clause-url : goal.returns-clause-url
 returns-clause-url c =

@@ -1,4 +1,5 @@
-use Rattle.std.proofs.Common.{◌≡◌, ◌++◌, codes, subst, sym, rules}
+use Rattle.std.proofs.lemmas.Grind.{common_steps}
+use Rattle.std.proofs.Common.{◌≡◌, ◌++◌, codes, subst, sym, rules, arith}
 use Rattle.crawl_keys.specs.Links.{IsBehind}
 use Rattle.crawl_keys.proofs.DotLinks.{same_behind, ups_behind}
 use Rattle.crawl_keys.proofs.dots.behind_one.Goals as goal
@@ -10,7 +11,4 @@ returns-in-Some-clause-behind c =
     subst (λ t. IsBehind t 1 rest) (sym text) (ups_behind 1 rest)
 
 pub returns-in-Some-strip_prefix-clause-behind : goal.returns-in-Some-strip_prefix-clause-behind
-returns-in-Some-strip_prefix-clause-behind c =
-    let rest = c.in-Some-strip_prefix.rest.now in
-    let text : c.args.text.now ≡ codes "./" ++ rest = search rules in
-    subst (λ t. IsBehind t 0 rest) (sym text) (same_behind rest)
+returns-in-Some-strip_prefix-clause-behind c = grind (arith, common_steps, same_behind)

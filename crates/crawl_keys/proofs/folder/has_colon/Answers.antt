@@ -7,7 +7,7 @@ use Rattle.crawl_keys.specs.Folders.{is_colon}
 use Rattle.crawl_keys.proofs.FolderLemmas.{none_from_first}
 use Rattle.crawl_keys.proofs.folder.has_colon.Goals as goal
 
--- one passes where the first that does stands before the end
+-- some byte passes if the first that passes is before the end
 any_from_first : (p : ℕ → Bool) (l : List ℕ) → nat_lt (position_or_len p l) (length l) ≡ list_any p l
 any_from_first p l =
     ⊎_elim

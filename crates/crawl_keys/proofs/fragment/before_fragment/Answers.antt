@@ -1,14 +1,12 @@
-use Rattle.std.proofs.Common.{◌≡◌, ◌∙◌, ap, rules}
-use Rattle.crawl_keys.specs.CanonicalText.{resolve}
+use Rattle.std.proofs.lemmas.Grind.{common_steps}
+use Rattle.std.proofs.Common.{◌≡◌, ◌∙◌, ap, rules, arith}
 use Rattle.crawl_keys.specs.Folders.{is_of_folder}
 use Rattle.crawl_keys.specs.Fragments.{before_fragment}
 use Rattle.crawl_keys.proofs.FragmentLemmas.{is_of_folder-before_fragment, resolve-before_fragment}
 use Rattle.crawl_keys.proofs.fragment.before_fragment.Goals as goal
 
 pub returns-then-ends_visibly-clause-target : goal.returns-then-ends_visibly-clause-target
-returns-then-ends_visibly-clause-target c base =
-    let front : c.before_sign-front.result.now ≡ before_fragment c.args.text.now = search rules in
-    ap (resolve base) front ∙ resolve-before_fragment c.args.text.now base
+returns-then-ends_visibly-clause-target c base = grind (arith, common_steps, resolve-before_fragment)
 
 pub returns-then-ends_visibly-clause-folder : goal.returns-then-ends_visibly-clause-folder
 returns-then-ends_visibly-clause-folder c folder =

@@ -1,19 +1,14 @@
-use Rattle.std.proofs.Common.{◌≡◌, ◌<◌, ◌==◌, ℕ, List, not, length, get_or, IsCharBoundary, subst, sym, ⊎_elim, arith, rules}
+use Rattle.std.proofs.lemmas.Grind.{common_steps}
+use Rattle.std.proofs.Common.{◌≡◌, ℕ, List, IsCharBoundary, subst, sym, arith, rules}
 use Rattle.std.specs.List.{position_or_len}
 use Rattle.std.proofs.lemmas.Bool.{cases_lt, eqb-true}
 use Rattle.std.proofs.lemmas.List.Sums.{passes_at_first, prefix_len-le-length}
-use Rattle.std.proofs.lemmas.Str.{IsCharBoundary-before_ascii, IsCharBoundary-end}
 use Rattle.crawl_keys.specs.Fragments.{is_number_sign}
 use Rattle.crawl_keys.proofs.fragment.before_sign.Goals as goal
 
 -- a text may be cut before its first `#`, or at its end
 cut_before_sign : (text : List ℕ) → IsCharBoundary text (position_or_len is_number_sign text)
-cut_before_sign text =
-    let n = position_or_len is_number_sign text in
-    ⊎_elim
-    (λ inside. IsCharBoundary-before_ascii text n inside (let sign = eqb-true _ _ (passes_at_first is_number_sign text 0 inside) in omega (arith, sign)))
-    (λ past. let end : length text ≡ n = let within = prefix_len-le-length (λ b. not (is_number_sign b)) text in omega (arith, past, within) in subst (IsCharBoundary text) end (IsCharBoundary-end text))
-    (cases_lt n (length text))
+cut_before_sign text = grind (arith, common_steps, eqb-true, passes_at_first, prefix_len-le-length, cases_lt)
 
 pub range-requires-clause-end_boundary : goal.range-requires-clause-end_boundary
 range-requires-clause-end_boundary c =

@@ -4,7 +4,7 @@ use denote.Shadow.{shadow}
 use Rattle.crawl_keys.specs.Links.{behind_ups}
 use Rattle.crawl_keys.proofs.plain.behind_ups.Given as goal
 
--- the text is what was passed, and the rest
+-- the text is the part that was passed, and the rest
 abbrev pub invariant-loop-more : goal.invariant-loop-more
 invariant-loop-more l = shadow (Utf8 l.rest) × (l.fn.text ≡ behind_ups l.ups l.rest) × (l.ups + length l.rest ≤ length l.fn.text)
 

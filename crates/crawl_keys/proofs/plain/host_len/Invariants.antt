@@ -2,7 +2,7 @@ use Rattle.std.proofs.Common.{◌≡◌, ◌<◌, ◌≤◌, ◌-◌, ℕ, true,
 use Rattle.crawl_keys.specs.Plain.{is_host_byte}
 use Rattle.crawl_keys.proofs.plain.host_len.Given as goal
 
--- the bytes so far may stand in a host
+-- the bytes so far may be in a host
 abbrev pub invariant-loop-len : goal.invariant-loop-len
 invariant-loop-len l = (l.len ≤ length l.bytes) × ((k : ℕ) → k < l.len → is_host_byte (get_or l.bytes k 0) ≡ true)
 

@@ -1,4 +1,5 @@
-use Rattle.std.proofs.Common.{Ok, ap, append-nil, subst, sym, ◌∙◌}
+use Rattle.std.proofs.lemmas.Grind.{common_steps}
+use Rattle.std.proofs.Common.{Ok, ap, append-nil, subst, sym, ◌∙◌, arith}
 use Rattle.crawl_keys.specs.CanonicalText.{canonical}
 use Rattle.crawl_keys.specs.Outcome.{Gives}
 use Rattle.crawl_keys.specs.declared.error.KeyError.TheVariants.{NoMemory}
@@ -14,6 +15,4 @@ returns-in-Some c =
     subst (Gives NoMemory (λ url. url) c.join.result) (ap Ok (append-nil front) ∙ sym (canonical-spelled front _ _ c.in-Some.ensures) ∙ same) c.join.ensures
 
 pub returns-in-None : goal.returns-in-None
-returns-in-None c =
-    let same = ap canonical c.before_fragment-front.ensures.value ∙ canonical-before_fragment c.args.text.now in
-    subst (Gives NoMemory (λ url. url) c.not_plain-in-None.result) same c.not_plain-in-None.ensures
+returns-in-None c = grind (arith, common_steps, canonical-before_fragment)

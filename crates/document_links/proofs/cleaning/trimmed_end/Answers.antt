@@ -1,5 +1,4 @@
-use Rattle.std.proofs.Common.{◌∙◌, rules, take, tests}
-use Rattle.std.specs.List.{prefix_len}
+use Rattle.std.proofs.Common.{◌∙◌, rules, tests}
 use Rattle.std.specs.Prelude.{reverse}
 use Rattle.std.proofs.lemmas.Iterator.Adapters.{YieldsList-from_rev_slice}
 use Rattle.std.proofs.lemmas.Iterator.Consumers.{count_from_yields_List}
@@ -11,5 +10,5 @@ use Rattle.document_links.proofs.cleaning.trimmed_end.Goals as goal
 pub returns : goal.returns
 returns c =
     let text = c.args.text.now in
-    let count = count_from_yields_List c.take_while.result (take (prefix_len is_c0_control_or_space (reverse text)) (reverse text)) c.count-count.ensures.ran (YieldsList-from_take_while _ is_c0_control_or_space (YieldsList-from_rev_slice text (cc)) c.take_while.ensures.closure c.take_while.ensures.done (λ x b q k. search (rules, tests))) ∙ length-prefix_len is_c0_control_or_space (reverse text) in
+    let count = count_from_yields_List c.take_while.result c.count-count.result c.count-count.ensures.ran (YieldsList-from_take_while _ is_c0_control_or_space (YieldsList-from_rev_slice text (cc)) c.take_while.ensures.closure c.take_while.ensures.done (λ x b q k. search (rules, tests))) ∙ length-prefix_len is_c0_control_or_space (reverse text) in
     rw count

@@ -1,20 +1,12 @@
-use Rattle.std.proofs.Common.{◌≡◌, ◌∷◌, subst, sym, true, rules}
+use Rattle.std.proofs.lemmas.Grind.{common_steps}
+use Rattle.std.proofs.Common.{◌≡◌, ◌∷◌, subst, sym, true, rules, arith}
 use Rattle.crawl_keys.specs.Links.{IsBehind}
 use Rattle.crawl_keys.specs.Plain.{is_plain}
 use Rattle.crawl_keys.proofs.DotLinks.{behind_both}
 use Rattle.crawl_keys.proofs.base.Base.from_root.Goals as goal
 
 pub at_root-requires : goal.at_root-requires
-at_root-requires c =
-    let path = c.in-Some.path.now in
-    let whole : c.args.text.now ≡ 47 ∷ path = search rules in
-    record {
-      path = path;
-      ups = c.behind_dots.result.0;
-      is = whole;
-      behind = c.behind_dots.ensures;
-      plain = subst (λ t. is_plain 47 t ≡ true) c.as_bytes.ensures.value (c.is_plain.ensures c.if-is_plain.true);
-    }
+at_root-requires c = grind (arith, common_steps)
 
 pub at_root-requires-then-is_plain-2 : goal.at_root-requires-then-is_plain-2
 at_root-requires-then-is_plain-2 c =

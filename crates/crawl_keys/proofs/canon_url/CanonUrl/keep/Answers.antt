@@ -1,6 +1,5 @@
-use Rattle.std.proofs.Common.{Ok, ap, append-nil, inl, subst, sym, ◌∙◌}
-use Rattle.crawl_keys.specs.Outcome.{Gives}
-use Rattle.crawl_keys.specs.declared.error.KeyError.TheVariants.{NoMemory}
+use Rattle.std.proofs.lemmas.Grind.{common_steps}
+use Rattle.std.proofs.Common.{append-nil, inl, sym, ◌∙◌, arith}
 use Rattle.crawl_keys.proofs.CanonicalLemmas.{text_of-web, text_of-other}
 use Rattle.crawl_keys.proofs.SpelledLemmas.{spelled_own}
 use Rattle.crawl_keys.proofs.canon_url.CanonUrl.keep.Goals as goal
@@ -14,6 +13,4 @@ join-requires c =
     (append-nil c.slice-text.result.now ∙ c.slice-text.ensures.value) c.index.ensures c.index-2.ensures
 
 pub returns : goal.returns
-returns c =
-    let text = text_of-web _ (sym c.is_web.ensures.value ∙ c.if-not-is_web.false) ∙ ap Ok (sym (append-nil c.slice-text.result.now ∙ c.slice-text.ensures.value)) in
-    subst (Gives NoMemory (λ url. url) c.join.result) (sym text) c.join.ensures
+returns c = grind (arith, common_steps, text_of-web, append-nil)

@@ -1,11 +1,5 @@
-use Rattle.crawl_core.specs.State.{State}
-use Rattle.crawl_session.specs.Exchanges.{offering}
-use Rattle.crawl_session.proofs.Lifts.{gives_up_lifts, lifts}
+use Rattle.crawl_session.proofs.Lifts.{gives_up_lifts}
 use Rattle.crawl_session.proofs.frontier.Frontier.offer.Goals as goal
-
-pub returns-clause-comes : goal.returns-clause-comes
-returns-clause-comes c =
-    rw (← c.self.view_is) (lifts (λ (s : State). offering s c.args.url c.args.queue) c.self.inside.core c.offer.new.core c.self.inside.deferrals c.self.inside.senders c.offer.result c.offer.ensures.comes)
 
 pub returns-clause-err : goal.returns-clause-err
 returns-clause-err c = rw (← c.self.view_is) (gives_up_lifts c.self.inside.core c.offer.new.core c.self.inside.deferrals c.self.inside.senders c.offer.result c.offer.ensures.err)

@@ -1,4 +1,4 @@
-use Rattle.std.proofs.Common.{rules, ◌≡◌, not, if◌then◌else◌, ℕ, List, [], ◌∷◌, ◌++◌, Option, is_some, map, sym, ap, subst, ◌∙◌}
+use Rattle.std.proofs.Common.{rules, ◌≡◌, not, if◌then◌else◌, ℕ, List, [], ◌∷◌, ◌++◌, Option, is_some, map, sym, ap, ◌∙◌, arith}
 use Rattle.std.proofs.lemmas.List.{map-id}
 use Rattle.crawl_core.specs.Kept.{has_text}
 use Rattle.hash_index.specs.Lists.{index_of}
@@ -7,8 +7,7 @@ use Rattle.crawl_session.proofs.texts.Texts.insert.Goals as goal
 
 -- what was found tells whether the text was there
 found_tells : (found : Option ℕ) (seen before old : List (List ℕ)) (text : List ℕ) → found ≡ index_of (map (λ (t : List ℕ). t) seen) text → seen ≡ before → before ≡ old → is_some found ≡ has_text old text
-found_tells found seen before old text found_is same view =
-    ap is_some (subst (λ texts. found ≡ index_of texts text) (map-id seen ∙ same ∙ view) found_is) ∙ has_index old text
+found_tells found seen before old text found_is same view = grind (arith, map-id, has_index)
 
 pub returns-in-Some-clause-new : goal.returns-in-Some-clause-new
 returns-in-Some-clause-new c =

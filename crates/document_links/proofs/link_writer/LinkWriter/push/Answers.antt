@@ -1,4 +1,4 @@
-use Rattle.std.proofs.Common.{◌≡◌, ◌∙◌, true, false, List, ℕ, sym, ap, subst, rules}
+use Rattle.std.proofs.Common.{◌≡◌, ◌∙◌, false, List, ℕ, sym, ap, subst, rules}
 use Rattle.std.specs.List.{list_any}
 use Rattle.url.specs.Input.{is_tab_or_new_line}
 use Rattle.document_links.specs.Written.{clean, has_room}

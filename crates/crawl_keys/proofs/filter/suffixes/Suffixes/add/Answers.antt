@@ -1,4 +1,5 @@
-use Rattle.std.proofs.Common.{Ok, ap, sym, ◌∙◌, map, string_bytes}
+use Rattle.std.proofs.lemmas.Grind.{common_steps}
+use Rattle.std.proofs.Common.{ap, ◌∙◌, map, string_bytes, arith}
 use Rattle.std.specs.BTreeSet.{insert_key}
 use Rattle.std.specs.Cmp.Lexicographic.{slice_cmp}
 use Rattle.std.specs.Ordering.{nat_cmp}
@@ -7,9 +8,7 @@ use Rattle.crawl_keys.proofs.MarkLemmas.{AreMarked-insert_key}
 use Rattle.crawl_keys.proofs.filter.suffixes.Suffixes.add.Goals as goal
 
 pub returns : goal.returns
-returns c =
-    ap Ok (sym (ap (map string_bytes) c.in_ok-insert.ensures.keys ∙ map-insert_key c.in_ok-text.text c.self.inside.texts.keys
-    ∙ (λ i. insert_key (slice_cmp nat_cmp) (c.self.view_is i) (c.in_ok-text.ensures.ok i))))
+returns c = grind (arith, common_steps, map-insert_key)
 
 pub invariant_of-self-2 : goal.invariant_of-self-2
 invariant_of-self-2 c =
