@@ -25,7 +25,7 @@ mod web_text;
 
 pub use line_text::LineText;
 pub use linked::LinkedPages;
-pub use on_disk::{OnDisk, folder_web};
+pub use on_disk::OnDisk;
 pub use page::{SitePage, Under};
 pub use web::{LinkedSite, Summary, Web};
 pub use web_maker::{site_pages, site_web};

@@ -1,54 +1,13 @@
-//! Makes the saved web of a folder. The threads that make the pages read the files.
+//! The files of a folder on disk. The threads that make the pages read them.
 ghost use Rattle.std.specs.IoError.{error_kind};
-ghost use Rattle.std.specs.Prelude.{◌≡◌, IfOk, alloc_error};
-ghost use Rattle.saved_site.specs.Below.{IsWebAt};
-ghost use Rattle.saved_site.specs.Meaning.{IsSiteWeb};
+ghost use Rattle.std.specs.Prelude.{◌≡◌, alloc_error};
 
-use crate::web::Web;
-use crate::web_maker::site_web;
 use document_links::{START_LENGTH, is_document};
-use site_files::{
-    Body, FileBytes, FolderNames, Left, Rules, SiteError, SiteFile, SiteFiles, SiteNames,
-    folder_names,
-};
+use site_files::{Body, FileBytes, Left, SiteFile};
 use std::alloc::{AllocError, Global};
 use std::io::{ErrorKind, Read};
 use std::rt::Files;
-use std::thread::Threads;
 use std::{fs, io};
-
-/// Makes the saved web of a folder whose top has the URL `base`. If a file cannot be read, its page has no links, and there is a note.
-/// This includes files of more than 2^30 bytes and files that grow while they are read.
-///
-/// # Errors
-/// `Io` if the folder cannot be read; `BadBase`, `NoFiles`, `TooLarge`, `NoMemory`.
-pub fn folder_web<R: Files<File: Send, Dir: Send> + Threads + Sync>(
-    rt: &R,
-    alloc: Global,
-    folder: &str,
-    base: &str,
-    rules: &Rules,
-) -> Result<Web, SiteError>
-    ensures web { IfOk result (λ web. IsSiteWeb web.text) }
-    ensures below { IfOk result (λ web. IsWebAt base.now web.text) }
-{
-    let FolderNames {
-        names,
-        links,
-        notes,
-    } = folder_names(rt, alloc, folder, rules)?;
-    let input = SiteNames {
-        names: names.as_slice(),
-        links: links.as_slice(),
-        base,
-        rules,
-        seeds: &[],
-    };
-    let files = SiteFiles::new(alloc, input)?;
-    let bytes = OnDisk { rt, alloc, folder };
-    let web = site_web(rt, &files, &[], notes, &bytes)?;
-    Ok(web)
-}
 
 /// The files in a folder, whose names are paths below it.
 #[derive(Drop)]
