@@ -1,4 +1,4 @@
--- A stable sort by a test has one answer: the list that ascends by it and keeps what ties.
+-- A stable sort by a test has one result: the list that ascends by it and keeps the order of what ties.
 use Rattle.std.proofs.Common.{◌≡◌, ℕ, zero, suc, ◌<◌, ◌≤◌, Bool, true, false, not, cond, List, [], ◌∷◌, length, get_or, filter, map, refl, sym, ap, ◌∙◌, subst, arith, inl, inr, suc-le-suc, zero-le, add-one}
 use Rattle.std.proofs.lemmas.Bool.{cond-true, cond-false, cases_Bool, and_parts, not-true, false≢true}
 use Rattle.std.specs.Cmp.{IsStrictWeakOrder}

@@ -86,7 +86,7 @@ last_back line some =
     let all : length line - 1 + 1 ≡ length line = omega (arith, some) in
     sym (take_all (length line) line (omega arith)) ∙ ap (λ n. take n line) (sym all) ∙ take_more line (length line - 1) 0 (omega (arith, some))
 
--- a line is UTF-8 where it is without the CR at its end
+-- a line is UTF-8 if it is without the CR at its end
 cr_back : (line : List ℕ) (b : Bool) → (get_or line (length line - 1) 0 == 13) ≡ b → IsUtf8 (if b then take (length line - 1) line else line) → IsUtf8 line
 cr_back line false at utf8 = utf8
 cr_back [] true at utf8 = absurd (cc)
@@ -95,7 +95,7 @@ cr_back (x ∷ xs) true at utf8 =
     let last : get_or line (length line - 1) 0 ≡ 13 = eqb-true _ 13 at in
     subst IsUtf8 (sym (last_back line (omega arith))) (IsUtf8-append (take (length line - 1) line) (get_or line (length line - 1) 0 ∷ []) utf8 (ascii_one _ (omega (arith, last))))
 
--- the first LF stands there
+-- the first LF is there
 pub lf_at : (bytes : List ℕ) (end : ℕ) → position is_lf bytes ≡ Some end → (end < length bytes) × (get_or bytes end 0 ≡ 10)
 lf_at bytes end e =
     let place = found (nat_lt (position_or_len is_lf bytes) (length bytes)) (position_or_len is_lf bytes) end e in
@@ -103,7 +103,7 @@ lf_at bytes end e =
     let byte : get_or bytes (position_or_len is_lf bytes) 0 ≡ 10 = eqb-true _ 10 (passes_at_first is_lf bytes 0 inside) in
     (subst (λ n. n < length bytes) place.1 inside, subst (λ n. get_or bytes n 0 ≡ 10) place.1 byte)
 
--- where the first line and what follows it are UTF-8, all is
+-- if the first line and what follows it are UTF-8, all is
 pub whole_utf8 : (bytes : List ℕ) (end : ℕ) → position is_lf bytes ≡ Some end → IsUtf8 (strip_carriage_return (take end bytes)) → IsUtf8 (drop (end + 1) bytes) → IsUtf8 bytes
 whole_utf8 bytes end e line more =
     let at = lf_at bytes end e in
@@ -119,7 +119,7 @@ pub no_bytes : (bytes : List ℕ) → (length bytes == 0) ≡ true → IsUtf8 by
 no_bytes [] e = IsUtf8-nil
 no_bytes (x ∷ xs) e = absurd (omega (arith, eqb-true (length (x ∷ xs)) 0 e))
 
--- ---- what is behind the first line
+-- ---- what follows the first line
 
 pub behind_at : (text : List ℕ) (end : ℕ) → position is_lf text ≡ Some end → drop (end + 1) text ≡ behind_line text
 behind_at text end e =

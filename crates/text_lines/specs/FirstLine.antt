@@ -1,9 +1,9 @@
--- The first line of a text, and what is behind it.
+-- The first line of a text, and what follows it.
 use Rattle.std.specs.Prelude.{ℕ, ◌==◌, List, [], ◌∷◌}
 use Rattle.std.specs.List.{after_first}
 use Rattle.std.specs.Str.Lines.{lines}
 
--- the first of the lines, nothing where there is none
+-- the first of the lines, nothing if there is none
 abbrev pub first_of : List (List ℕ) → List ℕ
 first_of [] = []
 first_of (line ∷ more) = line
@@ -12,6 +12,6 @@ first_of (line ∷ more) = line
 abbrev pub line_in : List ℕ → List ℕ
 line_in text = first_of (lines text)
 
--- what is behind the text's first LF
+-- what follows the text's first LF
 abbrev pub behind_line : List ℕ → List ℕ
 behind_line text = after_first (λ b. b == 10) text

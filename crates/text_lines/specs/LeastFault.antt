@@ -1,13 +1,13 @@
--- The least fault of lines: that of the first line that fails a check, and there the first check that it fails.
+-- The least error of lines: that of the first line that fails a check, and there the first check that it fails.
 use Rattle.std.specs.Prelude.{◌≡◌, ℕ, List, [], ◌∷◌, ◌++◌, Option, Some, None}
 
--- behind the earlier lines, none of these fails a check; `fault_after earlier line` is the first check that a line fails
--- behind these earlier lines, if it fails one
+-- after the earlier lines, none of these fails a check; `fault_after earlier line` is the first check that a line fails
+-- after these earlier lines, if it fails one
 abbrev pub SoundAfter : {E : Type 0} → (List (List ℕ) → List ℕ → Option E) → List (List ℕ) → List (List ℕ) → Type 0
 SoundAfter fault_after earlier [] = Unit {0}
 SoundAfter fault_after earlier (line ∷ more) = (fault_after earlier line ≡ None) × SoundAfter fault_after (earlier ++ line ∷ []) more
 
--- the lines before some line are sound, and that line has this fault
+-- the lines before some line are sound, and that line has this error
 pub record IsLeastFault {E : Type 0} (fault_after : List (List ℕ) → List ℕ → Option E) (lines : List (List ℕ)) (fault : E) : Type 0 where
   pub front : List (List ℕ)
   pub line : List ℕ

@@ -7,7 +7,7 @@ ghost use Rattle.text_lines.specs.FirstLine.{line_in, behind_line};
 pub use crawl_limits::LINE_LIMIT;
 use memchr::memchr;
 
-/// Why a line has no text, in the order of the checks. Each fault has the number of its line, from 1.
+/// Why a line has no text, in the order of the checks. Each error has the number of its line, from 1.
 #[derive(Clone, Copy, Debug, PartialEq, Eq)]
 pub enum LineError {
     /// The line has more than [`LINE_LIMIT`] bytes.
@@ -16,7 +16,7 @@ pub enum LineError {
     NotText(u64),
 }
 
-/// The first line of the bytes, and what follows it; nothing where there are no bytes.
+/// The first line of the bytes, and what follows it; nothing if there are no bytes.
 ///
 /// A line ends at LF, or at the end of the bytes. One CR directly before its LF is no part of it.
 pub fn first_line(bytes: &[u8]) -> Option<(&[u8], &[u8])>
@@ -32,7 +32,7 @@ pub fn first_line(bytes: &[u8]) -> Option<(&[u8], &[u8])>
     }
 }
 
-/// The same of a text, whose lines are texts.
+/// Likewise for a text, whose lines are texts.
 pub fn first_text(text: &str) -> Option<(&str, &str)>
     ensures cut { MatchOption result (lines text.now ≡ []) (λ x. lines text.now ≡ x.0.now ∷ lines x.1.now) }
     ensures shorter { IfSome result (λ x. length x.1.now < length text.now) }
@@ -45,7 +45,7 @@ pub fn first_text(text: &str) -> Option<(&str, &str)>
     }
 }
 
-/// The first line of a text, and what follows it; nothing stands in either where there is no text.
+/// The first line of a text, and what follows it; both are empty if there is no text.
 pub fn split_line(text: &str) -> (&str, &str)
     ensures line { result.0.now ≡ line_in text.now }
     ensures behind { result.1.now ≡ behind_line text.now }
@@ -56,7 +56,7 @@ pub fn split_line(text: &str) -> (&str, &str)
     }
 }
 
-/// The bytes, cut behind the first LF from here on; nothing where there is none.
+/// The bytes, cut after the first LF from here on; nothing if there is none.
 pub fn cut_line(bytes: &[u8], from: usize) -> Option<(&[u8], &[u8])>
     requires { from ≤ length bytes.now }
     ensures cut { IfSome result (λ x. lines bytes.now ≡ lines x.0.now ++ lines x.1.now) }
@@ -95,7 +95,7 @@ fn text_without_return(line: &str) -> &str
 /// The text of the line with this number, whose bytes are UTF-8.
 ///
 /// # Errors
-/// `TooLong` alone.
+/// Only `TooLong`.
 pub fn short_text(number: u64, line: &str) -> Result<&str, LineError>
     ensures { bytes_at result ≡ text_of number line.now }
 {
