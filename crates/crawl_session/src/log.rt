@@ -1,4 +1,4 @@
-//! A log of requests: what a session has to be given to go on where another stood.
+//! A log of requests: what a session needs to resume the work of another.
 ghost use Rattle.std.specs.Prelude.{◌≡◌, ◌<◌, ◌≤◌, ◌++◌, ◌∷◌, [], ℕ, List, Some, length, map, take, drop, true, IfOk, IfSome, MatchOption, string_bytes};
 ghost use Rattle.std.specs.List.{All};
 ghost use Rattle.std.specs.Option.{option_map};
@@ -32,7 +32,7 @@ pub fn rerun(session: &mut Session, log: &[u8]) -> Result<(), NoMemory>
     Ok(())
 }
 
-/// How many bytes stand before the unfinished line at the end.
+/// How many bytes come before the unfinished line at the end.
 pub fn whole_len(bytes: &[u8]) -> usize
     ensures within { result ≤ length bytes.now }
     ensures whole { 0 < result → (front : List ℕ) × (take result bytes.now ≡ front ++ 10 ∷ []) }
@@ -68,7 +68,7 @@ fn within_text(alloc: Global, suffixes: &[&str]) -> Result<String, NoMemory>
     Ok(text)
 }
 
-/// What the first line of a log says: the numbers of its frontier, and the suffixes of its filter. `None` where the line is none.
+/// What the first line of a log says: the numbers of its frontier, and the suffixes of its filter. `None` if the line is none.
 ///
 /// # Errors
 /// Out of memory.
@@ -76,7 +76,7 @@ pub fn read_settings(alloc: Global, line: &str) -> Result<Option<(Header, Vec<&s
     // What `settings_line` wrote is read.
     ensures back { IfOk result (λ found. (workers max : ℕ) (suffixes : List (List ℕ)) → AreLimits workers max → All (λ suffix. is_good suffix ≡ true) suffixes → line.now ≡ spec.settings_line workers max suffixes → MatchOption found ⊥ (λ x. (x.0.workers ≡ workers) × ((x.0.max ≡ max) × (map (λ suffix. suffix.now) x.1.items ≡ suffixes)))) }
 
-    // What is read stands there, and is within the limits of a frontier.
+    // What is read is in the line, and is within the limits of a frontier.
     ensures stands { IfOk result (λ found. IfSome found (λ x. (rest : List ℕ) × ((line.now ≡ spec.within_text (map (λ suffix. suffix.now) x.1.items) ++ rest) × (header_of rest ≡ Some x.0)))) }
     ensures limits { IfOk result (λ found. IfSome found (λ x. AreLimits x.0.workers x.0.max)) }
 {
@@ -92,7 +92,7 @@ pub fn read_settings(alloc: Global, line: &str) -> Result<Option<(Header, Vec<&s
     }
 }
 
-/// The suffix that the text begins with, and what stands behind it.
+/// The suffix that the text begins with, and what follows it.
 fn next_suffix(text: &str) -> Option<(&str, &str)>
     ensures cut { option_map (λ x. (x.0.now, x.1.now)) result ≡ spec.next_suffix text.now }
     ensures shorter { IfSome result (λ x. length x.1.now < length text.now) }

@@ -1,4 +1,4 @@
--- Texts of visible bytes of ASCII stand in a line.
+-- Texts of visible bytes of ASCII are within a line.
 use Rattle.std.proofs.Common.{◌≡◌, ℕ, ◌+◌, ◌<◌, ◌≤◌, true, List, [], ◌∷◌, length, refl, arith}
 use Rattle.std.specs.Prelude.{nat_le}
 use Rattle.std.specs.List.{list_all}

@@ -1,4 +1,4 @@
--- Texts that stand one behind the other.
+-- Texts that follow each other.
 use Rattle.std.specs.Prelude.{ℕ, ◌-◌, List, [], ◌∷◌, ◌++◌, length, take, drop}
 use Rattle.document_links.specs.declared.raw_links.Piece.{Piece}
 

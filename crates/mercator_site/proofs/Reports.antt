@@ -1,4 +1,4 @@
--- What an answer that is a report says.
+-- What a result that is a report says.
 use Rattle.std.specs.Prelude.{◌≡◌, ℕ, true, false, List, Result, Ok, Err, IfErr, IfOk}
 use Rattle.std.proofs.Common.{true≢false, sym, ◌∙◌}
 use Rattle.mercator_site.specs.Asks.{Asks}

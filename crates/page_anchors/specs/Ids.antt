@@ -1,4 +1,4 @@
--- Texts that stand one behind the other in a block, each up to its end.
+-- Texts that follow each other in a block, each up to its end.
 use Rattle.std.specs.Prelude.{◌≡◌, ℕ, ◌≤◌, List, [], ◌∷◌, map}
 use Rattle.std.specs.Borrow.{Bor}
 use Rattle.std.specs.List.{slice_range}
@@ -8,7 +8,7 @@ abbrev pub texts_from : List ℕ → ℕ → List ℕ → List (List ℕ)
 texts_from bytes from [] = []
 texts_from bytes from (end ∷ ends) = slice_range bytes from end ∷ texts_from bytes end ends
 
--- the ends ascend from here on, and the last is that of so many bytes
+-- the ends ascend from here on, and the last is that of this number of bytes
 abbrev pub DoBound : ℕ → List ℕ → ℕ → Type 0
 DoBound from [] count = from ≡ count
 DoBound from (end ∷ ends) count = (from ≤ end) × DoBound end ends count

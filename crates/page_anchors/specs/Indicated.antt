@@ -23,7 +23,7 @@ has_id ids text = list_any (λ id. bytes_eq id text) ids
 abbrev pub begins_directive : List ℕ → Bool
 begins_directive text = starts_with nat_eq text (codes ":~:")
 
--- what stands before a fragment directive
+-- what comes before a fragment directive
 abbrev pub before_directive : List ℕ → List ℕ
 before_directive [] = []
 before_directive (b ∷ bs) = if begins_directive (b ∷ bs) then [] else b ∷ before_directive bs
@@ -32,7 +32,7 @@ before_directive (b ∷ bs) = if begins_directive (b ∷ bs) then [] else b ∷ 
 abbrev pub fragment_of : List ℕ → List ℕ
 fragment_of text = percent_encode IN_FRAGMENT text
 
--- what its escapes stand for, as UTF-8
+-- what its escapes mean, as UTF-8
 abbrev pub decoded_of : List ℕ → List ℕ
 decoded_of fragment = utf8_lossy (percent_decode fragment)
 

@@ -1,4 +1,4 @@
--- Where the URLs of a site lie: below its top, which is that of BASE.
+-- Which URLs a site has: those below its top, which is that of BASE.
 use Rattle.std.specs.Prelude.{◌≡◌, ℕ, ◌==◌, Bool, false, ◌&&◌, ◌||◌, List, [], ◌∷◌, ◌++◌, Ok, if◌then◌else◌, length, take}
 use Rattle.std.specs.List.{list_all, list_any}
 use Rattle.std.specs.Str.Lines.{lines}
@@ -44,7 +44,7 @@ is_next top last url = is_behind last url && is_below top url
 pub record IsWebBelow (top bytes : List ℕ) : Type 0 where
   pub none : (url : List ℕ) → is_below top url ≡ false → page_of (lines bytes) url ≡ page.Missing
 
--- the same, where the top is that of BASE
+-- likewise, if the top is that of BASE
 pub record IsWebAt (base bytes : List ℕ) : Type 0 where
   pub top : List ℕ
   pub is_top : IsTop base top

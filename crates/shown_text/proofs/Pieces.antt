@@ -92,7 +92,7 @@ front_passes p (b ∷ bs) =
 pub run_is_plain : (text : List ℕ) (n : ℕ) → n ≡ prefix_len is_plain text → list_all is_plain (take n text) ≡ true
 run_is_plain text n is = ap (λ k. list_all is_plain (take k text)) is ∙ front_passes is_plain text
 
--- ---- where a run ends
+-- ---- the end of a run
 
 not_within : (b : ℕ) → is_plain b ≡ false → 128 ≤ b → 192 ≤ b
 not_within b other high = grind (arith, nat_tests)
