@@ -14,7 +14,7 @@ use Rattle.check_report.specs.declared.row.Part.{Part}
 pub joined : {X : Type 0} (old mid new a b : List X) → mid ≡ old ++ a → new ≡ mid ++ b → new ≡ old ++ (a ++ b)
 joined old mid new a b p q = q ∙ ap (λ t. t ++ b) p ∙ append_assoc old a b
 
--- the same, where the last may run out of memory
+-- likewise, if the last may run out of memory
 pub last_joined : {X V E : Type 0} (answer : Result V E) (old mid new a b : List X) → mid ≡ old ++ a → OnOk answer (new ≡ mid ++ b) → OnOk answer (new ≡ old ++ (a ++ b))
 last_joined (Ok v) old mid new a b p q = joined old mid new a b p q
 last_joined (Err e) old mid new a b p q = tt
@@ -65,7 +65,7 @@ pub then_more : {E : Type 0} (how : Form) (answer : Result (Vec ℕ Global) E) (
 then_more how (Ok more) out mid xs ys before after = adds_both how out mid more.items xs ys before after
 then_more how (Err e) out mid xs ys before after = tt
 
--- a part, where it has rows
+-- a section, if it has rows
 pub part_more : {E : Type 0} (how : Form) (answer : Result (Vec ℕ Global) E) (out begun listed : List ℕ) (of_part : Part) (rows : ℕ) (lines : List Line) → Adds how out begun (edge rows (begin of_part)) → Adds how begun listed lines → IfOk answer (λ more. Adds how listed more.items (edge rows (finish of_part))) → IfOk answer (λ more. Adds how out more.items (in_part of_part rows lines))
 part_more how answer out begun listed of_part rows lines first middle last =
     then_more how answer out listed (edge rows (begin of_part) ++ lines) (edge rows (finish of_part)) (adds_both how out begun listed (edge rows (begin of_part)) lines first middle) last

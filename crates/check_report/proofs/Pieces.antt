@@ -60,7 +60,7 @@ escaped_both how front back utf8 = ap (flat_map (escaped_char how)) (chars-appen
 pub run_is_ordinary : (text : List ℕ) (n : ℕ) → n ≡ prefix_len is_ordinary text → list_all is_ordinary (take n text) ≡ true
 run_is_ordinary text n is = ap (λ k. list_all is_ordinary (take k text)) is ∙ front_passes is_ordinary text
 
--- ---- where a run ends
+-- ---- the end of a run
 
 within_ascii : (b : ℕ) → is_ordinary b ≡ false → b < 128
 within_ascii b other = grind (arith, nat_tests)

@@ -32,7 +32,7 @@ pub fn put_escaped(out: &mut Vec<u8>, how: Escape, text: &str) -> Result<(), NoM
     Ok(())
 }
 
-/// The number of bytes at the start of the text that need no escape besides those of hidden characters.
+/// The number of bytes at the start of the text that need no escape, except for those of hidden characters.
 fn ordinary_len(text: &str) -> usize
     ensures { result ≡ length (take_while is_ordinary text.now) }
 {

@@ -1,4 +1,4 @@
--- The faults of a run, by its filter, its seeds, its accepted entries and its results.
+-- The errors of a run, by its filter, its seeds, its accepted entries and its results.
 use Rattle.std.specs.Prelude.{ℕ, ◌+◌, ◌==◌, Bool, false, not, ◌&&◌, ◌||◌, List, [], ◌∷◌, if◌then◌else◌, Option, Some, None}
 use Rattle.std.specs.List.{list_any}
 use Rattle.std.specs.Str.{bytes_eq}
@@ -19,11 +19,11 @@ has_result results url = list_any (λ r. bytes_eq r.url url) results
 abbrev pub stands_in : List (List ℕ) → List ℕ → Bool
 stands_in urls url = list_any (λ own. bytes_eq own url) urls
 
--- an allowed URL among these is not accepted, where `accepted` says which are
+-- an allowed URL of the list is not accepted; `accepted` says which URLs are
 abbrev pub some_missing : (List ℕ → Bool) → (List ℕ → Bool) → List (List ℕ) → Bool
 some_missing allowed accepted urls = list_any (λ url. allowed url && not (accepted url)) urls
 
--- ---- the faults
+-- ---- the errors
 
 -- a seed that is allowed is not accepted
 abbrev pub seed_missing : (List ℕ → Bool) → List (List ℕ) → List Entry → Bool
@@ -37,7 +37,7 @@ not_fetched entries results = list_any (λ e. not (has_result results e.url)) en
 abbrev pub link_missing : (List ℕ → Bool) → List Entry → List PageResult → Bool
 link_missing allowed entries results = list_any (λ r. some_missing allowed (is_accepted entries) (links_of r.page)) results
 
--- the entry is one hop behind an entry with this URL
+-- the entry has one hop more than an entry with this URL
 abbrev pub is_behind : List Entry → List ℕ → Entry → Bool
 is_behind entries url e = list_any (λ before. bytes_eq before.url url && e.hops == before.hops + 1) entries
 
@@ -45,7 +45,7 @@ is_behind entries url e = list_any (λ before. bytes_eq before.url url && e.hops
 abbrev pub is_linked : List Entry → List PageResult → Entry → Bool
 is_linked entries results e = list_any (λ r. stands_in (links_of r.page) e.url && is_behind entries r.url e) results
 
--- the entry is allowed, and a seed where it has no hops, else linked from a result of an entry with one hop less
+-- the entry is allowed, and a seed if it has no hops, else linked from a result of an entry with one hop less
 abbrev pub is_founded : (List ℕ → Bool) → List (List ℕ) → List Entry → List PageResult → Entry → Bool
 is_founded allowed seeds entries results e =
     allowed e.url && (if e.hops == 0 then stands_in seeds e.url else is_linked entries results e)
@@ -72,7 +72,7 @@ first_of a b c d e =
     else if e then Some fault.Twice
     else None
 
--- the first fault that holds
+-- the first error that the run has
 abbrev pub first_fault : (List ℕ → Bool) → List (List ℕ) → List Entry → List PageResult → Option CertError
 first_fault allowed seeds entries results =
     first_of (seed_missing allowed seeds entries) (not_fetched entries results) (link_missing allowed entries results)

@@ -34,7 +34,7 @@ ArePages meaning results = All (λ r. r.page ≡ meaning r.url) results
 abbrev pub AreReachable : (List ℕ → Page) → (List ℕ → Bool) → List (List ℕ) → List (List ℕ) → Type 0
 AreReachable page allowed seeds urls = (url : List ℕ) → Contains urls url ↔ Reachable page allowed seeds url
 
--- of the URLs as many belong to each of the account's subqueues as it has entries
+-- each of the account's subqueues has as many entries as URLs belong to it
 abbrev pub CountsOf : AccountId → List (List ℕ) → Type 0
 CountsOf account urls =
     (queue : ℕ) (entries : List Entry) → queue < account.workers → slice_get account.queues queue ≡ Some entries
@@ -46,12 +46,12 @@ pub record IsCrawl (meaning : List ℕ → Page) (allowed : List ℕ → Bool) (
   pub means : ArePages meaning pages
   pub reached : AreReachable meaning allowed seeds (result_urls pages)
 
--- a refusal for the fault, and none where there is no fault
+-- a refusal for the error, and none if there is no error
 abbrev pub unless_fault : Option CertError → Result (Unit {0}) CertError
 unless_fault None = Ok tt
 unless_fault (Some fault) = Err fault
 
--- the result is a refusal for the fault, and Ok where there is no fault, want of memory aside
+-- the result is a refusal for the error, and Ok if there is no error, unless memory ran out
 abbrev pub Tells : {T : Type 0} → Result T CertError → Option CertError → Type 0
 Tells result fault = Gives NoMemory (λ _. tt) result (unless_fault fault)
 

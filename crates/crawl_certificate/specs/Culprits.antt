@@ -1,4 +1,4 @@
--- Which URL is at fault where a run is not certified.
+-- Which URL has the error of a run that is not certified.
 use Rattle.std.specs.Prelude.{◌≡◌, ◌⊎◌, ℕ, Bool, false, not, ◌&&◌, ◌||◌, List, nat_lt, count_by, Option, Some, None, Result, Ok, Err}
 use Rattle.std.specs.List.{list_any}
 use Rattle.std.specs.Str.{bytes_eq}
@@ -11,7 +11,7 @@ use Rattle.crawl_certificate.specs.declared.culprit.Culprit.{Culprit}
 use Rattle.crawl_certificate.specs.CertFaults.{is_accepted, has_result, stands_in, is_founded, first_fault, seed_missing, not_fetched, link_missing, unfounded, twice}
 use Rattle.crawl_certificate.specs.Least.{IsLeast}
 
--- ---- the URLs at fault
+-- ---- the URLs that have an error
 
 -- the URL is allowed and not accepted
 abbrev pub is_lost : (List ℕ → Bool) → List Entry → List ℕ → Bool
@@ -34,7 +34,7 @@ is_unfounded allowed seeds entries results url =
 abbrev pub is_twice : List PageResult → List ℕ → Bool
 is_twice results url = nat_lt 1 (count_by (λ r. bytes_eq r.url url) results)
 
--- the run has the fault at this URL
+-- the run has the error at this URL
 abbrev pub is_at_fault : (List ℕ → Bool) → List (List ℕ) → List Entry → List PageResult → CertError → List ℕ → Bool
 is_at_fault allowed seeds entries results fault.SeedMissing url = stands_in seeds url && is_lost allowed entries url
 is_at_fault allowed seeds entries results fault.NotFetched url = is_accepted entries url && not (has_result results url)
@@ -50,14 +50,14 @@ is_at_fault allowed seeds entries results fault.NoMemory url = false
 abbrev pub no_memory : Culprit
 no_memory = record { cause = fault.NoMemory; url = None }
 
--- the cause is the fault, and the URL the least that has it
+-- the cause is the error, and the URL the least that has it
 pub record IsCulprit (fault : Option CertError) (at : CertError → List ℕ → Bool) (culprit : Culprit) : Type 0 where
   pub url : List ℕ
   pub cause : fault ≡ Some culprit.cause
   pub named : culprit.url ≡ Some url
   pub least : IsLeast (at culprit.cause) (Some url)
 
--- the result is Ok where there is no fault, and else names its culprit, unless memory ran out
+-- the result is Ok if there is no error, and else names its culprit, unless memory ran out
 abbrev pub Names : {T : Type 0} → Result T Culprit → Option CertError → (CertError → List ℕ → Bool) → Type 0
 Names (Ok x) fault at = fault ≡ None
 Names (Err culprit) fault at = IsCulprit fault at culprit ⊎ (culprit ≡ no_memory)
@@ -67,7 +67,7 @@ abbrev pub NamesCulprit : {T : Type 0} → (List ℕ → Bool) → List (List �
 NamesCulprit allowed seeds entries results result =
     Names result (first_fault allowed seeds entries results) (is_at_fault allowed seeds entries results)
 
--- where a run has not a fault, no URL is at fault: so no URL has a fault that comes before a culprit's
+-- if a run does not have an error, no URL has it: so no URL has an error that comes before a culprit's
 pub record HasNoneAt (allowed : List ℕ → Bool) (seed_urls : List (List ℕ)) (entries : List Entry) (results : List PageResult) : Type 0 where
   pub seeds : seed_missing allowed seed_urls entries ≡ false → (url : List ℕ) → is_at_fault allowed seed_urls entries results fault.SeedMissing url ≡ false
   pub fetched : not_fetched entries results ≡ false → (url : List ℕ) → is_at_fault allowed seed_urls entries results fault.NotFetched url ≡ false
@@ -86,7 +86,7 @@ first_named None None None (Some url) e = Some (fault.Unfounded, url)
 first_named None None None None (Some url) = Some (fault.Twice, url)
 first_named None None None None None = None
 
--- the result is Ok where there is none, and else names it, unless memory ran out
+-- the result is Ok if there is none, and else names it, unless memory ran out
 abbrev pub NamesFirst : Option (CertError × List ℕ) → Result (Unit {0}) Culprit → Type 0
 NamesFirst first (Ok x) = first ≡ None
 NamesFirst first (Err culprit) =

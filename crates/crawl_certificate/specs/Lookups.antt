@@ -1,4 +1,4 @@
--- Look-ups by URL: where an entry stands, and which URLs are in a set.
+-- Look-ups by URL: the index of an entry, and which URLs are in a set.
 use Rattle.std.specs.Prelude.{◌≡◌, ℕ, Bool, true, false, List, map, slice_get, Option, Some, None}
 use Rattle.std.specs.Str.{bytes_eq}
 use Rattle.std.specs.Borrow.{Bor}
@@ -15,11 +15,11 @@ abbrev pub at_this : Option Entry → List ℕ → Bool
 at_this None url = false
 at_this (Some e) url = bytes_eq e.url url
 
--- some entry stands at the index, and has the URL
+-- some entry is at the index, and has the URL
 abbrev pub stands_at : List Entry → ℕ → List ℕ → Bool
 stands_at entries index url = at_this (slice_get entries index) url
 
--- the index of the one entry with the URL, and none where no entry has it
+-- the index of the one entry with the URL, and none if no entry has it
 abbrev pub Finds : List Entry → List ℕ → Option ℕ → Type 0
 Finds entries url None = (k : ℕ) (e : Entry) → slice_get entries k ≡ Some e → bytes_eq url e.url ≡ false
 Finds entries url (Some index) =

@@ -11,12 +11,12 @@ pub record AreQueues (subqueue : List ℕ → ℕ) (queues : List (List Entry)) 
   pub placed : (queue : ℕ) (entries : List Entry) → slice_get queues queue ≡ Some entries → All (λ e. subqueue e.url ≡ queue) entries
   pub apart : (queue : ℕ) (entries : List Entry) → slice_get queues queue ≡ Some entries → DifferByUrl entries
 
--- for each of the first so many queues, how many entries stand before its own
+-- for each of the first n queues, how many entries come before its own
 abbrev pub AreFirsts : ℕ → List (List Entry) → List ℕ → Type 0
 AreFirsts count queues firsts =
     (queue : ℕ) → queue < count → (entries : List Entry) × (slice_get queues queue ≡ Some entries) × (slice_get firsts queue ≡ Some (length (entries_in (take queue queues))))
 
--- all entries of an account, and how many stand before those of each subqueue
+-- all entries of an account, and how many come before those of each subqueue
 pub record AreLaidOut (account : AccountId) (all : List Entry) (firsts : List ℕ) : Type 0 where
   pub whole : all ≡ entries_of account
   pub queues : AreQueues (λ url. subqueue_of url account.workers) (take account.workers account.queues)

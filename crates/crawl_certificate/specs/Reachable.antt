@@ -1,16 +1,16 @@
--- Which URLs a crawl can reach: those to which a walk over links leads from a seed, by allowed URLs alone.
+-- Which URLs a crawl can reach: those to which a walk over links leads from a seed, by allowed URLs only.
 use Rattle.std.specs.Prelude.{◌≡◌, ℕ, ◌+◌, Bool, IsTrue, List, [], ◌∷◌, length}
 use Rattle.std.specs.List.{Contains}
 use Rattle.crawl_pages.specs.declared.page.Page.{Page}
 use Rattle.crawl_pages.specs.Pages.{links_of}
 
--- a walk goes on from a URL over these: each stands among the links of the page of the one before and is allowed, and the
+-- a walk continues from a URL over these: each is among the links of the page of the one before and is allowed, and the
 -- last is `end`
 abbrev pub GoesOn : (List ℕ → Page) → (List ℕ → Bool) → List ℕ → List (List ℕ) → List ℕ → Type 0
 GoesOn page allowed url [] end = url ≡ end
 GoesOn page allowed url (next ∷ rest) end = Contains (links_of (page url)) next × IsTrue (allowed next) × GoesOn page allowed next rest end
 
--- the list of URLs is a walk to `end`: it begins with an allowed seed, and goes on from there
+-- the list of URLs is a walk to `end`: it begins with an allowed seed, and continues from there
 abbrev pub IsWalk : (List ℕ → Page) → (List ℕ → Bool) → List (List ℕ) → List (List ℕ) → List ℕ → Type 0
 IsWalk page allowed seeds [] end = ⊥
 IsWalk page allowed seeds (first ∷ rest) end = Contains seeds first × IsTrue (allowed first) × GoesOn page allowed first rest end
@@ -20,7 +20,7 @@ pub record Reachable (page : List ℕ → Page) (allowed : List ℕ → Bool) (s
   pub walk : List (List ℕ)
   pub leads : IsWalk page allowed seeds walk url
 
--- some walk to the URL has so many hops, and one URL more
+-- some walk to the URL has n hops, and n + 1 URLs
 pub record WalkOf (page : List ℕ → Page) (allowed : List ℕ → Bool) (seeds : List (List ℕ)) (hops : ℕ) (url : List ℕ) : Type 0 where
   pub walk : List (List ℕ)
   pub leads : IsWalk page allowed seeds walk url

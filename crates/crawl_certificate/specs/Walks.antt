@@ -6,11 +6,11 @@ use Rattle.crawl_certificate.specs.CertFaults.{is_linked}
 use Rattle.crawl_certificate.specs.Lookups.{stands_at}
 use Rattle.crawl_certificate.specs.Marks.{MarksOnly}
 
--- the results have the URLs of as many entries, in their order, from this index on
+-- from this index on, the results have the URLs of the entries, in their order
 abbrev pub AreFrom : List Entry → ℕ → List PageResult → Type 0
 AreFrom entries first results = (k : ℕ) (r : PageResult) → slice_get results k ≡ Some r → stands_at entries (first + k) r.url ≡ true
 
--- the results are so, where the machine can count so far, and a mark says that one of them links to the entry, which has one hop more
+-- this holds of the results if the machine can count so far, and a mark says that one of them links to the entry, which has one hop more
 pub record IsWalk (entries : List Entry) (first : ℕ) (results : List PageResult) (marks : List Bool) : Type 0 where
   pub long : length marks ≡ length entries
   pub own : first + length results < 2 ^ 64 → AreFrom entries first results

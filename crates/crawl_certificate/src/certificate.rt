@@ -68,10 +68,10 @@ pub struct CertifySettings {
 }
 
 /// The pages of a crawl if its run is certified, without other threads. The results are copied; [`certify_with`] takes them, and also
-/// returns the URL at fault.
+/// returns the URL that has the error.
 ///
 /// # Errors
-/// The first fault that the run has, in the order of [`CertError`]; `NoMemory` if an allocation failed.
+/// The first error that the run has, in the order of [`CertError`]; `NoMemory` if an allocation failed.
 pub fn certify(
     alloc: Global,
     filter: &Filter,
@@ -79,7 +79,7 @@ pub fn certify(
     account: &Account,
     results: &[PageResult],
 ) -> Result<CrawlResult, CertError>
-    // Ok if and only if the run has no fault; otherwise the first one, unless an allocation failed.
+    // Ok if and only if the run has no error; otherwise the first one, unless an allocation failed.
     ensures fault { Tells result (first_fault (allows filter.now) seeds.now (entries_of account.now) results.now) }
     // The pages are the given results in ascending order of URL, one for each entry of each queue.
     ensures same { IfOk result (λ pages. IsPermutation results.now pages) }
@@ -88,7 +88,7 @@ pub fn certify(
     ensures counts { IfOk result (λ pages. CountsOf account.now (result_urls pages)) }
     // Their URLs are exactly those that can be reached over the results' own pages.
     ensures reached { IfOk result (λ pages. AreReachable (page_in results.now) (allows filter.now) seeds.now (result_urls pages)) }
-    // A walk leads to each entry's URL in as many hops as the entry has.
+    // A walk leads to each entry's URL, and has the entry's number of hops.
     ensures hops { OnOk result (All (λ e. WalkOf (page_in results.now) (allows filter.now) seeds.now e.hops e.url) (entries_of account.now)) }
 {
     let accepted = Accepted::of(alloc, account)?;
@@ -98,11 +98,11 @@ pub fn certify(
     Ok(CrawlResult { pages })
 }
 
-/// The pages of a crawl if its run is certified: a search for each fault, and then the results in ascending order. If a thread
+/// The pages of a crawl if its run is certified: a search for each error, and then the results in ascending order. If a thread
 /// cannot be started, the calling thread does its work.
 ///
 /// # Errors
-/// The first fault that the run has, in the order of [`CertError`], and the least URL, byte by byte, that has it; or `NoMemory`, at
+/// The first error that the run has, in the order of [`CertError`], and the least URL, byte by byte, that has it; or `NoMemory`, at
 /// no URL, if an allocation failed.
 pub fn certify_with<R: Threads + Sync>(
     rt: &R,
@@ -113,7 +113,7 @@ pub fn certify_with<R: Threads + Sync>(
     results: Vec<PageResult>,
 ) -> Result<CrawlResult, Culprit>
     requires lost { settings.is_lossless ≡ true → NothingLost (allows filter.now) seeds.now (entries_of account.now) results.items }
-    // Ok if and only if the run has no fault; otherwise the first one and the least URL that has it, unless an allocation failed.
+    // Ok if and only if the run has no error; otherwise the first one and the least URL that has it, unless an allocation failed.
     ensures fault { NamesCulprit (allows filter.now) seeds.now (entries_of account.now) results.items result }
     // The pages are the given results in ascending order of URL, one for each entry of each queue.
     ensures same { IfOk result (λ pages. IsPermutation results.items pages) }
@@ -122,7 +122,7 @@ pub fn certify_with<R: Threads + Sync>(
     ensures counts { IfOk result (λ pages. CountsOf account.now (result_urls pages)) }
     // Their URLs are exactly those that can be reached over the results' own pages.
     ensures reached { IfOk result (λ pages. AreReachable (page_in results.items) (allows filter.now) seeds.now (result_urls pages)) }
-    // A walk leads to each entry's URL in as many hops as the entry has.
+    // A walk leads to each entry's URL, and has the entry's number of hops.
     ensures hops { OnOk result (All (λ e. WalkOf (page_in results.items) (allows filter.now) seeds.now e.hops e.url) (entries_of account.now)) }
 {
     let alloc = *results.allocator();
@@ -135,7 +135,7 @@ pub fn certify_with<R: Threads + Sync>(
     Ok(CrawlResult { pages })
 }
 
-/// Ok if the run has no fault.
+/// Ok if the run has no error.
 fn find_fault<'a, R: Threads + Sync>(
     rt: &R,
     alloc: Global,
@@ -157,7 +157,7 @@ fn find_fault<'a, R: Threads + Sync>(
     fault_by_marks(alloc, filter, seeds, whole.accepted, marks)
 }
 
-/// Ok if the run has no fault, by what a pass over the results found.
+/// Ok if the run has no error, by what a pass over the results found.
 fn fault_by_marks<'a>(
     alloc: Global,
     filter: &Filter,

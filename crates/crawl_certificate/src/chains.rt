@@ -8,10 +8,11 @@ use std::mem;
 /// No entry has this index.
 const NONE: usize = usize::MAX;
 
-/// Of so many workers or fewer, a link's hash is compared with those that the worker's chains go on with; else its host is hashed.
+/// With at most this many workers, a link's hash is compared with those that the worker's chains continue with; else its host is
+/// hashed.
 const FEW: u32 = 8;
 
-/// For each worker and subqueue the entries that the worker sent there, in order. Nothing rests on what it answers.
+/// For each worker and subqueue the entries that the worker sent there, in order. No result depends on what it returns.
 #[derive(Drop)]
 pub struct Chains {
     workers: u32,
@@ -28,12 +29,12 @@ pub struct Heads<'c> {
     entries: &'c [&'c Entry],
     /// For each worker and subqueue the index of the first of its entries that was not passed.
     heads: Vec<usize>,
-    /// The hash of that entry's URL, or 0 where there is none; nothing where there are many workers.
+    /// The hash of that entry's URL, or 0 if there is none; nothing if there are many workers.
     hashes: Vec<u64>,
 }
 
 impl Chains {
-    /// Those of an account of so many entries.
+    /// Those of an account of `count` entries.
     pub fn of(alloc: Global, account: &Account, count: usize) -> Result<Chains, AllocError> {
         let workers = account.workers();
         let pairs = (workers as usize).saturating_mul(workers as usize);
@@ -78,7 +79,7 @@ impl Chains {
 }
 
 impl<'c> Heads<'c> {
-    /// Where none of all entries was passed.
+    /// The state before any entry was passed.
     pub fn of(
         alloc: Global,
         chains: &'c Chains,
@@ -141,7 +142,7 @@ impl<'c> Heads<'c> {
     }
 }
 
-// The hash of the URL of the entry at the index, or 0 where there is none.
+// The hash of the URL of the entry at the index, or 0 if there is none.
 fn hash_at(entries: &[&Entry], index: usize) -> u64 {
     match entries.get(index) {
         Some(entry) => entry.url.text_hash(),
@@ -149,7 +150,7 @@ fn hash_at(entries: &[&Entry], index: usize) -> u64 {
     }
 }
 
-// What stands at the index, or an index that no entry has.
+// What is at the index, or an index that no entry has.
 fn at(indices: &[usize], index: usize) -> usize {
     match indices.get(index) {
         Some(found) => *found,

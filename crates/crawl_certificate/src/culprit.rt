@@ -1,4 +1,4 @@
-//! Which URL is at fault where a run is not certified.
+//! Which URL has the error of a run that is not certified.
 ghost use Rattle.std.specs.Prelude.{◌≡◌, ◌⊎◌, Some};
 ghost use Rattle.crawl_certificate.specs.Culprits.{no_memory};
 
@@ -9,14 +9,14 @@ use std::alloc::AllocError;
 /// Why a run is not certified, and where.
 #[derive(Debug, Drop)]
 pub struct Culprit {
-    /// The first fault of the run.
+    /// The first error of the run.
     pub cause: CertError,
-    /// The least URL, byte by byte, at which the run has the fault; none where memory ran out.
+    /// The least URL, byte by byte, that has the error; none if memory ran out.
     pub url: Option<CanonUrl>,
 }
 
 impl Culprit {
-    /// The fault at this URL. There may be no memory to name it.
+    /// The error at this URL. There may be no memory to name it.
     pub fn new(cause: CertError, url: &CanonUrl) -> Culprit
         ensures { (result ≡ record { cause = cause; url = Some url.now }) ⊎ (result ≡ no_memory) }
     {

@@ -21,7 +21,7 @@ pub enum CertError {
     /// Two results have one URL.
     #[error("incomplete: fetched twice")]
     Twice,
-    /// A growth was refused. This may stand in place of any other answer.
+    /// An allocation failed. This may replace any other result.
     #[error("out of memory")]
     NoMemory,
 }

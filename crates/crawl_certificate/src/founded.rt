@@ -31,7 +31,7 @@ pub fn least_unfounded<'e, 'a>(
     least
 }
 
-/// Whether the entry is allowed, and a seed where it has no hops, else linked.
+/// Whether the entry is allowed, and a seed if it has no hops, else linked.
 pub fn is_founded<'a>(filter: &Filter, seeds: &Urls<'a>, entry: &'a Entry, is_linked: bool) -> bool
     ensures { result ≡ (allows filter.now entry.now.url && (if entry.now.hops == 0 then is_in seeds.now entry.now.url else is_linked)) }
 {

@@ -21,22 +21,22 @@ ghost use Rattle.crawl_certificate.specs.declared.error.CertError.TheVariants as
 ghost use Rattle.crawl_certificate.specs.SmallRuns.{url_a, url_b, url_c, url_d, every, all_but_d, entry, result_of, ring_entries, ring_found, gone};
 ghost use Rattle.crawl_certificate.specs.Reachable.{WalkOf};
 
-/// Where no fault holds, the URLs of the results are exactly those that can be reached, and a walk to an entry's URL has as
-/// many hops as the entry.
+/// If a run has no error, the URLs of the results are exactly those that can be reached, and a walk to an entry's URL has the
+/// entry's number of hops.
 pub fn no_fault_means_reached()
     ensures urls { (allowed : List ℕ → Bool) (seeds : List (List ℕ)) (entries : List Entry) (results : List PageResult) → first_fault allowed seeds entries results ≡ None → AreReachable (page_in results) allowed seeds (result_urls results) }
     ensures hops { (allowed : List ℕ → Bool) (seeds : List (List ℕ)) (entries : List Entry) (results : List PageResult) → first_fault allowed seeds entries results ≡ None → All (λ e. WalkOf (page_in results) allowed seeds e.hops e.url) entries }
 {}
 
-/// Where no fault holds and each result has the page that a fetcher means by its URL, the results in ascending order are the
+/// If a run has no error and each result has the page that a fetcher has for its URL, the results in ascending order are the
 /// pages of the whole crawl: of every URL that can be reached over the fetcher's pages, and of no other.
 pub fn crawl_result()
     ensures { (meaning : List ℕ → Page) (allowed : List ℕ → Bool) (seeds : List (List ℕ)) (entries : List Entry) (results pages : List PageResult) → first_fault allowed seeds entries results ≡ None → ArePages meaning results → IsPermutation results pages → IsAscending (result_urls pages) → IsCrawl meaning allowed seeds pages }
 {}
 
-/// Where each entry stands in the subqueue of its URL, and no two of one subqueue have one URL: no two entries at all have one,
-/// and of URLs that are those of the entries, in any order, as many belong to a subqueue as it has entries. The subqueues of an
-/// account are so, since they keep their rule.
+/// If each entry is in the subqueue of its URL, and no two of one subqueue have one URL: no two entries at all have one,
+/// and each subqueue has as many entries as URLs belong to it, of any list of the entries' URLs. The subqueues of an
+/// account satisfy this, since they keep their rule.
 pub fn queues_are_counted()
     ensures apart { (subqueue : List ℕ → ℕ) (queues : List (List Entry)) → AreQueues subqueue queues → DifferByUrl (entries_in queues) }
     ensures counts { (subqueue : List ℕ → ℕ) (queues : List (List Entry)) (urls : List (List ℕ)) → AreQueues subqueue queues → IsPermutation (entry_urls (entries_in queues)) urls → (queue : ℕ) (entries : List Entry) → slice_get queues queue ≡ Some entries → count_by (λ u. subqueue u == queue) urls ≡ length entries }
@@ -45,7 +45,7 @@ pub fn queues_are_counted()
     ensures whole { (account : AccountId) → length account.queues ≡ account.workers → entries_of account ≡ entries_in account.queues }
 {}
 
-/// The definitions on a small ring of pages, each fault once, and on two pages that link to each other and that no seed leads to.
+/// The definitions on a small ring of pages, each error once, and on two pages that link to each other and that no seed leads to.
 pub fn faults_of_small_runs()
     ensures whole { first_fault every (url_a ∷ []) ring_entries (ring_found ++ gone Missing) ≡ None }
     ensures seed { first_fault every (url_a ∷ url_d ∷ []) ring_entries (ring_found ++ gone Missing) ≡ Some fault.SeedMissing }
@@ -54,14 +54,14 @@ pub fn faults_of_small_runs()
     ensures no_seeds { first_fault every [] ring_entries (ring_found ++ gone Missing) ≡ Some fault.Unfounded }
     ensures stray { first_fault every (url_a ∷ []) ring_entries (ring_found ++ gone Missing ++ result_of url_d Missing ∷ []) ≡ Some fault.Unfounded }
     ensures twice { first_fault every (url_a ∷ []) ring_entries (ring_found ++ gone Missing ++ gone Missing) ≡ Some fault.Twice }
-    // A filtered seed or link is no fault, and an entry that is not allowed is one.
+    // A filtered seed or link is no error, and an entry that is not allowed is one.
     ensures filtered { first_fault all_but_d (url_a ∷ url_d ∷ []) ring_entries (ring_found ++ gone (Moved (Some url_d))) ≡ None }
     ensures not_allowed { first_fault (λ url. not (bytes_eq url url_b)) (url_a ∷ []) ring_entries (ring_found ++ gone Missing) ≡ Some fault.Unfounded }
     ensures moved { first_fault every (url_a ∷ []) (entry url_a 0 ∷ []) (result_of url_a (Moved (Some url_b)) ∷ []) ≡ Some fault.LinkMissing }
     ensures cycle { first_fault every (url_c ∷ []) (entry url_a 2 ∷ entry url_b 1 ∷ entry url_c 0 ∷ []) (result_of url_a (Found (url_b ∷ []) 0) ∷ result_of url_b (Found (url_a ∷ []) 0) ∷ result_of url_c Missing ∷ []) ≡ Some fault.Unfounded }
 {}
 
-/// Where allowed seeds and links are entries and entries have results, none of the first three faults holds.
+/// If allowed seeds and links are entries and entries have results, the run has none of the first three errors.
 pub fn nothing_lost()
     ensures { (allowed : List ℕ → Bool) (seeds : List (List ℕ)) (entries : List Entry) (results : List PageResult) → NothingLost allowed seeds entries results → (seed_missing allowed seeds entries ≡ false) × (not_fetched entries results ≡ false) × (link_missing allowed entries results ≡ false) }
 {}
@@ -71,7 +71,7 @@ pub fn one_crawl()
     ensures { (meaning : List ℕ → Page) (allowed : List ℕ → Bool) (seeds : List (List ℕ)) (pages others : List PageResult) → IsCrawl meaning allowed seeds pages → IsCrawl meaning allowed seeds others → pages ≡ others }
 {}
 
-/// A fault of a run has one culprit. Where a run has not a fault no URL is at fault for it, so none is for a cause before a
+/// An error of a run has one culprit. If a run does not have an error, no URL has it, so none has a cause before a
 /// culprit's.
 pub fn culprits()
     ensures one { (first : Option CertError) (at : CertError → List ℕ → Bool) (culprit other : Culprit) → IsCulprit first at culprit → IsCulprit first at other → culprit ≡ other }

@@ -1,17 +1,17 @@
-//! The least URL at fault.
+//! The least URL that has an error.
 ghost use Rattle.std.specs.Prelude.{◌≡◌, if◌then◌else◌};
 ghost use Rattle.crawl_certificate.specs.Least.{is_below, url_of, url_if, lesser};
 
 use crawl_keys::CanonUrl;
 
-/// The URL, where it is at fault.
+/// The URL, if it has the error.
 pub fn where_at_fault<'a>(url: &'a CanonUrl, at_fault: bool) -> Option<&'a CanonUrl>
     ensures { url_of result ≡ url_if at_fault url.now }
 {
     if at_fault { Some(url) } else { None }
 }
 
-/// The lesser of two URLs, where there are two.
+/// The lesser of two URLs, if there are two.
 pub fn lesser<'a>(first: Option<&'a CanonUrl>, second: Option<&'a CanonUrl>) -> Option<&'a CanonUrl>
     ensures { url_of result ≡ lesser (url_of first.entry) (url_of second.entry) }
 {

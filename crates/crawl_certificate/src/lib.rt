@@ -1,6 +1,6 @@
 //! The certificate of a crawl: that its results are the pages of exactly the URLs that can be reached.
 //!
-//! [`certify`] looks for five faults of a run in what the run left, its account and its results. Where it finds none, no
+//! [`certify`] looks for five errors of a run in what the run left, its account and its results. If it finds none, no
 //! URL was missed and none was made up, whatever the threads did.
 #![tactic(auto)]
 

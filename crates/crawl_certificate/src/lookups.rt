@@ -18,7 +18,7 @@ use std::marker::Model;
 pub struct Accepted<'a> {
     account: &'a Account,
     entries: Vec<&'a Entry>,
-    /// For each subqueue how many entries stand before its own.
+    /// For each subqueue how many entries come before its own.
     firsts: Vec<usize>,
 }
 
@@ -70,7 +70,7 @@ impl<'a> Accepted<'a> {
         self.entries.as_slice()
     }
 
-    /// Where the entries of a subqueue begin among all, as near to the index as can be.
+    /// The index at which the entries of a subqueue begin among all, as near to the index as can be.
     pub fn nearest_first(&self, index: usize) -> usize {
         let mut nearest: usize = 0;
         for first in &self.firsts {
@@ -95,7 +95,7 @@ impl<'a> Accepted<'a> {
         ensures within { IfSome result (λ index. index < length self.now) }
     {
         let account = self.account;
-        // As `CanonUrl::subqueue`, which wants 1 to 512 of them: an account does not say so.
+        // As `CanonUrl::subqueue`, which requires 1 to 512 of them: an account does not say so.
         let workers = account.workers();
         if workers == 0 {
             return None;
@@ -105,7 +105,7 @@ impl<'a> Accepted<'a> {
         Some(self.firsts[queue as usize] + index)
     }
 
-    /// As [`Accepted::find`], where the entry at the guess, which may be any, is looked at first.
+    /// As [`Accepted::find`], but looks first at the entry at the guess, which may be any.
     pub fn find_by(&self, guess: usize, url: &CanonUrl) -> Option<usize>
         ensures found { Finds self.now url.now result }
         ensures accepted { is_some result ≡ is_accepted self.now url.now }

@@ -18,14 +18,14 @@ use crawl_keys::{CanonUrl, Filter};
 use crawl_pages::{PageResult, links_of};
 use std::alloc::{AllocError, Global};
 
-/// What is told of results: of each fault the least URL that has it.
+/// What is known of results: for each error the least URL that has it.
 #[derive(Clone, Copy)]
 pub struct Told<'r, 'e> {
     /// A link that the filter allows is not accepted.
     pub missing: Option<&'r CanonUrl>,
     /// The URL of a result is not accepted.
     pub stray: Option<&'r CanonUrl>,
-    /// Two results have one URL, that of an entry, where no URL of a result is a stray.
+    /// Two results have one URL, that of an entry, if no URL of a result is a stray.
     pub twice: Option<&'e CanonUrl>,
 }
 
@@ -55,7 +55,7 @@ impl<'r, 'e> Told<'r, 'e> {
 
 /// What the results say of the entries, and what is wrong with them.
 ///
-/// The entry of each result is looked for first behind that of the result before it, and of the first one at
+/// The entry of each result is looked for first after that of the result before it, and of the first one at
 /// the index `first`: each worker's results come in the order of its subqueue's entries.
 pub fn marks_of<'r, 'e>(
     alloc: Global,
@@ -113,8 +113,8 @@ fn mark_results<'r, 'e>(
     told
 }
 
-/// Marks the entry that has the result, and those that are linked from it and have one hop more. `twice` tells whether the
-/// entry was marked before. The guess moves on behind what was found.
+/// Marks the entry that has the result, and those that are linked from it and have one hop more. `twice` is whether the
+/// entry was marked before. The guess moves to after what was found.
 fn mark_result<'r, 'e>(
     filter: &Filter,
     accepted: &'e Accepted<'_>,
@@ -153,9 +153,9 @@ fn mark_result<'r, 'e>(
     }
 }
 
-/// Marks the entries of these links that have one hop more than so many, and tells the least allowed link that is not accepted.
+/// Marks the entries of these links that have one hop more than `hops`, and returns the least allowed link that is not accepted.
 ///
-/// Links that were new on one page are entries one behind the other, so the entry of each link is looked for first behind that
+/// Links that were new on one page are entries that follow each other, so the entry of each link is looked for first after that
 /// of the link before it.
 fn mark_links<'a>(
     filter: &Filter,
@@ -177,7 +177,7 @@ fn mark_links<'a>(
     missing
 }
 
-/// Marks the entry of the link, if it has one hop more than so many. Answers the link where it is allowed and not accepted.
+/// Marks the entry of the link, if it has one hop more than `hops`. Returns the link if it is allowed and not accepted.
 fn mark<'a>(
     filter: &Filter,
     accepted: &Accepted<'_>,
@@ -204,7 +204,7 @@ fn mark<'a>(
     }
 }
 
-/// Whether the entry has one hop more than so many.
+/// Whether the entry has one hop more than `hops`.
 pub fn is_next(hops: u32, entry: &Entry) -> bool
     ensures { result ≡ (entry.now.hops == hops + 1) }
 {

@@ -1,4 +1,4 @@
-//! What a run misses: accepted seeds and links, results of entries. Of each fault the least URL that has it.
+//! What a run misses: accepted seeds and links, results of entries. For each error the least URL that has it.
 ghost use Rattle.std.specs.Prelude.{◌≡◌, ℕ, List, Bool, not, ◌&&◌, map, length};
 ghost use Rattle.std.specs.List.{list_any};
 ghost use Rattle.std.specs.Str.{bytes_eq};

@@ -72,7 +72,7 @@ fn together<'r, 'e>(
     }
 }
 
-/// Marks each entry that is marked in `more`, and tells the least URL of an entry that was marked before.
+/// Marks each entry that is marked in `more`, and returns the least URL of an entry that was marked before.
 pub fn add_marks<'e>(
     entries: &'e [&Entry],
     marks: &mut [bool],

@@ -28,7 +28,7 @@ use crawl_pages::{PageResult, links_of};
 use std::alloc::{AllocError, Global};
 use std::thread::{Threads, join};
 
-/// Whether a walk over the results of a run that lost nothing shows that it has no fault.
+/// Whether a walk over the results of a run that lost nothing shows that it has no error.
 pub fn is_faultless<R: Threads + Sync>(
     rt: &R,
     alloc: Global,
@@ -110,7 +110,7 @@ fn together(
     Some(linked)
 }
 
-/// Whether the marks of a walk over all results show that the run has no fault.
+/// Whether the marks of a walk over all results show that the run has no error.
 fn is_founded_by(
     alloc: Global,
     filter: &Filter,
@@ -129,7 +129,7 @@ fn is_founded_by(
 }
 
 /// Marks of entries that are linked from the result of an entry with one hop less. Nothing if the chunk's results are not those
-/// of as many entries, in their order.
+/// of the chunk's entries, in their order.
 fn walked(
     alloc: Global,
     chains: &Chains,
@@ -146,7 +146,7 @@ fn walked(
     }
 }
 
-/// Marks entries that are linked from the result of an entry with one hop less. Returns whether the results are those of as many
+/// Marks entries that are linked from the result of an entry with one hop less. Returns whether the results are those of the
 /// entries, in their order.
 fn walk(chunk: Chunk<'_, '_, '_>, heads: &mut Heads<'_>, linked: &mut [bool]) -> bool
     requires long { length linked.old ≡ length chunk.accepted.now }

@@ -17,6 +17,6 @@ fetch_of queue =
     if queue.busy then option_map (λ m. m.url) (slice_get queue.accepted (queue.taken - 1))
     else None
 
--- the same of the subqueue with this number, if there is one
+-- likewise for the subqueue with this number, if there is one
 abbrev pub in_fetch : State → ℕ → Option (Option (List ℕ))
 in_fetch state queue = option_map fetch_of (slice_get state.subqueues queue)

@@ -1,5 +1,5 @@
 -- The gate's half of a state: who holds a unit, which word each sender remembers, and the gate's own steps. How many units
--- are out also depends on the subqueues; so each step is told `messages`, how many accepted messages are not done.
+-- are out also depends on the subqueues; so each step gets `messages`, how many accepted messages are not done.
 use Rattle.std.specs.Prelude.{ℕ, suc, ◌+◌, Bool, true, false, ◌&&◌, ◌||◌, not, List, [], length, nat_eq, if◌then◌else◌, Option, Some, None}
 use Rattle.std.specs.List.{list_any}
 use Rattle.std.specs.Ordering.{nat_cmp}
@@ -58,7 +58,7 @@ pub record GateTurn : Type 0 where
 abbrev pub turned_away : GateSide → Refusal → GateTurn
 turned_away gate reason = record { reply = told.Refused reason; gate = gate }
 
--- a unit was given back: the answer is the count that is left
+-- a unit was given back: the reply is the count that is left
 abbrev pub gave_back : GateSide → ℕ → GateTurn
 gave_back gate messages = record { reply = told.Count (units_out gate messages); gate = gate }
 

@@ -42,6 +42,6 @@ kept_progress queue = record { accepted = length queue.seen; taken = length queu
 abbrev pub progress : Subqueue → Progress
 progress queue = record { accepted = length queue.accepted; taken = queue.taken; busy = queue.busy }
 
--- the same of the subqueue with this number, if there is one
+-- likewise for the subqueue with this number, if there is one
 abbrev pub progress_of : State → ℕ → Option Progress
 progress_of state queue = option_map progress (slice_get state.subqueues queue)

@@ -107,7 +107,7 @@ told_count (told.Pending count) = Some count
 told_count told.Closed = Some 0
 told_count _ = None
 
--- the count that a reply tells is that of the units out by the history up to and with its event
+-- the count in a reply is that of the units out by the history up to and with its event
 abbrev pub TellsUnits : List (Event × Reply) → Type 0
 TellsUnits history =
     (k count : ℕ) (event : Event) (reply : Reply) → slice_get history k ≡ Some (event, reply) → told_count reply ≡ Some count → AreOut count (take (suc k) history)
@@ -154,7 +154,7 @@ abbrev pub TellsClosing : List (Event × Reply) → Type 0
 TellsClosing history =
     (k sender count : ℕ) (closed : Bool) → slice_get history k ≡ Some (Look sender, told.Word count closed) → closed ≡ was_closed (take k history)
 
--- an acceptance is told of the subqueue that its event names
+-- an acceptance names the subqueue that its event names
 abbrev pub NamesItsSubqueue : List (Event × Reply) → Type 0
 NamesItsSubqueue history =
     (k sender queue there number : ℕ) (url : List ℕ) → slice_get history k ≡ Some (Admit sender url queue, told.Accepted there number) → there ≡ queue

@@ -18,7 +18,7 @@ HasRoom max = 1 ≤ max
 abbrev pub AreDifferent : List ℕ → Type 0
 AreDifferent numbers = (i j n : ℕ) → slice_get numbers i ≡ Some n → slice_get numbers j ≡ Some n → i ≡ j
 
--- where this many units are out: they are at most the maximum, and none once the gate is closed; while it is open no sender
+-- if this many units are out: they are at most the maximum, and none once the gate is closed; while it is open no sender
 -- remembers a closed word; and no sender holds two units
 pub record GateInvariant (gate : GateSide) (count : ℕ) : Type 0 where
   pub within : count ≤ gate.max
@@ -26,7 +26,7 @@ pub record GateInvariant (gate : GateSide) (count : ℕ) : Type 0 where
   pub met : gate.closed ≡ false → list_all (λ entry. not entry.1.closed) gate.remembered ≡ true
   pub holders : AreDifferent gate.holders
 
--- no more was taken than was accepted; no URL stands twice in what was accepted; each sender's messages in it are numbered
+-- no more was taken than was accepted; no URL was accepted twice; each sender's messages in it are numbered
 -- 0, 1, 2, .. in order; and a subqueue that is busy has taken something
 pub record SubqueueInvariant (queue : Subqueue) : Type 0 where
   pub within : queue.taken ≤ length queue.accepted
@@ -38,7 +38,7 @@ abbrev pub EachSubqueue : (Subqueue → Type 0) → State → Type 0
 EachSubqueue P state = (place : ℕ) (queue : Subqueue) → slice_get state.subqueues place ≡ Some queue → P queue
 
 -- a subqueue is as the history says: it accepted these messages; these URLs were taken, as the first of them, in order, and
--- the URLs of the others wait; and the fetches of those taken are done, but for the last one where the subqueue is busy
+-- the URLs of the others wait; and the fetches of those taken are done, but for the last one if the subqueue is busy
 pub record IsAfter (history : List (Event × Reply)) (place : ℕ) (queue : Subqueue) : Type 0 where
   pub accepted : queue.accepted ≡ accepted_in place history
   pub taken : queue.taken ≡ length (taken_urls place history)

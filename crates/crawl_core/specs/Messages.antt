@@ -1,4 +1,4 @@
--- Messages, and what a list of them is asked. Nothing here speaks of the machine.
+-- Messages, and what is defined of a list of them. Nothing here speaks of the machine.
 use Rattle.std.specs.Prelude.{◌≡◌, ℕ, Bool, List, map, take, nat_eq, slice_get, Option, Some}
 use Rattle.std.specs.List.{count_by, filter, find, list_any}
 use Rattle.std.specs.Str.{bytes_eq}
@@ -30,7 +30,7 @@ abbrev pub UrlsDiffer : List Message → Type 0
 UrlsDiffer messages =
     (i j : ℕ) (m n : Message) → slice_get messages i ≡ Some m → slice_get messages j ≡ Some n → m.url ≡ n.url → i ≡ j
 
--- a message's number is how many earlier ones of its sender stand before it
+-- a message's number is how many earlier ones of its sender come before it
 abbrev pub NumbersInOrder : List Message → Type 0
 NumbersInOrder messages =
     (k : ℕ) (m : Message) → slice_get messages k ≡ Some m → m.number ≡ count_from (take k messages) m.sender

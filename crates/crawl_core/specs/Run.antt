@@ -1,4 +1,4 @@
--- Runs of the frontier: events with their replies, each a step from the state before.
+-- Runs of the frontier: events with their replies; each event is a step from the state before.
 use Rattle.std.specs.Prelude.{◌≡◌, ℕ, List, [], ◌∷◌, length}
 use Rattle.std.specs.List.{zip}
 use Rattle.crawl_core.specs.declared.event.Event.{Event}

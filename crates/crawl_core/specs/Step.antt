@@ -1,4 +1,4 @@
--- One step of the frontier, put together from the gate's half and the subqueues': what it answers to an event in a state,
+-- One step of the frontier, put together from the gate's half and the subqueues': the reply to an event in a state,
 -- and the state after it.
 use Rattle.std.specs.Prelude.{◌≡◌, ℕ, List, not, slice_get, slice_set, if◌then◌else◌, Option, Some, None}
 use Rattle.crawl_core.specs.declared.event.Event.{Event}
@@ -21,11 +21,11 @@ pub record Turn : Type 0 where
 abbrev pub refused : State → Refusal → Turn
 refused state reason = record { reply = told.Refused reason; state = state }
 
--- a unit was given back: the answer is the count that is left
+-- a unit was given back: the reply is the count that is left
 abbrev pub counted : State → Turn
 counted state = record { reply = told.Count (count_of state); state = state }
 
--- a step of the gate alone
+-- a step of only the gate
 abbrev pub by_gate : State → GateTurn → Turn
 by_gate state done = record { reply = done.reply; state = record state { gate = done.gate } }
 
@@ -49,7 +49,7 @@ admit_to state sender url place (Some queue) =
     else if has_url queue.accepted url then record { reply = told.Seen; state = state }
     else put state sender url place queue
 
--- `Take`: the oldest message that was not taken, if there is one; its subqueue is busy from now on
+-- `Take`: the oldest message that has not been taken, if there is one; its subqueue is busy from now on
 abbrev pub take_oldest : State → ℕ → Subqueue → Option Message → Turn
 take_oldest state place queue None = record { reply = told.Empty; state = state }
 take_oldest state place queue (Some message) = record {
@@ -70,7 +70,7 @@ done_with state place (Some queue) =
     if queue.busy then counted (with_subqueue state place (after_finishing queue))
     else refused state why.Nothing
 
--- what each event does; each refusal stands before what it refuses
+-- what each event does; each refusal comes before what it refuses
 abbrev pub turn : State → Event → Turn
 turn state (Look sender) = by_gate state (look state.gate (unfinished_in state) sender)
 turn state (Enter sender) = by_gate state (enter state.gate (unfinished_in state) sender)

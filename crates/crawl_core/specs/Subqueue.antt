@@ -20,7 +20,7 @@ finished queue = queue.taken - one_if queue.busy
 abbrev pub unfinished : Subqueue → ℕ
 unfinished queue = length queue.accepted - finished queue
 
--- what is accepted and was not taken
+-- what is accepted and has not been taken
 abbrev pub waiting : Subqueue → List Message
 waiting queue = drop queue.taken queue.accepted
 

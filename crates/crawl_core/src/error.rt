@@ -5,7 +5,7 @@ use std::alloc::{AllocError, AllocFailed};
 use std::error::Error;
 use std::fmt;
 
-/// Want of memory: a growth was refused.
+/// Out of memory: an allocation failed.
 pub type NoMemory = AllocError;
 
 /// Why there is no frontier, in the order of the checks.
@@ -15,7 +15,7 @@ pub enum CoreError {
     BadWorkers,
     /// The maximum is not 1 to [`PENDING_LIMIT`](crate::PENDING_LIMIT).
     BadMax,
-    /// A growth was refused.
+    /// An allocation failed.
     NoMemory,
 }
 

@@ -26,12 +26,12 @@ pub fn taken_once_in_order()
     ensures numbered { (workers max : ℕ) (events : List Event) (replies : List Reply) → IsRun workers max events replies → LeavesInOrder (zip events replies) }
     ensures one_at_a_time { (workers max : ℕ) (events : List Event) (replies : List Reply) → IsRun workers max events replies → FetchesOneAtATime (zip events replies) }
 
-    // Where all admissions of a URL name one subqueue, it is taken at most once, from that subqueue alone.
+    // If all admissions of a URL name one subqueue, it is taken at most once, and only from that subqueue.
     ensures taken_once { (workers max : ℕ) (events : List Event) (replies : List Reply) → IsRun workers max events replies → AssignsEachUrl events → TakesOnce (zip events replies) }
     ensures where_admitted { (workers max : ℕ) (events : List Event) (replies : List Reply) → IsRun workers max events replies → AssignsEachUrl events → TakesWhereAdmitted events (zip events replies) }
 {}
 
-/// Nothing is made up: an acceptance is told of the subqueue that its event names; and each URL that a subqueue has accepted,
+/// Nothing is made up: an acceptance names the subqueue that its event names; and each URL that a subqueue has accepted,
 /// and each that was taken from it, was admitted to it by one of the events.
 pub fn admitted_before()
     ensures named { (workers max : ℕ) (events : List Event) (replies : List Reply) → IsRun workers max events replies → NamesItsSubqueue (zip events replies) }
@@ -39,7 +39,7 @@ pub fn admitted_before()
     ensures taken { (workers max : ℕ) (events : List Event) (replies : List Reply) → IsRun workers max events replies → (place queue : ℕ) (url : List ℕ) → slice_get (zip events replies) place ≡ Some (Event.Take queue, told.Taken url) → IsAdmitted events queue url }
 {}
 
-/// Seen means accepted: a URL that is answered `Seen` was accepted by its subqueue before.
+/// Seen means accepted: a URL with the reply `Seen` was accepted by its subqueue before.
 pub fn seen_means_accepted()
     ensures { (workers max : ℕ) (front back : List (Event × Reply)) (sender queue : ℕ) (url : List ℕ) (end : State) → Run (start workers max) (front ++ (Event.Admit sender url queue, told.Seen) ∷ back) end → Contains (accepted_urls queue front) url }
 {}
@@ -51,7 +51,7 @@ pub fn empty_means_taken()
 
 /// Closed means done: at a reply `Closed` the opening unit is gone, nobody holds a unit, and every accepted message was
 /// taken and is done; so from each subqueue were taken exactly the URLs that it accepted, in order, and each of these fetches
-/// was answered as done.
+/// ended with a `Done`.
 pub fn closed_means_finished()
     ensures drained { (workers max : ℕ) (front back : List (Event × Reply)) (event : Event) (end : State) → Run (start workers max) (front ++ (event, told.Closed) ∷ back) end → (queue : ℕ) → taken_urls queue front ≡ accepted_urls queue front }
     ensures done { (workers max : ℕ) (front back : List (Event × Reply)) (event : Event) (end : State) → Run (start workers max) (front ++ (event, told.Closed) ∷ back) end → (queue : ℕ) → done_in queue front ≡ length (taken_urls queue front) }
@@ -63,8 +63,8 @@ pub fn closed_for_good()
     ensures { (workers max : ℕ) (events : List Event) (replies : List Reply) → IsRun workers max events replies → StaysClosed (zip events replies) }
 {}
 
-/// Every state of a run meets the gate's invariant and, in each subqueue, the subqueue's; it has the run's numbers, and it is
-/// what the history says. So are the counts that the replies tell, and whether a look finds the gate closed.
+/// Every state of a run has the gate's invariant and, in each subqueue, the subqueue's; it has the run's numbers, and it is
+/// what the history says. So are the counts in the replies, and whether a look finds the gate closed.
 pub fn invariants_in_runs()
     ensures gate { (workers max : ℕ) (history : List (Event × Reply)) (state : State) → HasRoom max → Run (start workers max) history state → GateInvariant state.gate (count_of state) }
     ensures subqueues { (workers max : ℕ) (history : List (Event × Reply)) (state : State) → Run (start workers max) history state → EachSubqueue SubqueueInvariant state }

@@ -1,6 +1,6 @@
 use crate::text::Text;
 
-/// What the frontier answers to an event.
+/// What the frontier replies to an event.
 #[derive(Debug, PartialEq, Eq, Drop)]
 pub enum Reply {
     /// The word that a sender read.
@@ -32,7 +32,7 @@ pub enum Reply {
 pub enum Refusal {
     /// The gate is closed.
     Closed,
-    /// As many units are out as the frontier allows.
+    /// The maximum number of units is out.
     Full,
     /// There is nothing to do it with: no remembered word, no unit held, no URL being fetched.
     Nothing,

@@ -15,7 +15,7 @@ use std::sync::ArcStr;
 /// A URL as the machine keeps it: any text, which contracts see as its bytes.
 ///
 /// Texts are equal and print as their bytes, which are kept once and shared by all copies, in any threads. So a copy takes no
-/// memory, and fails only where the count of copies is at its limit.
+/// memory, and fails only if the count of copies is at its limit.
 #[derive(Drop)]
 pub struct Text {
     hash: u64,

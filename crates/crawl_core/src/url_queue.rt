@@ -21,7 +21,7 @@ pub struct UrlQueue {
     waiting: VecDeque<Text>,
     /// All that were ever accepted, oldest first.
     seen: Vec<Text>,
-    /// Where each of these stands.
+    /// The index of each of these.
     index: HashIndex,
     /// How many of each sender were accepted.
     numbers: BTreeMap<u64, u64>,
@@ -92,7 +92,7 @@ impl UrlQueue {
         self.index.find(&self.seen, url).is_some()
     }
 
-    /// Puts a URL that was never accepted here to the end, and answers how many of the sender came before it.
+    /// Appends a URL that was never accepted here, and returns how many of the sender came before it.
     pub fn accept(&mut self, url: &Text, sender: u64) -> Result<u64, NoMemory>
         requires { has_seen self.old url.now ≡ false }
         ensures number { IfOk result (λ number. number ≡ number_at self.old.numbers sender) }

@@ -1,4 +1,4 @@
-//! The subqueues of a machine, each asked and changed by its place.
+//! The subqueues of a machine, each read and changed by its number.
 ghost use Rattle.std.specs.Prelude.{◌≡◌, ◌∷◌, [], ◌<◌, true, false, length, replicate, slice_get, slice_set, Some, None, drop, IfOk, IfSome, IfNone, OnErr, OnSome};
 ghost use Rattle.std.specs.Option.{option_map};
 ghost use Rattle.crawl_core.specs.Fetching.{kept_fetch};
@@ -49,7 +49,7 @@ impl UrlQueues {
         Some(queue.is_busy())
     }
 
-    /// The URL that the subqueue took last, if that is not done yet; nothing where there is no such subqueue.
+    /// The URL that the subqueue took last, if that is not done yet; nothing if there is no such subqueue.
     pub fn in_fetch(&self, place: u32) -> Option<Option<&Text>>
         ensures { option_map (λ found. option_map (λ url. url.now) found) result ≡ option_map kept_fetch (slice_get self.now place) }
     {
@@ -73,7 +73,7 @@ impl UrlQueues {
         Some(queue.has_seen(url))
     }
 
-    /// Puts a URL that the subqueue never accepted to its end, and answers how many of the sender came before it.
+    /// Appends a URL that the subqueue never accepted, and returns how many of the sender came before it.
     pub fn accept(&mut self, place: u32, url: &Text, sender: u64) -> Result<u64, NoMemory>
         requires { option_map (λ queue. has_seen queue url.now) (slice_get self.old place) ≡ Some false }
         ensures number { IfOk result (λ number. (queue : KeptQueue) → slice_get self.old place ≡ Some queue → number ≡ number_at queue.numbers sender) }

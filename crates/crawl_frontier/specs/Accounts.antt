@@ -8,7 +8,7 @@ use Rattle.crawl_queues.specs.Entries.{has_url, entries_of, KeepsRule}
 use Rattle.crawl_queues.specs.Books.{BookId, sent_to}
 use Rattle.crawl_frontier.specs.Parts.{WorkerId, SenderId}
 
--- x stands at k
+-- x is at index k
 abbrev pub At : {X : Type 0} → List X → ℕ → X → Type 0
 At xs k x = slice_get xs k ≡ Some x
 
@@ -21,7 +21,7 @@ abbrev pub HasWorkers : ℕ → List WorkerId → Type 0
 HasWorkers workers closed = (q : ℕ) → q < workers → (k : ℕ) × (w : WorkerId) × At closed k w × (w.queue ≡ q)
 
 -- the books agree with the entries of subqueue q: those that they have as accepted are those with their id, in order,
--- and each URL that they have as seen stands there
+-- and each URL that they have as seen is at its index there
 pub record Agrees (q : ℕ) (es : List Entry) (b : BookId) : Type 0 where
   pub sent : sent_to q b.log ≡ entries_of b.id es
   pub seen : (k : ℕ) (url : List ℕ) → At b.log k (Seen url q) → has_url url es ≡ true
@@ -53,7 +53,7 @@ pub record AccountId : Type 0 where
   pub workers : ℕ
   pub queues : List (List Entry)
 
--- what was found behind a queue's lock: which queue's shard, the list sent, and whether its worker was seen to have taken all of it
+-- what was found under a queue's lock: which queue's shard, the list sent, and whether its worker was seen to have taken all of it
 pub record Found : Type 0 where
   pub queue : ℕ
   pub sent : List Entry
@@ -82,7 +82,7 @@ pub record IsFirstUnsettled (closed : List WorkerId) (senders : List SenderId) (
   pub below : (p : ℕ) (f : Found) → p < q → At found p f → IsSettled closed senders p f
 
 -- A worker is missing; or else a sender of what was found; or else one queue disagrees, and it is the least. No clause of
--- an earlier call has the lists that were found. That the gate is unsettled is never answered.
+-- an earlier call has the lists that were found. The result is never that the gate is unsettled.
 abbrev pub FinishFails : ℕ → List WorkerId → List SenderId → FinishError → Type 0
 FinishFails workers closed senders MissingPart =
     (¬ HasWorkers workers closed)

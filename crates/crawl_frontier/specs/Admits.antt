@@ -1,4 +1,4 @@
--- What a shard's `admit` answers and does.
+-- What a shard's `admit` returns and does.
 use Rattle.std.specs.Prelude.{◌≡◌, ◌≢◌, ℕ, ◌^◌, ◌<◌, ◌≤◌, true, false, List, [], ◌∷◌, ◌++◌, length, Some, slice_get}
 use Rattle.crawl_gate.specs.Seat.{SeatId}
 use Rattle.crawl_queues.specs.declared.entry.Entry.{Entry}
@@ -8,9 +8,9 @@ use Rattle.crawl_frontier.specs.Limits.{hops_limit}
 use Rattle.crawl_queues.specs.Entries.{has_url, count_of, entry}
 use Rattle.crawl_frontier.specs.Parts.{ShardId, shard}
 
--- Of the shard before and after, the URL, the sender's id and own count, the hops, the unit, and the answer. In this
--- order: the counts differ, the URL stands in the list, the hops are above the limit; and else it is appended. The index told
--- is where it stands from then on.
+-- Of the shard before and after, the URL, the sender's id and own count, the hops, the unit, and the result. In this
+-- order: the counts differ, the URL is in the list, the hops are above the limit; and else it is appended. The index that is
+-- returned is the URL's from then on.
 abbrev pub Admits : ShardId → ShardId → List ℕ → ℕ → ℕ → ℕ → SeatId → Admit → Type 0
 Admits s t url id own hops unit (Admitted n i) =
     (n ≡ own) × (own < 2 ^ 63) × (count_of id s.sent ≡ own) × (has_url url s.sent ≡ false) × (hops ≤ hops_limit)

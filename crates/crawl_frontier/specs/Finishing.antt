@@ -43,7 +43,7 @@ Slots gate workers queues closed rights =
     (q : ℕ) (p : PassId) → get nat_cmp rights q ≡ Some p
     → (k : ℕ) × (w : WorkerId) × At closed k w × (w.queue ≡ q) × (p.view ≡ popping (home gate workers q) w.taken w.empty_pops) × (slice_get queues q ≡ Some p.subqueue)
 
--- the worker's own right to pop stands at its queue
+-- the worker's own right to pop is that of its queue
 abbrev pub OwnRight : GateId → ℕ → BTreeMap ℕ PassId → WorkerId → Type 0
 OwnRight gate workers rights w =
     (p : PassId) × (get nat_cmp rights w.queue ≡ Some p) × (p.view ≡ popping (home gate workers w.queue) w.taken w.empty_pops)
@@ -52,21 +52,21 @@ OwnRight gate workers rights w =
 abbrev pub IsShared : List WorkerId → ℕ → Type 0
 IsShared closed q = (j k : ℕ) × (v w : WorkerId) × At closed j v × At closed k w × (v.queue ≡ q) × (w.queue ≡ q) × (j ≢ k)
 
--- of the closed workers from `from` on: each has a queue, and a right stands there; and at a queue below `alone` that
+-- of the closed workers from `from` on: each has a queue, and that queue's right; and at a queue below `alone` that
 -- right is its own, and no other of them has the queue
 pub record Placed (gate : GateId) (workers : ℕ) (closed : List WorkerId) (from : ℕ) (rights : BTreeMap ℕ PassId) (alone : ℕ) : Type 0 where
   pub within : (k : ℕ) (w : WorkerId) → At closed k w → from ≤ k → w.queue < workers
   pub there : (k : ℕ) (w : WorkerId) → At closed k w → from ≤ k → is_some (get nat_cmp rights w.queue) ≡ true
   pub own : (k : ℕ) (w : WorkerId) → At closed k w → from ≤ k → w.queue < alone → OwnRight gate workers rights w
   pub once : (j k : ℕ) (v w : WorkerId) → At closed j v → At closed k w → from ≤ j → from ≤ k → v.queue ≡ w.queue → w.queue < alone → j ≡ k
-  -- a right that stands is one of theirs
+  -- a right that is there is one of theirs
   pub whose : (q : ℕ) → is_some (get nat_cmp rights q) ≡ true → (k : ℕ) × (w : WorkerId) × At closed k w × (from ≤ k) × (w.queue ≡ q)
 
 -- each right is one of these queues'
 abbrev pub RightsOf : List QueueId → BTreeMap ℕ PassId → Type 0
 RightsOf queues rights = (q : ℕ) (p : PassId) → get nat_cmp rights q ≡ Some p → slice_get queues q ≡ Some p.subqueue
 
--- of the shard behind the lock of queue q and the right to pop: either the shard is this queue's, and what was sent is
+-- of the shard under the lock of queue q and the right to pop: either the shard is this queue's, and what was sent is
 -- what was taken; or it is another's; or it is this queue's, and the subqueue was not seen to be empty
 abbrev pub Shows : List QueueId → ℕ → ShardId → PassId → Option Doubt → Type 0
 Shows queues q s right None = (s.queue ≡ q) × (s.sent ≡ right.view.taken)
@@ -110,11 +110,11 @@ AreRaised before after = (length after ≡ length before)
 abbrev pub IsHome : List ShardId → ℕ → ShardId → Type 0
 IsHome shards q s = (s.queue ≡ q) × ((j : ℕ) × At shards j s × (j + q + 1 ≡ length shards))
 
--- what is known of each list stands in its shard's, where that is at home
+-- what is known of each list holds in its shard's, if that is at home
 abbrev pub AreToldOf : List ShardId → List KnownList → Type 0
 AreToldOf shards told = (q : ℕ) (s : ShardId) (t : KnownList) → IsHome shards q s → At told q t → Stays t.items s.sent
 
--- each line of a log is true of its queue's shard, where that is at home
+-- each line of a log is true of its queue's shard, if that is at home
 abbrev pub LogIsOf : List ShardId → List Logged → Type 0
 LogIsOf shards log = (k : ℕ) (l : Logged) (s : ShardId) → At log k l → IsHome shards (queue_of l) s → Stands s.sent l
 
@@ -154,7 +154,7 @@ KeepRuleBelow workers least lists = (q : ℕ) (es : List Entry) → q < least �
 abbrev pub AllAre : {X : Type 0} → (X → Type 0) → List X → Type 0
 AllAre P xs = (j : ℕ) (x : _) → At xs j x → P x
 
--- of queues below `settled`, `least` is the first where some books disagree; and there is none where they are equal
+-- of queues below `settled`, `least` is the first at which some books disagree; and there is none if they are equal
 abbrev pub AgreeTo : ℕ → ℕ → List (List Entry) → List BookId → Type 0
 AgreeTo least settled lists books = (least ≤ settled) × AllAre (AgreesBelow least lists) books × (least < settled → OneDisagrees least lists books)
 

@@ -5,7 +5,7 @@ use Rattle.crawl_frontier.specs.Limits.{IsWorkers}
 use Rattle.crawl_frontier.specs.declared.error.FrontierError.{FrontierError}
 use Rattle.crawl_frontier.specs.declared.error.FrontierError.TheVariants.{BadWorkers, BadLimit, NoMemory}
 
--- the first that holds, and want of memory only where neither does
+-- the first that holds, and out of memory only if neither does
 abbrev pub NoSetup : ℕ → ℕ → FrontierError → Type 0
 NoSetup workers max BadWorkers = ¬ IsWorkers workers
 NoSetup workers max BadLimit = IsWorkers workers × ¬ IsMaximum max

@@ -40,7 +40,7 @@ pub record SenderId : Type 0 where
 abbrev pub sender_with : BookId → SeatId → SenderId
 sender_with book seat = record { book = book; seat = seat }
 
--- the seeder's besides the opening unit
+-- the seeder's, in addition to the opening unit
 pub record SeederId : Type 0 where
   pub book : BookId
   pub opening : SeatId

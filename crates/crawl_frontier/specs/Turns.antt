@@ -1,4 +1,4 @@
--- What a worker's `next` and `done` answer.
+-- What a worker's `next` and `done` return.
 use Rattle.std.specs.Prelude.{◌≡◌, ◌⊎◌, ℕ, ◌+◌, ◌<◌, [], ◌∷◌, ◌++◌}
 use Rattle.crawl_gate.specs.Word.{open_at, closed_at}
 use Rattle.crawl_gate.specs.Seat.{SeatId, after_looking, after_not_closing, after_closing}

@@ -24,7 +24,7 @@ const TRIES: u32 = 200;
 
 /// A URL frontier, which threads share by `&`.
 ///
-/// It has the gate, the queues, and for each queue a shard behind a lock: the list of the URLs that the queue accepted.
+/// It has the gate, the queues, and for each queue a shard under a lock: the list of the URLs that the queue accepted.
 /// `K` identifies the frontier for the prover ([`Name`]).
 ///
 /// ```rust

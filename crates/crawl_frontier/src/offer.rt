@@ -84,7 +84,7 @@ fn admit<K: Name, R: Wait>(
 }
 
 /// Offers a URL with the unit that it entered by. The log has room for one line more, so nothing of the part grows
-/// after the push. Where the URL was not accepted, `pass` becomes what was that unit's seat.
+/// after the push. If the URL was not accepted, `pass` becomes what was that unit's seat.
 pub(crate) fn deliver<K: Name, R: Wait>(
     rt: &R,
     frontier: &Frontier<K>,

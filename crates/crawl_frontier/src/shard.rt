@@ -116,7 +116,7 @@ fn seen(there: &Entry, index: u32, unit: Unit) -> Admit
     }
 }
 
-// The index of the next entry, unless the list has as many entries as an index can count.
+// The index of the next entry, unless the list is as long as an index can count.
 fn next_index(sent: &Vec<Entry>) -> Option<u32>
     ensures { IfSome result (λ index. (index ≡ length sent.now.items) × (index < 4294967295)) }
 {

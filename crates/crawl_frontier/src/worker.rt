@@ -92,7 +92,7 @@ impl<K: Name> Worker<K> {
 
     /// Copies the hashes of the URLs that its queue accepted after the first `taken`, oldest first, and returns how many.
     ///
-    /// It copies as many as `hashes` has room for. A worker that has taken `taken` URLs takes these next, so it can prepare
+    /// It fills `hashes`, if there are enough of them. A worker that has taken `taken` URLs takes these next, so it can prepare
     /// for them. The call takes the queue's lock. No contract depends on it.
     pub fn look_ahead<R: Wait>(
         &self,

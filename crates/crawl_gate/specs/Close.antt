@@ -1,4 +1,4 @@
--- The word that a closing call meets, by its answer.
+-- The word that a closing call meets, by its result.
 use Rattle.std.specs.Prelude.{◌≡◌, ◌⊎◌, ◌<◌, ◌≤◌, true, false}
 use Rattle.crawl_gate.specs.declared.gate.close.Close.{Close}
 use Rattle.crawl_gate.specs.declared.gate.close.Close.TheVariants.{Closed, Pending}
@@ -12,7 +12,7 @@ TriesToClose pass (Closed closed) = (closed ≡ after_closing pass (open_at 0)) 
 TriesToClose pass (Pending back n) =
     (0 < n) × (n ≤ pass.view.max_pending) × (knows_closed pass.view ≡ false) × (back ≡ after_not_closing pass (open_at n))
 
--- who is answered Closed knows it, and so meets the gate closed from then on
+-- a seat whose result is Closed knows it, and so meets the gate closed from then on
 abbrev pub TellsClosed : Close → Type 0
 TellsClosed (Closed closed) = knows_closed closed.view ≡ true
 TellsClosed (Pending back n) = Unit {0}

@@ -1,4 +1,4 @@
--- The words that an entering call meets, by its answer.
+-- The words that an entering call meets, by its result.
 use Rattle.std.specs.Prelude.{◌≡◌, ◌≢◌, ℕ, ◌<◌, false, List, [], ◌∷◌}
 use Rattle.crawl_gate.specs.declared.rule.View.{View}
 use Rattle.crawl_gate.specs.declared.gate.enter.Enter.{Enter}
@@ -7,7 +7,7 @@ use Rattle.crawl_gate.specs.Word.{Word, open_at, closed_at}
 use Rattle.crawl_gate.specs.View.{knows_closed, view_looking, view_losing}
 use Rattle.crawl_gate.specs.Seat.{GateId, SeatId, IsSeatOf, with_view, after_looking, after_entering, after_losing}
 
--- One try of a pass. Its load meets a closed word, or an open one with the maximum, and that is the answer;
+-- One try of a pass. Its load meets a closed word, or an open one with the maximum, and that is the result;
 -- or an open word below the maximum, and then its exchange meets that word again, or another.
 abbrev pub TriesToEnter : SeatId → Enter → Type 0
 TriesToEnter pass (Entered unit) =
@@ -19,7 +19,7 @@ TriesToEnter pass (Lost back) =
     (n : ℕ) × (x : Word) × (n < pass.view.max_pending) × (knows_closed pass.view ≡ false) × (x ≢ open_at n)
     × (back ≡ after_losing (after_looking pass (open_at n)) x)
 
--- One try beside a unit, whose seat makes the load: the gate is open, and the pass makes at most the exchange.
+-- One try with a unit, whose seat makes the load: the gate is open, and the pass makes at most the exchange.
 abbrev pub TriesToEnterBeside : SeatId → SeatId → SeatId → Enter → Type 0
 TriesToEnterBeside held held' pass (Entered unit) =
     (n : ℕ) × (n < pass.view.max_pending) × (held' ≡ after_looking held (open_at n)) × (unit ≡ after_entering pass (open_at n))
@@ -43,12 +43,12 @@ abbrev pub view_trying : View → List LostTry → View
 view_trying v [] = v
 view_trying v (t ∷ ts) = view_trying (view_losing (view_looking v (open_at t.0)) t.1) ts
 
--- the view of a seat that made the loads alone
+-- the view of a seat that only made the loads
 abbrev pub view_loading : View → List LostTry → View
 view_loading v [] = v
 view_loading v (t ∷ ts) = view_loading (view_looking v (open_at t.0)) ts
 
--- the view of a seat that made the exchanges alone
+-- the view of a seat that only made the exchanges
 abbrev pub view_exchanging : View → List LostTry → View
 view_exchanging v [] = v
 view_exchanging v (t ∷ ts) = view_exchanging (view_losing v t.1) ts
@@ -79,7 +79,7 @@ abbrev pub EntersAtLast : SeatId → Enter → Type 0
 EntersAtLast pass answer =
     (ts : List LostTry) × AllLost pass.view.max_pending ts × TriesToEnter (after_trying pass ts) answer × ¬ IsLost answer
 
--- the same beside a unit
+-- likewise with a unit
 abbrev pub EntersAtLastBeside : SeatId → SeatId → SeatId → Enter → Type 0
 EntersAtLastBeside held held' pass answer =
     (ts : List LostTry) × AllLost pass.view.max_pending ts

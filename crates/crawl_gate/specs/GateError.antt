@@ -8,7 +8,7 @@ use Rattle.crawl_gate.specs.declared.error.GateError.TheVariants.{BadLimit, NoMe
 abbrev pub IsMaximum : ℕ → Type 0
 IsMaximum max = (0 < max) × (max ≤ pending_limit)
 
--- a bad maximum is always named, and want of memory only at a good one
+-- a bad maximum is always named, and out of memory only at a good one
 abbrev pub Refuses : ℕ → GateError → Type 0
 Refuses max BadLimit = ¬ IsMaximum max
 Refuses max NoMemory = IsMaximum max

@@ -24,9 +24,9 @@ pub record GateInvariant (max : ℕ) (gate : Moment) : Type 0 where
   pub small : max < top_bit
   -- the gate is closed only with count 0
   pub empty : closed ≡ true → units_held gate.views ≡ 0
-  -- and only where a seat has closed it
+  -- and only if a seat has closed it
   pub closer : closed ≡ true → HasCloser gate.views
-  -- every seat has the maximum in its view, and the gate is closed where a seat has closed it or has met it closed
+  -- every seat has the maximum in its view, and the gate is closed if a seat has closed it or has met it closed
   pub seats : (seat : ℕ) (v : View) → get_elem? gate.views seat ≡ some v → (v.max_pending ≡ max) × (knows_closed v ≡ true → closed ≡ true)
 
 -- the word x of a gate that keeps the invariant, at a moment at which a seat has the view v

@@ -38,7 +38,7 @@ pub data GateStep (gate gate' : Moment) : Type 0 where
   not_closes : (v : View) (x : Word) → v.holds_unit ≡ false → x ≢ open_at 0
       → SeatSteps gate gate' v (view_not_closing v x) x x → GateStep gate gate'
 
--- the kind of a step. A split has none, since no view tells of it
+-- the kind of a step. A split has none, since no view shows it
 abbrev pub kind_of : (gate gate' : Moment) → GateStep gate gate' → Option StepKind
 kind_of gate gate' (splits v seat at next) = None
 kind_of gate gate' (looks v x s) = Some Load

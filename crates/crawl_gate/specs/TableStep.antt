@@ -7,7 +7,7 @@ use Rattle.crawl_gate.specs.declared.rule.View.{View}
 use Rattle.crawl_gate.specs.GateInvariant.{Moment}
 use Rattle.crawl_gate.specs.Steps.{Sitting, Looks, Enters, Leaves, Closes, view_split, view_split_off}
 
--- What the table allows of a play that tells `told` (`Allows` of `atomic_table`): a seat with no slot finds a number and
+-- What the table allows of a play with the fact `told` (`Allows` of `atomic_table`): a seat with no slot finds a number and
 -- writes another, whichever it is, and it comes out with a view, and by an act with slots, of which `told` holds.
 pub record PlayMade (told : Sitting → ℕ → Sitting → Type 0) (gate gate' : Moment) : Type 0 where
   pub seat : ℕ

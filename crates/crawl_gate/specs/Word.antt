@@ -11,11 +11,11 @@ open_at count = (count, false)
 abbrev pub closed_at : ℕ → Word
 closed_at count = (count, true)
 
--- the u64 in which bit 63 alone is set. Counts are below it
+-- the u64 in which only bit 63 is set. Counts are below it
 abbrev pub top_bit : ℕ
 top_bit = 2 ^ 63
 
--- bit 63 is set where the gate is closed
+-- bit 63 is set if the gate is closed
 abbrev pub closed_bit : Bool → ℕ
 closed_bit true = top_bit
 closed_bit false = 0

@@ -5,7 +5,7 @@ use Rattle.url.specs.Parser.{parse_url}
 use Rattle.url.specs.Parts.{Parts}
 use Rattle.crawl_keys.specs.Folders.{folder_text, root_text}
 
--- where the path begins in the text of a URL, and the place behind the path's last slash
+-- at which byte the path begins in the text of a URL, and the position after the path's last slash
 pub record IsBase (text : List ℕ) (root folder : ℕ) : Type 0 where
   pub before_path : (url : Parts) → parse_url None text ≡ Ok url → length (root_text url) ≡ root
   pub behind_folder : (url : Parts) → parse_url None text ≡ Ok url → length (folder_text url) + 1 ≡ folder

@@ -20,7 +20,7 @@ without_fragment url = record url { fragment = None }
 unfoldable pub text_of : Parts → Result (List ℕ) KeyError
 text_of url = if is_web url then Ok (serialize (without_fragment url)) else Err NotHttp
 
--- the text of what was parsed; there is none where the parse has no URL
+-- the text of what was parsed; there is none if the parse has no URL
 abbrev pub text_of_parse : Parsed Parts → Result (List ℕ) KeyError
 text_of_parse (Ok url) = text_of url
 text_of_parse (Err _) = Err NotUrl
@@ -53,7 +53,7 @@ pub record IsPage (url : Parts) : Type 0 where
   pub bare : url.fragment ≡ None
   pub parses : parse_url None (serialize url) ≡ Ok url
 
--- the refusal that the parser's error leads to: what `url` cannot hold is want of memory
+-- the refusal that the parser's error leads to: what `url` cannot hold is out of memory
 abbrev pub key_error : ParseError → KeyError
 key_error OutOfMemory = NoMemory
 key_error Overflow = NoMemory

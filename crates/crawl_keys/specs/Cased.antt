@@ -10,7 +10,7 @@ use Rattle.url.specs.Parts.{Parts}
 use Rattle.crawl_keys.specs.CanonicalText.{text_of_parse}
 use Rattle.crawl_keys.specs.Plain.{host_len, is_plain_host}
 
--- on whatever page the text stands, or on none, it leads there
+-- on whatever page the text is, or on none, it leads there
 abbrev pub LeadsAnywhere : List ℕ → List ℕ → Type 0
 LeadsAnywhere text url = (base : Option Parts) → text_of_parse (parse_url base text) ≡ Ok url
 
@@ -28,15 +28,15 @@ pub record IsFrontOf (scheme front port : List ℕ) : Type 0 where
   pub whole : list_all is_ascii_digit digits ≡ true
   pub own : parse_port (lowercase scheme) digits ≡ Ok None
 
--- the text is this front, a slash and what is behind it; or the front alone, and nothing is behind it
+-- the text is this front, a slash and what follows; or only the front, and nothing follows
 abbrev pub IsCut : List ℕ → List ℕ → List ℕ → Type 0
 IsCut text front back = (text ≡ front ++ slash ∷ back) ⊎ ((text ≡ front) × (back ≡ []))
 
--- the text is this host and the port, or the host alone
+-- the text is this host and the port, or only the host
 abbrev pub IsWithPort : List ℕ → List ℕ → List ℕ → Type 0
 IsWithPort text host port = (text ≡ host ++ port) ⊎ (text ≡ host)
 
--- the URL is the front, the host in lower case, a slash and the path, and all behind the front is plain
+-- the URL is the front, the host in lower case, a slash and the path, and all that follows the front is in its common form
 pub record IsLowered (front host path url : List ℕ) : Type 0 where
   pub is : url ≡ front ++ (lowercase host ++ slash ∷ path)
   pub plain : is_plain_host (lowercase host ++ slash ∷ path) ≡ true

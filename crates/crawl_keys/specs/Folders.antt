@@ -1,4 +1,4 @@
--- Where a page's folder ends, and the links that lead to one URL from all pages of a folder.
+-- The end of a page's folder, and the links that lead to one URL from all pages of a folder.
 use Rattle.std.specs.Prelude.{ℕ, Bool, not, ◌&&◌, ◌||◌, ◌==◌, nat_lt, List, slice_index}
 use Rattle.std.specs.List.{list_any}
 use Rattle.url.specs.declared.slicing.Position.TheVariants.{BeforeScheme, AfterPath, AfterPort}
@@ -10,7 +10,7 @@ use Rattle.url.specs.Path.{without_last_segment}
 abbrev pub is_colon : ℕ → Bool
 is_colon b = b == colon
 
--- Where such a text leads depends on the folder of the page alone: it has no scheme, since it begins with a slash or has
+-- The URL to which such a text leads depends only on the folder of the page: it has no scheme, since it begins with a slash or has
 -- no colon; it is more than a query or a fragment; and nothing is trimmed before its first byte.
 abbrev pub is_of_folder : List ℕ → Bool
 is_of_folder text =

@@ -1,4 +1,4 @@
--- The front of a link's text that leads where the whole text leads.
+-- The front of a link's text that leads to the same URL as the whole text.
 use Rattle.std.specs.Prelude.{ℕ, Bool, ◌-◌, ◌==◌, nat_lt, List, length, slice_index, if◌then◌else◌}
 use Rattle.std.specs.List.{before_first}
 use Rattle.url.specs.Ascii.{number_sign, space}
@@ -11,7 +11,7 @@ is_number_sign b = b == number_sign
 abbrev pub ends_visibly : List ℕ → Bool
 ends_visibly text = nat_lt space (slice_index text (length text - 1))
 
--- The text before its fragment. Where what stands there would be trimmed once it is the end, or is nothing, the text stays
+-- The text before its fragment. If its end would then be trimmed, or it would be empty, the text stays
 -- whole: `a #f` leads to `a%20`, and `a ` to `a`.
 abbrev pub before_fragment : List ℕ → List ℕ
 before_fragment text =

@@ -31,7 +31,7 @@ allows (suffix ∷ more) url = list_any (is_within (host_key url)) (suffix ∷ m
 abbrev pub is_suffix_byte : ℕ → Bool
 is_suffix_byte b = nat_le 97 b && nat_le b 122 || nat_le 48 b && nat_le b 57 || b == 45 || b == 46
 
--- a suffix is good where it has a byte, and only such bytes
+-- a suffix is good if it has a byte, and only such bytes
 abbrev pub is_good : List ℕ → Bool
 is_good suffix = nat_lt 0 (length suffix) && list_all is_suffix_byte suffix
 
@@ -44,7 +44,7 @@ abbrev pub unless_bad : Option ℕ → List (List ℕ) → Result (List (List �
 unless_bad (Some place) filter = Err (BadSuffix place)
 unless_bad None filter = Ok filter
 
--- the filter with these suffixes; where one is bad, the place of the first such one, from 0
+-- the filter with these suffixes; if one is bad, the index of the first such one, from 0
 abbrev pub filter_of : List (List ℕ) → Result (List (List ℕ)) FilterError
 filter_of suffixes = unless_bad (position (λ suffix. not (is_good suffix)) suffixes) (in_order suffixes)
 

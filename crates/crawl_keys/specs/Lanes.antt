@@ -1,13 +1,13 @@
--- What is told of 16 bytes at once.
+-- What is computed of 16 bytes at the same time.
 use Rattle.std.specs.Prelude.{◌≡◌, ◌<◌, ◌≤◌, ◌+◌, ◌==◌, ℕ, Bool, true, false, List, slice_index, if◌then◌else◌}
 use Rattle.std.specs.Int.{w64, trailing_zeros}
 use Rattle.crawl_keys.specs.Plain.{may_follow}
 
--- behind each of these places stands a byte that may follow the one there
+-- each of these positions is followed by a byte that may follow the one there
 abbrev pub Follow : List ℕ → ℕ → ℕ → Type 0
 Follow text at end = (k : ℕ) → at ≤ k → k < end → may_follow (slice_index text k) (slice_index text (k + 1)) ≡ true
 
--- so many of the 16 bytes from this place on, from the first, pass the test
+-- the first n of the 16 bytes from this position on pass the test
 pub record IsRun (test : ℕ → Bool) (text : List ℕ) (at run : ℕ) : Type 0 where
   pub few : run ≤ 16
   pub pass : (k : ℕ) → at ≤ k → k < at + run → test (slice_index text k) ≡ true

@@ -1,4 +1,4 @@
--- How a canonical URL is laid out: the hash of its text, where the host stands in the text, and the text.
+-- How a canonical URL is laid out: the hash of its text, the position of the host in the text, and the text.
 use Rattle.std.specs.Prelude.{◌≡◌, ◌≤◌, length, slice_range, IsAscii}
 use Rattle.hash_order.specs.HashOrder.{hash_of}
 use Rattle.crawl_keys.specs.declared.canon_url.Laid.{Laid}

@@ -23,27 +23,27 @@ pub record IsByHost (text : List ℕ) (len : ℕ) : Type 0 where
 abbrev pub is_rooted : List ℕ → Bool
 is_rooted text = first_is_slash text && is_plain 0 text
 
--- a query alone
+-- only a query
 abbrev pub is_query : List ℕ → Bool
 is_query text = slice_index text 0 == question_mark && is_plain 0 text
 
--- `../` so many times, and a text
+-- `../` n times, and a text
 abbrev pub behind_ups : ℕ → List ℕ → List ℕ
 behind_ups zero text = text
 behind_ups (suc n) text = dot ∷ dot ∷ slash ∷ behind_ups n text
 
--- the path of the folder that is so many above the one with this path
+-- the path of the folder that is n above the one with this path
 abbrev pub above : ℕ → List ℕ → List ℕ
 above zero path = path
 above (suc n) path = without_last_segment (above n path)
 
--- What the parser makes of the text's path behind any other, it makes of the rest's behind one so many folders above; and both
+-- What the parser makes of the text's path after any other, it makes of the rest's after one n folders above; and both
 -- have one query.
 pub record ReadsAs (text : List ℕ) (ups : ℕ) (rest : List ℕ) : Type 0 where
   pub path : (front : List ℕ) → parse_path SpecialNotFile front (split_once question_mark text).0 ≡ parse_path SpecialNotFile (above ups front) (split_once question_mark rest).0
   pub query : (split_once question_mark text).1 ≡ (split_once question_mark rest).1
 
--- behind dot segments of the text, and segments that they take back, stands the rest
+-- after dot segments of the text, and segments that they take back, comes the rest
 pub record IsBehind (text : List ℕ) (ups : ℕ) (rest : List ℕ) : Type 0 where
   pub reads : ReadsAs text ups rest
   pub kept : list_all is_kept rest ≡ true → list_all is_kept text ≡ true
@@ -55,12 +55,12 @@ pub record IsAhead (text rest : List ℕ) : Type 0 where
   pub is : text ≡ front ++ rest
   pub lifts : (more : List ℕ) → IsBehind rest 0 more → IsBehind text 0 (front ++ more)
 
--- the text ends with dot segments and more, and reads as what stands before them and what stands behind them
+-- the text ends with dot segments and more, and reads as what is before them and what is after them
 pub record IsWithin (text dots behind : List ℕ) : Type 0 where
   pub within : length dots ≤ length text
   pub reads : IsBehind text 0 (take (length text - length dots) text ++ behind)
 
--- a slash, and a path that reads as one of plain segments behind the root, above which there is no folder
+-- a slash, and a path that reads as one of plain segments after the root, above which there is no folder
 pub record IsAtRoot (text rest : List ℕ) : Type 0 where
   pub path : List ℕ
   pub ups : ℕ
@@ -72,19 +72,19 @@ pub record IsAtRoot (text rest : List ℕ) : Type 0 where
 abbrev pub has_no_scheme : List ℕ → Bool
 has_no_scheme text = slice_index text 0 == dot || is_of_folder text
 
--- the text leads to the folder so many above the page's, and from there by a path that begins with a segment, and a query
+-- the text leads to the folder n above the page's, and from there by a path that begins with a segment, and a query
 pub record IsInFolder (text : List ℕ) (ups : ℕ) (rest : List ℕ) : Type 0 where
   pub behind : IsBehind text ups rest
   pub plain : is_plain slash rest ≡ true
   pub no_scheme : has_no_scheme text ≡ true
 
--- Where so many folders above a folder end in the text of a page, whose path begins at the root. A folder ends behind its slash,
+-- At which byte the folder n above ends in the text of a page, whose path begins at the root. A folder ends after its slash,
 -- and above the first one there is none.
 abbrev pub folder_above : List ℕ → ℕ → ℕ → ℕ → ℕ
 folder_above page root folder zero = folder
 folder_above page root folder (suc n) = root + length (without_last_segment (slice_range page root (folder_above page root folder n - 1))) + 1
 
--- nothing, or a fragment alone
+-- nothing, or only a fragment
 abbrev pub is_same : List ℕ → Bool
 is_same [] = true
 is_same (b ∷ text) = b == number_sign

@@ -9,7 +9,7 @@ use Rattle.url.specs.Input.{rsplit_once}
 abbrev pub is_mark : ℕ → Bool
 is_mark b = b == 34 || b == 35 || b == 39 || b == 60 || b == 62 || b == backslash || b == 94 || b == 96 || b == 123 || b == 125
 
--- the byte stands in a path and in a query as it is
+-- the byte is in a path and in a query as it is
 abbrev pub is_kept : ℕ → Bool
 is_kept b = nat_lt space b && nat_lt b 127 && not (is_mark b)
 
@@ -17,11 +17,11 @@ is_kept b = nat_lt space b && nat_lt b 127 && not (is_mark b)
 abbrev pub may_begin : ℕ → Bool
 may_begin b = is_kept b && not (b == slash || b == dot || b == percent_sign)
 
--- the byte is kept, and behind a slash it may begin a segment
+-- the byte is kept, and after a slash it may begin a segment
 abbrev pub may_follow : ℕ → ℕ → Bool
 may_follow last b = if last == slash then may_begin b else is_kept b
 
--- up to the first `?` each byte of the text may follow the one before it, and the first one this; behind it each is kept
+-- up to the first `?` each byte of the text may follow the one before it, and the first one this; after it each is kept
 abbrev pub is_plain : ℕ → List ℕ → Bool
 is_plain last [] = true
 is_plain last (b ∷ text) = may_follow last b && (if b == question_mark then list_all is_kept text else is_plain b text)
@@ -34,7 +34,7 @@ is_lower b = nat_le 97 b && nat_le b 122
 abbrev pub is_host_byte : ℕ → Bool
 is_host_byte b = is_lower b || nat_le 48 b && nat_le b 57 || b == hyphen || b == dot || b == 95
 
--- what stands behind the last dot
+-- what follows the last dot
 abbrev pub last_label : List ℕ → List ℕ
 last_label host = (rsplit_once dot host).1
 
@@ -50,7 +50,7 @@ host_len text = prefix_len is_host_byte text
 abbrev pub first_is_slash : List ℕ → Bool
 first_is_slash text = slice_index text 0 == slash
 
--- behind a scheme and its slashes: a named host, and behind it a path that begins with a slash, and a query
+-- after a scheme and its slashes: a named host, then a path that begins with a slash, and a query
 abbrev pub is_plain_host : List ℕ → Bool
 is_plain_host text =
     first_is_slash (drop (host_len text) text) && is_named (take (host_len text) text)

@@ -1,10 +1,10 @@
--- Texts of web URLs, and where the host stands in them.
+-- Texts of web URLs, and the position of the host in them.
 use Rattle.std.specs.Prelude.{◌≡◌, ℕ, List, None, true}
 use Rattle.url.specs.declared.slicing.Position.TheVariants.{BeforeHost, AfterHost}
 use Rattle.url.specs.Parts.{Parts, IsValid, offset, serialize}
 use Rattle.crawl_keys.specs.CanonicalText.{is_web}
 
--- the text is that of a valid web URL with no fragment, whose host stands between the two places
+-- the text is that of a valid web URL with no fragment, whose host is between the two positions
 pub record IsSpelled (text : List ℕ) (host_start host_end : ℕ) : Type 0 where
   pub url : Parts
   pub valid : IsValid url

@@ -1,4 +1,4 @@
--- What is seen of a text that lies in its owner where it is short.
+-- What is seen of a text that is stored in its owner if it is short.
 use Rattle.std.specs.Prelude.{ℕ, List, string_bytes}
 use Rattle.crawl_keys.specs.declared.canon_url.text.Kept.{Kept}
 use Rattle.crawl_keys.specs.declared.canon_url.text.Kept.TheVariants.{Short, Long}

@@ -1,4 +1,4 @@
-//! Plain texts: those that the URL parser leaves unchanged. A test of each byte recognizes them.
+//! Texts in common forms: those that the URL parser leaves unchanged. A test of each byte recognizes them.
 ghost use Rattle.std.specs.Prelude.{◌≡◌, ◌-◌, ◌<◌, ◌≤◌, ℕ, length, true, IfSome};
 ghost use Rattle.std.specs.List.{list_all, prefix_len};
 ghost use Rattle.crawl_keys.specs.Lanes.{Follow};

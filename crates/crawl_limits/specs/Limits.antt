@@ -1,4 +1,4 @@
--- The limits that several crates share. Each number stands here alone.
+-- The limits that several crates share. Each number is only here.
 use Rattle.std.specs.Prelude.{ℕ, ◌≤◌, ◌^◌}
 
 -- the most workers, and so subqueues

@@ -23,7 +23,7 @@ is_before a b = is_lt (slice_cmp nat_cmp a.url b.url)
 abbrev pub results_by_url : List PageResult → List PageResult
 results_by_url results = stable_sort is_before results
 
--- ---- the words of the laws
+-- ---- the terms of the laws
 
 -- the results with this URL
 abbrev pub results_at : List ℕ → List PageResult → List PageResult

@@ -1,4 +1,4 @@
-//! Where pages come from.
+//! The sources of pages.
 ghost use Rattle.std.specs.Prelude.{◌≡◌, IfOk};
 
 use crate::page::Page;
@@ -45,7 +45,7 @@ pub trait Fetch {
     /// Returns the page at the URL.
     ///
     /// # Errors
-    /// `NoMemory` if memory ran out, `Failed` if the source gave no answer.
+    /// `NoMemory` if memory ran out, `Failed` if the source returned nothing.
     fn fetch(&self, alloc: Global, url: &CanonUrl) -> Result<Page, FetchError>
         ensures meaning { IfOk result (λ page. page ≡ meaning self.now url.now) };
 }

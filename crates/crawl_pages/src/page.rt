@@ -1,4 +1,4 @@
-//! What a fetch of a URL gives: its links, where it moved to, or that there is no page.
+//! What a fetch of a URL gives: its links, the URL to which it moved, or that there is no page.
 ghost use Rattle.std.specs.Prelude.{◌≡◌, Ok};
 ghost use Rattle.std.specs.Str.{bytes_eq};
 ghost use Rattle.std.specs.Cmp.{partial_equiv_from_equiv};
@@ -13,7 +13,7 @@ use std::marker::Model;
 /// Out of memory.
 pub type NoMemory = AllocError;
 
-/// The links of a page, in the order of the page; a link that stands there twice is in it twice.
+/// The links of a page, in the order of the page; a link that occurs twice is in it twice.
 #[derive(Debug, Drop)]
 pub struct Links {
     urls: Vec<CanonUrl>,
@@ -84,7 +84,7 @@ pub enum Page {
     Found {
         /// Its links that have a canonical URL.
         links: Links,
-        /// How many links it has besides, that are no URL or neither http nor https.
+        /// How many further links it has that are no URL or neither http nor https.
         skipped: u64,
     },
     /// The page has moved.
@@ -105,7 +105,7 @@ pub struct PageResult {
     pub page: Page,
 }
 
-/// The links that a crawl follows from the page: where it moved to, if it moved to a URL, and none where it is missing. Every
+/// The links that a crawl follows from the page: the URL to which it moved, if it did, and none if it is missing. Every
 /// crawl asks for links here.
 pub fn links_of(page: &Page) -> &[CanonUrl]
     ensures { result.now ≡ links_of page.now }

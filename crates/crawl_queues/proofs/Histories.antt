@@ -23,7 +23,7 @@ rule-get n q before (x ∷ xs) zero e rule at =
 rule-get n q before (x ∷ xs) (suc k) e rule at =
     subst (λ b. MayFollow n q b e) (append_assoc before (x ∷ []) (take k xs)) (rule-get n q (before ++ x ∷ []) xs k e rule.1 at)
 
--- an entry's URL stands in the list
+-- an entry's URL is in the list
 has_url-get : (es : List Entry) (j k : ℕ) (a : Entry) → j < k → slice_get es j ≡ Some a → has_url a.url (take k es) ≡ true
 has_url-get [] j k a lt at = absurd (cc (at))
 has_url-get (x ∷ xs) j zero a lt at = absurd (omega arith)

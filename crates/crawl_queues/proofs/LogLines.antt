@@ -16,7 +16,7 @@ has_stays before after q i e stay has =
     let now = stay q has.0 has.1 in
     (now.0, now.1, now.2 i e has.2)
 
--- a line says the same of lists in which all that was known stands
+-- a line says as much of lists that have all that was known
 line_stays : (before after : List (List Entry)) (l : LogLine) → AllStay before after → ((e : Entry) × Has before l.queue l.index e) → line_of after l ≡ line_of before l
 line_stays before after l stay there =
     ap (says l) (entry_there after l.queue l.index there.0 (has_stays before after l.queue l.index there.0 stay there.1) ∙ sym (entry_there before l.queue l.index there.0 there.1))
@@ -34,7 +34,7 @@ log_snoc : (lists : List (List Entry)) (ls : List LogLine) (l : LogLine) → log
 log_snoc lists [] l = refl
 log_snoc lists (x ∷ xs) l = ap (λ t. line_of lists x ∷ t) (log_snoc lists xs l)
 
--- a line more says what stands at its index
+-- a further line says what is at its index
 pub line_more : (lists : List (List Entry)) (ls : List LogLine) (l : LogLine) (e : Entry) → Has lists l.queue l.index e → log_of lists (ls ++ l ∷ []) ≡ log_of lists ls ++ says l e ∷ []
 line_more lists ls l e has = log_snoc lists ls l ∙ ap (λ x. log_of lists ls ++ says l x ∷ []) (entry_there lists l.queue l.index e has)
 
@@ -42,7 +42,7 @@ pub there_more : (lists : List (List Entry)) (ls : List LogLine) (l : LogLine) (
 there_more lists [] l e there has = ((e, has), tt)
 there_more lists (x ∷ xs) l e there has = (there.0, there_more lists xs l e there.1 has)
 
--- what was written where it stood
+-- what was written at its index
 pub set_same : {X : Type 0} (xs : List X) (i : ℕ) (x : X) → slice_get xs i ≡ Some x → set xs i x ≡ xs
 set_same [] i x e = refl
 set_same (z ∷ zs) zero x e = let same : x ≡ z = cc in ap (λ y. y ∷ zs) same

@@ -4,7 +4,7 @@ use Rattle.std.specs.Prelude.{bytes_eq}
 use Rattle.crawl_keys.specs.Assignment.{subqueue_of}
 use Rattle.crawl_queues.specs.declared.entry.Entry.{Entry}
 
--- the URL stands in the list
+-- the URL is in the list
 abbrev pub has_url : List ℕ → List Entry → Bool
 has_url url [] = false
 has_url url (e ∷ es) = bytes_eq e.url url || has_url url es

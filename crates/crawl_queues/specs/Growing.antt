@@ -9,7 +9,7 @@ use Rattle.crawl_queues.specs.declared.growing.rule.ListView.{ListView}
 abbrev pub no_entry : Entry
 no_entry = record { url = []; sender = 0; number = 0; hops = 0 }
 
--- a seat that owns the list, and holds a beginning; one that owns it, and holds none; and one that knows a beginning alone
+-- a seat that owns the list, and holds a beginning; one that owns it, and holds none; and one that only knows a beginning
 abbrev pub holding : List Entry → List Entry → ListView
 holding all begins = record { owns = true; all = all; begins = begins }
 
@@ -19,11 +19,11 @@ owning all = holding all []
 abbrev pub beginning : List Entry → ListView
 beginning begins = record { owns = false; all = []; begins = begins }
 
--- what stands in the one list stands at the same index in the other
+-- what is in the one list is at the same index in the other
 abbrev pub Stays : {X : Type 0} → List X → List X → Type 0
 Stays before after = (k : ℕ) (x : _) → slice_get before k ≡ Some x → slice_get after k ≡ Some x
 
--- of one seat: an owner is the one owner, and knows the list; what a seat has as a beginning stands in the list
+-- of one seat: an owner is the one owner, and knows the list; what a seat has as a beginning is in the list
 abbrev pub Fits : ℕ → List Entry → ℕ → ListView → Type 0
 Fits owner list seat v = (v.owns ≡ true → (seat ≡ owner) × (v.all ≡ list)) × Stays v.begins list
 
@@ -34,6 +34,6 @@ Grows table = (owner : ℕ) × (list : List Entry) × ((seat : ℕ) (v : ListVie
 abbrev pub Adding : Entry → Me (Unit {0}) ListView → Me (Unit {0}) ListView → Type 0
 Adding e before after = (after.0 ≡ owning (before.0.all ++ e ∷ [])) × (after.1 ≡ before.1)
 
--- the owner lets go of the beginning that it holds, of which all stands in the list
+-- the owner lets go of the beginning that it holds, of which all is in the list
 abbrev pub Compares : Me (Unit {0}) ListView → Me (Unit {0}) ListView → Type 0
 Compares before after = Stays before.0.begins before.0.all × (after.0 ≡ owning before.0.all) × (after.1 ≡ before.1)

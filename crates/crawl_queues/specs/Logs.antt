@@ -30,7 +30,7 @@ abbrev pub log_of : List (List Entry) → List LogLine → List Logged
 log_of lists [] = []
 log_of lists (l ∷ ls) = line_of lists l ∷ log_of lists ls
 
--- the entry stands at the index of the queue's list
+-- the entry is at the index of the queue's list
 abbrev pub Has : List (List Entry) → ℕ → ℕ → Entry → Type 0
 Has lists q i e = (es : List Entry) × (slice_get lists q ≡ Some es) × (slice_get es i ≡ Some e)
 
@@ -39,7 +39,7 @@ abbrev pub AreThere : List (List Entry) → List LogLine → Type 0
 AreThere lists [] = Unit {0}
 AreThere lists (l ∷ ls) = ((e : Entry) × Has lists l.queue l.index e) × AreThere lists ls
 
--- what was known of each list stands in these
+-- what was known of each list is in these
 abbrev pub AllStay : List (List Entry) → List (List Entry) → Type 0
 AllStay before after = (q : ℕ) (es : List Entry) → slice_get before q ≡ Some es → (fs : List Entry) × (slice_get after q ≡ Some fs) × Stays es fs
 

@@ -2,7 +2,7 @@
 use Rattle.std.specs.Prelude.{ℕ}
 use Rattle.atomic_table.specs.Seated.{TableId}
 
--- by the numbers of the two parts of its queue, and by what stands for its list
+-- by the numbers of the two parts of its queue, and by what identifies its list
 pub record QueueId : Type 0 where
   pub web : ℕ × ℕ
   pub list : TableId

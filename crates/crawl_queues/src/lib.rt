@@ -1,6 +1,6 @@
 //! The queues of a URL frontier: what each contains between any two steps of any threads, and what its senders know of it.
 //!
-//! A queue is a [`Subqueue`]. Whoever has its [`PushRight`] adds messages at the end, and whoever has its [`PopRight`] takes them
+//! A queue is a [`Subqueue`]. The owner of its [`PushRight`] adds messages at the end, and the owner of its [`PopRight`] takes them
 //! from the front. Each message is a URL with a unit of the frontier's gate. A [`Beginning`] is what a queue's list was at some
 //! time, so that a sender's [`Book`] can have its URLs by number. `crawl_frontier` makes a frontier of these queues.
 //!

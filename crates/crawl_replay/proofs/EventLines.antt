@@ -17,7 +17,7 @@ use Rattle.crawl_replay.specs.declared.script.error.ScriptError.{ScriptError}
 use Rattle.crawl_replay.specs.declared.script.error.ScriptError.TheVariants.{BadLine, BadUrl}
 use Rattle.crawl_replay.proofs.NumberText.{number_is, number_of_is, at_space-joined, at_space-number, joined-at_space}
 
--- ---- what is said stands there
+-- ---- what is said is in the line
 
 -- the value that a number gives
 by_number : (build : ℕ → Event) (found : Option ℕ) (event : Event) → option_map build found ≡ Some event → (value : ℕ) × (found ≡ Some value) × (build value ≡ event)
@@ -52,7 +52,7 @@ plain_sound workers line event e =
     (λ is same. let closes : Close ≡ event = cc in subst (λ x. IsEventLine workers x line) closes ((bytes_eq-Decides line (codes "close")).0 is))
     (λ none. absurd (cc))) e
 
--- what an admission has behind its first space
+-- what an admission has after its first space
 parts_by_number : (found : Option ℕ) (address : List ℕ) (q : ℕ × List ℕ) → option_map (λ sender. (sender, address)) found ≡ Some q → (found ≡ Some q.0) × (address ≡ q.1)
 parts_by_number found address q e = grind arith
 
@@ -66,7 +66,7 @@ parts_by_space rest line (Some p) q e split found =
       sent = number_is 64 p.0 q.0 both.0;
     }
 
--- ---- what stands there is said
+-- ---- what is in the line is said
 
 admit_parts-is : (rest number address : List ℕ) (sender : ℕ) → IsNumber 64 sender number → rest ≡ number ++ 32 ∷ address → admit_parts rest ≡ Some (sender, address)
 admit_parts-is rest number address sender sent is = rw (at_space-number rest number address sent.digits is, number_of_is 64 number sender sent) refl
@@ -104,9 +104,9 @@ pub bad_url_said : (workers number : ℕ) (line : List ℕ) → IsBadAdmission l
 bad_url_said workers number line is =
     admit_from workers number is.sender is.address line is.admits ∙ ap (λ r. admit_at is.sender (address_from workers number r)) is.refused
 
--- ---- both together: what a line says, in its words
+-- ---- both together: what a line says, in its bytes
 
--- what the line says stands there
+-- what the line says is in it
 abbrev pub Stands : ℕ → ℕ → List ℕ → Result Event ScriptError → Type 0
 Stands workers number line (Ok event) = IsEventLine workers event line
 Stands workers number line (Err fault) = (fault ≡ BadLine number) ⊎ ((fault ≡ BadUrl number) × IsBadAdmission line)

@@ -25,7 +25,7 @@ within_limits workers max e = grind arith
 limits_within : (workers max : ℕ) → AreLimits workers max → is_within workers max ≡ true
 limits_within workers max are = rw (le-leb 1 workers are.some_worker, le-leb workers worker_limit are.few_workers, le-leb 1 max are.some_pending, le-leb max pending_limit are.few_pending) refl
 
--- ---- what is said stands there
+-- ---- what is said is in the line
 
 -- a chain of two steps
 by_step : {A B : Type 0} (f : A → Option B) (o : Option A) (y : B) → option_and_then f o ≡ Some y → (x : A) × (o ≡ Some x) × (f x ≡ Some y)
@@ -63,7 +63,7 @@ header_stands line header e =
       within = within_limits workers.0 max.0 within.0;
     })
 
--- ---- what stands there is said
+-- ---- what is in the line is said
 
 pub header_said : (workers max : ℕ) (line : List ℕ) → IsHeaderLine workers max line → header_of line ≡ Some (record { workers = workers; max = max })
 header_said workers max line is =

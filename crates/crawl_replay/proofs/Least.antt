@@ -1,4 +1,4 @@
--- A script's fault is that of the first of its lines that has one.
+-- A script's error is that of the first of its lines that has one.
 use Rattle.std.proofs.Common.{◌≡◌, ◌⊎◌, ℕ, ◌+◌, List, [], ◌∷◌, ◌++◌, length, Option, Some, None, Result, Ok, Err, IfErr, refl, ap, subst, ◌∙◌, arith, inl, inr, append-nil, append_assoc, length-append}
 use Rattle.std.specs.Result.{result_err}
 use Rattle.std.specs.Str.Lines.{lines}
@@ -13,7 +13,7 @@ use Rattle.crawl_replay.specs.Script.{script_of, script_in, header_in, said_by, 
 use Rattle.crawl_replay.specs.ScriptContent.{content}
 use Rattle.crawl_replay.specs.LeastFault.{fault_after, IsScriptFault}
 
--- the least fault of lines that stand behind a header and these earlier lines
+-- the least error of lines that follow a header and these earlier lines
 record FoundBehind (header : List ℕ) (earlier more : List (List ℕ)) (fault : ScriptError) : Type 0 where
   front : List (List ℕ)
   line : List ℕ
@@ -22,7 +22,7 @@ record FoundBehind (header : List ℕ) (earlier more : List (List ℕ)) (fault :
   sound : SoundAfter fault_after (header ∷ earlier) front
   fails : fault_after (header ∷ (earlier ++ front)) line ≡ Some fault
 
--- a line behind a header that is read, by what it says
+-- a line after a header that is read, by what it says
 said_behind : (header : List ℕ) (read : Header) (earlier : List (List ℕ)) (number : ℕ) (line : List ℕ) (said : Result (Option Event) ScriptError) → header_in header ≡ Ok read → number ≡ length earlier + 2 → said_by read.workers number line ≡ said → fault_after (header ∷ earlier) line ≡ result_err said
 said_behind header read earlier number line said is_header place says = rw (is_header, ← place, says) refl
 

@@ -17,7 +17,7 @@ use Rattle.crawl_replay.proofs.EventLines.{Stands, stands, event_said, bad_url_s
 
 -- ---- the text of a line
 
--- what stands there of a line's text
+-- what is there of a line's text
 abbrev pub TextStands : ℕ → List ℕ → Result (List ℕ) LineError → Type 0
 TextStands number line (Ok text) = (text ≡ line) × IsLineText line
 TextStands number line (Err (without.TooLong n)) = (n ≡ number) × (line_limit < length line)

@@ -1,4 +1,4 @@
--- Which texts are numbers, and where the first space of a text stands.
+-- Which texts are numbers, and the position of the first space of a text.
 use Rattle.std.proofs.Common.{◌≡◌, ℕ, suc, ◌+◌, ◌<◌, ◌≤◌, ◌^◌, Bool, true, false, not, ◌&&◌, List, [], ◌∷◌, ◌++◌, length, take, drop, get_or, nat_lt, nat_eq, nat_le, Option, Some, None, refl, sym, ap, subst, ◌∙◌, arith, lt-ltb, ltb-true, append_assoc}
 use Rattle.std.specs.Bool.{if◌then◌else◌, Decides}
 use Rattle.std.specs.List.{All, list_all, position_or_len, prefix_len, before_first, after_first}
@@ -63,7 +63,7 @@ first_space : (a b : List ℕ) → list_all no_space a ≡ true → prefix_len n
 first_space [] b e = refl
 first_space (x ∷ xs) b e = grind (arith, nat_tests, first_space xs, and_parts)
 
--- what stands before a place and what stands after it, if it is one
+-- what is before a position and what is after it, if it is one
 abbrev cut_at : ℕ → List ℕ → Option (List ℕ × List ℕ)
 cut_at n text = if nat_lt n (length text) then Some (take n text, drop (n + 1) text) else None
 

@@ -1,4 +1,4 @@
--- What parsing a text of digits alone gives.
+-- What parsing a text that has only digits gives.
 use Rattle.std.proofs.Common.{◌≡◌, ℕ, ◌<◌, ◌^◌, Bool, true, ◌&&◌, not, List, length, nat_lt, nat_eq, nat_le, Some, None, Result, arith, rules}
 use Rattle.std.specs.Bool.{if◌then◌else◌}
 use Rattle.std.specs.List.{list_all}

@@ -8,7 +8,7 @@ use Rattle.crawl_replay.specs.declared.script.error.ScriptError.{ScriptError}
 use Rattle.crawl_replay.proofs.HeaderWords.{header_means}
 use Rattle.crawl_replay.proofs.LineWords.{line_means}
 
--- ---- what is said stands there
+-- ---- what is said is in the line
 
 by_line : (workers number : ℕ) (line : List ℕ) (more : List (List ℕ)) (said : Result (Option Event) ScriptError) → said_by workers number line ≡ said → least_fault (said ∷ said_from workers (number + 1) more) ≡ None → (least_fault (said_from workers (number + 1) more) ≡ None → LinesSay workers (number + 1) more (events_in (said_from workers (number + 1) more))) → LinesSay workers number (line ∷ more) (events_in (said ∷ said_from workers (number + 1) more))
 by_line workers number line more (Err fault) is none later = absurd (cc)
@@ -46,7 +46,7 @@ by_header line more script (Ok header) is e =
 script_stands : (lines : List (List ℕ)) (script : Said) → script_in lines ≡ Ok script → IsScript lines script
 script_stands lines script e = grind (arith, by_header)
 
--- ---- what stands there is said
+-- ---- what is in the line is said
 
 record AllSaid (workers number : ℕ) (more : List (List ℕ)) (events : List Event) : Type 0 where
   pub none : least_fault (said_from workers number more) ≡ None

@@ -6,7 +6,7 @@ use Rattle.crawl_core.specs.declared.event.Event.TheVariants.{Admit}
 use Rattle.crawl_keys.specs.Assignment.{subqueue_of}
 use Rattle.crawl_keys.specs.CanonicalText.{canonical}
 
--- an admission names the subqueue among so many that its URL's host key is assigned to
+-- an admission names the subqueue, of the given number of them, that its URL's host key is assigned to
 abbrev pub IsPlaced : ℕ → Event → Type 0
 IsPlaced workers (Admit sender url queue) = queue ≡ subqueue_of url workers
 IsPlaced workers _ = Unit {0}

@@ -9,7 +9,7 @@ use Rattle.crawl_replay.specs.Limits.{most_digits}
 abbrev pub is_number : List ℕ → Bool
 is_number text = not (nat_eq (length text) 0) && nat_le (length text) most_digits && list_all is_ascii_digit text
 
--- the value of a number that fits so many bits
+-- the value of a number that fits the given number of bits
 abbrev pub number_of : ℕ → List ℕ → Option ℕ
 number_of bits text =
     if is_number text && nat_lt (digits_value 10 text) (2 ^ bits) then Some (digits_value 10 text) else None

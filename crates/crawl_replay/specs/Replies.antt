@@ -7,7 +7,7 @@ use Rattle.crawl_core.specs.declared.reply.Reply.TheVariants.{Word, Entered, Los
 use Rattle.crawl_core.specs.declared.reply.Refusal.{Refusal}
 use Rattle.crawl_core.specs.declared.reply.Refusal.TheVariants as why
 
--- the words of a refusal, and the line of a reply
+-- the text of a refusal, and the line of a reply
 abbrev pub refusal_text : Refusal → List ℕ
 refusal_text why.Closed = codes "closed"
 refusal_text why.Full = codes "full"

@@ -1,4 +1,4 @@
--- What bytes say as a script: each line says a part of it or has a fault, and the least line with a fault decides.
+-- What bytes say as a script: each line says a part of it or has an error, and the least line with an error decides.
 use Rattle.std.specs.Prelude.{ℕ, ◌+◌, Bool, ◌&&◌, List, [], ◌∷◌, length, codes, ◌==◌, nat_le, if◌then◌else◌, Option, Some, None, option_and_then, ok_or, Result, Ok, Err}
 use Rattle.std.specs.Option.{option_map}
 use Rattle.std.specs.Str.{bytes_eq}
@@ -46,7 +46,7 @@ header_of text =
 
 -- ---- an event
 
--- the canonical URL of a text, and the subqueue that its host key is assigned to among so many; a text without one is bad
+-- the canonical URL of a text, and the subqueue, of the given number, that its host key is assigned to; a text without one is bad
 abbrev pub address_from : ℕ → ℕ → Result (List ℕ) KeyError → Result (List ℕ × ℕ) ScriptError
 address_from workers number (Ok url) = Ok (url, subqueue_of url workers)
 address_from workers number (Err _) = Err (BadUrl number)
@@ -90,11 +90,11 @@ event_from workers number text (Some p) =
     if bytes_eq p.0 (codes "admit") then admit_of workers number p.1
     else ok_or (numbered_event p.0 p.1) (BadLine number)
 
--- the event that a text says, as the line with this number, to a frontier with so many workers
+-- the event that a text says, as the line with this number, to a frontier with this number of workers
 abbrev pub event_of : ℕ → ℕ → List ℕ → Result Event ScriptError
 event_of workers number text = event_from workers number text (at_space text)
 
--- ---- a line, and all lines at once
+-- ---- a line, and all lines together
 
 abbrev pub with_text : {A : Type 0} → Result (List ℕ) LineError → (List ℕ → Result A ScriptError) → Result A ScriptError
 with_text (Ok text) says = says text
@@ -117,7 +117,7 @@ abbrev pub said_from : ℕ → ℕ → List (List ℕ) → List (Result (Option 
 said_from workers number [] = []
 said_from workers number (line ∷ more) = said_by workers number line ∷ said_from workers (number + 1) more
 
--- the fault of the first that has one
+-- the error of the first that has one
 abbrev pub least_fault : List (Result (Option Event) ScriptError) → Option ScriptError
 least_fault [] = None
 least_fault (Ok said ∷ more) = least_fault more
@@ -149,6 +149,6 @@ abbrev pub script_in : List (List ℕ) → Result Said ScriptError
 script_in [] = Err BadHeader
 script_in (line ∷ more) = with_header (header_in line) more
 
--- the script that the bytes say, or its fault
+-- the script that the bytes say, or its error
 abbrev pub script_of : List ℕ → Result Said ScriptError
 script_of bytes = script_in (lines bytes)

@@ -20,7 +20,7 @@ pub record IsLineText (line : List ℕ) : Type 0 where
   pub short : length line ≤ line_limit
   pub text : IsUtf8 line
 
--- one digit or more, no more than a number may have, of this value, which fits so many bits
+-- one digit or more, no more than a number may have, of this value, which fits the given number of bits
 pub record IsNumber (bits value : ℕ) (text : List ℕ) : Type 0 where
   pub digits : All (λ b. (48 ≤ b) × (b ≤ 57)) text
   pub some : 1 ≤ length text
@@ -40,7 +40,7 @@ pub record IsAdmit (sender : ℕ) (address line : List ℕ) : Type 0 where
   pub written : line ≡ codes "admit" ++ (codes " " ++ (number ++ (codes " " ++ address)))
   pub sent : IsNumber 64 sender number
 
--- an address with this canonical URL, which belongs to this subqueue of so many
+-- an address with this canonical URL, which belongs to this subqueue of the given number
 pub record IsAdmission (workers sender : ℕ) (url : List ℕ) (queue : ℕ) (line : List ℕ) : Type 0 where
   pub address : List ℕ
   pub admits : IsAdmit sender address line
@@ -55,7 +55,7 @@ pub record IsBadAdmission (line : List ℕ) : Type 0 where
   pub refusal : KeyError
   pub refused : canonical address ≡ Err refusal
 
--- the line that says an event, to a frontier with so many workers
+-- the line that says an event, to a frontier with this number of workers
 abbrev pub IsEventLine : ℕ → Event → List ℕ → Type 0
 IsEventLine workers (Look sender) line = IsNumbered (codes "look") 64 sender line
 IsEventLine workers (Enter sender) line = IsNumbered (codes "enter") 64 sender line
@@ -75,7 +75,7 @@ pub record IsHeaderLine (workers max : ℕ) (line : List ℕ) : Type 0 where
   pub max_is : IsNumber 64 max second
   pub within : AreLimits workers max
 
--- what the line with this number says, after the first: which lines say nothing, which an event, and which have each fault
+-- what the line with this number says, after the first: which lines say nothing, which an event, and which have each error
 abbrev pub LineSays : ℕ → ℕ → List ℕ → Result (Option Event) ScriptError → Type 0
 LineSays workers number line (Ok None) = line ≡ []
 LineSays workers number line (Ok (Some event)) = IsLineText line × IsEventLine workers event line
@@ -87,7 +87,7 @@ LineSays workers number line (Err (BadUrl n)) = (n ≡ number) × IsLineText lin
 LineSays workers number line (Err BadHeader) = ⊥
 LineSays workers number line (Err NoMemory) = ⊥
 
--- what the first line says: which lines say a header, and which have each fault
+-- what the first line says: which lines say a header, and which have each error
 abbrev pub HeaderSays : List ℕ → Result Header ScriptError → Type 0
 HeaderSays line (Ok header) = IsLineText line × IsHeaderLine header.workers header.max line
 HeaderSays line (Err (LineTooLong n)) = (n ≡ 1) × (line_limit < length line)

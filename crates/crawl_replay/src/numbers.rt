@@ -1,10 +1,10 @@
-//! Numbers as scripts write them: decimal digits alone, with or without leading zeros.
+//! Numbers as scripts write them: only decimal digits, with or without leading zeros.
 ghost use Rattle.std.specs.Prelude.{◌≡◌};
 ghost use Rattle.std.specs.List.{list_all};
 ghost use Rattle.std.specs.Char.{is_ascii_digit};
 ghost use Rattle.crawl_replay.specs.Numbers.{is_number, number_of};
 
-/// The most digits of a number. The greatest `u64` has as many.
+/// The most digits of a number: those of the greatest `u64`.
 pub const DIGIT_LIMIT: usize = 20;
 
 /// The number that the text is, if it is one that fits 32 bits.

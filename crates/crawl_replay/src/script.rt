@@ -1,4 +1,4 @@
-//! Scripts: a header, and events in order, one a line.
+//! Scripts: a header, and events in order, one per line.
 ghost use Rattle.std.specs.Prelude.{◌≡◌, ◌⊎◌, ◌+◌, ◌^◌, ◌<◌, ◌≤◌, length, IfOk, IfErr};
 ghost use Rattle.std.specs.Str.Lines.{lines};
 ghost use Rattle.crawl_keys.specs.Outcome.{Gives};
@@ -33,13 +33,13 @@ pub struct Script {
 /// The script that the bytes are.
 ///
 /// The first line is `workers N max M`, and each line after it an event or empty: `look S`, `enter S`, `back S`,
-/// `admit S URL`, `endseeds`, `take Q`, `done Q` or `close`. Parts stand one space apart. A number has one to twenty
+/// `admit S URL`, `endseeds`, `take Q`, `done Q` or `close`. Fields are one space apart. A number has one to twenty
 /// digits. The URL is all that follows the second space, read by [`canonical`](crawl_keys::canonical), and goes to the
 /// subqueue that its host key is assigned to.
 ///
 /// # Errors
-/// That of the least line that has a fault, and there the first of the checks, in the order of [`ScriptError`];
-/// `NoMemory` where a growth was refused.
+/// That of the least line that has an error, and there the first of the checks, in the order of [`ScriptError`];
+/// `NoMemory` if an allocation failed.
 #[tactic(auto, using(crate::proofs::Least::least_of_script, crate::proofs::Assigned::assigned_script))]
 pub fn read_script(alloc: Global, bytes: &[u8]) -> Result<Script, ScriptError>
     ensures exact { Gives ScriptError.NoMemory content result (script_of bytes.now) }
@@ -47,7 +47,7 @@ pub fn read_script(alloc: Global, bytes: &[u8]) -> Result<Script, ScriptError>
     // Each admission names the subqueue that its URL's host key is assigned to; and its text is a canonical URL.
     ensures assigned { IfOk result (λ script. IsAssigned script.workers script.events.items) }
     ensures addressed { IfOk result (λ script. AreAddressed script.workers script.events.items) }
-    // The fault is that of the least line that has one.
+    // The error is that of the least line that has one.
     ensures least { IfErr result (λ fault. IsScriptFault (lines bytes.now) fault ⊎ (fault ≡ ScriptError.NoMemory)) }
 {
     script_from(alloc, bytes)

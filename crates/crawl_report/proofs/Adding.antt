@@ -1,4 +1,4 @@
--- Lines that are printed one behind the other.
+-- Lines that are printed after each other.
 use Rattle.std.proofs.Common.{◌≡◌, ℕ, ◌+◌, ◌<◌, ◌≤◌, List, [], ◌∷◌, ◌++◌, length, map, take, get_or, Result, Ok, Err, IfOk, append-nil, refl, sym, ap, subst, ◌∙◌, arith}
 use Rattle.std.proofs.lemmas.List.{append_assoc, map-append, map_more, take_more, take_all, length-take-le}
 use Rattle.std.proofs.lemmas.List.Concat.{flat_map-append}
@@ -69,7 +69,7 @@ pointed_line_at {X} f out mid more xs k d below p q =
 
 -- ---- a whole report
 
--- the lines behind those of the results
+-- the lines after those of the results
 pub rest_printed : (b c d e : Out) (queues parts : List Line) (sum : Line)
     → Adds b c (sum ∷ []) → Adds c d queues → Adds d e parts → bytes_of e ≡ bytes_of b ++ flat_map (printed_line (is_json b)) ((sum ∷ queues) ++ parts)
 rest_printed b c d e queues parts sum of_sum of_queues of_parts =

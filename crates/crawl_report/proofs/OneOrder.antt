@@ -33,7 +33,7 @@ sorted_results urls sorted k d low below =
     let second : get_or (map at urls) (k + 1) d ≡ at (get_or urls (k + 1) d.url) = get_or-map at urls (k + 1) d.url d within in
     (λ i. is_lt (slice_cmp nat_cmp (second i).url (first i).url)) ∙ sorted k d.url low within
 
--- how many times the URL stands among these
+-- how many times the URL is among these
 abbrev times : List ℕ → List (List ℕ) → ℕ
 times url urls = sum_by (λ own. if bytes_eq own url then 1 else 0) urls
 
@@ -43,7 +43,7 @@ add_none n = omega arith
 add_one_more : (n : ℕ) → 1 + n ≡ suc n
 add_one_more n = omega arith
 
--- the results at a URL are as many of one result as the URL stands there
+-- one result at the URL for each time that the URL is there
 copies : (url : List ℕ) (urls : List (List ℕ)) → results_at url (map at urls) ≡ replicate (times url urls) (at url)
 copies url [] = refl
 copies url (own ∷ more) =

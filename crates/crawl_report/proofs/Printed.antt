@@ -12,11 +12,11 @@ use Rattle.crawl_sources.specs.Tallies.{pointed}
 use Rattle.crawl_report.specs.declared.out.Out.{Out}
 use Rattle.crawl_report.specs.declared.report.Report.{Report}
 
--- what is printed behind nothing
+-- what is printed after nothing
 pub printed_alone : (json : Bool) (lines : List Line) (empty out : Out) → bytes_of empty ≡ [] → is_json empty ≡ json → Adds empty out lines → bytes_of out ≡ flat_map (printed_line json) lines
 printed_alone json lines empty out none kind adds = adds.added ∙ (λ i. none i ++ flat_map (printed_line (kind i)) lines)
 
--- the results, and what stands behind them
+-- the results, and what follows them
 pub whole_report : (json : Bool) (report : Report) (front back : List ℕ) → front ≡ flat_map (printed_line json) (result_lines report.pages.now) → back ≡ flat_map (printed_line json) (rows_behind report) → front ++ back ≡ printed json report
 whole_report json report front back of_results of_rest =
     let pages = report.pages.now in

@@ -87,7 +87,7 @@ alone_at (r ∷ rs) one (suc k) below at once =
 only_one : (results : List PageResult) (one : PageResult) → HasEachUrlOnce results → Contains results one → results_at one.url results ≡ one ∷ []
 only_one results one once h = alone_at results one h.0 h.1 h.2 once
 
--- what two lists have with a URL, where they have the same results
+-- what two lists have with a URL, if they have the same results
 agree : (url : List ℕ) (results others : List PageResult) → HasEachUrlOnce results → HasEachUrlOnce others → ((one : PageResult) → Contains results one ↔ Contains others one) → (left right : List PageResult) → results_at url results ≡ left → results_at url others ≡ right → left ≡ right
 agree url results others once other_once same [] [] at_left at_right = refl
 agree url results others once other_once same [] (s ∷ right) at_left at_right =

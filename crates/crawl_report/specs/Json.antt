@@ -1,4 +1,4 @@
--- The lines of a report as JSON, an object a line.
+-- The lines of a report as JSON, one object per line.
 use Rattle.std.specs.Prelude.{ℕ, Bool, List, [], ◌∷◌, ◌++◌, if◌then◌else◌}
 use Rattle.json.specs.Json.{Json, object}
 use Rattle.json.specs.Tree.{json_tokens}

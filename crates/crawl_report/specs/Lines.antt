@@ -23,7 +23,7 @@ pub data Line : Type 0 where
   from : ℕ → Option (List ℕ) → List ℕ → Line
   -- a result's URL, and one that it links to
   link : List ℕ → List ℕ → Line
-  -- where a page moved to, if that has a URL, and its own URL
+  -- the URL to which a page moved, if it has one, and its own URL
   to : Option (List ℕ) → List ℕ → Line
   unreached : List ℕ → Line
 

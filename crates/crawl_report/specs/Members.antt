@@ -12,7 +12,7 @@ text_at key text rest = member key (string text) rest
 abbrev pub count_at : List ℕ → ℕ → Members → Members
 count_at key count rest = member key (number (decimal count)) rest
 
--- a text, or `null` where there is none
+-- a text, or `null` if there is none
 abbrev pub text_or_null : Option (List ℕ) → Json
 text_or_null None = null
 text_or_null (Some text) = string text

@@ -1,4 +1,4 @@
--- What is printed so far, and lines that are printed behind it.
+-- What is printed so far, and lines that are printed after it.
 use Rattle.std.specs.Prelude.{◌≡◌, ℕ, Bool, true, false, List, ◌++◌, Vec, string_bytes}
 use Rattle.std.specs.declared.alloc.Global.{Global}
 use Rattle.std.specs.List.{flat_map}
@@ -20,6 +20,6 @@ pub record Adds (out more : Out) (lines : List Line) : Type 0 where
   pub same : is_json more ≡ is_json out
   pub added : bytes_of more ≡ bytes_of out ++ flat_map (printed_line (is_json out)) lines
 
--- parts, one behind the other
+-- chunks, one after the other
 abbrev pub joined : List (Vec ℕ Global) → List ℕ
 joined parts = flat_map (λ part. part.items) parts

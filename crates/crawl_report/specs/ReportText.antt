@@ -19,11 +19,11 @@ page_text url Missing = codes "missing " ++ url
 abbrev pub result_text : PageResult → List ℕ
 result_text r = page_text r.url r.page
 
--- how many moved, where some did
+-- how many moved, if some did
 abbrev pub moved_part : ℕ → List ℕ
 moved_part count = if count == 0 then [] else codes " moved " ++ decimal count
 
--- how many results there are, how many of them found a page, how many are missing, and how many moved, where some did
+-- how many results there are, how many of them found a page, how many are missing, and how many moved, if some did
 abbrev pub total_text : List PageResult → List ℕ
 total_text results =
     codes "total " ++ decimal (length results) ++ codes " ok " ++ decimal (count_by (λ r. is_found r.page) results)

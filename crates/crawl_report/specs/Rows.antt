@@ -37,7 +37,7 @@ queue_lines counts = map (λ (x : ℕ × ℕ). line.queue x.0 x.1) (enumerate_fr
 
 -- ---- sources
 
--- the sources of the URL are told: it is missing; or it moved, where moved pages are told
+-- the sources of the URL are listed: it is missing; or it moved, and moved pages are listed
 abbrev pub tells_of : Bool → Page → Bool
 tells_of with_moved (Found links skipped) = false
 tells_of with_moved (Moved to) = with_moved
@@ -67,7 +67,7 @@ source_lines sources.All with_moved pages = lines_of_all true with_moved pages
 
 -- ---- moved pages
 
--- where the page moved to, if it moved to a URL
+-- the URL to which the page moved, if it moved to a URL
 abbrev pub target : Page → Option (List ℕ)
 target (Found links skipped) = None
 target (Moved to) = to
@@ -82,7 +82,7 @@ moved_lines with_moved pages = if with_moved then map (λ r. line.to (target r.p
 abbrev pub part_lines : Parts → List PageResult → List (List ℕ) → List Line
 part_lines parts pages unreached = source_lines parts.sources parts.moved pages ++ (moved_lines parts.moved pages ++ map line.unreached unreached)
 
--- the parts where nothing is told but, if at all, the first source of each missing URL
+-- the sections if nothing is listed but, at most, the first source of each missing URL
 abbrev pub plain_parts : Bool → Parts
 plain_parts with_sources = record { sources = if with_sources then sources.First else sources.None; moved = false; unreached = false }
 
@@ -93,7 +93,7 @@ rows_with parts pages queues unreached = result_lines pages ++ (total_of pages �
 abbrev pub rows_of : Report → List Line
 rows_of report = rows_with report.parts report.pages.now report.queues.now (pointed report.unreached.now)
 
--- the lines behind those of the results
+-- the lines after those of the results
 abbrev pub rows_behind : Report → List Line
 rows_behind report = (total_of report.pages.now ∷ queue_lines report.queues.now) ++ part_lines report.parts report.pages.now (pointed report.unreached.now)
 

@@ -26,7 +26,7 @@ impl Out {
         }
     }
 
-    /// What is printed, with room for so many bytes behind it.
+    /// What is printed, with room for `bytes` further bytes.
     pub fn with_room(self, bytes: usize) -> Result<Out, NoMemory>
         ensures { IfOk result (λ more. Adds self more []) }
     {
@@ -42,7 +42,7 @@ impl Out {
         }
     }
 
-    /// What is printed, and behind it the row's line.
+    /// What is printed, and then the row's line.
     pub fn with(self, row: Row<'_>) -> Result<Out, NoMemory>
         ensures { IfOk result (λ more. Adds self more (line_of row.entry ∷ [])) }
     {

@@ -28,7 +28,7 @@ const BESIDE: usize = 16;
 /// four threads print the lines of the results if there are many.
 ///
 /// # Errors
-/// Only out of memory. If a thread cannot be started, the thread that asked for it prints its chunk.
+/// Only out of memory. If a thread cannot be started, the thread that would have started it prints its chunk.
 pub fn print_in_parts<R: Threads + Sync>(
     rt: &R,
     alloc: Global,

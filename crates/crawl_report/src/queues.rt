@@ -1,4 +1,4 @@
-//! How many URLs each queue had, in lines alone.
+//! How many URLs each queue had, in lines of text.
 ghost use Rattle.std.specs.Prelude.{◌≡◌, IfOk};
 ghost use Rattle.crawl_report.specs.Today.{queue_lines};
 

@@ -54,7 +54,7 @@ pub enum Row<'r> {
         page: &'r str,
         url: &'r str,
     },
-    /// Where the page at the URL moved to, if that has a URL.
+    /// The URL to which the page at the URL moved, if it has one.
     To {
         target: Option<&'r str>,
         url: &'r str,
@@ -135,7 +135,7 @@ fn push_moved(text: &mut String, count: usize) -> Result<(), NoMemory>
     write!(text, " moved {count}")
 }
 
-/// The bytes, and behind them the row's object with no space, ended by LF.
+/// The bytes, and after them the row's object with no space, ended by LF.
 pub fn with_json(text: Vec<u8>, row: Row<'_>) -> Result<Vec<u8>, NoMemory>
     ensures { IfOk result (λ more. more.items ≡ text.items ++ json_line (line_of row.entry)) }
 {

@@ -1,4 +1,4 @@
--- What a crawl answers beside its pages.
+-- What a crawl returns in addition to its pages.
 use Rattle.std.specs.Prelude.{◌≡◌, ℕ, ◌<◌, ◌==◌, Bool, true, false, List, length, count_by, slice_get, Option, Some, None}
 use Rattle.std.specs.List.{All}
 use Rattle.crawl_certificate.specs.Certificate.{ArePages}
@@ -34,7 +34,7 @@ pub record AreCounts (workers : ℕ) (urls : List (List ℕ)) (counts : List ℕ
   pub len : length counts ≡ workers
   pub each : (queue : ℕ) → queue < workers → slice_get counts queue ≡ Some (count_by (λ url. subqueue_of url workers == queue) urls)
 
--- so many counts, each the number of entries of the account's queue with its number
+-- counts, each the number of entries of the account's queue with its number
 pub record CountedBelow (some : ℕ) (account : AccountId) (counts : List ℕ) : Type 0 where
   pub len : length counts ≡ some
   pub each : (queue : ℕ) → queue < some → (entries : List Entry) × ((slice_get account.queues queue ≡ Some entries) × (slice_get counts queue ≡ Some (length entries)))
@@ -43,7 +43,7 @@ pub record CountedBelow (some : ℕ) (account : AccountId) (counts : List ℕ) :
 abbrev pub AllPages : {K : _} → (List ℕ → Page) → List (WorkerEnd K) → Type 0
 AllPages meaning ends = All (λ (e : WorkerEnd _). ArePages meaning e.results.items) ends
 
--- the error of a crawl that another error leads to: want of memory is one error, wherever it comes
+-- the error of a crawl that another error leads to: out of memory is one error, wherever it occurs
 abbrev pub of_frontier : FrontierError → CrawlError
 of_frontier frontier.NoMemory = wrong.NoMemory
 of_frontier error = wrong.Frontier error
@@ -81,19 +81,19 @@ abbrev pub IsUncertified : CrawlError → Type 0
 IsUncertified (wrong.Cert error) = ⊥
 IsUncertified error = IsOfRun error
 
--- an error that comes in this mode: a thread that cannot be started is told of workers in threads alone
+-- an error that occurs in this mode: that a thread cannot be started is reported only of workers in threads
 abbrev pub ComesIn : Mode → CrawlError → Type 0
 ComesIn mode (wrong.Run error) = mode ≡ Threads
 ComesIn mode _ = Unit {0}
 
--- the certificate's fault is the first fault of some accepted entries, and of some results that each have the page that the URL means
+-- the certificate's error is the first error of some accepted entries, and of some results that each have the page that the URL means
 pub record IsFaultOf (meaning : List ℕ → Page) (allowed : List ℕ → Bool) (seeds : List (List ℕ)) (error : CertError) : Type 0 where
   pub entries : List Entry
   pub results : List PageResult
   pub means : ArePages meaning results
   pub first : first_fault allowed seeds entries results ≡ Some error
 
--- and no URL below this one, byte by byte, has this fault of them
+-- and no URL below this one, byte by byte, has this error of them
 pub record IsFaultAt (meaning : List ℕ → Page) (allowed : List ℕ → Bool) (seeds : List (List ℕ)) (error : CertError) (url : List ℕ) : Type 0 where
   pub entries : List Entry
   pub results : List PageResult
@@ -101,32 +101,32 @@ pub record IsFaultAt (meaning : List ℕ → Page) (allowed : List ℕ → Bool)
   pub first : first_fault allowed seeds entries results ≡ Some error
   pub least : IsLeast (is_at_fault allowed seeds entries results error) (Some url)
 
--- an error that is told with no URL: it is not of the certificate
+-- an error that is reported with no URL: it is not of the certificate
 abbrev pub NamesNone : CrawlError → Type 0
 NamesNone (wrong.Cert error) = ⊥
 NamesNone error = Unit {0}
 
--- a fault of a certificate is told with such a URL, and another error with none
+-- an error of a certificate is reported with such a URL, and another error with none
 abbrev pub IsJudgedAt : (List ℕ → Page) → (List ℕ → Bool) → List (List ℕ) → CrawlError → Option (List ℕ) → Type 0
 IsJudgedAt meaning allowed seeds error None = NamesNone error
 IsJudgedAt meaning allowed seeds (wrong.Cert error) (Some url) = IsFaultAt meaning allowed seeds error url
 IsJudgedAt meaning allowed seeds error (Some url) = ⊥
 
--- told with no URL
+-- reported with no URL
 abbrev pub without_url : CrawlError → CrawlFailure
 without_url error = record { error = error; culprit = None; losses = no_losses }
 
--- what is told as lost: nothing, where no URL is named
+-- what is reported as lost: nothing, if no URL is named
 abbrev pub losses_at : Option (List ℕ) → Losses → Losses
 losses_at None losses = no_losses
 losses_at (Some url) losses = losses
 
--- a fault of a certificate that is told is such a one
+-- an error of a certificate that is reported is such a one
 abbrev pub IsJudged : (List ℕ → Page) → (List ℕ → Bool) → List (List ℕ) → CrawlError → Type 0
 IsJudged meaning allowed seeds (wrong.Cert error) = IsFaultOf meaning allowed seeds error
 IsJudged meaning allowed seeds _ = Unit {0}
 
--- why a crawl with these numbers fails: the first number that no frontier takes, and only where both are taken another error
+-- why a crawl with these numbers fails: the first number that no frontier takes, and only if both are taken another error
 abbrev pub CrawlFails : ℕ → ℕ → CrawlError → Type 0
 CrawlFails workers max (wrong.Frontier frontier.BadWorkers) = ¬ IsWorkers workers
 CrawlFails workers max (wrong.Frontier frontier.BadLimit) = IsWorkers workers × ¬ IsMaximum max

@@ -1,4 +1,4 @@
--- The run behind a crawl's fault, and all that was lost in it, by why.
+-- The run of which a crawl's error is, and all that was lost in it, by cause.
 use Rattle.std.specs.Prelude.{◌≡◌, ◌↔◌, ℕ, Bool, false, List, [], ◌∷◌, ◌++◌, map, Option, Some, None, Result}
 use Rattle.crawl_certificate.specs.AccountEntries.{entries_in}
 use Rattle.crawl_certificate.specs.CertFaults.{first_fault}
@@ -25,8 +25,8 @@ use Rattle.crawl_run.specs.LosslessRuns.{all_closed, all_found, all_lost}
 use Rattle.crawl_run.specs.declared.error.CrawlError.{CrawlError}
 use Rattle.crawl_run.specs.declared.error.CrawlError.TheVariants as wrong
 
--- The seeder offers a seed, with no hops, and has this answer: its books and the words that it met are those of the answer, which
--- is a refusal by the filter exactly where the URL is not allowed.
+-- The seeder offers a seed, with no hops, and gets this result: its books and the words that it met are those of the result, which
+-- is a refusal by the filter exactly if the URL is not allowed.
 pub record IsSeedOffer (workers : ℕ) (allowed : List ℕ → Bool) (s s' : SeederId) (url : List ℕ) (answer : Result Offer OfferError) : Type 0 where
   pub books : OfferBooks workers s.book s'.book url 0 answer
   pub words : OfferWordsBeside s.opening s'.opening s.seat s'.seat answer
@@ -66,7 +66,7 @@ pub record IsRun (workers : ℕ) (allowed : List ℕ → Bool) (meaning : List �
   pub found : results ≡ all_found ends
   pub lost : losses ≡ together (map lost_seed answers ++ all_lost ends)
 
--- such a run lost so much, and its certificate has this fault; no URL below this one has it
+-- such a run lost so much, and its certificate has this error; no URL below this one has it
 pub record IsLossAt (workers : ℕ) (allowed : List ℕ → Bool) (meaning : List ℕ → Page) (seeds : List (List ℕ)) (error : CertError) (url : List ℕ) (losses : Losses) : Type 0 where
   pub entries : List Entry
   pub results : List PageResult
@@ -74,7 +74,7 @@ pub record IsLossAt (workers : ℕ) (allowed : List ℕ → Bool) (meaning : Lis
   pub first : first_fault allowed seeds entries results ≡ Some error
   pub least : IsLeast (is_at_fault allowed seeds entries results error) (Some url)
 
--- a fault of a certificate is told with what its run lost, and another error with no losses
+-- an error of a certificate is reported with what its run lost, and another error with no losses
 abbrev pub CountsLosses : ℕ → (List ℕ → Bool) → (List ℕ → Page) → List (List ℕ) → CrawlError → Option (List ℕ) → Losses → Type 0
 CountsLosses workers allowed meaning seeds error None losses = losses ≡ no_losses
 CountsLosses workers allowed meaning seeds (wrong.Cert error) (Some url) losses = IsLossAt workers allowed meaning seeds error url losses

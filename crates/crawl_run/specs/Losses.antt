@@ -15,7 +15,7 @@ abbrev pub losses_with : {K : _} → Losses → List (WorkerEnd K) → Losses
 losses_with before [] = before
 losses_with before (e ∷ es) = losses_with (both_losses before e.losses) es
 
--- what is lost with a seed whose offer had this answer
+-- what is lost with a seed whose offer had this result
 abbrev pub lost_seed : Result Offer OfferError → Losses
 lost_seed (Ok offer) = no_losses
 lost_seed (Err refusal) = with_refusal refusal no_losses
@@ -31,7 +31,7 @@ together all = record {
   no_memory = min (sum_by (λ (l : Losses). l.no_memory) all) (2 ^ 64 - 1);
 }
 
--- what is missing was lost: a fault of a seed, a page or a link that is missing comes with a loss at least
+-- what is missing was lost: an error of a seed, a page or a link that is missing comes with a loss at least
 abbrev pub IsLost : CrawlError → Losses → Type 0
 IsLost (wrong.Cert cert.SeedMissing) losses = 1 ≤ all_losses losses
 IsLost (wrong.Cert cert.NotFetched) losses = 1 ≤ all_losses losses

@@ -1,4 +1,4 @@
--- What the client of a session is told of URLs, by its requests and their answers alone.
+-- What the client of a session knows of URLs, only by its requests and their answers.
 use Rattle.std.specs.Prelude.{◌≡◌, ℕ, suc, ◌+◌, ◌≤◌, Bool, false, ◌||◌, List, [], ◌∷◌, ◌++◌, is_some, length, nat_eq, slice_get, if◌then◌else◌, Option, Some, None, Result, Ok}
 use Rattle.std.specs.List.{cons_option, count_by, filter_map}
 use Rattle.std.specs.Option.{option_or, option_to_list}
@@ -19,12 +19,12 @@ use Rattle.crawl_session.specs.Parts.{request_for}
 use Rattle.crawl_session.specs.Sessions.{line_exchange}
 use Rattle.crawl_session.specs.Settings.{Settings}
 
--- what a line asked, and its answer
+-- what a line requests, and its answer
 pub record Asked : Type 0 where
   pub request : Result Request RequestError
   pub answer : Answer
 
--- the same of lines, from this state on
+-- likewise for lines, from this state on
 abbrev pub asked : Settings → Frontier → List (List ℕ) → List Asked
 asked settings state [] = []
 asked settings state (line ∷ more) =
@@ -50,7 +50,7 @@ abbrev pub puts_back : ℕ → Result Request RequestError → Answer → Bool
 puts_back queue (Ok (Later named)) (Told (told.Count left)) = nat_eq named queue
 puts_back queue _ _ = false
 
--- the URLs that the client was told were accepted into the subqueue, in order; those that it took from it; and how many
+-- the URLs of which the client knows that they were accepted into the subqueue, in order; those that it took from it; and how many
 -- fetches of it were done
 abbrev pub accepted_of : ℕ → List Asked → List (List ℕ)
 accepted_of queue asked = filter_map (λ x. accepts queue x.request x.answer) asked
@@ -118,7 +118,7 @@ abbrev pub told_elsewhere : Answer → Option (List ℕ)
 told_elsewhere (Unasked (wrong.Elsewhere part url)) = Some url
 told_elsewhere _ = None
 
--- the URLs that the client was told are other parts', in order
+-- the URLs of which the client knows that they are other parts', in order
 abbrev pub elsewhere_of : List Asked → List (List ℕ)
 elsewhere_of asked = filter_map (λ x. told_elsewhere x.answer) asked
 
@@ -127,8 +127,8 @@ abbrev pub first_of_each : List (List ℕ) → List (List ℕ) → List (List �
 first_of_each others [] = []
 first_of_each others (text ∷ more) = if has_text others text then first_of_each others more else text ∷ first_of_each (others ++ text ∷ []) more
 
--- in each subqueue the URLs taken are the first of those that joined it, in order, which are those accepted where none was put
--- back; none was accepted twice; each was accepted into the subqueue that its host key is assigned to among so many; and of the
+-- in each subqueue the URLs taken are the first of those that joined it, in order, which are those accepted if none was put
+-- back; none was accepted twice; each was accepted into the subqueue, of the given number, that its host key is assigned to; and of the
 -- URLs taken, all but the last at most were done or put back
 pub record EachOnceInOrder (workers : ℕ) (asked : List Asked) : Type 0 where
   pub in_order : (queue k : ℕ) (url : List ℕ) → slice_get (taken_of queue asked) k ≡ Some url → slice_get (joined_of queue asked) k ≡ Some url

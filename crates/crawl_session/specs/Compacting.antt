@@ -1,4 +1,4 @@
--- The lines of a log that a frontier needs to come to the same state, but for the words that senders remember, and to tell the
+-- The lines of a log that a frontier needs to come to the same state, but for the words that senders remember, and to report the
 -- same URLs elsewhere.
 use Rattle.std.specs.Prelude.{◌≡◌, ℕ, ◌-◌, Bool, true, false, not, ◌&&◌, ◌||◌, List, [], ◌∷◌, ◌++◌, ◌==◌, length, slice_index, if◌then◌else◌, Result, Ok}
 use Rattle.std.specs.List.{flat_map}
@@ -17,7 +17,7 @@ use Rattle.crawl_session.specs.Parts.{request_for}
 use Rattle.crawl_session.specs.Sessions.{line_exchange, state_after}
 use Rattle.crawl_session.specs.Settings.{Settings, SessionView}
 
--- what is known of the answers to earlier lines: whether one was `closed`, and the URLs that were told elsewhere, each once
+-- what is known of the answers to earlier lines: whether one was `closed`, and the URLs that were answered `elsewhere`, each once
 pub record Had : Type 0 where
   pub closed : Bool
   pub elsewhere : List (List ℕ)
@@ -29,11 +29,11 @@ abbrev pub says_closed : Answer → Bool
 says_closed (Told told.Closed) = true
 says_closed _ = false
 
--- the texts, and this one where it is new
+-- the texts, and this one if it is new
 abbrev pub with_text : List (List ℕ) → List ℕ → List (List ℕ)
 with_text texts text = if has_text texts text then texts else texts ++ text ∷ []
 
--- and a URL that is told elsewhere
+-- and a URL that is answered `elsewhere`
 abbrev pub with_told : List (List ℕ) → Answer → List (List ℕ)
 with_told texts (Unasked (wrong.Elsewhere part url)) = with_text texts url
 with_told texts _ = texts
@@ -50,12 +50,12 @@ changes had (told.Count left) = true
 changes had told.Closed = not had.closed
 changes had _ = false
 
--- what is told again changes nothing
+-- an `elsewhere` that is repeated changes nothing
 abbrev pub asks_again : Request → Bool
 asks_again (Again queue) = true
 asks_again _ = false
 
--- whether a line is needed that asks this, and was answered so: of those that are told elsewhere, the first with its URL
+-- whether a line is needed that requests this, and was answered so: of those that are answered `elsewhere`, the first with its URL
 abbrev pub is_needed : Had → Result Request RequestError → Answer → Bool
 is_needed had (Ok request) (Told reply) = not (asks_again request) && changes had reply
 is_needed had _ (Unasked (wrong.Elsewhere part url)) = not (has_text had.elsewhere url)
@@ -75,7 +75,7 @@ had_after settings had state (line ∷ more) =
     let done = line_exchange settings state line in
     had_after settings (having had done.answer) done.state more
 
--- a line as it stands in a log: a CR at its end is no part of the line's end
+-- a line as it is in a log: a CR at its end is no part of the line's end
 abbrev pub line_end : List ℕ → List ℕ
 line_end line = if slice_index line (length line - 1) == 13 then 13 ∷ 10 ∷ [] else 10 ∷ []
 
@@ -92,7 +92,7 @@ pub record Gives (had : Had) (old : SessionView) (line : List ℕ) (is : Bool) (
       let done = line_exchange old.settings state line in
       (is ≡ is_needed had (request_for old.settings line) done.answer) × ((next ≡ having had done.answer) × Shows new.core done.state)
 
--- the same of what a line asks
+-- likewise for what a line requests
 pub record GivesRequest (had : Had) (old : SessionView) (request : Request) (is : Bool) (next : Had) (new : SessionView) : Type 0 where
   pub settings : new.settings ≡ old.settings
   pub comes : (state : Frontier) → Shows old.core state →

@@ -1,4 +1,4 @@
--- Which events of the machine a request stands for, and what it is answered.
+-- Which events of the machine a request means, and its answer.
 use Rattle.std.specs.Prelude.{ℕ, suc, Bool, true, false, not, ◌&&◌, List, [], ◌∷◌, length, nat_lt, slice_get, if◌then◌else◌, Option, Some, None}
 use Rattle.crawl_core.specs.declared.event.Event.{Event}
 use Rattle.crawl_core.specs.declared.event.Event.TheVariants as event
@@ -23,7 +23,7 @@ use Rattle.crawl_session.specs.Frontiers.{Frontier, deferrals_at, waits_again, w
 abbrev pub client : ℕ
 client = 0
 
--- what comes of a request in a state of the machine: the events that it stands for, with their replies; its answer; and the state
+-- what comes of a request in a state of the machine: the events that it means, with their replies; its answer; and the state
 -- after them
 pub record Exchange : Type 0 where
   pub history : List (Event × Reply)
@@ -57,7 +57,7 @@ abbrev pub is_empty : Reply → Bool
 is_empty told.Empty = true
 is_empty _ = false
 
--- the client holds a unit: it goes with the URL, or back where the URL was seen
+-- the client holds a unit: it goes with the URL, or back if the URL was seen
 abbrev pub admitting : State → List ℕ → ℕ → Exchange
 admitting state url queue =
     after state (event.Admit client url queue) (λ reply admitted.
@@ -70,7 +70,7 @@ entering state url queue =
 abbrev pub offering : State → List ℕ → ℕ → Exchange
 offering state url queue = after state (event.Look client) (λ _ looked. entering looked url queue)
 
--- where nothing waits, the gate is closed, if nothing is out
+-- if nothing waits, the gate is closed, if nothing is out
 abbrev pub taking : State → ℕ → Exchange
 taking state queue =
     after state (event.Take queue) (λ reply taken. if is_empty reply then after taken event.Close ends else ends reply taken)
@@ -97,7 +97,7 @@ pub record Outcome : Type 0 where
   pub answer : Answer
   pub state : Frontier
 
--- what comes of the machine alone
+-- what comes of only the machine
 abbrev pub by_machine : Frontier → Exchange → Outcome
 by_machine frontier x = record { history = x.history; answer = x.answer; state = record frontier { machine = x.state } }
 
@@ -117,7 +117,7 @@ abbrev pub retaking : Frontier → ℕ → List Deferred → Outcome
 retaking frontier queue [] = replies (told.Refused why.Busy) frontier
 retaking frontier queue (first ∷ more) = replies (told.Taken first.url) (with_deferrals frontier queue (record { waiting = more; fetched = Some first }))
 
--- the first of those that were put back, if it is due; else the first of those that were not taken
+-- the first of those that were put back, if it is due; else the first of those that are waiting
 abbrev pub taking_first : Frontier → ℕ → List Deferred → Outcome
 taking_first frontier queue waiting =
     if is_due (slice_get frontier.machine.subqueues queue) waiting then retaking frontier queue waiting
@@ -157,7 +157,7 @@ accepted_at (Some queue) = length queue.accepted
 abbrev pub accepted_in : State → ℕ → ℕ
 accepted_in state queue = accepted_at (slice_get state.subqueues queue)
 
--- the URL waits behind all that its queue has accepted
+-- the URL waits after all that its queue has accepted
 abbrev pub put_back : Frontier → ℕ → List ℕ → ℕ → Frontier
 put_back frontier queue url sender =
     with_deferrals frontier queue (waits_again (deferrals_at frontier queue) (record { url = url; sender = sender; after = accepted_in frontier.machine queue }))

@@ -7,7 +7,7 @@ use Rattle.crawl_limits.specs.Limits.{line_limit}
 use Rattle.crawl_session.specs.Settings.{SessionView}
 use Rattle.crawl_session.specs.Serving.{ServesAll}
 
--- the most bytes that are held: they tell whether the line is too long, whether or not a CR stands before its end
+-- the most bytes that are held: they show whether the line is too long, with or without a CR before its end
 abbrev pub held_limit : ℕ
 held_limit = line_limit + 2
 
@@ -24,7 +24,7 @@ pub record Holds (held tail : List ℕ) : Type 0 where
   pub beginning : held ≡ take held_limit tail
   pub unfinished : IsUnfinished tail
 
--- bytes came behind an unfinished line: the text has the answers to all lines that end in them, and what follows is held
+-- bytes came after an unfinished line: the text has the answers to all lines that end in them, and what follows is held
 pub record AnswersWhole (old : SessionView) (tail bytes text : List ℕ) (held : List ℕ) (new : SessionView) : Type 0 where
   pub front : List ℕ
   pub rest : List ℕ
@@ -33,7 +33,7 @@ pub record AnswersWhole (old : SessionView) (tail bytes text : List ℕ) (held :
   pub holds : Holds held rest
   pub serves : ServesAll old (lines front) text new
 
--- one read behind an unfinished line, of these bytes: the writer has gained the answers to all lines that end in them
+-- one read after an unfinished line, of these bytes: the writer has gained the answers to all lines that end in them
 pub record Turns (old : SessionView) (tail : List ℕ) (input_old input_new out_old out_new : Option (List ℕ)) (held : List ℕ) (new : SessionView) : Type 0 where
   pub bytes : List ℕ
   pub text : List ℕ
@@ -41,14 +41,14 @@ pub record Turns (old : SessionView) (tail : List ℕ) (input_old input_new out_
   pub answers_whole : AnswersWhole old tail bytes text held new
   pub written : Appends out_old out_new text
 
--- the end of the input behind an unfinished line, which is answered where it is not empty
+-- the end of the input after an unfinished line, which is answered if it is not empty
 pub record Ends (old : SessionView) (tail : List ℕ) (input_old input_new out_old out_new : Option (List ℕ)) (new : SessionView) : Type 0 where
   pub text : List ℕ
   pub at_end : Consumes input_old input_new [] × IsAtEnd input_new
   pub serves : ServesAll old (lines tail) text new
   pub written : Appends out_old out_new text
 
--- a whole input was served: these bytes, which are all that the input had where that is known; and the writer has gained the
+-- a whole input was served: these bytes, which are all that the input had if that is known; and the writer has gained the
 -- answer lines of their lines
 pub record ServesInput (old : SessionView) (input_old out_old out_new : Option (List ℕ)) (new : SessionView) : Type 0 where
   pub bytes : List ℕ

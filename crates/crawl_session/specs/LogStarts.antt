@@ -1,4 +1,4 @@
--- What stands before the settings in the first line of a log.
+-- What comes before the settings in the first line of a log.
 use Rattle.std.specs.Prelude.{ℕ, List, [], ◌++◌, codes, if◌then◌else◌, Option, Some, None, option_and_then}
 use Rattle.std.specs.Fmt.{decimal}
 use Rattle.std.specs.Option.{option_map}
@@ -18,7 +18,7 @@ identity_text (Some text) = codes "identity " ++ text ++ codes " "
 abbrev pub start_text : Option (ℕ × ℕ) → Option (List ℕ) → List ℕ
 start_text part identity = part_text part ++ identity_text identity
 
--- the word behind this one, and what follows it
+-- the word after this one, and what follows it
 abbrev pub value_in : List ℕ → List ℕ × List ℕ → Option (List ℕ × List ℕ)
 value_in word p = if bytes_eq p.0 word then at_space p.1 else None
 

@@ -25,7 +25,7 @@ numbers_text workers max = codes "workers " ++ decimal workers ++ codes " max " 
 abbrev pub settings_line : ℕ → ℕ → List (List ℕ) → List ℕ
 settings_line workers max suffixes = within_text suffixes ++ numbers_text workers max
 
--- the suffix that a text begins with, and what stands behind it
+-- the suffix that a text begins with, and what follows it
 abbrev pub suffix_from : List ℕ × List ℕ → Option (List ℕ × List ℕ)
 suffix_from p = if bytes_eq p.0 (codes "within") then at_space p.1 else None
 

@@ -9,7 +9,7 @@ use Rattle.crawl_session.specs.declared.request.RequestError.TheVariants as wron
 use Rattle.crawl_session.specs.Requests.{request_of}
 use Rattle.crawl_session.specs.Settings.{Settings}
 
--- the number of the part that has a queue: all parts have as many as this one
+-- the number of the part that has a queue: all parts have the same number of queues
 abbrev pub part_with : Part → ℕ → ℕ
 part_with part queue = queue / part.queues
 

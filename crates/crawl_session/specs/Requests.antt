@@ -27,12 +27,12 @@ of_key key.NotUrl = wrong.NotUrl
 of_key key.NotHttp = wrong.NotHttp
 of_key key.NoMemory = wrong.NoMemory
 
--- a canonical URL, if the filter with these suffixes allows it, and the subqueue that its host key is assigned to among so many
+-- a canonical URL, if the filter with these suffixes allows it, and the subqueue, of the given number, that its host key is assigned to
 abbrev pub allowed : ℕ → List (List ℕ) → List ℕ → Result Request RequestError
 allowed workers suffixes url =
     if allows suffixes url then Ok (Offer url (subqueue_of url workers)) else Err wrong.Filtered
 
--- the same of a text that may have no canonical URL
+-- likewise for a text that may have no canonical URL
 abbrev pub offered : ℕ → List (List ℕ) → Result (List ℕ) KeyError → Result Request RequestError
 offered workers suffixes (Err refusal) = Err (of_key refusal)
 offered workers suffixes (Ok url) = allowed workers suffixes url
@@ -41,7 +41,7 @@ offered workers suffixes (Ok url) = allowed workers suffixes url
 abbrev pub offer_of : ℕ → List (List ℕ) → List ℕ → Result Request RequestError
 offer_of workers suffixes text = offered workers suffixes (canonical text)
 
--- `link BASE TEXT`: the offer of the text resolved against the base; a base that has no canonical URL is told as its offer is
+-- `link BASE TEXT`: the offer of the text resolved against the base; a base that has no canonical URL is answered as its offer is
 abbrev pub linked : ℕ → List (List ℕ) → List ℕ → Result (List ℕ) KeyError → Result Request RequestError
 linked workers suffixes text (Err refusal) = Err (of_key refusal)
 linked workers suffixes text (Ok base) = offered workers suffixes (resolve base text)
@@ -77,6 +77,6 @@ abbrev pub request_in : ℕ → List (List ℕ) → Result (List ℕ) LineError 
 request_in workers suffixes (Ok text) = request_from workers suffixes text (at_space text)
 request_in workers suffixes (Err fault) = Err (of_line fault)
 
--- what a line asks of a frontier with so many workers whose filter has these suffixes, or why it asks nothing
+-- what a line requests of a frontier with this number of workers whose filter has these suffixes, or why it requests nothing
 abbrev pub request_of : ℕ → List (List ℕ) → List ℕ → Result Request RequestError
 request_of workers suffixes line = request_in workers suffixes (text_of 1 line)

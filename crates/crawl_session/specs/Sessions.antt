@@ -13,7 +13,7 @@ use Rattle.crawl_session.specs.Frontiers.{Frontier, start}
 use Rattle.crawl_session.specs.Parts.{request_for}
 use Rattle.crawl_session.specs.Settings.{Settings}
 
--- a line that asks nothing stands for no event
+-- a line that requests nothing means no event
 abbrev pub answered : Frontier → Result Request RequestError → Outcome
 answered state (Ok request) = exchange state request
 answered state (Err why) = record { history = []; answer = Unasked why; state = state }
@@ -32,7 +32,7 @@ abbrev pub state_after : Settings → Frontier → List (List ℕ) → Frontier
 state_after settings state [] = state
 state_after settings state (line ∷ more) = state_after settings (line_exchange settings state line).state more
 
--- the events that they stand for, with their replies
+-- the events that they mean, with their replies
 abbrev pub history_of : Settings → Frontier → List (List ℕ) → List (Event × Reply)
 history_of settings state [] = []
 history_of settings state (line ∷ more) = (line_exchange settings state line).history ++ history_of settings (line_exchange settings state line).state more

@@ -20,7 +20,7 @@ plus a b = record {
   put_back = a.put_back + b.put_back;
 }
 
--- of a queue that is so far, in which so many URLs wait that were put back, and which may be busy with such a URL
+-- of a queue with this state, in which the given number of URLs wait that were put back, and which may be busy with such a URL
 abbrev pub stats_of : Progress → ℕ → Bool → Stats
 stats_of progress put_back is_busy =
     let in_progress = one_if progress.busy + one_if is_busy in

@@ -37,7 +37,7 @@ fn enter(core: &mut Core, url: Text, queue: u32) -> Result<Reply, NoMemory>
     Ok(reply)
 }
 
-/// Admits the URL by the client's unit, which is given back where it does not go with the URL.
+/// Admits the URL by the client's unit, which is given back if it does not go with the URL.
 fn admit(core: &mut Core, url: Text, queue: u32) -> Result<Reply, NoMemory>
     ensures comes { IfOk result (λ reply. Comes (λ state. spec.admitting state url queue) core.old (Answer.Told reply) core.new) }
     ensures err { OnErr result (Leads core.old (Event.Back spec.client) core.new) }
@@ -88,7 +88,7 @@ pub fn again(core: &Core, queue: u32) -> Result<Reply, NoMemory>
     }
 }
 
-/// After a refused growth: the client's unit is given back.
+/// After an allocation failed: the client's unit is given back.
 fn give_back(core: &mut Core) -> NoMemory
     ensures { Leads core.old (Event.Back spec.client) core.new }
 {

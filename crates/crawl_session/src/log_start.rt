@@ -1,4 +1,4 @@
-//! What stands before the settings in the first line of a log: which part of a crawl it is of, and its identity.
+//! What comes before the settings in the first line of a log: which part of a crawl it is of, and its identity.
 ghost use Rattle.std.specs.Prelude.{◌≡◌, ◌++◌, IfOk, string_bytes};
 ghost use Rattle.std.specs.Option.{option_map};
 ghost use Rattle.crawl_session.specs.LogStarts as spec;
@@ -8,7 +8,7 @@ use crawl_replay::number32;
 use std::alloc::Global;
 use text_lines::split_space;
 
-/// `part I of K` for a part with its number and how many there are, and `identity TEXT`, each with a space behind it.
+/// `part I of K` for a part with its number and how many there are, and `identity TEXT`, each with a space after it.
 ///
 /// # Errors
 /// Out of memory.
@@ -49,7 +49,7 @@ fn push_identity(text: &mut String, identity: Option<&str>) -> Result<(), NoMemo
     }
 }
 
-/// What a log's first line begins with: its part, its identity, and what stands behind them, which is the whole line where it
+/// What a log's first line begins with: its part, its identity, and what follows them, which is the whole line if it
 /// names neither.
 pub fn read_start(line: &str) -> (Option<(u32, u32)>, Option<&str>, &str)
     ensures { (result.0, (option_map (λ t. t.now) result.1, result.2.now)) ≡ spec.read_start line.now }
@@ -80,7 +80,7 @@ fn part_in(line: &str) -> Option<(u32, u32, &str)>
     Some((number, parts, rest))
 }
 
-/// The word behind this one, at the beginning of the text, and what follows it.
+/// The word after this one, at the beginning of the text, and what follows it.
 fn value_of<'a>(text: &'a str, word: &str) -> Option<(&'a str, &'a str)>
     ensures { option_map (λ x. (x.0.now, x.1.now)) result ≡ spec.value_of word.now text.now }
 {

@@ -1,4 +1,4 @@
-//! A session over an input and an output: an answer line for each line, at once.
+//! A session over an input and an output: an answer line for each line, immediately.
 ghost use Rattle.std.specs.Prelude.{◌≡◌, ℕ, ◌<◌, ◌≤◌, List, [], ◌∷◌, ◌++◌, length, take, drop, true, false, IfOk, string_bytes};
 ghost use Rattle.std.specs.Io.KnownBytes.{Appends, Consumes, IsAtEnd};
 ghost use Rattle.std.specs.Str.Lines.{lines};
@@ -16,8 +16,8 @@ use text_lines::{LINE_LIMIT, first_line};
 /// The most bytes that a read asks for.
 const READ_SIZE: usize = 65_536;
 
-/// The most bytes that are held of a line whose end was not read: enough to tell that it is too long, whether or not a CR
-/// stands before its end.
+/// The most bytes that are held of a line whose end was not read: enough to see that it is too long, with or without a CR
+/// before its end.
 const HELD_LIMIT: usize = LINE_LIMIT + 2;
 
 /// Why a session ends before its input does.
@@ -27,7 +27,7 @@ pub enum ServeError {
     CannotRead,
     /// A write or a flush failed.
     CannotWrite,
-    /// A growth was refused.
+    /// An allocation failed.
     NoMemory,
 }
 
@@ -110,7 +110,7 @@ fn turn<I: Read, O: Write>(
     Ok(true)
 }
 
-/// One read that no signal interrupts; 0 at the end alone.
+/// One read that no signal interrupts; 0 only at the end.
 fn read_some<I: Read>(input: &mut I, buffer: &mut [u8]) -> Result<usize, ServeError>
     requires { 0 < length buffer.old }
     ensures within { IfOk result (λ n. n ≤ length buffer.new) }

@@ -32,7 +32,7 @@ impl Stats {
         }
     }
 
-    /// Those of a queue that is so far, in which so many URLs wait that were put back. It may be busy with such a URL.
+    /// Those of a queue with this state, in which `put_back` URLs wait that were put back. It may be busy with such a URL.
     ///
     /// # Errors
     /// A number is too large.

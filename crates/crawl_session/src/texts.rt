@@ -12,7 +12,7 @@ use std::marker::Model;
 #[derive(Drop)]
 pub(crate) struct Texts {
     texts: Vec<Text>,
-    /// Where each of these stands.
+    /// The index of each of these.
     index: HashIndex,
 }
 

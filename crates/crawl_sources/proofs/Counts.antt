@@ -28,7 +28,7 @@ or_false false = refl
 pub any_push : {X : Type 0} (p : X → Bool) (xs : List X) (x : X) → list_any p (xs ++ x ∷ []) ≡ (list_any p xs || p x)
 any_push p xs x = list_any-append p xs (x ∷ []) ∙ ap (λ b. list_any p xs || b) (or_false (p x))
 
--- the elements up to a place, and the one that stands there
+-- the elements up to an index, and the one that is there
 pub pointed_more : {X : Type 0} (xs : List (Bor X)) (i : ℕ) (x : Bor X) → i < length xs → x ≡ get_or xs i x → pointed (take (i + 1) xs) ≡ pointed (take i xs) ++ x.now ∷ []
 pointed_more xs i x below at =
     map_more (λ (y : Bor _). y.now) xs i x below ∙ ap (λ (y : Bor _). pointed (take i xs) ++ y.now ∷ []) (sym at)
@@ -123,7 +123,7 @@ link_more all links link n page url o mid new before after =
 
 -- ---- one more result
 
--- its URL is kept where all are
+-- its URL is kept if all are
 one_more : (all : Bool) (own before after : List (List ℕ)) (url : List ℕ) → own ≡ (if all then before else []) → after ≡ before ++ url ∷ [] → (if all then own ++ url ∷ [] else own) ≡ (if all then after else [])
 one_more true own before after url is more = ap (λ us. us ++ url ∷ []) is ∙ sym more
 one_more false own before after url is more = is

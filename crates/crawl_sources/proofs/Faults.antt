@@ -1,4 +1,4 @@
--- The first fault of lines, as a relation.
+-- The first error of lines, as a relation.
 use Rattle.std.proofs.Common.{◌≡◌, ℕ, ◌+◌, List, [], ◌∷◌, ◌++◌, length, Option, Some, None, refl, sym, ap, ◌∙◌, arith, append_assoc, append-nil, length-append}
 use Rattle.std.specs.Option.{option_or}
 use Rattle.text_lines.specs.LeastFault.{SoundAfter, IsLeastFault}
@@ -16,7 +16,7 @@ sound_lines earlier (line ∷ more) n numbered is =
     let both = none_first (line_fault n line) (first_fault (n + 1) more) is in
     (ap (λ k. line_fault k line) (sym numbered) ∙ both.0, sound_lines (earlier ++ line ∷ []) more (n + 1) (omega (arith, length-append earlier (line ∷ []))) both.1)
 
--- what a fault of these lines behind the earlier ones is
+-- what an error of these lines after the earlier ones is
 record IsLeastBehind (earlier lines : List (List ℕ)) (fault : SeedsFault) : Type 0 where
   front : List (List ℕ)
   line : List ℕ

@@ -1,4 +1,4 @@
--- Which seeds the lines of a file are, and the fault of lines that are none: that of the first line that fails a check.
+-- Which seeds the lines of a file are, and the error of lines that are none: that of the first line that fails a check.
 use Rattle.std.specs.Prelude.{ℕ, ◌+◌, ◌==◌, List, [], ◌∷◌, length, if◌then◌else◌, Option, Some, None, Result, Ok, Err}
 use Rattle.std.specs.List.{filter_map}
 use Rattle.std.specs.Option.{option_or}
@@ -14,12 +14,12 @@ use Rattle.crawl_sources.specs.declared.seeds.SeedsFault.TheVariants as wrong
 
 -- ---- the checks of a line, by its number
 
--- the fault of a file one of whose lines has no text
+-- the error of a file one of whose lines has no text
 abbrev pub fault_of : LineError → SeedsFault
 fault_of (TooLong number) = wrong.LineTooLong number
 fault_of (NotText number) = wrong.NotText number
 
--- the fault of a text that has no canonical URL
+-- the error of a text that has no canonical URL
 abbrev pub key_fault : ℕ → KeyError → SeedsFault
 key_fault number key.NotUrl = wrong.NotUrl number
 key_fault number key.NotHttp = wrong.NotHttp number
@@ -29,7 +29,7 @@ abbrev pub url_fault : ℕ → Result (List ℕ) KeyError → Option SeedsFault
 url_fault number (Ok url) = None
 url_fault number (Err e) = Some (key_fault number e)
 
--- an empty line is no seed, and no fault
+-- an empty line is no seed, and no error
 abbrev pub text_fault : ℕ → Result (List ℕ) LineError → Option SeedsFault
 text_fault number (Err e) = Some (fault_of e)
 text_fault number (Ok text) = if length text == 0 then None else url_fault number (canonical text)
@@ -38,7 +38,7 @@ text_fault number (Ok text) = if length text == 0 then None else url_fault numbe
 abbrev pub line_fault : ℕ → List ℕ → Option SeedsFault
 line_fault number line = text_fault number (text_of number line)
 
--- the first fault of lines, the first of which has this number
+-- the first error of lines, the first of which has this number
 abbrev pub first_fault : ℕ → List (List ℕ) → Option SeedsFault
 first_fault number [] = None
 first_fault number (line ∷ more) = option_or (line_fault number line) (first_fault (number + 1) more)
@@ -53,7 +53,7 @@ abbrev pub unless_fault : Option SeedsFault → List (List ℕ) → Result (List
 unless_fault None urls = Ok urls
 unless_fault (Some fault) urls = Err fault
 
--- the URLs of the lines that are not empty, in order; the first fault, where a line has one
+-- the URLs of the lines that are not empty, in order; the first error, if a line has one
 abbrev pub seeds_in : List (List ℕ) → Result (List (List ℕ)) SeedsFault
 seeds_in lines = unless_fault (first_fault 1 lines) (filter_map seed_url lines)
 

@@ -1,4 +1,4 @@
--- Where the missing URLs of a report are linked from: a line for each, in the report's order.
+-- The pages that link to the missing URLs of a report: a line for each URL, in the report's order.
 use Rattle.std.specs.Prelude.{ℕ, Bool, List, [], ◌∷◌, ◌++◌, length, map, filter, fold, codes, if◌then◌else◌, Option, Some, None}
 use Rattle.std.specs.List.{list_any, flat_map}
 use Rattle.std.specs.Fmt.{decimal}
@@ -15,7 +15,7 @@ use Rattle.crawl_pages.specs.declared.page.PageResult.{PageResult}
 abbrev pub links_to : List ℕ → PageResult → Bool
 links_to url r = list_any (λ link. bytes_eq link url) (links_of r.page)
 
--- the results that link to the URL; one that does so twice stands there once
+-- the results that link to the URL; one that does so twice is in it once
 abbrev pub sources_of : List PageResult → List ℕ → List PageResult
 sources_of results url = filter (links_to url) results
 

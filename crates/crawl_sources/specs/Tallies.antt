@@ -16,9 +16,9 @@ pub record Count : Type 0 where
   pub count : ℕ
   -- the least of their URLs
   pub page : Option (List ℕ)
-  -- their URLs, where all are kept
+  -- their URLs, if all are kept
   pub all : List (List ℕ)
-  -- which result was counted last, by its number from 1; 0 where none was
+  -- which result was counted last, by its number from 1; 0 if none was
   pub last : ℕ
 
 -- nothing is counted

@@ -16,11 +16,11 @@ use std::collections::BTreeMap;
 /// A count for each of some URLs.
 pub type Tallies<'a> = BTreeMap<HashedText<'a>, Tally<'a>>;
 
-/// For the URL of each of `told`, how many of the results link to it, and the least of their URLs; all of them too, where
-/// `all` are to be told.
+/// For the URL of each of `told`, how many of the results link to it, and the least of their URLs; all of them too, if
+/// `all` are to be listed.
 ///
 /// # Errors
-/// Want of memory alone.
+/// Only out of memory.
 pub fn tally_links<'a>(
     alloc: Global,
     told: &[&'a PageResult],

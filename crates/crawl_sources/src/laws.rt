@@ -9,14 +9,14 @@ ghost use Rattle.crawl_sources.specs.Seeds.{first_fault};
 ghost use Rattle.crawl_sources.specs.Sources.{least};
 ghost use Rattle.crawl_sources.specs.declared.seeds.SeedsFault.{SeedsFault};
 
-/// The least of texts is one of them, and none of them is less; there is none only where there is no text.
+/// The least of texts is one of them, and none of them is less; there is none only if there is no text.
 pub fn least_text()
     ensures among { (texts : List (List ℕ)) (text : List ℕ) → least texts ≡ Some text → Contains texts text }
     ensures below { (texts : List (List ℕ)) (text : List ℕ) → least texts ≡ Some text → All (λ t. is_lt (slice_cmp nat_cmp t text) ≡ false) texts }
     ensures none { (texts : List (List ℕ)) → least texts ≡ None → texts ≡ [] }
 {}
 
-/// The fault of a seeds file is that of its first line that fails a check, and there the first check; where there is none, no
+/// The error of a seeds file is that of its first line that fails a check, and there the first check; if there is none, no
 /// line fails one.
 pub fn first_fault_is_least()
     ensures fault { (lines : List (List ℕ)) (fault : SeedsFault) → first_fault 1 lines ≡ Some fault → IsLeastFault fault_after lines fault }

@@ -1,4 +1,4 @@
-//! The seeds that a file has, one a line.
+//! The seeds that a file has, one per line.
 ghost use Rattle.std.specs.Prelude.{◌≡◌, IfOk};
 ghost use Rattle.std.specs.Str.Lines.{lines};
 ghost use Rattle.crawl_keys.specs.Outcome.{Gives};
@@ -20,7 +20,7 @@ pub enum SeedsFault {
     NotUrl(u64),
     /// The line with this number is a URL that is neither `http` nor `https`.
     NotHttp(u64),
-    /// A growth was refused. This may stand in place of any other answer.
+    /// An allocation failed. This may replace any other result.
     NoMemory,
 }
 
@@ -43,11 +43,11 @@ impl<T: Drop> From<AllocFailed<T>> for SeedsFault {
     }
 }
 
-/// The canonical URLs of the seeds that the bytes are, one a line, in their order; empty lines are skipped.
+/// The canonical URLs of the seeds that the bytes are, one per line, in their order; empty lines are skipped.
 ///
 /// # Errors
 /// That of the first line that fails a check, and there the first of the checks, in the order of [`SeedsFault`]; `NoMemory`
-/// where a growth was refused.
+/// if an allocation failed.
 pub fn read_seeds(alloc: Global, bytes: &[u8]) -> Result<Vec<CanonUrl>, SeedsFault>
     ensures { Gives SeedsFault.NoMemory (λ urls. urls.items) result (seeds_in (lines bytes.now)) }
 {
@@ -64,7 +64,7 @@ pub fn read_seeds(alloc: Global, bytes: &[u8]) -> Result<Vec<CanonUrl>, SeedsFau
     Ok(urls)
 }
 
-/// The seed that the line with this number is; none where it is empty.
+/// The seed that the line with this number is; none if it is empty.
 fn seed_of(alloc: Global, number: u64, line: &[u8]) -> Result<Option<CanonUrl>, SeedsFault>
     ensures tells { Gives SeedsFault.NoMemory (λ _. tt) result (checked (line_fault number line.now)) }
     ensures url { IfOk result (λ url. url ≡ seed_url line.now) }

@@ -8,7 +8,7 @@ use crawl_pages::NoMemory;
 use std::alloc::Global;
 use std::marker::Model;
 
-/// How many results link to a URL, the least of their URLs, and all of them where they are told.
+/// How many results link to a URL, the least of their URLs, and all of them if they are listed.
 #[derive(Drop)]
 pub struct Tally<'a> {
     count: u64,
@@ -44,7 +44,7 @@ impl<'a> Tally<'a> {
         }
     }
 
-    /// Counts the result with this number, from 1, and this URL, unless it was counted; its URL is kept where all are.
+    /// Counts the result with this number, from 1, and this URL, unless it was counted; its URL is kept if all are.
     pub fn add(&mut self, all: bool, number: u64, url: &'a str) -> Result<(), NoMemory>
         ensures { OnOk result (self.new ≡ counted all number url.now self.old) }
     {
@@ -74,7 +74,7 @@ impl<'a> Tally<'a> {
         self.page
     }
 
-    /// Their URLs, where all are kept.
+    /// Their URLs, if all are kept.
     pub fn all(&self) -> &[&'a str]
         ensures { pointed result.now ≡ self.now.all }
     {

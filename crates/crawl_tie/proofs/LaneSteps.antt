@@ -51,7 +51,7 @@ lane_moves m next k one (takes_in p h sent other h' taken n apart at there is) =
         by_rights false true no_s no_t = absurd (no_t refl)
         by_rights false false no_s no_t = refl
 
--- after a pass was taken in, no pass may do one of the two alone
+-- after a pass was taken in, no pass may do one of the two by itself
 pub only_making : (m next : Moment) → IsUnited m → (step : SubqueueStep m next) → IsMaking step ≡ true
 only_making m next both (settles p h old at is) = refl
 only_making m next both (divides p h at is) = refl

@@ -8,7 +8,7 @@ use Rattle.crawl_core.specs.Messages as core
 use Rattle.crawl_queues.specs.History.{Moment, SubqueueStep, ViewAt, settles, divides, pushes, pops, finds_nothing, takes_in, first_moment}
 use Rattle.crawl_queues.proofs.Passing as pass
 
--- ## The machine's words for a list sent
+-- ## The machine's messages for a list sent
 
 pub same_urls : (es : List Entry) (url : List ℕ) → core.has_url (map message_of es) url ≡ has_url url es
 same_urls [] url = refl
@@ -146,7 +146,7 @@ pushed_lane gate workers q s l m e shows p = record {
 pub lists_split : (gate : GateId) (workers q : ℕ) (m : Moment) (sent taken : List Entry) → HasLists gate workers q m sent taken → sent ≡ taken ++ map plain m.items
 lists_split gate workers q m sent taken has = sym has.sent_is ∙ (has.kept.split ∙ ap (λ es. es ++ map plain m.items) has.taken_is)
 
--- the entry that is popped is the machine's oldest that was not taken
+-- the entry that is popped is the machine's oldest that is waiting
 pub oldest_is : (gate : GateId) (workers q : ℕ) (s : Subqueue) (l : Lane) (m : Moment) (e : Entry) → ShowsLane gate workers q s l → Popping l.moment m e → slice_get s.accepted s.taken ≡ Some (message_of e)
 oldest_is gate workers q s l m e shows p = grind (arith, lists_split, get_mid)
 
@@ -179,10 +179,10 @@ lanes_set gate workers queues lanes all q s s' l l' at_s at_l shows there x = gr
 lens_of : (gate : GateId) (workers q : ℕ) (s : Subqueue) (l : Lane) → ShowsLane gate workers q s l → length s.accepted ≡ s.taken + length l.moment.items
 lens_of gate workers q s l shows = grind (arith, lists_split, length-append, length-map)
 
--- where the queue holds nothing, the machine has taken all
+-- if the queue holds nothing, the machine has taken all
 pub none_waits : (gate : GateId) (workers q : ℕ) (s : Subqueue) (l : Lane) → ShowsLane gate workers q s l → l.moment.items ≡ [] → slice_get s.accepted s.taken ≡ None
 none_waits gate workers q s l shows none = grind (arith, nat_tests, common_steps, lens_of, slice_get_past)
 
--- where the machine has taken all, the queue holds nothing
+-- if the machine has taken all, the queue holds nothing
 pub all_taken : (gate : GateId) (workers q : ℕ) (s : Subqueue) (l : Lane) → ShowsLane gate workers q s l → s.taken ≡ length s.accepted → l.moment.items ≡ []
 all_taken gate workers q s l shows all_are = let lens = lens_of gate workers q s l shows in nil_from_length l.moment.items (omega (arith, lens, all_are))

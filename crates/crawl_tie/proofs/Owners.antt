@@ -4,7 +4,7 @@ use Rattle.crawl_core.proofs.GateHistory.{others_stay}
 use Rattle.crawl_queues.specs.History as subqueues
 use Rattle.std.proofs.Math.Seq.{map-set_same}
 
--- ## Indices of two lists at once
+-- ## Indices of two lists
 
 set_both : {A B : Type 0} (f : A → Bool) (g : B → Bool) (xs : List A) (ys : List B) (i : ℕ) (x : A) (y : B) → map f xs ≡ map g ys → f x ≡ g y → map f (set xs i x) ≡ map g (set ys i y)
 set_both f g xs ys i x y e same = map-set f xs i x ∙ (ap (λ bs. set bs i (f x)) e ∙ (ap (λ b. set (map g ys) i b) same ∙ sym (map-set g ys i y)))
@@ -28,7 +28,7 @@ in_front [] (suc j) owner at = absurd (cc (at))
 in_front (x ∷ xs) zero owner at = at
 in_front (x ∷ xs) (suc j) owner at = in_front xs j owner at
 
--- where a write has left an owner: it was one before, at another index; or it was written
+-- if a write has left an owner: it was one before, at another index; or it was written
 abbrev Before : Whole → ℕ → ℕ → Option Owner → Owner → Type 0
 Before w seat other written owner = ((seat ≡ other) × (written ≡ Some owner)) ⊎ ((seat ≢ other) × IsOwner w other owner)
 

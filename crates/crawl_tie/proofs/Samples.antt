@@ -14,7 +14,7 @@ abbrev queue : Bool → ℕ
 queue true = 0
 queue false = 1
 
--- x stands at the queue, y at the other
+-- x is at the queue, y at the other
 abbrev both : {A : Type 0} → Bool → A → A → List A
 both true x y = x ∷ y ∷ []
 both false x y = y ∷ x ∷ []

@@ -18,7 +18,7 @@ use Rattle.crawl_tie.proofs.Owners.{still_owned, split_owned, entered_owned, lef
 use Rattle.crawl_tie.proofs.Lanes.{lanes_set, pushed_lane, popped_lane, same_lane, counted_has, taken_in_has, made_lane, oldest_is, sent_is, same_urls, same_counts, none_waits}
 use Rattle.crawl_queues.proofs.LogLines.{set_same}
 
--- what holds beside, so that the next step can be shown
+-- what also holds, so that the next step can be shown
 pub record Ties (gate : GateId) (workers : ℕ) (w : Whole) (s : State) : Type 0 where
   pub shows : ShowsWhole gate workers s w
   pub owned : UnitsAreOwned w
@@ -61,7 +61,7 @@ one gate workers w w' s ties event t is parts shows =
 none : (gate : GateId) (workers : ℕ) (w w' : Whole) (s : State) → Ties gate workers w s → Parts gate w w' → ShowsWhole gate workers s w' → Next gate workers w' s []
 none gate workers w w' s ties parts shows = grind arith
 
--- ## Words
+-- ## Words of the gate
 
 -- the word that a step meets is the state's
 pub met : (gate : GateId) (workers : ℕ) (w : Whole) (s : State) → Ties gate workers w s → (x : Word) → w.gate.words ≡ bits x ∷ [] → x.0 < 2 ^ 63 → x ≡ (count_of s, s.gate.closed)
@@ -183,7 +183,7 @@ pushes gate workers w s ties q e l m p at unit =
     let parts : Parts gate w w' = record { owned = pushed_owned w q l m seat e.sender ties.owned unit.owner; keeps = ties.keeps; max = refl } in
     one gate workers w w' s ties (Admit e.sender e.url q) (put_turn e.number) (turned ∙ ap put_turn (sym number)) parts (assumption (shows.word ∙ ap (λ k. bits (k, s.gate.closed) ∷ []) (sym same), ap (λ ids. remove_key (is_at (nat_cmp e.sender)) ids) shows.holders, lanes_set gate workers s.subqueues w.lanes shows.lanes q queue next l (record { moment = m; fetching = l.fetching }) there.1 at (pushed_lane gate workers q queue l m e there.2 p)))
 
--- a step that changes the subqueues alone
+-- a step that changes only the subqueues
 same_parts : (gate : GateId) (workers : ℕ) (w : Whole) (s : State) → Ties gate workers w s → (q : ℕ) (l : Lane) → Parts gate w (with_lane w q l)
 same_parts gate workers w s ties q l = grind arith
 

@@ -42,7 +42,7 @@ is_quiet (Pushes q e) = false
 is_quiet (Pops q e) = false
 is_quiet _ = true
 
--- What is delivered is the front of what was accepted: so each entry once, in order, and by this subqueue's worker alone.
+-- What is delivered is the front of what was accepted: so each entry once, in order, and only by this subqueue's worker.
 -- URLs accepted differ, each belongs to the subqueue, and the numbers of each sender are 0, 1, 2, .. (`IsAcceptedList`).
 pub record Delivers (workers : ℕ) (acts : List Act) : Type 0 where
   pub in_order : (q : ℕ) → q < workers → (waiting : List Entry) × (accepted q acts ≡ delivered q acts ++ waiting)

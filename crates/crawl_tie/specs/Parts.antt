@@ -50,7 +50,7 @@ abbrev pub is_owned : Option Owner → Bool
 is_owned None = false
 is_owned (Some owner) = true
 
--- A seat holds a unit exactly where it has an owner. The seeds have one seat at most, and only until they end; so has each
+-- A seat holds a unit exactly if it has an owner. The seeds have one seat at most, and only until they end; so has each
 -- sender, and only in an offer.
 pub record UnitsAreOwned (w : Whole) : Type 0 where
   pub held : map (λ (v : View). v.holds_unit) w.gate.views ≡ map is_owned w.owners

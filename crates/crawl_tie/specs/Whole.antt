@@ -19,7 +19,7 @@ pub record Lane : Type 0 where
   pub moment : subqueues.Moment
   pub fetching : Bool
 
--- Beside the gate and the subqueues, what the calls in progress hold: for each seat of the gate whose unit it holds, if it
+-- In addition to the gate and the subqueues, what the calls in progress hold: for each seat of the gate whose unit it holds, if it
 -- holds one; the ids of the senders in an offer that has entered, in ascending order; the word that each sender loaded
 -- last, if it has not entered since; whether the seeds' unit is out. The maximum never changes.
 pub record Whole : Type 0 where

@@ -1,4 +1,4 @@
-//! What follows from the definitions alone, for every history of a frontier's atomic steps. None does anything when it is
+//! What follows only from the definitions, for every history of a frontier's atomic steps. None does anything when it is
 //! called.
 ghost use Rattle.std.specs.Prelude.{◌≡◌, ◌≢◌, ℕ, List, [], ◌∷◌, ◌++◌, true, false};
 ghost use Rattle.std.specs.List.{list_all};
@@ -52,7 +52,7 @@ pub fn rows_of_the_table()
         → (next : State) × Run state (events_of act) next × ShowsWhole gate workers next v × ((other : State) → Run state (events_of act) other → other ≡ next) }
 {}
 
-/// Where the machine's invariants hold of a state, those of the gate and of the subqueues hold of what it shows.
+/// If the machine's invariants hold of a state, those of the gate and of the subqueues hold of what it shows.
 pub fn invariants_shown()
     ensures gate { (state : State) (gate : gates.Moment) → machine.GateInvariant state.gate (count_of state) → ShowsGate state gate → CountsUnits state.gate.max gate }
     ensures subqueues { (workers q : ℕ) (queue : Subqueue) (sent taken : List Entry) (waits : List Message) → machine.SubqueueInvariant queue → IsPlaced workers q queue → ShowsLists queue sent taken waits

@@ -32,7 +32,7 @@ all_found [] le = refl
 all_found ((e, None) ∷ fs) le = let rest = few fs in absurd (omega (arith, rest, le))
 all_found ((e, Some page) ∷ fs) le = ap (λ (us : List (List ℕ)). e.url ∷ us) (all_found fs (omega (arith, le)))
 
--- where nothing is lost the results have the URLs that were taken, in order
+-- if nothing is lost the results have the URLs that were taken, in order
 pub all_taken_found : (workers : ℕ) (allowed : List ℕ → Bool) (meaning : List ℕ → Page) (start now : WorkerId) (results : List PageResult) → Ran workers allowed meaning start now results 0 → start.taken ≡ []
     → result_urls results ≡ entry_urls now.taken
 all_taken_found workers allowed meaning start now results ran fresh =
@@ -73,7 +73,7 @@ either_of : (a b c : Bool) → (b ≡ true → c ≡ true) → (a || b) ≡ true
 either_of true b c goes is = refl
 either_of false b c goes is = goes is
 
--- an accepted line of the log stands in what was sent to its subqueue
+-- an accepted line of the log is in what was sent to its subqueue
 sent_has : (q : ℕ) (log : List Logged) (k : ℕ) (e : Entry) → At log k (Accepted e q) → has_url e.url (sent_to q log) ≡ true
 sent_has q [] k e at = absurd (cc (at))
 sent_has q (Seen u p ∷ ls) zero e at = absurd (cc (at))

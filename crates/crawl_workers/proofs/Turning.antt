@@ -78,7 +78,7 @@ pub all_go_set : {K : _} (workers : ℕ) (allowed : List ℕ → Bool) (meaning 
     → ((start : WorkerId) → RunnerRan workers allowed meaning start r → RunnerRan workers allowed meaning start r') → AllGo workers allowed meaning starts rs → AllGo workers allowed meaning starts (slice_set rs i r')
 all_go_set {K} workers allowed meaning starts rs i r r' at goes all = all_zip_set (λ (w : WorkerId) (x : Runner K). RunnerRan workers allowed meaning w x) starts rs i r r' at goes all
 
--- the first i + 1 have ended, where those before i had, and now the one at i has
+-- the first i + 1 have ended, if those before i had, and now the one at i has
 pub ended_set : {K : _} (rs : List (Runner K)) (i : ℕ) (r' : Runner K) → IsEnded r' → EndedBelow i rs → EndedBelow (i + 1) (slice_set rs i r')
 ended_set {K} [] i r' is below k y less at = absurd (cc)
 ended_set {K} (r ∷ rs) zero r' is below zero y less at = let same : r' ≡ y = cc in subst (λ (z : Runner K). IsEnded z) same is

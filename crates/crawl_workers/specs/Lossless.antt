@@ -14,7 +14,7 @@ result_urls results = map (λ r. r.url) results
 abbrev pub entry_urls : List Entry → List (List ℕ)
 entry_urls entries = map (λ e. e.url) entries
 
--- the URL stands in the list that its subqueue accepted
+-- the URL is in the list that its subqueue accepted
 pub record IsAccepted (workers : ℕ) (queues : List (List Entry)) (url : List ℕ) : Type 0 where
   pub list : List Entry
   pub at : At queues (subqueue_of url workers) list

@@ -13,7 +13,7 @@ use Rattle.link_offers.specs.declared.losses.Losses.{Losses}
 use Rattle.link_offers.specs.Losses.{no_losses}
 use Rattle.link_offers.specs.Offers.{Answer, AllAnswered, losses_by, with_losses}
 
--- what became of a URL that was taken: its fetch failed, or the links of its page had these answers, and its result found no room
+-- what became of a URL that was taken: its fetch failed, or the offers of its page's links had these results, and its result found no room
 -- or was kept
 pub data Outcome : Type 0 where
   failed : Outcome

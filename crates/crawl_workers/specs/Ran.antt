@@ -27,7 +27,7 @@ results_of fates = flat_map (λ (f : Fate). result_at f.0 f.1) fates
 abbrev pub taken_in : List Fate → List Entry
 taken_in fates = map (λ (f : Fate). f.0) fates
 
--- the most that is lost of a URL whose page has these links: those that are allowed, and the URL where it has no result
+-- the most that is lost of a URL whose page has these links: those that are allowed, and the URL if it has no result
 abbrev pub most_lost_at : (List ℕ → Bool) → List (List ℕ) → Option Page → ℕ
 most_lost_at allowed links None = count_by allowed links + 1
 most_lost_at allowed links (Some page) = count_by allowed links
@@ -38,8 +38,8 @@ most_lost allowed meaning fates = sum_by (λ (f : Fate). most_lost_at allowed (l
 -- From `start` to `now`, on a frontier with this number of workers and this filter, over pages with this meaning: the worker
 -- keeps its queue; it took more entries, each with a URL that is new there and belongs there; the results are those of
 -- the entries that have a page, in order, and each page is the one that its URL means; what has no result is lost, and
--- beside it no more than links that are allowed, each once; its books have only grown; and where nothing was lost, each
--- allowed link of each result stands in its log.
+-- in addition no more than links that are allowed, each once; its books have only grown; and if nothing was lost, each
+-- allowed link of each result is in its log.
 pub record Ran (workers : ℕ) (allowed : List ℕ → Bool) (meaning : List ℕ → Page) (start now : WorkerId) (results : List PageResult) (lost : ℕ) : Type 0 where
   pub fates : List Fate
   pub queue : now.queue ≡ start.queue

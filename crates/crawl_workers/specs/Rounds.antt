@@ -22,6 +22,6 @@ IsEnded _ = ⊥
 abbrev pub EndedBelow : {K : _} → ℕ → List (Runner K) → Type 0
 EndedBelow n runners = (k : ℕ) (r : Runner _) → k < n → slice_get runners k ≡ Some r → IsEnded r
 
--- as many as workers, each so far as the worker at its index came
+-- one for each worker, each so far as the worker at its index came
 abbrev pub AllGo : {K : _} → ℕ → (List ℕ → Bool) → (List ℕ → Page) → List WorkerId → List (Runner K) → Type 0
 AllGo workers allowed meaning starts runners = AllZip (λ (w : WorkerId) (r : Runner _). RunnerRan workers allowed meaning w r) starts runners

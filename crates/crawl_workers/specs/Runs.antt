@@ -13,6 +13,6 @@ RanTo workers allowed meaning start e =
     Ran workers allowed meaning start e.closed e.results.items e.lost × IsTally start e.closed e.results.items e.lost e.losses
     × IsTold workers allowed meaning start e.closed e.results.items e.losses
 
--- as many ends as workers, each that of the worker at its index in the list
+-- one end for each worker, that of the worker at its index in the list
 abbrev pub AllRan : {K : _} → ℕ → (List ℕ → Bool) → (List ℕ → Page) → List WorkerId → List (WorkerEnd K) → Type 0
 AllRan workers allowed meaning starts ends = AllZip (λ (w : WorkerId) (e : WorkerEnd _). RanTo workers allowed meaning w e) starts ends

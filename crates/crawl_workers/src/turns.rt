@@ -146,7 +146,7 @@ fn ends_of<K: Name>(mut runners: Vec<Runner<K>>, ends: Vec<WorkerEnd<K>>) -> Vec
     ends
 }
 
-/// Runs the workers on the calling thread, where they take turns, and returns their ends in the given order. They share one
+/// Runs the workers on the calling thread, in turns, and returns their ends in the given order. They share one
 /// session of the source.
 ///
 /// Pass all workers of the frontier. If one is missing, its URLs stay in its queue, and the run does not end.

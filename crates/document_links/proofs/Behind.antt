@@ -1,4 +1,4 @@
--- The place behind a text that is made longer.
+-- The position after a text that is made longer.
 use Rattle.std.proofs.Common.{◌≡◌, ◌∙◌, ℕ, ◌+◌, ◌-◌, ◌<◌, ◌≤◌, Bool, true, false, ◌||◌, List, [], ◌∷◌, ◌++◌, length, take, drop, get_or, cond, refl, sym, ap, inl, inr, arith, length-drop, length-take}
 use Rattle.std.specs.List.{count_by, list_any}
 use Rattle.std.proofs.lemmas.Bool.{cases_Bool, cond-true, cond-false, or_parts}
@@ -26,7 +26,7 @@ or_false : (x y : Bool) → y ≡ false → (x || y) ≡ x
 or_false true y e = refl
 or_false false y e = e
 
--- what stands before a line feed does not count
+-- what comes before a line feed does not count
 feed_behind : (xs ys : List ℕ) → list_any is_lf ys ≡ true → last_line (xs ++ ys) ≡ last_line ys
 feed_behind [] ys has = refl
 feed_behind (x ∷ xs) ys has =
@@ -37,7 +37,7 @@ whole_line : (ys : List ℕ) → list_any is_lf ys ≡ false → last_line ys �
 whole_line [] none = refl
 whole_line (y ∷ ys) none = cond-false (list_any is_lf (y ∷ ys)) _ _ none
 
--- a text without line feeds goes on with the last line
+-- a text without line feeds continues the last line
 no_feed_behind : (xs ys : List ℕ) → list_any is_lf ys ≡ false → last_line (xs ++ ys) ≡ last_line xs ++ ys
 no_feed_behind [] ys none = whole_line ys none
 no_feed_behind (x ∷ xs) ys none =
@@ -96,7 +96,7 @@ none_after ys k last =
     let inside : (k + 1) + i < length ys = omega (arith, within, length-drop (k + 1) ys) in
     ap is_lf (get_or-drop (k + 1) ys i d) ∙ not_byte ys ((k + 1) + i) d inside (last.after ((k + 1) + i) (omega arith) inside))
 
--- the last line begins behind the last line feed
+-- the last line begins after the last line feed
 line_from : (ys : List ℕ) (k : ℕ) → NoneAfter (Passes (is_byte 10) ys) 0 (length ys) k → Passes (is_byte 10) ys k → last_line ys ≡ drop (k + 1) ys
 line_from ys k last is =
     let front : List ℕ = take k ys in

@@ -1,4 +1,4 @@
--- Where a byte of a text stands: the line and the character in it, each from 1.
+-- The position of a byte in a text: the line and the character in it, each from 1.
 use Rattle.std.specs.Prelude.{◌≡◌, map, ℕ, ◌+◌, ◌==◌, Bool, true, false, not, if◌then◌else◌, List, [], ◌∷◌, take, count_by, bit_and}
 use Rattle.std.specs.List.{list_any}
 use Rattle.document_links.specs.declared.charset.Charset.{Charset}
@@ -12,12 +12,12 @@ is_lf b = b == 10
 abbrev pub begins_character : ℕ → Bool
 begins_character b = not (bit_and b 192 == 128)
 
--- what stands behind the last line feed
+-- what follows the last line feed
 abbrev pub last_line : List ℕ → List ℕ
 last_line [] = []
 last_line (b ∷ bs) = if list_any is_lf (b ∷ bs) then last_line bs else b ∷ bs
 
--- the place behind a text
+-- the position after a text
 abbrev pub place_of : List ℕ → TextPlace
 place_of front = record { line = count_by is_lf front + 1; column = count_by begins_character (last_line front) + 1 }
 

@@ -24,7 +24,7 @@ struct KeptLink {
     index: u32,
 }
 
-/// Stands for a position beyond 4 GiB.
+/// Means a position beyond 4 GiB.
 const FAR: u32 = u32::MAX;
 
 /// The anchors of a document, and its links to anchors.

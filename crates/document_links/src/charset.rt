@@ -173,7 +173,7 @@ fn name_in_kind(kind: &[u8]) -> &[u8] {
     &[]
 }
 
-/// An attribute of a tag, and what is behind it.
+/// An attribute of a tag, and what follows it.
 #[derive(Clone, Copy)]
 struct Attribute<'a> {
     name: &'a [u8],

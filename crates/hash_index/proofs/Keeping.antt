@@ -15,13 +15,13 @@ use Rattle.hash_index.specs.declared.overflow.Overflow.{Overflow}
 use Rattle.hash_index.specs.declared.index.HashIndex.{HashIndex}
 use Rattle.hash_index.proofs.Listed.{same_text, push_cases, slice_get_take, stands_there, found_at, stands_first, AreApart-push}
 
--- ---- beside the slots
+-- ---- the overflow
 
--- what is kept for a hash, or for a text, where it is not new, is what was kept
+-- what is kept for a hash or a text is what was kept, unless it is new
 pub was_kept : (o : Option ℕ) (index kept k : ℕ) → kept ≡ unwrap_or o index → o ≡ Some k → kept ≡ k
 was_kept o index kept k is at = is ∙ ap (λ o. unwrap_or o index) at
 
--- no index beside the slots passes, where neither the hash's first nor the text's own does
+-- no index of the overflow passes if neither the hash's first nor the text's own does
 pub misses_beside : (passes : ℕ → Bool) (overflow : Overflow) (hash : ℕ) (text : List ℕ) (index first : ℕ) → first ≡ unwrap_or (get nat_cmp overflow.by_hash hash) index
     → passes first ≡ false → ((k : ℕ) → get_by_text overflow.by_text text ≡ Some k → passes k ≡ false) → (k : ℕ) → IsBeside overflow hash text k → passes k ≡ false
 misses_beside passes overflow hash text index first is other own k beside = elim beside.2 [
@@ -29,7 +29,7 @@ misses_beside passes overflow hash text index first is other own k beside = elim
   | inr at ↦ own k at
 ]
 
--- an index is not the one that is kept where its text does not stand, and others stay
+-- an index is not the one that is kept if its text is not there, and others stay
 pub text_stays : (texts : List (List ℕ)) (old new : List ℕ → Option ℕ) (key : List ℕ) (index kept : ℕ) → kept ≡ unwrap_or (old key) index → stands_at texts kept key ≡ false
     → ((other : List ℕ) (k : ℕ) → bytes_eq key other ≡ false → old other ≡ Some k → new other ≡ Some k)
     → (other : List ℕ) (k : ℕ) → old other ≡ Some k → stands_at texts k other ≡ true → new other ≡ Some k
@@ -44,13 +44,13 @@ text_stays texts old new key index kept is not_there others other k at stands = 
 
 -- ---- what stays kept
 
--- an index that is lost neither by the slots nor beside them
+-- an index that is lost neither by the slots nor by the overflow
 pub stays : (old new : HashIndex) (hash : ℕ) (text : List ℕ) (k : ℕ) → (IsInSlots old.slots hash k → IsInSlots new.slots hash k)
     → (AreTaken old.slots hash 8 → AreTaken new.slots hash 8) → (IsBeside old.overflow hash text k → IsBeside new.overflow hash text k) → IsKept old hash text k → IsKept new hash text k
 stays old new hash text k slots taken beside (inl held) = inl (slots held)
 stays old new hash text k slots taken beside (inr (full, at)) = inr (taken full, beside at)
 
--- no kept index passes, where the hash's slots miss and one of them is vacant, or what is beside them misses too
+-- no kept index passes if the hash's slots miss, and one of them is vacant or the overflow misses too
 pub misses_vacant : (passes : ℕ → Bool) (table : HashIndex) (hash : ℕ) (text : List ℕ) (slot : ℕ) → IsFirstVacant table.slots hash slot → Misses passes table.slots hash
     → (k : ℕ) → IsKept table hash text k → passes k ≡ false
 misses_vacant passes table hash text slot first misses k (inl held) = misses k held
@@ -61,10 +61,10 @@ pub misses_full : (passes : ℕ → Bool) (table : HashIndex) (hash : ℕ) (text
 misses_full passes table hash text misses others k (inl held) = misses k held
 misses_full passes table hash text misses others k (inr (full, at)) = others k at
 
--- ---- what is answered
+-- ---- what a search returns
 
 module _ (hash : List ℕ → ℕ) (texts : List (List ℕ)) (table : HashIndex) (key : List ℕ) (is : IsIndexOf hash texts table) where
-  -- where the text stands at no index that is kept for it, it stands nowhere
+  -- if the text is at no index that is kept for it, it is at none
   pub none_found : ((k : ℕ) → IsKept table (hash key) key k → stands_at texts k key ≡ false) → index_of texts key ≡ None
   none_found never = by_index (index_of texts key) refl
     where
@@ -80,7 +80,7 @@ module _ (hash : List ℕ → ℕ) (texts : List (List ℕ)) (table : HashIndex)
 
   -- ---- the index of the list, and of one text more
 
-  -- each index stays kept at which the text stands
+  -- each index at which the text is stays kept
   pub index_stays : (new : HashIndex) → ((text : List ℕ) (k : ℕ) → IsKept table (hash text) text k → stands_at texts k text ≡ true → IsKept new (hash text) text k) → IsIndexOf hash texts new
   index_stays new stay = (is.0, λ k text at. stay text k (is.1 k text at) (stands_there texts k text at))
 
@@ -99,7 +99,7 @@ pub pushed_item : {X : Type 0} (text : X → List ℕ) (hash : List ℕ → ℕ)
 pushed_item text hash table items longer item is known =
     subst (λ xs. IsIndexOf hash (map text xs) table) (sym is) (subst (λ texts. IsIndexOf hash texts table) (sym (map-append text items (item ∷ []))) known)
 
--- what the maps beside the slots say in the full case is what is answered of the whole
+-- what the maps of the overflow say when all slots are taken is what a search returns
 module _ (hash : List ℕ → ℕ) (texts : List (List ℕ)) (old new : HashIndex) (key : List ℕ) (was : IsIndexOf hash texts old) (misses : Misses (λ k. stands_at texts k key) old.slots (hash key)) where
   pub found_beside : {E : Type 0} (r : Result (Option ℕ) E) → IfOk r (λ o. IfSome o (λ k. stands_at texts k key ≡ true))
       → IfOk r (λ o. o ≡ None → (k : ℕ) → IsBeside old.overflow (hash key) key k → stands_at texts k key ≡ false) → IfOk r (λ o. o ≡ index_of texts key)
@@ -111,7 +111,7 @@ module _ (hash : List ℕ → ℕ) (texts : List (List ℕ)) (old new : HashInde
   pushed_beside (Ok o) is full found own = λ none. index_pushed hash texts new key is (sym found ∙ none) (inr (full, own none))
   pushed_beside (Err e) is full found own = tt
 
--- ---- growth
+-- ---- larger tables
 
 module _ (hash : List ℕ → ℕ) (texts : List (List ℕ)) (i : ℕ) (key : List ℕ) (h : ℕ) (below : i < length texts) (is : key ≡ get_or texts i []) (hash_is : h ≡ hash (get_or texts i [])) (apart : AreApart texts) where
   here : slice_get texts i ≡ Some key
@@ -120,7 +120,7 @@ module _ (hash : List ℕ → ℕ) (texts : List (List ℕ)) (i : ℕ) (key : Li
   own_hash : h ≡ hash key
   own_hash = hash_is ∙ ap hash (sym is)
 
-  -- all texts keep their indices, where one of them does and others do
+  -- all texts keep their indices if one of them does and the others do
   pub keeps_each : (old new : HashIndex) → ((other : List ℕ) (n k : ℕ) → bytes_eq key other ≡ false → IsKept old n other k → IsKept new n other k)
       → (IsKept old h key i → IsKept new h key i) → AreKept hash texts old → AreKept hash texts new
   keeps_each old new others own kept k text at = by_text (bytes_eq key text) refl
@@ -133,7 +133,7 @@ module _ (hash : List ℕ → ℕ) (texts : List (List ℕ)) (i : ℕ) (key : Li
           let hashed : IsKept new (hash key) key i = subst (λ n. IsKept old n key i → IsKept new n key i) own_hash own (kept i key here) in
           subst (λ j. IsKept new (hash text) text j) index (subst (λ u. IsKept new (hash u) u i) same hashed)
 
-  -- one more of the first so many keeps its index, where it had it before
+  -- one more of the first n texts keeps its index if it had it before
   pub keeps_taken : (before old new : HashIndex) → AreKept hash texts before → ((other : List ℕ) (n k : ℕ) → bytes_eq key other ≡ false → IsKept old n other k → IsKept new n other k)
       → (IsKept before h key i → IsKept new h key i) → AreKept hash (take i texts) old → AreKept hash (take (i + 1) texts) new
   keeps_taken before old new was others own kept =

@@ -24,7 +24,7 @@ push_cases (z ∷ zs) y (suc k) x at = elim (push_cases zs y k x at) [
   | inr last ↦ inr (ap suc last.0, last.1)
 ]
 
--- an element of the first so many
+-- an element of the first n
 pub slice_get_take : {X : Type 0} (n : ℕ) (xs : List X) (k : ℕ) (x : X) → slice_get (take n xs) k ≡ Some x → (k < n) × (slice_get xs k ≡ Some x)
 slice_get_take zero xs k x at = absurd (cc)
 slice_get_take (suc n) [] k x at = absurd (cc)
@@ -41,7 +41,7 @@ at_index texts k key stands = by_text (slice_get texts k) stands
 pub stands_there : (texts : List (List ℕ)) (k : ℕ) (key : List ℕ) → slice_get texts k ≡ Some key → stands_at texts k key ≡ true
 stands_there texts k key at = ap (λ o. is_this o key) at ∙ text_itself key
 
--- the text stands at the index that is answered
+-- the text is at the index that is returned
 pub found_at : (texts : List (List ℕ)) (key : List ℕ) (k : ℕ) → index_of texts key ≡ Some k → slice_get texts k ≡ Some key
 found_at [] key k found = absurd (cc)
 found_at (text ∷ texts) key k found = by_first (bytes_eq text key) refl found (index_of texts key) refl (found_at texts key)
@@ -56,7 +56,7 @@ found_at (text ∷ texts) key k found = by_first (bytes_eq text key) refl found 
         let at : suc j ≡ k = cc in
         subst (λ i. slice_get (text ∷ texts) i ≡ Some key) at (rest j more)
 
--- where none is answered, it stands nowhere
+-- if none is returned, it is nowhere
 pub absent_at : (texts : List (List ℕ)) (key : List ℕ) → index_of texts key ≡ None → (k : ℕ) → slice_get texts k ≡ Some key → ⊥
 absent_at [] key none k at = cc
 absent_at (text ∷ texts) key none k at = by_first (bytes_eq text key) refl none (index_of texts key) refl (λ nowhere j there. absent_at texts key nowhere j there) k at
@@ -70,7 +70,7 @@ absent_at (text ∷ texts) key none k at = by_first (bytes_eq text key) refl non
         both_ways _ first (ap (λ u. bytes_eq u key) same ∙ text_itself key)
     by_first false first none None found more (suc k) at = more found k at
 
--- where it stands is what is answered
+-- the index at which it is, is the one that is returned
 pub stands_first : (texts : List (List ℕ)) (key : List ℕ) (k : ℕ) → AreApart texts → stands_at texts k key ≡ true → index_of texts key ≡ Some k
 stands_first texts key k apart stands = by_index (index_of texts key) refl
   where
@@ -91,7 +91,7 @@ AreApart-push texts key none apart i k text at_i at_k =
       ]
     ]
 
--- a text has an index where it is one of the list's
+-- a text has an index if it is one of the list's
 pub has_index : (texts : List (List ℕ)) (key : List ℕ) → is_some (index_of texts key) ≡ list_any (λ text. bytes_eq text key) texts
 has_index [] key = refl
 has_index (text ∷ texts) key = by_first (bytes_eq text key) (index_of texts key) (has_index texts key)

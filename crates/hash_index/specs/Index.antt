@@ -1,11 +1,11 @@
--- A hash index of a list: where the index of each text is kept.
+-- A hash index of a list: at which index of the list each text is.
 use Rattle.std.specs.Prelude.{◌≡◌, ◌⊎◌, ℕ, List, length, slice_get, Some}
 use Rattle.hash_index.specs.Lists.{AreApart}
 use Rattle.hash_index.specs.Slots.{AreTaken, IsInSlots, capacity_with}
 use Rattle.hash_index.specs.Overflow.{IsBeside}
 use Rattle.hash_index.specs.declared.index.HashIndex.{HashIndex}
 
--- the index is kept for a text with this hash: in a slot of the hash, or, where all of these are taken, beside them
+-- the index is kept for a text with this hash: in a slot of the hash or, if all of these are taken, in the overflow
 abbrev pub IsKept : HashIndex → ℕ → List ℕ → ℕ → Type 0
 IsKept table hash text index = IsInSlots table.slots hash index ⊎ ((AreTaken table.slots hash 8) × IsBeside table.overflow hash text index)
 
@@ -13,11 +13,11 @@ IsKept table hash text index = IsInSlots table.slots hash index ⊎ ((AreTaken t
 abbrev pub AreKept : (List ℕ → ℕ) → List (List ℕ) → HashIndex → Type 0
 AreKept hash texts table = (index : ℕ) (text : List ℕ) → slice_get texts index ≡ Some text → IsKept table (hash text) text index
 
--- and no text stands twice
+-- and no text is in the list twice
 abbrev pub IsIndexOf : (List ℕ → ℕ) → List (List ℕ) → HashIndex → Type 0
 IsIndexOf hash texts table = AreApart texts × AreKept hash texts table
 
--- what is beside these slots, with other slots
+-- what the overflow of these slots has, with other slots
 abbrev pub with_slots : HashIndex → List ℕ → HashIndex
 with_slots table slots = record { slots = slots; overflow = table.overflow }
 

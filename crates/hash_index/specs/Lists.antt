@@ -1,4 +1,4 @@
--- Lists of texts, and the index at which a text stands.
+-- Lists of texts, and the index of a text.
 use Rattle.std.specs.Prelude.{◌≡◌, ℕ, suc, Bool, false, List, [], ◌∷◌, slice_get, Option, Some, None, if◌then◌else◌}
 use Rattle.std.specs.Option.{option_map}
 use Rattle.std.specs.Str.{bytes_eq}
@@ -13,10 +13,10 @@ abbrev pub is_this : Option (List ℕ) → List ℕ → Bool
 is_this None key = false
 is_this (Some text) key = bytes_eq text key
 
--- the text stands at the index
+-- the text is at the index
 abbrev pub stands_at : List (List ℕ) → ℕ → List ℕ → Bool
 stands_at texts index key = is_this (slice_get texts index) key
 
--- no text stands at two indices
+-- no text is at two indices
 abbrev pub AreApart : List (List ℕ) → Type 0
 AreApart texts = (i k : ℕ) (text : List ℕ) → slice_get texts i ≡ Some text → slice_get texts k ≡ Some text → i ≡ k

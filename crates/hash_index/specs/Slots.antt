@@ -6,11 +6,11 @@ use Rattle.std.specs.Int.{div_ceil}
 abbrev pub no_slot : ℕ
 no_slot = 4294967295
 
--- where a slot of the hash is
+-- the position of the hash's slot
 abbrev pub slot_of : List ℕ → ℕ → ℕ → ℕ
 slot_of slots hash number = bit_xor (bit_and hash (length slots - 1)) number
 
--- what a slot of the hash has: 0 where it is vacant
+-- what a slot of the hash has: 0 if it is vacant
 abbrev pub word_at : List ℕ → ℕ → ℕ → ℕ
 word_at slots hash number = get_or slots (slot_of slots hash number) no_slot
 
@@ -22,7 +22,7 @@ mark_of hash = hash / 8589934592
 abbrev pub word_of : ℕ → ℕ → ℕ
 word_of hash index = bit_xor (mark_of hash) index + 1
 
--- the first so many slots of the hash are taken
+-- the first n slots of the hash are taken
 abbrev pub AreTaken : List ℕ → ℕ → ℕ → Type 0
 AreTaken slots hash count = (number : ℕ) → number < count → word_at slots hash number ≢ 0
 
@@ -38,6 +38,6 @@ IsInSlots slots hash index = (number : ℕ) × (number < 8) × (AreTaken slots h
 abbrev pub Misses : (ℕ → Bool) → List ℕ → ℕ → Type 0
 Misses passes slots hash = (index : ℕ) → IsInSlots slots hash index → passes index ≡ false
 
--- for how many texts so many slots are: all but a third
+-- for how many texts n slots are: all but a third
 abbrev pub capacity_with : ℕ → ℕ
 capacity_with slots = slots - div_ceil slots 3

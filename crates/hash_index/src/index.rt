@@ -13,10 +13,10 @@ use std::alloc::{AllocError, Global};
 /// For how many texts there are slots at the first.
 const FIRST_TEXTS: usize = 16;
 
-/// Where the texts of a list stand. The list is the caller's, who lends it to each call; no text of it stands twice.
+/// The indices of the texts of a list. The list is the caller's, who lends it to each call; no text is in it twice.
 ///
-/// A search looks at the slots of the text's hash, which lie side by side, and mostly at one text. Nothing rests on hashes: an
-/// answer is what the list has at an index. It is a list of at most 2^31 texts, with some 6 to 12 bytes for each.
+/// A search looks at the slots of the text's hash, which are next to each other, and mostly at one text. The result does not depend
+/// on hashes: it is what the list has at an index. The list has at most 2^31 texts, with some 6 to 12 bytes for each.
 #[derive(Debug, Drop)]
 pub struct HashIndex {
     pub(crate) slots: Slots,
@@ -32,7 +32,7 @@ impl HashIndex {
         }
     }
 
-    /// The index of a list with no text, with slots for so many: it takes no more of them before there are as many texts.
+    /// The index of an empty list, with slots for `count` texts: it allocates no more before there are more texts.
     pub fn with_capacity(alloc: Global, count: usize) -> Result<HashIndex, AllocError>
         ensures { IfOk result (λ index. count ≤ capacity_of index) }
     {
@@ -49,13 +49,13 @@ impl HashIndex {
         self.slots.capacity()
     }
 
-    /// An index at which a text of this hash may stand: the first that its slots say and that may be one. No text is looked at, and
-    /// nothing is said of it. Who wants many texts reads ahead by it, so that all wait for memory at the same time.
+    /// An index that may be that of a text with this hash: the first that its slots name. The list is not read, so the text at it
+    /// may be another. A caller that looks for many texts reads ahead by it, so that all reads of memory wait at the same time.
     pub fn guess(&self, hash: u64) -> usize {
         self.slots.guess(hash)
     }
 
-    /// The index at which the key's text stands in the list.
+    /// The index of the key's text in the list.
     pub fn find<L: TextList, K: Keyed>(&self, list: &L, key: &K) -> Option<usize>
         requires index { IsIndexOf L.hash (L.texts list.now) self.now }
         requires hash { K.hash (K.text key.now) ≡ L.hash (K.text key.now) }
@@ -76,8 +76,8 @@ impl HashIndex {
         }
     }
 
-    /// The index at which the key's text stands in the list. Where it stands nowhere, the text has the list's next index from
-    /// now on: the caller pushes it or not, and nothing has to be undone. The only error is out of memory, or 2^31 texts.
+    /// The index of the key's text in the list. If the text is not in it, the list's next index is kept for the text from
+    /// now on: the caller may push the text or not, and nothing has to be undone. The only error is out of memory, or 2^31 texts.
     pub fn find_or_insert<L: TextList, K: Keyed>(
         &mut self,
         list: &L,
@@ -123,7 +123,7 @@ impl HashIndex {
         }
     }
 
-    /// Makes slots for one text more, where there are none.
+    /// Makes slots for one text more, if there are none.
     fn make_room<L: TextList>(&mut self, list: &L) -> Result<(), AllocError>
         requires { IsIndexOf L.hash (L.texts list.now) self.old }
         ensures index { IsIndexOf L.hash (L.texts list.now) self.new }
@@ -140,8 +140,8 @@ impl HashIndex {
         Ok(())
     }
 
-    /// Makes slots for so many texts. The maps beside them stay: texts that were picked to collide are nearly all there, and would
-    /// else be sorted at each growth.
+    /// Makes slots for `count` texts. The maps of the overflow stay: nearly all texts that were chosen to collide are in them, and
+    /// would otherwise be sorted each time.
     fn grow<L: TextList>(&mut self, list: &L, count: usize) -> Result<(), AllocError>
         requires index { IsIndexOf L.hash (L.texts list.now) self.old }
         requires few { length (L.texts list.now) < 2 ^ 31 }
@@ -155,7 +155,7 @@ impl HashIndex {
         Ok(())
     }
 
-    /// Puts the index into other slots, which are to come in place of these, or where all of its hash are taken, beside them.
+    /// Puts the index into other slots, which will replace these, or into the overflow if all slots of its hash are taken.
     /// What is not in these slots is there already.
     fn put_anew(
         &mut self,

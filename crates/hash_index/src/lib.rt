@@ -1,4 +1,4 @@
-//! A hash index: where the texts of a list stand, by their hashes. Its caller keeps the list, and lends it to each call.
+//! A hash index: finds the index of a text in a list, by hashes. Its caller keeps the list, and lends it to each call.
 #![tactic(auto)]
 
 mod index;

@@ -10,11 +10,11 @@ use crate::text_list::{TextList, stands_at};
 use std::alloc::{AllocError, Global};
 use std::collections::BTreeMap;
 
-/// Two ordered maps. Whoever picks the texts can make them want the same slots, and even have one hash. Then they are put here,
-/// and n of them are found in n log n steps, whatever they are.
+/// Two ordered maps. An attacker who chooses the texts can give many of them the same slots, or even one hash. Then they are put
+/// here, and n of them are found in n log n steps, for any texts.
 ///
-/// An index only says where to look, and the list which text stands there. So one that was put for a text that did not come
-/// means nothing.
+/// An index only says at which position of the list to look, and the list has the text. So an index that was put for a text that
+/// was not pushed means nothing.
 #[derive(Debug, Drop)]
 pub struct Overflow {
     /// By the hash: the first text of each.
@@ -32,7 +32,7 @@ impl Overflow {
         }
     }
 
-    /// An index at which the text stands, which has this hash.
+    /// The index of the text, which has this hash.
     pub fn find<L: TextList>(&self, list: &L, text: &str, hash: u64) -> Option<usize>
         ensures found { IfSome result (λ index. stands_at (L.texts list.now) index text.now ≡ true) }
         ensures missing { result ≡ None → (k : ℕ) → IsBeside self.now hash text.now k → stands_at (L.texts list.now) k text.now ≡ false }
@@ -44,7 +44,7 @@ impl Overflow {
         find_text(list, &self.by_text, text)
     }
 
-    /// The same. Where there is none, the text has the list's next index from now on.
+    /// Likewise. If there is none, the text has the list's next index from now on.
     pub fn find_or_insert<L: TextList>(
         &mut self,
         alloc: Global,
@@ -55,7 +55,7 @@ impl Overflow {
         ensures found { IfOk result (λ found. IfSome found (λ index. stands_at (L.texts list.now) index text.now ≡ true)) }
         ensures missing { IfOk result (λ found. found ≡ None → (k : ℕ) → IsBeside self.old hash text.now k → stands_at (L.texts list.now) k text.now ≡ false) }
         ensures own { IfOk result (λ found. found ≡ None → IsBeside self.new hash text.now (length (L.texts list.now))) }
-        // An index stays kept for the text that stands there, whatever comes of it.
+        // An index stays kept for the text at it, whatever comes of it.
         ensures stay { (other : List ℕ) (h k : ℕ) → IsBeside self.old h other k → stands_at (L.texts list.now) k other ≡ true → IsBeside self.new h other k }
     {
         let index = list.text_count();
@@ -90,7 +90,7 @@ impl Overflow {
     }
 }
 
-/// The index that is kept for the hash: this one from now on, where there was none.
+/// The index that is kept for the hash: this one from now on, if there was none.
 fn hash_or_insert(
     by_hash: &mut BTreeMap<u64, usize>,
     hash: u64,
@@ -103,7 +103,7 @@ fn hash_or_insert(
     Ok(*by_hash.entry(hash)?.or_insert(index))
 }
 
-/// An index at which the text stands, by the texts.
+/// The index of the text, by the texts.
 fn find_text<L: TextList>(list: &L, by_text: &BTreeMap<String, usize>, text: &str) -> Option<usize>
     ensures found { IfSome result (λ index. stands_at (L.texts list.now) index text.now ≡ true) }
     ensures missing { result ≡ None → (k : ℕ) → get_by_text by_text.now text.now ≡ Some k → stands_at (L.texts list.now) k text.now ≡ false }
@@ -114,7 +114,7 @@ fn find_text<L: TextList>(list: &L, by_text: &BTreeMap<String, usize>, text: &st
     }
 }
 
-/// The same. Where there is none, the text has the list's next index from now on: one search for both.
+/// Likewise. If there is none, the text has the list's next index from now on: one search for both.
 fn find_text_or_insert<L: TextList>(
     alloc: Global,
     by_text: &mut BTreeMap<String, usize>,
@@ -138,7 +138,7 @@ fn find_text_or_insert<L: TextList>(
     Ok(None)
 }
 
-/// The index that is kept for the text: this one from now on, where there was none.
+/// The index that is kept for the text: this one from now on, if there was none.
 fn text_or_insert(
     alloc: Global,
     by_text: &mut BTreeMap<String, usize>,

@@ -1,4 +1,4 @@
-//! A table of indices in a list, four bytes each, by the hashes of the texts that stand there.
+//! A table of indices of a list, four bytes each, by the hashes of the texts at these indices.
 ghost use Rattle.std.specs.Prelude.{◌≡◌, ◌≢◌, ◌<◌, ◌≤◌, ◌^◌, ℕ, true, false, length, set, IfOk, IfSome, IfNone};
 ghost use Rattle.hash_index.specs.Lists.{stands_at};
 ghost use Rattle.hash_index.specs.Slots as spec;
@@ -11,13 +11,13 @@ use std::marker::Model;
 /// How many slots a hash has, side by side: 32 bytes.
 const BUCKET: usize = 8;
 
-/// What a slot has that is not taken.
+/// What a vacant slot has.
 const VACANT: u32 = 0;
 
 /// What is read past the end of the table.
 const NO_SLOT: u32 = u32::MAX;
 
-/// How many indices a slot can tell apart.
+/// How many indices a slot can distinguish.
 pub const INDEX_LIMIT: usize = 1 << 31;
 
 /// A table of slots. A hash has a bucket of them, and takes the first that is vacant, for good.
@@ -29,7 +29,7 @@ pub struct Slots {
     words: Vec<u32>,
 }
 
-// Contracts see the words.
+// Contracts see the table's numbers.
 impl Model for Slots {
     ghost use Rattle.std.specs.Prelude.{List, ℕ};
 
@@ -40,7 +40,7 @@ impl Model for Slots {
 
 /// What a search of the slots came to.
 pub enum Search {
-    /// The text stands at this index.
+    /// The text is at this index.
     Found(usize),
     /// None of the hash's slots leads to the text, and this is the first that is vacant.
     Vacant(usize),
@@ -56,7 +56,7 @@ impl Slots {
         }
     }
 
-    /// Vacant slots for so many texts.
+    /// Vacant slots for `count` texts.
     pub fn new(alloc: Global, count: usize) -> Result<Slots, AllocError>
         ensures { IfOk result (λ slots. count ≤ capacity_with (length slots)) }
     {
@@ -82,7 +82,7 @@ impl Slots {
         *self.words.allocator()
     }
 
-    /// Looks for the text, which has this hash, where the slots of the hash lead.
+    /// Looks for the text, which has this hash, in the slots of the hash.
     pub fn search<L: TextList>(&self, list: &L, text: &str, hash: u64) -> Search
         ensures found { (index : ℕ) → result ≡ Search.Found index → stands_at (L.texts list.now) index text.now ≡ true }
         ensures vacant { (slot : ℕ) → result ≡ Search.Vacant slot → IsFirstVacant self.now hash slot × Misses (λ index. stands_at (L.texts list.now) index text.now) self.now hash }
@@ -131,7 +131,7 @@ impl Slots {
         false
     }
 
-    /// Puts the index into the first vacant slot of the hash, and tells whether there was one.
+    /// Puts the index into the first vacant slot of the hash, and returns whether there was one.
     pub fn put(&mut self, hash: u64, index: usize) -> bool
         requires { index < 2 ^ 31 }
         ensures own { result ≡ true → IsInSlots self.new hash index }
@@ -186,7 +186,7 @@ impl Slots {
         }
     }
 
-    /// Where a slot of the hash is.
+    /// The position of the hash's slot.
     fn slot(&self, hash: u64, number: usize) -> usize
         ensures { result ≡ slot_of self.now hash number }
     {

@@ -62,7 +62,7 @@ impl<T: Keyed> TextList for &[T] {
     }
 }
 
-/// Whether the text stands at the index.
+/// Whether the text is at the index.
 pub(crate) fn stands_at<L: TextList>(list: &L, index: usize, text: &str) -> bool
     ensures { result ≡ stands_at (L.texts list.now) index text.now }
 {

@@ -30,7 +30,7 @@ ties_by : (b : Bool) (u v : List ℕ) → bytes_eq u v ≡ b → bytes_eq u v �
 ties_by true u v e = e ∙ sym (ap is_eq (subst (λ w. by_hash u w ≡ Equal) ((bytes_eq-Decides u v).0 e) (tied_itself by_hash_total u)))
 ties_by false u v e = e ∙ sym (apart (nat_cmp (hash_of u) (hash_of v)) (slice_cmp nat_cmp u v) (sym (texts_ties u v) ∙ e))
 
--- two texts tie where they have the same bytes
+-- two texts tie if they have the same bytes
 pub by_hash_ties : (u v : List ℕ) → bytes_eq u v ≡ eq_by_cmp by_hash u v
 by_hash_ties u v = ties_by (bytes_eq u v) u v refl
 

@@ -1,4 +1,4 @@
-//! A text with its hash beside it.
+//! A text with its hash.
 ghost use Rattle.std.specs.Prelude.{◌≡◌, Some, refl, bytes_eq};
 ghost use Rattle.std.specs.Cmp.{partial_equiv_from_equiv};
 ghost use Rattle.std.specs.Cmp.Lexicographic.{nat_list_eq_equiv};
@@ -11,7 +11,7 @@ use std::marker::Model;
 
 /// The hash of a text: the same number for the same bytes, always.
 ///
-/// Whoever picks the texts can make them collide, so nothing may rest on hashes that differ.
+/// An attacker can choose texts that collide, so no result may depend on different hashes.
 #[tactic(auto, unfolding(crate::specs::HashOrder::hash_of))]
 pub fn hash_of(text: &str) -> u64
     ensures { result ≡ spec.hash_of text.now }
@@ -21,15 +21,15 @@ pub fn hash_of(text: &str) -> u64
     hasher.finish()
 }
 
-/// A borrowed text as a key of sets and maps. It is equal to another as their bytes are. Its order is by hash, and by bytes
-/// where hashes are equal, so texts that were picked to collide are found as fast as in byte order.
+/// A borrowed text as a key of sets and maps. It is equal to another if their bytes are. Its order is by hash, and by bytes
+/// if hashes are equal, so texts that were chosen to collide are found as fast as in byte order.
 #[derive(Debug, Drop)]
 pub struct HashedText<'a> {
     hash: u64,
     text: &'a str,
 }
 
-// Contracts see the text alone.
+// Contracts see only the text.
 impl<'a> Model for HashedText<'a> {
     ghost use Rattle.std.specs.Prelude.{◌≡◌, ℕ, List};
     ghost use Rattle.hash_order.specs.HashOrder.{hash_of};

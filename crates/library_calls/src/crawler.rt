@@ -21,7 +21,7 @@ fn links_of(url: &CanonUrl) -> &'static [&'static str] {
     }
 }
 
-// Offers the links of the page in hand. A link that is refused is lost: a crawler would count it.
+// Offers the links of the page in progress. A link that is refused is lost: a crawler would count it.
 fn offer_links<K: Name, R: Wait>(
     rt: &R,
     alloc: Global,
@@ -58,7 +58,7 @@ fn crawl<K: Name, R: Wait>(
     unreachable!()
 }
 
-// Crawls from a seed, with a thread for each worker. A part that is lost to want of memory is missing at the end.
+// Crawls from a seed, with a thread for each worker. A part that is lost because memory ran out is missing at the end.
 fn crawl_from<K: Name + Send + Sync, R: Threads + Wait + Sync>(
     rt: &R,
     alloc: Global,

@@ -1,7 +1,7 @@
 //! The escapes of the table, by which a line can hold any character.
 use std::alloc::Global;
 
-/// Where the reader of a text stands: outside an escape, after its backslash, or in the
+/// The state of the reader of a text: outside an escape, after its backslash, or in the
 /// hexadecimal digits of a character's number, which a semicolon ends.
 #[derive(Clone, Copy)]
 enum Place {
@@ -10,7 +10,7 @@ enum Place {
     InNumber(u32),
 }
 
-/// The text that an escaped one stands for.
+/// The text that an escaped one means.
 pub fn unescape(alloc: Global, escaped: &str) -> Option<String> {
     let mut text = String::new(alloc);
     let mut place = Place::Outside;
@@ -24,7 +24,7 @@ pub fn unescape(alloc: Global, escaped: &str) -> Option<String> {
     Some(text)
 }
 
-/// Where the reader stands after one more character, and the character that ended there.
+/// The state of the reader after one more character, and the character that ended there.
 fn step(place: Place, c: char) -> (Place, Option<char>) {
     match (place, c) {
         (Place::Outside, '\\') => (Place::AfterBackslash, None),
@@ -42,7 +42,7 @@ fn step(place: Place, c: char) -> (Place, Option<char>) {
     }
 }
 
-/// The character that a letter after a backslash stands for.
+/// The character that a letter after a backslash means.
 fn named(letter: char) -> char {
     match letter {
         's' => ' ',

@@ -1,4 +1,4 @@
-//! Filters that are asked for URLs.
+//! Filters, and the URLs that they allow.
 use crate::urls::canonical_of;
 use crawl_keys::{CanonUrl, Filter};
 use std::alloc::Global;
@@ -6,10 +6,10 @@ use std::alloc::Global;
 /// How many suffixes the filter of the work `many` has.
 pub const SUFFIXES: u32 = 100_000;
 
-/// How many URLs are asked for: of each host one within a suffix, and one that the filter lacks.
+/// The number of URLs that are passed to a filter: of each host one within a suffix, and one that the filter lacks.
 const ASKED: u32 = 64;
 
-/// Asks a filter of so many hosts for all of the URLs, so many times, and answers how many bytes those allowed have.
+/// Passes all of the URLs, `count` times, to a filter of `suffixes` hosts, and returns how many bytes those allowed have.
 pub fn allowed(alloc: Global, count: u32, suffixes: u32) -> Option<u64> {
     let filter = filter_of(alloc, suffixes)?;
     let mut urls = Vec::new(alloc);
@@ -47,7 +47,7 @@ fn rounds(filter: &Filter, urls: &[CanonUrl], count: u32) -> u64 {
     bytes
 }
 
-/// A URL of a host within one of the filter, or of a host that it lacks, by what stands before its number.
+/// A URL of a host within one of the filter, or of a host that it lacks, by what comes before its number.
 fn page(alloc: Global, before: &str, n: u32) -> Option<CanonUrl> {
     canonical_of(
         alloc,
@@ -63,7 +63,7 @@ fn filter_of(alloc: Global, suffixes: u32) -> Option<Filter> {
     }
 }
 
-/// The filter of the suffixes in a text, which stand a space apart.
+/// The filter of the suffixes in a text, which are a space apart.
 pub fn filter_by(alloc: Global, text: &str) -> Option<Filter> {
     let mut list = Vec::new(alloc);
     if put_words(text, &mut list) {

@@ -40,7 +40,7 @@ impl Plan {
     }
 }
 
-/// Does the work. Answers how many offers were accepted and how many seen, and how many URLs were taken.
+/// Does the work. Returns how many offers were accepted and how many seen, and how many URLs were taken.
 pub fn done<R: Threads + Wait + Sync>(
     rt: &R,
     alloc: Global,
@@ -124,7 +124,7 @@ fn run<K: Name + Send + Sync, R: Threads + Wait + Sync>(
     }
 }
 
-// Ends the seeding and takes all URLs, where that is asked for.
+// Ends the seeding and takes all URLs, if that is requested.
 fn end<K: Name + Send + Sync, R: Threads + Wait + Sync>(
     rt: &R,
     frontier: &Frontier<K>,

@@ -3,7 +3,7 @@ use crate::urls::Work;
 use crate::{filters, urls};
 use std::alloc::Global;
 
-/// Does the work of this name, and answers how many bytes of text came out.
+/// Does the work of this name, and returns how many bytes of text came out.
 pub fn done(alloc: Global, name: &str, count: u32) -> Option<u64> {
     match work(name) {
         Some(work) => urls::made(alloc, work, count),

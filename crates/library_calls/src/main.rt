@@ -3,13 +3,13 @@
 //! crawls a small web; what follows is work to measure.
 //!
 //! Of `crawl_keys`, with how many bytes came out: `texts` (makes the texts of URLs), `canonical` (and canonicalises each),
-//! `spelled` and `plain` (the same of URLs that are canonical as they are), `links` (makes the texts of links), `joined` (and
+//! `spelled` and `plain` (likewise for URLs that are canonical as they are), `links` (makes the texts of links), `joined` (and
 //! joins each to its page), `by_host`, `rooted`, `beside`, `part` and `odd` (joins one link, the last of which has dot segments),
 //! `kept` (keeps each URL in a set), `shared` (and three copies of it), `one` (asks a filter of one host for 64 URLs, COUNT
 //! times) or `many` (asks a filter of 100,000 hosts).
 //!
 //! Of `crawl_frontier`, with what became of the URLs: `urls` (makes the URLs), `new` (and offers each once), `seen` (and then
-//! all of them five times again), or `taken` (and then takes them, and is done with each), by so many threads.
+//! all of them five times again), or `taken` (and then takes them, and is done with each), by the given number of threads.
 #![tactic(auto)]
 
 mod calls;

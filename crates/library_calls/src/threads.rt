@@ -20,7 +20,7 @@ fn sum_of(counts: &[(u64, u64)]) -> (u64, u64) {
     sum
 }
 
-/// Offers all URLs in so many rounds, by a thread for each worker. Answers how many were accepted, and how many seen.
+/// Offers all URLs in `rounds` rounds, by a thread for each worker. Returns how many were accepted, and how many seen.
 pub fn offer<K: Name + Send + Sync, R: Threads + Wait + Sync>(
     rt: &R,
     alloc: Global,
@@ -36,7 +36,7 @@ pub fn offer<K: Name + Send + Sync, R: Threads + Wait + Sync>(
     }
 }
 
-// A part that is lost to want of memory offers nothing.
+// A part that is lost because memory ran out offers nothing.
 fn push_part<'a, K: Name>(
     alloc: Global,
     frontier: &Frontier<K>,
@@ -84,7 +84,7 @@ fn offer_part<K: Name, R: Wait>(
     (accepted, seen)
 }
 
-/// Takes all URLs by the workers. Answers how many.
+/// Takes all URLs by the workers. Returns how many.
 pub fn take<K: Name + Send + Sync, R: Threads + Wait + Sync>(
     rt: &R,
     frontier: &Frontier<K>,

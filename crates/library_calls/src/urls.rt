@@ -6,7 +6,7 @@ use std::collections::BTreeSet;
 /// How many hosts the URLs are spread over.
 const HOSTS: u32 = 1000;
 
-/// How often the work `shared` keeps each URL besides the set.
+/// How often the work `shared` keeps each URL in addition to the set.
 pub const COPIES: u32 = 3;
 
 /// What is made of each number.
@@ -22,7 +22,7 @@ pub enum Work {
     Link(&'static str),
 }
 
-/// Makes so many, and answers how many bytes they have.
+/// Makes `count` URLs, and returns how many bytes they have.
 pub fn made(alloc: Global, work: Work, count: u32) -> Option<u64> {
     let base = page(alloc)?;
     let mut bytes = 0u64;
@@ -116,7 +116,7 @@ pub fn canonical_of(alloc: Global, text: Result<String, AllocError>) -> Option<C
     }
 }
 
-/// Keeps so many URLs in a set, and so many copies of each beside it.
+/// Keeps `count` URLs in a set, and `copies` copies of each outside of it.
 pub fn kept(alloc: Global, count: u32, copies: u32) -> Option<u64> {
     let mut kept = Vec::with_capacity(alloc, count as usize * copies as usize).ok()?;
     let mut seen = BTreeSet::new(alloc);

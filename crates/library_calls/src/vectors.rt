@@ -1,10 +1,10 @@
-//! Vectors of the URL Standard, and what `crawl_keys` answers for each. The expected values were written from the standard, and
+//! Vectors of the URL Standard, and the results of `crawl_keys` for each. The expected values were written from the standard, and
 //! none was taken from this code.
 use crate::escape::unescape;
 use crawl_keys::{Base, CanonUrl, KeyError, canonical, resolve};
 use std::alloc::Global;
 
-/// Asks each vector of the table in turn, and tells how many there are, and how many are answered otherwise.
+/// Tries each vector of the table in turn, and returns how many there are, and how many have another result.
 pub fn run(rt: &impl Print, alloc: Global, table: &str) {
     let (mut vectors, mut differing) = (0u64, 0u64);
     let mut page = None;
@@ -20,7 +20,7 @@ pub fn run(rt: &impl Print, alloc: Global, table: &str) {
     let _ = println!(rt; "{vectors} vectors, {differing} differ");
 }
 
-/// Whether a vector is answered as it says: its input is a link of the page, where there is one, or a URL.
+/// Whether a vector has the result that it names: its input is a link of the page, if there is one, or a URL.
 fn ask(rt: &impl Print, alloc: Global, page: Option<&CanonUrl>, line: &str) -> Option<bool> {
     let (input, expected) = line.split_once(" => ").unwrap_or((line, ""));
     let expected = unescape(alloc, expected)?;
@@ -55,7 +55,7 @@ fn ask_link(
     Some(by_page && by_base?)
 }
 
-/// Whether an answer is the one expected; if not, it is printed.
+/// Whether a result is the one expected; if not, it is printed.
 fn is_answered(
     rt: &impl Print,
     alloc: Global,
@@ -71,7 +71,7 @@ fn is_answered(
     Some(same)
 }
 
-/// An answer as the table writes it.
+/// A result as the table writes it.
 fn shown(alloc: Global, answer: Result<CanonUrl, KeyError>) -> Option<String> {
     match answer {
         Ok(url) => format!(in alloc; "{url} {}", url.host_key()).ok(),

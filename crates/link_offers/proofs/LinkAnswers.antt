@@ -67,7 +67,7 @@ answers_same workers allowed b b' (url ∷ urls) [] all = absurd all
 answers_same workers allowed b b' (url ∷ urls) (a ∷ answers) all =
     busy_on b all.0 b' (answer_same workers allowed b all.0 url a all.1) (answers_same workers allowed all.0 b' urls answers all.2)
 
--- ## Answers one after another
+-- ## Results one after another
 
 answered_on : (workers : ℕ) (allowed : List ℕ → Bool) (urls more : List (List ℕ)) (answers others : List Answer) (b m c : BusyId)
     → AllAnswered workers allowed b m urls answers → AllAnswered workers allowed m c more others → AllAnswered workers allowed b c (urls ++ more) (answers ++ others)
@@ -88,7 +88,7 @@ link_answers_on workers allowed urls more b m c old mid new first next = record 
   known = next.known;
 }
 
--- a link that is offered, by the very URL that was asked for
+-- a link that is offered, by the very URL that was looked for
 pub link_offered : (workers : ℕ) (allowed : List ℕ → Bool) (b b' : BusyId) (asked url : List ℕ) (answer : Result Offer OfferError) (old new : LinkOffers)
     → asked ≡ url → IsOffer workers allowed b b' asked answer → new.losses ≡ with_losses (losses_by (Some answer) ++ []) old.losses → Knows workers b'.worker.book.log new.recent
     → LinkAnswers workers allowed (url ∷ []) b b' old new

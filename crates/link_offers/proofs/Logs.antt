@@ -43,7 +43,7 @@ offer_grows workers b b' url hops (Err refused.NoMemory) books = grows_same b b'
 has_last : (workers : ℕ) (log : List Logged) (l : Logged) (url : List ℕ) → line_of l ≡ (url, subqueue_of url workers) → HasLine workers (log ++ l ∷ []) url
 has_last workers log l url is = rw (map-append line_of log (l ∷ []), ← is) (Contains-push (map line_of log) (line_of l))
 
--- where the offer is Ok the book has a line of the URL
+-- if the offer is Ok the book has a line of the URL
 pub offer_line : (workers : ℕ) (b b' : BookId) (url : List ℕ) (hops : ℕ) (o : Offer) → OfferBooks workers b b' url hops (Ok o) → HasLine workers b'.log url
 offer_line workers b b' url hops (Accepted q n) books =
     rw books.3 (has_last workers b.log (logged.Accepted (entry url b.id n hops) q) url (ap (λ p. (url, p)) books.0))

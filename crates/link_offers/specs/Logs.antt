@@ -19,7 +19,7 @@ HasLine workers log url = Contains (map line_of log) (url, subqueue_of url worke
 abbrev pub AllLogged : ℕ → (List ℕ → Bool) → List Logged → List (List ℕ) → Type 0
 AllLogged workers allowed log urls = All (λ url. IsTrue (allowed url) → HasLine workers log url) urls
 
--- the books are of the same part, and their log has gone on
+-- the books are of the same part, and their log has only grown
 pub record Grows (b b' : BookId) : Type 0 where
   pub more : List Logged
   pub id : b'.id ≡ b.id

@@ -12,7 +12,7 @@ use Rattle.link_offers.specs.Logs.{HasLine}
 use Rattle.link_offers.specs.Losses.{loss_of, with_loss}
 use Rattle.link_offers.specs.Recent.{Knows}
 
--- what became of a link: the worker remembers it and does not offer it, or its offer had this answer
+-- what became of a link: the worker remembers it and does not offer it, or its offer had this result
 abbrev pub Answer : Type 0
 Answer = Option (Result Offer OfferError)
 
@@ -31,7 +31,7 @@ abbrev pub with_losses : List Loss → Losses → Losses
 with_losses [] losses = losses
 with_losses (why ∷ more) losses = with_losses more (with_loss why losses)
 
--- an offer of a link by a busy worker, with this answer
+-- an offer of a link by a busy worker, with this result
 pub record IsOffer (workers : ℕ) (allowed : List ℕ → Bool) (b b' : BusyId) (url : List ℕ) (answer : Result Offer OfferError) : Type 0 where
   pub books : OfferBooks workers b.worker.book b'.worker.book url (b.message.entry.hops + 1) answer
   pub words : OfferWordsBeside b.message.unit b'.message.unit b.worker.seat b'.worker.seat answer
@@ -39,12 +39,12 @@ pub record IsOffer (workers : ℕ) (allowed : List ℕ → Bool) (b b' : BusyId)
   pub entry : b'.message.entry ≡ b.message.entry
   pub same : b'.worker ≡ worker b.worker.queue b'.worker.seat b.worker.taken b.worker.empty_pops b'.worker.book
 
--- the busy worker before and after a link with this answer
+-- the busy worker before and after a link with this result
 abbrev pub Answers : ℕ → (List ℕ → Bool) → BusyId → BusyId → List ℕ → Answer → Type 0
 Answers workers allowed b b' url None = (b' ≡ b) × HasLine workers b.worker.book.log url
 Answers workers allowed b b' url (Some answer) = IsOffer workers allowed b b' url answer
 
--- the same of links, one after another
+-- likewise for links, one after another
 abbrev pub AllAnswered : ℕ → (List ℕ → Bool) → BusyId → BusyId → List (List ℕ) → List Answer → Type 0
 AllAnswered workers allowed b b' [] [] = b' ≡ b
 AllAnswered workers allowed b b' [] (answer ∷ answers) = ⊥

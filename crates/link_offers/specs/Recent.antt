@@ -7,12 +7,12 @@ use Rattle.link_offers.specs.declared.recent.Slot.{Slot}
 use Rattle.link_offers.specs.declared.recent.Slot.TheVariants.{Vacant, Taken}
 use Rattle.link_offers.specs.Logs.{HasLine}
 
--- the URL that stands in a slot
+-- the URL that a slot has
 abbrev pub url_in : Slot → Option (List ℕ)
 url_in Vacant = None
 url_in (Taken mark url) = Some url
 
--- the log has a line of each URL that stands in a slot
+-- the log has a line of each URL that a slot has
 abbrev pub AllKnown : ℕ → List Logged → List Slot → Type 0
 AllKnown workers log slots = All (λ slot. IfSome (url_in slot) (HasLine workers log)) slots
 

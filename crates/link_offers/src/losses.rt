@@ -12,7 +12,7 @@ pub struct Losses {
     pub failed: u64,
     /// URLs that were fetched, but whose result found no memory.
     pub unkept: u64,
-    /// Links that were refused because as many URLs were pending as the frontier allows.
+    /// Links that were refused because the maximum number of URLs was pending.
     pub full: u64,
     /// Links that are more hops away than an entry holds.
     pub too_far: u64,
@@ -29,7 +29,7 @@ pub enum Loss {
     Failed,
     /// A result found no memory.
     Unkept,
-    /// The offer of a link found as many pending URLs as the frontier allows.
+    /// The offer of a link found the maximum number of URLs pending.
     Full,
     /// A link is too many hops away.
     TooFar,

@@ -80,7 +80,7 @@ cert_text cert.Unfounded = codes "unfounded URL"
 cert_text cert.Twice = codes "fetched twice"
 cert_text cert.NoMemory = codes "out of memory"
 
--- why a crawl has no pages: its numbers are out of range, in the frontier's own words, and nothing was crawled; or it is incomplete
+-- why a crawl has no pages: its numbers are out of range, in the frontier's own terms, and nothing was crawled; or it is incomplete
 abbrev pub crawl_text : CrawlError → List ℕ
 crawl_text (crawl.Frontier error) = frontier_error_text error
 crawl_text (crawl.Run error) = codes "incomplete: " ++ run_error_text error
@@ -147,7 +147,7 @@ abbrev pub culprit_lines : List ℕ → CrawlFailure → Option (List ℕ) → L
 culprit_lines file failure None = []
 culprit_lines file failure (Some url) = culprit_line file (wrong.Crawl failure) url ++ losses_line failure.losses
 
--- the lines of an error in addition to its own, if they are asked for: only the failure of a crawl has any
+-- the lines of an error in addition to its own, if they are requested: only the failure of a crawl has any
 abbrev pub more_lines : List ℕ → Fault → List ℕ
 more_lines file (wrong.Crawl failure) = culprit_lines file failure failure.culprit
 more_lines file fault = []

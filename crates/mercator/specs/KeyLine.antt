@@ -1,4 +1,4 @@
--- The line that tells a URL's canonical text, its host key and its subqueue.
+-- The line with a URL's canonical text, its host key and its queue.
 use Rattle.std.specs.Prelude.{◌≡◌, ℕ, List, [], ◌∷◌, ◌++◌, codes, Ok}
 use Rattle.std.specs.Fmt.{decimal}
 use Rattle.crawl_keys.specs.CanonicalText.{canonical}
@@ -9,7 +9,7 @@ use Rattle.crawl_keys.specs.Assignment.{subqueue_of}
 abbrev pub parts_line : List ℕ → List ℕ → ℕ → List ℕ
 parts_line text host subqueue = text ++ codes " " ++ host ++ (codes " " ++ decimal subqueue ++ 10 ∷ [])
 
--- those of a canonical URL, among so many subqueues
+-- those of a canonical URL, with this number of queues
 abbrev pub key_line : List ℕ → ℕ → List ℕ
 key_line url subqueues = parts_line url (host_key url) (subqueue_of url subqueues)
 

@@ -63,14 +63,14 @@ settings_of asked identity = record { workers = queues_of asked; suffixes = suff
 abbrev pub no_identity : List ℕ
 no_identity = codes "none"
 
--- the text has the answers of a session to the lines of an input: of these bytes, which are all that the input has where that is
+-- the text has the answers of a session to the lines of an input: of these bytes, which are all that the input has if that is
 -- known
 pub record IsAnswered (asked : SessionPlan) (input : Option (List ℕ)) (text : List ℕ) : Type 0 where
   pub bytes : List ℕ
   pub read : IfSome input (λ known. bytes ≡ known)
   pub answered : text ≡ session_text (settings_of asked no_identity) asked.max bytes
 
--- the text has the answers of a session that goes on from a log. Whatever requests the log had, behind its first line, and
+-- the text has the answers of a session that resumes from a log. Whatever requests the log had, after its first line, and
 -- whatever identity there: the text has the answers, from the state after these, to the lines of an input
 pub record GoesOn (asked : SessionPlan) (input : Option (List ℕ)) (text : List ℕ) : Type 0 where
   pub identity : List ℕ

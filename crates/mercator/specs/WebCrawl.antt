@@ -60,14 +60,14 @@ pub record IsFirstBadSeed (texts : List (List ℕ)) (number : ℕ) (refusal : Ke
   pub named : AreSeeds front seeds
   pub refused : canonical text ≡ Err refusal
 
--- why seeds are refused: by the first that has no canonical URL, or want of memory
+-- why seeds are refused: by the first that has no canonical URL, or out of memory
 abbrev pub IsSeedFault : List (List ℕ) → Fault → Type 0
 IsSeedFault texts (wrong.Seed number refusal) = IsFirstBadSeed texts number refusal
 IsSeedFault texts wrong.NoMemory = Unit {0}
 IsSeedFault texts _ = ⊥
 
--- why there are no web and seeds, in this order: the bytes are no saved web, by this fault; those listed are no seeds file, by
--- this fault; the first text that has no canonical URL, by its refusal; or want of memory
+-- why there are no web and seeds, in this order: the bytes are no saved web, by this error; those listed are no seeds file, by
+-- this error; the first text that has no canonical URL, by its refusal; or out of memory
 abbrev pub IsUnread : List ℕ → List ℕ → List (List ℕ) → Fault → Type 0
 IsUnread bytes listed texts (wrong.Web fault) = IsWebFault (lines bytes) fault
 IsUnread bytes listed texts (wrong.Seeds fault) = IsSound (lines bytes) × (seeds_in (lines listed) ≡ Err fault)
@@ -96,7 +96,7 @@ abbrev pub IsRefused : ℕ → ℕ → List ℕ → List (List ℕ) → List (Li
 IsRefused workers max bytes texts suffixes (wrong.Crawl failure) = CrawlFails workers max failure.error × IsSiteFailure workers bytes [] texts suffixes failure
 IsRefused workers max bytes texts suffixes fault = IsUnread bytes [] texts fault
 
--- a fault that a crawl in this mode can end by: workers that take turns never lack a thread
+-- an error that a crawl in this mode can end by: workers that take turns never lack a thread
 abbrev pub ComesOf : Mode → Fault → Type 0
 ComesOf mode (wrong.Crawl failure) = ComesIn mode failure.error
 ComesOf mode _ = Unit {0}
@@ -120,23 +120,23 @@ pub record IsCrawlReport (bytes : List ℕ) (texts suffixes : List (List ℕ)) (
   pub crawl : IsSiteCrawl bytes [] texts suffixes pages
   pub written : text ≡ report pages
 
--- ---- what is told of a crawl
+-- ---- what is printed of a crawl
 
 -- the URLs of the pages of a saved web with these lines, if the report lists those that no result has
 abbrev pub asked_pages : Parts → List (List ℕ) → List (List ℕ)
 asked_pages parts lines = if parts.unreached then page_urls lines else []
 
--- these are the asked pages that no result has, of hosts that the filter with these suffixes allows, in ascending order
+-- these are the target pages that no result has, of hosts that the filter with these suffixes allows, in ascending order
 pub record AreUnreached (asked suffixes : List (List ℕ)) (pages : List PageResult) (urls : List (List ℕ)) : Type 0 where
   pub same : IsPermutation (unreached_of (allows suffixes) pages asked) urls
   pub ascends : IsSortedByKey (λ url. url) (slice_cmp nat_cmp) urls
 
--- the text that is told of pages, counts and unreached pages, with the parts that are asked for
+-- the text of pages, counts and unreached pages, with the sections that are requested
 abbrev pub printed_with : Bool → CrawlOptions → List PageResult → List ℕ → List (List ℕ) → List ℕ
 printed_with with_queues options pages counts unreached =
     flat_map (printed_line options.json) (rows_with options.parts pages (if with_queues then counts else []) unreached)
 
--- the text is told of pages and counts of a crawl; among these URLs are the pages that no result has
+-- the text is that of pages and counts of a crawl; among these URLs are the pages that no result has
 pub record IsTextOf (with_queues : Bool) (options : CrawlOptions) (asked suffixes : List (List ℕ)) (pages : List PageResult) (counts text : List ℕ) : Type 0 where
   pub unreached : List (List ℕ)
   pub unseen : AreUnreached asked suffixes pages unreached
@@ -160,7 +160,7 @@ pub record IsPlainText (workers : ℕ) (with_queues with_sources : Bool) (bytes 
   pub counted : AreCounts workers (result_urls pages) counts
   pub written : text ≡ told_text with_queues with_sources pages counts
 
--- no more is asked for
+-- no more is requested
 pub record IsPlain (with_sources : Bool) (options : CrawlOptions) : Type 0 where
   pub parts : options.parts ≡ plain_parts with_sources
   pub json : options.json ≡ false

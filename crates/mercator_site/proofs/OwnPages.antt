@@ -19,12 +19,12 @@ between (x ∷ p) (y ∷ a) [] c up more first last = grind (arith, nat_tests)
 between (x ∷ p) (y ∷ a) (z ∷ b) [] up more first last = grind (arith, nat_tests)
 between (x ∷ p) (y ∷ a) (z ∷ b) (w ∷ c) up more first last = grind (arith, nat_tests, between p a b c)
 
--- behind one that begins so, and one that does not, none does
+-- after one that begins so, and one that does not, none does
 none_behind : (p o h : List ℕ) (rs : List PageResult) → begins p o ≡ true → begins p h ≡ false → slice_cmp nat_cmp o h ≡ Less → AllByRecursion (λ url. slice_cmp nat_cmp h url ≡ Less) (result_urls rs) → own_of p rs ≡ []
 none_behind p o h [] own other up all = refl
 none_behind p o h (r ∷ rs) own other up all = grind (arith, between p o h r.url up all.0 own, none_behind p o h rs own other up all.1, other)
 
--- each is less than all behind it
+-- each is less than all after it
 Rises : List (List ℕ) → Type 0
 Rises [] = Unit {0}
 Rises (url ∷ urls) = AllByRecursion (λ next. slice_cmp nat_cmp url next ≡ Less) urls × Rises urls
@@ -37,7 +37,7 @@ rises_of (url ∷ urls) pairs = (
   rises_of urls (λ i j d before below. pairs (suc i) (suc j) d (omega (arith, before)) (omega (arith, below))),
 )
 
--- behind one below the top the others stand together
+-- after one below the top the others follow each other
 together : (p o : List ℕ) (rs : List PageResult) → begins p o ≡ true → AllByRecursion (λ url. slice_cmp nat_cmp o url ≡ Less) (result_urls rs) → Rises (result_urls rs) → while_own p rs ≡ own_of p rs
 unfolding Rises
 together p o [] own all rises = refl
@@ -53,6 +53,6 @@ stands p (r ∷ rs) rises =
     let more : begins p r.url ≡ true → while_own p rs ≡ own_of p rs = λ is. together p r.url rs is rises.0 rises.1 in
     grind (arith, more, stands p rs rises.1)
 
--- where results ascend, those below a top are those from the first to the first that is none
+-- if results ascend, those below a top are those from the first to the first that is none
 pub own_stand_together : (p : List ℕ) (rs : List PageResult) → IsAscending (result_urls rs) → while_own p (from_own p rs) ≡ own_of p rs
 own_stand_together p rs pairs = stands p rs (rises_of (result_urls rs) pairs)

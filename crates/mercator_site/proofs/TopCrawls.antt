@@ -22,7 +22,7 @@ use Rattle.saved_site.specs.Aliases.{AreAliases}
 use Rattle.saved_site.specs.Linked.{IsSiteSource, PageFound, page_at}
 use Rattle.site_files.specs.declared.alias.Alias.{Alias}
 
--- the pages of a site stand for its saved web
+-- the pages of a site are those of its saved web
 pub source_of : (top : List ℕ) (pages : List PageFound) (source : IsSiteSource top pages) → IsSourceOf (page_at pages) source.bytes
 source_of top pages source = record { sound = source.web.sound; same = source.same }
 

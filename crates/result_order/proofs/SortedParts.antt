@@ -15,7 +15,7 @@ use Rattle.result_order.specs.Sixteens.{AreAlikeWithin, BeginAlike}
 use Rattle.result_order.specs.Sorting.{AllBeginAlike, AreInOrder, ArePrepared, AllEqual, ArePartedAt, IsNumbered, pages_of}
 use Rattle.result_order.proofs.SixteenBytes.{less_number, equal_number}
 
--- ---- pages and the numbers beside them
+-- ---- pages and their numbers
 
 record Has (pages : List Numbered) (page : PageResult) : Type 0 where
   numbered : Numbered
@@ -92,7 +92,7 @@ alike_up_to from end text pages alike all = λ a b in_a in_b k below. elim (case
         let one = has_page pages a in_a in
         subst (λ (p : PageResult). slice_index text k ≡ slice_index p.url k) one.is (All-contains (λ (p : Numbered). AreAlikeWithin from end text p.page.url) pages one.numbered all one.among k late below)
 
--- ---- two sorted lists, one behind the other
+-- ---- two sorted lists, one after the other
 
 sorted_joined : {X : Type 0} (less : X → X → Bool) (xs ys : List X) → IsSortedBy less xs → IsSortedBy less ys
     → ((a b : X) → Contains xs a → Contains ys b → less b a ≡ false) → IsSortedBy less (xs ++ ys)

@@ -2,7 +2,7 @@
 use Rattle.std.specs.Prelude.{◌≡◌, ℕ, zero, suc, ◌<◌, ◌≤◌, List, [], ◌∷◌, slice_index}
 use Rattle.std.specs.Int.Digits.{number_from_digits, AllBelowBase}
 
--- the first so many bytes of two texts are the same; behind the end of a text stand zeros
+-- the first n bytes of two texts are the same; after the end of a text come zeros
 abbrev pub BeginAlike : ℕ → List ℕ → List ℕ → Type 0
 BeginAlike count a b = (k : ℕ) → k < count → slice_index a k ≡ slice_index b k
 
@@ -10,7 +10,7 @@ BeginAlike count a b = (k : ℕ) → k < count → slice_index a k ≡ slice_ind
 abbrev pub AreAlikeWithin : ℕ → ℕ → List ℕ → List ℕ → Type 0
 AreAlikeWithin from end a b = (k : ℕ) → from ≤ k → k < end → slice_index a k ≡ slice_index b k
 
--- so many bytes of a text from an index on
+-- n bytes of a text from an index on
 abbrev pub bytes_from : List ℕ → ℕ → ℕ → List ℕ
 bytes_from text from zero = []
 bytes_from text from (suc count) = slice_index text from ∷ bytes_from text (suc from) count

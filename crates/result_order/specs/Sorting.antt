@@ -12,7 +12,7 @@ use Rattle.result_order.specs.Sixteens.{BeginAlike, AreAlikeWithin, IsSixteen}
 abbrev pub pages_of : List Numbered → List PageResult
 pages_of pages = map (λ p. p.page) pages
 
--- the first so many bytes of all URLs are the same
+-- the first n bytes of all URLs are the same
 abbrev pub AllBeginAlike : ℕ → List PageResult → Type 0
 AllBeginAlike count pages = (a b : PageResult) → Contains pages a → Contains pages b → BeginAlike count a.url b.url
 
@@ -31,7 +31,7 @@ pub record IsNumberSet (from : ℕ) (old new : Numbered) : Type 0 where
   pub same : new.page ≡ old.page
   pub numbered : IsNumbered from new
 
--- each number is set to the sixteen bytes of the URL from an index on, up to which all begin alike; there is room for so many numbers
+-- each number is set to the sixteen bytes of the URL from an index on, up to which all begin alike; there is room for n numbers
 pub record AreNumbered (levels from : ℕ) (old new : List Numbered) : Type 0 where
   pub same : pages_of new ≡ pages_of old
   pub alike : AllBeginAlike from (pages_of old)
@@ -53,7 +53,7 @@ pub record ArePrepared (from levels : ℕ) (pages : List Numbered) : Type 0 wher
 abbrev pub AllEqual : List Numbered → Type 0
 AllEqual pages = (a b : Numbered) → Contains pages a → Contains pages b → a.number ≡ b.number
 
--- some stand before the index and some behind it, and the numbers of those are less than the numbers of these
+-- some are before the index and some after it, and the numbers of those are less than the numbers of these
 pub record ArePartedAt (pages : List Numbered) (index : ℕ) : Type 0 where
   pub some : 0 < index
   pub more : index < length pages

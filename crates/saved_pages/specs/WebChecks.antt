@@ -27,7 +27,7 @@ pub record Before : Type 0 where
   -- a page has this URL
   pub known : List ℕ → Bool
 
--- the fault of a web one of whose lines has no text
+-- the error of a web one of whose lines has no text
 abbrev pub fault_of : LineError → WebError
 fault_of (TooLong number) = wrong.LineTooLong number
 fault_of (NotText number) = wrong.NotText number

@@ -121,7 +121,7 @@ impl<'a> KnownPage<'a> {
 }
 
 impl KnownPage<'_> {
-    /// Returns about how many bytes of the input are left where the page begins.
+    /// Returns about how many bytes of the input are left at the page's beginning.
     pub fn bytes_left(&self) -> usize {
         match &self.text {
             PageText::Written(text) => text.len(),

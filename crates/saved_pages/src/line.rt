@@ -11,7 +11,7 @@ pub enum Line<T> {
     Page(T),
     /// `link TEXT`: a link of the last page, with its text, which may be empty.
     Link(T),
-    /// `moved TEXT`: where the last page moved to, with its text, which may be empty.
+    /// `moved TEXT`: the URL to which the last page moved, as its text, which may be empty.
     Moved(T),
     /// Nothing.
     Empty,

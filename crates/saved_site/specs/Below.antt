@@ -14,7 +14,7 @@ is_next top last url = is_behind last url && is_below top url
 pub record IsWebBelow (top bytes : List ℕ) : Type 0 where
   pub none : (url : List ℕ) → is_below top url ≡ false → page_of (lines bytes) url ≡ page.Missing
 
--- the same, where the top is that of BASE
+-- likewise, if the top is that of BASE
 pub record IsWebAt (base bytes : List ℕ) : Type 0 where
   pub top : List ℕ
   pub is_top : IsTop base top

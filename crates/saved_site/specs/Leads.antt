@@ -1,10 +1,10 @@
--- Where links lead, by the indices of URLs in a list.
+-- The URLs to which links lead, by their indices in a list.
 use Rattle.std.specs.Prelude.{◌≡◌, ℕ, true, List, All, slice_get, Option, Some}
 use Rattle.std.specs.Option.{option_map}
 use Rattle.crawl_keys.specs.Folders.{is_of_folder}
 use Rattle.saved_web.specs.SavedWeb.{link_url}
 
--- the index is that of the URL that a link leads to; where it leads to none, there is no index
+-- the index is that of the URL that a link leads to; if it leads to none, there is no index
 abbrev pub LeadsTo : List (List ℕ) → Option ℕ → Option (List ℕ) → Type 0
 LeadsTo urls index link = option_map (slice_get urls) index ≡ option_map (λ url. Some url) link
 

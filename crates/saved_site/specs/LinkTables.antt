@@ -8,7 +8,7 @@ pub record IsTableOf (base : List ℕ) (table : LinkTable) : Type 0 where
   pub known : AreKnown base table.urls table.known
   pub of_folder : AreOfFolder table.known
 
--- the same of the last page; before the first nothing is known
+-- likewise for the last page; before the first nothing is known
 abbrev pub IsTable : Option (List ℕ) → LinkTable → Type 0
 IsTable None table = table.known ≡ []
 IsTable (Some base) table = IsTableOf base table

@@ -29,7 +29,7 @@ pub record IsSiteSource (top : List ℕ) (pages : List PageFound) : Type 0 where
 
 -- ---- the pages of a site
 
--- the same, where there is one
+-- likewise, if there is one
 abbrev pub page_with : List PageFound → List ℕ → Option Page
 page_with [] url = None
 page_with (first ∷ more) url = if bytes_eq first.0 url then Some first.1 else page_with more url

@@ -30,7 +30,7 @@ found_in urls page = (page.url, page_led urls page.leads)
 abbrev pub found_all : List (List ℕ) → List LinkedPage → List PageFound
 found_all urls pages = map (found_in urls) pages
 
--- a URL stands at each index
+-- there is a URL at each index
 abbrev pub IsLed : List (List ℕ) → Leads → Type 0
 IsLed urls (Links indices skipped) = (links : List (List ℕ)) × LeadTo urls indices.items links
 IsLed urls (Moved to) = Unit {0}
@@ -45,7 +45,7 @@ urls_of pages = map (λ page. page.url) pages
 abbrev pub IsPageList : PageList → Type 0
 IsPageList pages = IsIndexOf hash_of (urls_of pages.list.items) pages.index
 
--- the pages are those of the list with one more, unless its URL has one. That is this page, whose URL is `base`, and leads where it
+-- the pages are those of the list with one more, unless its URL has one. That is this page, whose URL is `base`, and leads as it
 -- does by the table
 pub record IsLonger (base : List ℕ) (page : SitePage) (urls : List (List ℕ)) (list : List LinkedPage) (table : LinkTable) (pages : PageList) : Type 0 where
   pub one : LinkedPage

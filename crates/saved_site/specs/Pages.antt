@@ -23,11 +23,11 @@ web_text pages = codes "savedweb 2" ++ 10 ∷ flat_map page_text pages
 
 -- ---- their order
 
--- the URL is behind the other, byte by byte
+-- the URL is after the other, byte by byte
 abbrev pub is_behind : List ℕ → List ℕ → Bool
 is_behind last url = is_lt (slice_cmp nat_cmp last url)
 
--- the pages whose URL is behind this one and behind those of all pages that were taken before
+-- the pages whose URL is after this one and after those of all pages that were taken before
 abbrev pub ascending_behind : List ℕ → List SitePage → List SitePage
 ascending_behind last [] = []
 ascending_behind last (page ∷ more) =
@@ -37,7 +37,7 @@ ascending_behind last (page ∷ more) =
 abbrev pub ascending : List SitePage → List SitePage
 ascending pages = ascending_behind [] pages
 
--- each URL is behind the one before it
+-- each URL is after the one before it
 abbrev pub AscendsBehind : List ℕ → List SitePage → Type 0
 AscendsBehind last [] = Unit {0}
 AscendsBehind last (page ∷ more) = (is_behind last page.url ≡ true) × AscendsBehind page.url more
@@ -48,7 +48,7 @@ abbrev pub fits_under : Under → Bool
 fits_under (Links texts) = all_fit texts
 fits_under (Moved text) = fits 6 text
 
--- the URL is canonical and stands in a line, and so does all that is under it
+-- the URL is canonical and fits a line, and so does all that belongs to it
 pub record IsPage (page : SitePage) : Type 0 where
   pub fit : fits 5 page.url ≡ true
   pub own : canonical page.url ≡ Ok page.url

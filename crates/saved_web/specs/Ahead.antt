@@ -14,7 +14,7 @@ abbrev pub shown_page : Option PageRead → Page
 shown_page None = Missing
 shown_page (Some page) = page_behind page.url (Some (lines page.behind))
 
--- at the indices stand the links' URLs, in order
+-- the links' URLs are at these indices, in order
 abbrev pub LeadTo : List (List ℕ) → List ℕ → List (List ℕ) → Type 0
 LeadTo urls indices links = map (λ index. slice_get urls index) indices ≡ map (λ link. Some link) links
 

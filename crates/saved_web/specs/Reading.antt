@@ -25,7 +25,7 @@ pub record ReadTo (all rest : List (List ℕ)) (number : ℕ) (above : Above) (p
   pub some_page : has_some pages ≡ list_any is_page earlier
   pub urls : urls pages ≡ page_urls earlier
 
--- each page of all these lines is known with the lines behind it, or stands among the rest
+-- each page of all these lines is known with the lines after it, or is among the rest
 abbrev pub AllFound : List (List ℕ) → List (List ℕ) → KnownPages → Type 0
 AllFound all rest pages =
     (url : List ℕ) → lines_behind all url ≡ option_or (known_behind pages url) (lines_behind rest url)
@@ -47,6 +47,6 @@ pub record IsHeader (second : Bool) (line : List ℕ) : Type 0 where
   pub version : bytes_eq line (codes "savedweb 2") ≡ second
   pub other : line_of line ≡ says.Other
 
--- behind any header of this version these lines are sound, and these are their pages
+-- after any header of this version these lines are sound, and these are their pages
 abbrev pub AreReadBehind : Bool → List (List ℕ) → KnownPages → Type 0
 AreReadBehind second lines pages = (header : List ℕ) → IsHeader second header → AreRead (header ∷ lines) pages

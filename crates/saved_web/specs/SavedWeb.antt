@@ -9,12 +9,12 @@ use Rattle.crawl_pages.specs.declared.page.Page.TheVariants.{Found, Moved, Missi
 use Rattle.saved_pages.specs.declared.line.Line.{Line}
 use Rattle.saved_pages.specs.declared.line.Line.TheVariants as says
 
--- the lines behind the first that is the page with this URL
+-- the lines after the first that is the page with this URL
 abbrev pub lines_behind : List (List ℕ) → List ℕ → Option (List (List ℕ))
 lines_behind [] url = None
 lines_behind (line ∷ more) url = if is_page_at url line then Some more else lines_behind more url
 
--- ---- what stands under a page, up to the next page
+-- ---- what belongs to a page, up to the next page
 
 abbrev pub put_link : Line (List ℕ) → List (List ℕ) → List (List ℕ)
 put_link (says.Page text) texts = []
@@ -32,7 +32,7 @@ put_moved (says.Link text) later = None
 put_moved (says.Moved text) later = Some text
 put_moved _ later = later
 
--- the text of the moved line among these, where one comes before any page or link
+-- the text of the moved line among these, if one comes before any page or link
 abbrev pub moved_text : List (List ℕ) → Option (List ℕ)
 moved_text [] = None
 moved_text (line ∷ more) = put_moved (line_of line) (moved_text more)
@@ -52,7 +52,7 @@ abbrev pub page_with : List ℕ → Option (List ℕ) → List (List ℕ) → Pa
 page_with url (Some text) texts = Moved (link_url url text)
 page_with url None texts = found_page url texts
 
--- the page at a URL, by the lines behind the page's own
+-- the page at a URL, by the lines after the page's own
 abbrev pub page_behind : List ℕ → Option (List (List ℕ)) → Page
 page_behind url None = Missing
 page_behind url (Some lines) = page_with url (moved_text lines) (link_texts lines)
@@ -65,13 +65,13 @@ page_of lines url = page_behind url (lines_behind lines url)
 abbrev pub page_urls : List (List ℕ) → List (List ℕ)
 page_urls lines = filter_map page_url lines
 
--- ---- the words of the laws
+-- ---- the terms of the laws
 
 -- the lines among these up to the next page
 abbrev pub up_to_page : List (List ℕ) → List (List ℕ)
 up_to_page lines = take_while (λ line. not (is_page line)) lines
 
--- no moved line stands among these; or one does, and no link
+-- no moved line is among these; or one is, and no link
 abbrev pub IsUnmixed : List (List ℕ) → Type 0
 IsUnmixed lines =
     (count_by is_moved_line lines ≡ 0) ⊎ ((count_by is_moved_line lines ≡ 1) × (count_by is_link lines ≡ 0))

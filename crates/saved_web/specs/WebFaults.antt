@@ -1,4 +1,4 @@
--- Which lines are a saved web, and the fault of lines that are not: that of the first line that fails a check.
+-- Which lines are a saved web, and the error of lines that are not: that of the first line that fails a check.
 use Rattle.std.specs.Prelude.{◌≡◌, ◌⊎◌, ℕ, ◌+◌, ◌<◌, Bool, false, List, [], ◌∷◌, length, codes, if◌then◌else◌, Option}
 use Rattle.std.specs.List.{list_any}
 use Rattle.std.specs.Str.{bytes_eq}
@@ -42,11 +42,11 @@ pub record IsSound (lines : List (List ℕ)) : Type 0 where
   pub some : 0 < length lines
   pub sound : SoundAfter fault_after [] lines
 
--- the fault of lines that are not a saved web; no line at all is a bad header
+-- the error of lines that are not a saved web; no line at all is a bad header
 abbrev pub IsWebFault : List (List ℕ) → WebError → Type 0
 IsWebFault [] fault = fault ≡ wrong.BadHeader
 IsWebFault (line ∷ more) fault = IsLeastFault fault_after (line ∷ more) fault
 
--- an error that may be reported for lines: their fault, or out of memory
+-- an error that may be reported for lines: theirs, or out of memory
 abbrev pub IsWebRefusal : List (List ℕ) → WebError → Type 0
 IsWebRefusal lines told = IsWebFault lines told ⊎ (told ≡ wrong.NoMemory)

@@ -49,7 +49,7 @@ impl<'w, 'a> Model for Ahead<'w, 'a> {
 
 impl<'w, 'a> Ahead<'w, 'a> {
     /// Resolves the links of all pages of a web of one host, in threads. Resolves none if the web has several hosts or is small, or
-    /// if `in_threads` is `false`. One worker has all pages of a host, and would resolve their links alone.
+    /// if `in_threads` is `false`. One worker has all pages of a host, so no other would resolve their links.
     pub fn new<R: Threads + Sync>(
         rt: &R,
         alloc: Global,

@@ -15,7 +15,7 @@ use std::marker::Model;
 pub struct Folder<'a> {
     page: Base,
     known: KnownLinks<'a>,
-    // Another page of the folder came before this one, so that there may be more; and texts came again where that was so.
+    // Another page of the folder came before this one, so that there may be more; and texts occurred again when that was so.
     again: bool,
 }
 
@@ -70,7 +70,7 @@ impl<'a> Folder<'a> {
         &self.page
     }
 
-    /// Whether another page of it came before, so that it is worth to learn of each link where it leads.
+    /// Whether another page of it came before, so that it is worth to remember the URL to which each link leads.
     pub fn comes_again(&self) -> bool {
         self.again
     }
@@ -80,14 +80,14 @@ impl<'a> Folder<'a> {
         self.known.len()
     }
 
-    /// Where a link with this text leads, if that is known.
+    /// The URL to which a link with this text leads, if that is known.
     pub fn find(&self, text: &LinkText<'a>) -> Option<&Option<CanonUrl>>
         ensures { IfSome result (λ link. link.now ≡ link_url self.now text.now) }
     {
         self.known.find(text)
     }
 
-    /// Where a link with this text leads, which is known from now on.
+    /// The URL to which a link with this text leads, which is known from now on.
     pub fn link(
         &mut self,
         alloc: Global,

@@ -1,4 +1,4 @@
-//! Where links lead.
+//! The URLs to which links lead.
 ghost use Rattle.std.specs.Prelude.{◌≡◌, IfOk, IfErr};
 ghost use Rattle.saved_web.specs.SavedWeb.{link_url};
 

@@ -14,10 +14,10 @@ use hash_order::hash_of;
 use std::alloc::Global;
 use std::marker::Model;
 
-/// Of so many texts, or fewer, the room is used again.
+/// The room of at most this many texts is used again.
 const FEW_TEXTS: usize = 64;
 
-/// Where so many texts are known, no more are: who has more links on a page has most of them once.
+/// Once this many texts are known, no more are: a page with more links has most of them once.
 const MOST_TEXTS: usize = 4_096;
 
 /// A text, and where a link with it leads.
@@ -47,7 +47,7 @@ impl Keyed for KnownLink<'_> {
         self.text
     }
 
-    // Growth alone asks for it.
+    // Only an allocation calls this.
     fn text_hash(&self) -> u64 {
         hash_of(self.text)
     }
@@ -104,7 +104,7 @@ impl<'a> KnownLinks<'a> {
         self.links.len()
     }
 
-    /// Where a link with this text leads, if that is known.
+    /// The URL to which a link with this text leads, if that is known.
     pub fn find(&self, text: &LinkText<'a>) -> Option<&Option<CanonUrl>>
         ensures { IfSome result (λ link. Contains self.now (text.now, link.now)) }
     {
@@ -114,8 +114,8 @@ impl<'a> KnownLinks<'a> {
         }
     }
 
-    /// Where a link with this text leads, which is known from now on, unless many are: the links with one text share the text of
-    /// their URL. A refused growth of what is known is `NoMemory`, as any other.
+    /// The URL to which a link with this text leads, which is known from now on, unless many are: the links with one text share the
+    /// text of their URL. If memory runs out, the result is `NoMemory`, as for any other allocation.
     pub fn link(
         &mut self,
         alloc: Global,
@@ -164,7 +164,7 @@ impl<'a> KnownLinks<'a> {
     }
 }
 
-/// Where links with the text at the index lead.
+/// The URLs to which links with the text at the index lead.
 fn link_at<'l>(links: &'l [KnownLink<'_>], index: usize) -> &'l Option<CanonUrl>
     requires { index < length links.now }
     ensures { result.now ≡ (get_or links.now index ([], None)).1 }

@@ -9,28 +9,29 @@ use hash_order::hash_of;
 use std::alloc::{AllocError, Global};
 use std::mem;
 
-/// A cache begins with so many slots, and has at most so many.
+/// The number of slots with which a cache begins.
 const FEWEST_SLOTS: usize = 16;
 
+/// The most slots that a cache has.
 const MOST_SLOTS: usize = 1_024;
 
-/// So many folders are met, each at the place that its hash picks.
+/// The number of folders of which only the hash is kept, each at the index that its hash gives.
 const MET: usize = 1_024;
 
-/// The caches of a crawl have at most so many slots together, but for those that each begins with.
+/// The most slots that the caches of a crawl have together, but for those that each begins with.
 const ALL_SLOTS: usize = 8_192;
 
-/// A cache knows at most so many texts.
+/// The most texts that a cache knows.
 const MOST_TEXTS: usize = 131_072;
 
-/// The caches of a crawl know at most so many texts together.
+/// The most texts that the caches of a crawl know together.
 const ALL_TEXTS: usize = 1_048_576;
 
 /// A folder of which more texts are known is forgotten.
 const FOLDER_LIMIT: usize = 512;
 
-/// Folders, each in the slot that its text picks. A folder keeps of itself that what it knows is right, so a slot may hold any.
-/// Of a folder that knows nothing the hash alone is kept: many have one page, or pages whose links lead to other URLs each.
+/// Folders, each in the slot that its text gives. A folder itself keeps that what it knows is right, so a slot may have any.
+/// Of a folder that knows nothing only the hash is kept: many have one page, or pages whose links lead to other URLs each.
 #[derive(Drop)]
 pub struct LinkCache<'a> {
     /// Room for the links of a page, until they are all found.
@@ -41,7 +42,7 @@ pub struct LinkCache<'a> {
     // The hashes of folders that came and knew nothing.
     met: Vec<u64>,
     worth: Worth,
-    // A folder was put out since there are so many slots.
+    // A folder was removed since the cache has this number of slots.
     crowded: bool,
     // How many texts the folders here know.
     texts: usize,
@@ -50,7 +51,7 @@ pub struct LinkCache<'a> {
 }
 
 impl<'a> LinkCache<'a> {
-    /// A cache of no folder, one of so many of a crawl.
+    /// A cache of no folder, one of `among` caches of a crawl.
     pub fn new(alloc: Global, among: u32) -> LinkCache<'a> {
         let among = among.max(1) as usize;
         LinkCache {
@@ -114,7 +115,7 @@ impl<'a> LinkCache<'a> {
         self.met.get(slot_of(hash, MET)) == Some(&hash)
     }
 
-    /// Counts the links of a page of this folder, which knew so many texts before.
+    /// Counts the links of a page of this folder, which knew `knew` texts before.
     pub fn weigh(&mut self, folder: &Folder<'a>, knew: usize, links: u64) {
         if folder.comes_again() {
             let of_folder = folder.len().saturating_sub(knew);
@@ -144,7 +145,7 @@ impl<'a> LinkCache<'a> {
         self.insert(hash, folder);
     }
 
-    // Keeps the hash of a folder that knows nothing, where there is room.
+    // Keeps the hash of a folder that knows nothing, if there is room.
     fn meet(&mut self, alloc: Global, hash: u64) {
         if self.met.is_empty() && self.most_slots > 0 {
             self.met = vec![in alloc; 0u64; MET].unwrap_or(Vec::new(alloc));
@@ -154,7 +155,7 @@ impl<'a> LinkCache<'a> {
         }
     }
 
-    // Puts the folder into its slot, where there are slots.
+    // Puts the folder into its slot, if there are slots.
     fn insert(&mut self, hash: u64, folder: Folder<'a>) {
         if self.slots.is_empty() {
             return;
@@ -167,7 +168,7 @@ impl<'a> LinkCache<'a> {
         }
     }
 
-    // Moves to so many slots, where there is room for them.
+    // Moves to `count` slots, if there is room for them.
     fn grow(&mut self, alloc: Global, count: usize) {
         let Ok(slots) = free_slots(alloc, count) else {
             return;
@@ -183,7 +184,7 @@ impl<'a> LinkCache<'a> {
     }
 }
 
-/// The slot of a folder with this hash, among so many.
+/// The slot of a folder with this hash, of `slots` slots.
 fn slot_of(hash: u64, slots: usize) -> usize
     requires { 1 ≤ slots }
     ensures { result < slots }
@@ -191,7 +192,7 @@ fn slot_of(hash: u64, slots: usize) -> usize
     (hash % slots as u64) as usize
 }
 
-/// So many slots, all free.
+/// `count` slots, all free.
 fn free_slots<'a>(alloc: Global, count: usize) -> Result<Vec<Option<Folder<'a>>>, AllocError> {
     let mut slots = Vec::with_capacity(alloc, count)?;
     for _ in 0..count {

@@ -23,19 +23,19 @@ use text_lines::{cut_line, first_line, first_text};
 /// A page with fewer bytes than this is not worth a thread.
 pub const LEAST: usize = 1 << 18;
 
-/// So many threads look at a part of a page each, this one among them.
+/// The number of threads that each read a part of a page, this one among them.
 const THREADS: u32 = 4;
 
 /// The links among some lines, up to the next page.
 #[derive(Drop)]
 struct LinksFound {
     links: Vec<CanonUrl>,
-    /// How many links there are besides that lead to no URL.
+    /// How many further links lead to no URL.
     skipped: u64,
 }
 
 impl LinksFound {
-    /// These, and then those; nothing where there is no room.
+    /// These, and then those; nothing if there is no room.
     fn and(self, more: LinksFound) -> Option<LinksFound>
         ensures links { IfSome result (λ both. both.links.items ≡ self.links.items ++ more.links.items) }
         ensures skipped { IfSome result (λ both. both.skipped ≡ self.skipped + more.skipped) }
@@ -71,7 +71,7 @@ pub fn page_in_threads<'a, R: Threads>(
     }
 }
 
-/// The same where it is long and has links; nothing where one thread has to look at it.
+/// Likewise if it is long and has links; nothing if one thread has to read it.
 fn long_page<R: Threads>(rt: &R, alloc: Global, url: &CanonUrl, behind: &str) -> Option<Page>
     ensures { IfSome result (λ page. page ≡ page_behind url.now (Some (lines behind.now))) }
 {
@@ -120,8 +120,8 @@ fn linked_page<R: Threads>(rt: &R, alloc: Global, url: &CanonUrl, bytes: &[u8]) 
     })
 }
 
-/// The links of the page at this URL among these lines, by so many threads. Where one cannot be started this one looks at its
-/// part. Nothing where a page is among the lines of a part but the last, or there is no room.
+/// The links of the page at this URL among these lines, by `threads` threads. If one cannot be started this one reads its
+/// part. Nothing if a page is among the lines of a part but the last, or there is no room.
 fn links_by_threads<R: Threads>(
     rt: &R,
     alloc: Global,
@@ -149,7 +149,7 @@ fn links_by_threads<R: Threads>(
     first.and(second)
 }
 
-/// The first of so many parts of the lines, about, and the others; nothing where a page is among the first.
+/// The first of `parts` parts of the lines, about, and the others; nothing if a page is among the first.
 fn first_part(bytes: &[u8], parts: usize) -> Option<(&[u8], &[u8])>
     requires { 0 < parts }
     ensures lines { IfSome result (λ x. lines bytes.now ≡ lines x.0.now ++ lines x.1.now) }
@@ -176,7 +176,7 @@ fn has_page(text: &str) -> bool
     false
 }
 
-/// The links of the page at this URL among the lines of these bytes; nothing where they are no text, or there is no room.
+/// The links of the page at this URL among the lines of these bytes; nothing if they are no text, or there is no room.
 fn links_in(alloc: Global, url: &CanonUrl, bytes: &[u8]) -> Option<LinksFound>
     ensures { IfSome result (AreFound url.now (lines bytes.now)) }
 {
@@ -186,7 +186,7 @@ fn links_in(alloc: Global, url: &CanonUrl, bytes: &[u8]) -> Option<LinksFound>
     }
 }
 
-/// The same of a text.
+/// Likewise for a text.
 fn links_among(alloc: Global, url: &CanonUrl, text: &str) -> Option<LinksFound>
     ensures { IfSome result (AreFound url.now (lines text.now)) }
 {

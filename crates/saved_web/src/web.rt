@@ -37,9 +37,9 @@ impl<'a> SavedWeb<'a> {
         // At every URL it has the page that the lines define.
         ensures pages { IfOk result (λ web. (url : List ℕ) → page_at web url ≡ page_of (lines bytes.now) url) }
         ensures urls { IfOk result (λ web. urls_of web ≡ page_urls (lines bytes.now)) }
-        // An error is the fault of the first line that has one, unless memory ran out.
+        // An error is that of the first line that has one, unless memory ran out.
         ensures fault { IfErr result (λ told. IsWebRefusal (lines bytes.now) told) }
-        // Conversely, sound lines are read, and lines with a fault are refused because of it.
+        // Conversely, sound lines are read, and lines with an error are refused because of it.
         ensures reads { IsSound (lines bytes.now) → Gives WebError.NoMemory page_at result (Ok (page_of (lines bytes.now))) }
         ensures tells { (fault : WebError) → IsWebFault (lines bytes.now) fault → Gives WebError.NoMemory page_at result (Err fault) }
     {
@@ -49,8 +49,8 @@ impl<'a> SavedWeb<'a> {
         })
     }
 
-    /// Like [`SavedWeb::read`], with four threads if there is enough to read. Bytes with a fault are then read again by one thread,
-    /// which finds the fault.
+    /// Like [`SavedWeb::read`], with four threads if there is enough to read. Bytes with an error are then read again by one
+    /// thread, which finds the error.
     ///
     /// # Errors
     /// Those of [`SavedWeb::read`]. It is no error if a thread cannot be started: the thread that needs it reads its part.
@@ -63,9 +63,9 @@ impl<'a> SavedWeb<'a> {
         // At every URL it has the page that the lines define.
         ensures pages { IfOk result (λ web. (url : List ℕ) → page_at web url ≡ page_of (lines bytes.now) url) }
         ensures urls { IfOk result (λ web. urls_of web ≡ page_urls (lines bytes.now)) }
-        // An error is the fault of the first line that has one, unless memory ran out.
+        // An error is that of the first line that has one, unless memory ran out.
         ensures fault { IfErr result (λ told. IsWebRefusal (lines bytes.now) told) }
-        // Conversely, sound lines are read, and lines with a fault are refused because of it.
+        // Conversely, sound lines are read, and lines with an error are refused because of it.
         ensures reads { IsSound (lines bytes.now) → Gives WebError.NoMemory page_at result (Ok (page_of (lines bytes.now))) }
         ensures tells { (fault : WebError) → IsWebFault (lines bytes.now) fault → Gives WebError.NoMemory page_at result (Err fault) }
     {
@@ -127,7 +127,7 @@ fn pages_in(alloc: Global, text: &str) -> Result<Pages<'_>, WebError>
     pages_behind(alloc, text, 0, Above::nothing())
 }
 
-/// Returns the fault of bytes that are not UTF-8.
+/// Returns the error of bytes that are not UTF-8.
 fn fault_in(alloc: Global, bytes: &[u8]) -> WebError
     requires { ¬ (IsUtf8 bytes.now) }
     ensures { IsWebRefusal (lines bytes.now) result }

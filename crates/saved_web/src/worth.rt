@@ -1,12 +1,12 @@
 //! Whether texts of links come again on other pages of their folder.
 
-/// So many links are counted before they tell something.
+/// The number of links that are counted before the counts say anything.
 const FEWEST: u64 = 256;
 
-/// What was counted counts half once there are so many, so that later pages weigh more.
+/// What was counted counts half once it is this much, so that later pages weigh more.
 const MOST: u64 = 4_096;
 
-/// Where it is not worth it, one page in so many is looked at still.
+/// If it is not worth it, one page in this many is still looked at.
 const PROBE: u32 = 32;
 
 /// How often a link's text was known already on pages whose folder had been met before.
@@ -15,7 +15,7 @@ pub struct Worth {
     links: u64,
     /// How many of their texts were not known.
     learned: u64,
-    /// How many pages were passed by, where it was not worth it.
+    /// How many pages were passed by because it was not worth it.
     passed: u32,
 }
 

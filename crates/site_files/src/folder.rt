@@ -90,7 +90,7 @@ pub(crate) trait Folders {
     fn inside(&self, folder: &Folder, room: &mut [u8]) -> Result<Inside, AllocError>;
 }
 
-/// The folders below one on disk. Symbolic links are followed, but out of the top only if that is asked for.
+/// The folders below one on disk. Symbolic links are followed, but out of the top only if `follow` says so.
 #[derive(Drop)]
 pub(crate) struct DiskFolders<'a, R> {
     pub(crate) rt: &'a R,

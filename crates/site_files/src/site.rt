@@ -34,7 +34,7 @@ pub struct Rules {
     pub threads: usize,
 }
 
-/// The path of a name, and its query behind a `?`.
+/// The path of a name, and its query after a `?`.
 pub(crate) fn split_name(name: &str, queries: bool) -> (&str, Option<&str>) {
     if !queries {
         return (name, None);
@@ -304,7 +304,7 @@ fn add(url: &str, source: Source, entries: &mut Vec<Entry>) -> Result<(), SiteEr
     Ok(())
 }
 
-/// The first page of each URL; a file that has no page by this is told.
+/// The first page of each URL; a file that gets no page so has a note.
 fn without_doubles(
     entries: Vec<Entry>,
     names: &[String],
@@ -378,8 +378,8 @@ fn top_at(alloc: Global, page: &CanonUrl, text: &str) -> Result<CanonUrl, SiteEr
     }
 }
 
-/// Whether a text is its own URL, and with its escapes read another one, which has no query, with one slash at its end. It is, where
-/// it was made of that URL; it is looked at since it is promised.
+/// Whether a text is its own URL, and with its escapes read another one, which has no query, with one slash at its end. This holds
+/// if the text was made of that URL; it is tested because the contract promises it.
 fn is_top(alloc: Global, page: &str, url: &CanonUrl, text: &str) -> Result<bool, AllocError>
     ensures own { IfOk result (λ is. is ≡ true → url.now ≡ text.now) }
     ensures plain { IfOk result (λ is. is ≡ true → list_any is_mark page.now ≡ false) }
@@ -423,7 +423,7 @@ fn tell_double(entry: &Entry, names: &[String], notes: &mut Vec<Note>) -> Result
     Ok(())
 }
 
-/// The scheme and authority of a canonical URL, and what is behind them.
+/// The scheme and authority of a canonical URL, and what follows them.
 fn split_origin(url: &str) -> Option<(&str, &str)> {
     let (scheme, rest) = url.split_once("://")?;
     let slash = rest.find('/')?;

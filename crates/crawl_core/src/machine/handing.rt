@@ -1,4 +1,4 @@
-//! What a session needs beside the events: the unit of a URL in progress goes to a sender, how far a subqueue is, and how many
+//! What a session needs in addition to the events: the unit of a URL in progress goes to a sender, how far a subqueue is, and how many
 //! units are out.
 ghost use Rattle.std.specs.Prelude.{◌≡◌, false, slice_get, unwrap_or, IfOk, OnErr, OnOk};
 ghost use Rattle.std.specs.BTreeMap.{is_at, insert_entry};

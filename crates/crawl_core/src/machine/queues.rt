@@ -14,8 +14,8 @@ use crate::reply::{Refusal, Reply};
 use crate::text::Text;
 
 impl Core {
-    /// The URL that the subqueue took last, whose fetch is not done; `Some(None)` where the subqueue is not busy, and `None`
-    /// where there is no such subqueue.
+    /// The URL that the subqueue took last, whose fetch is not done; `Some(None)` if the subqueue is not busy, and `None`
+    /// if there is no such subqueue.
     #[tactic(auto, using(crate::proofs::Fetching::kept_in_fetch))]
     pub fn in_fetch(&self, queue: u32) -> Option<Option<&Text>>
         ensures { (state : State) → Shows self.now state → option_map (λ found. option_map (λ url. url.now) found) result ≡ in_fetch state queue }

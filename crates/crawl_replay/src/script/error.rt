@@ -25,7 +25,7 @@ pub enum ScriptError {
     /// The line with this number admits a text that has no canonical `http` or `https` URL.
     #[error("script: line {0}: bad URL")]
     BadUrl(u64),
-    /// A growth was refused. This may stand in place of any other answer.
+    /// An allocation failed. This may replace any other result.
     #[error("out of memory")]
     NoMemory,
 }

@@ -15,7 +15,7 @@ use crawl_keys::{KeyError, canonical};
 use std::alloc::Global;
 use text_lines::{split_space, text_of};
 
-/// The event that the line with this number says, to a frontier with so many workers, or nothing for an empty line.
+/// The event that the line with this number says, to a frontier with this number of workers, or nothing for an empty line.
 ///
 /// # Errors
 /// `LineTooLong`, `NotText`, `BadLine`, `BadUrl`, in this order, each with the number; `NoMemory`.

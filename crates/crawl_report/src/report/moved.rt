@@ -1,4 +1,4 @@
-//! Where pages moved to.
+//! The URLs to which pages moved.
 ghost use Rattle.std.specs.Prelude.{◌≡◌, true, IfOk};
 ghost use Rattle.std.specs.Option.{option_map};
 ghost use Rattle.crawl_report.specs.Printing.{Adds};
@@ -9,7 +9,7 @@ use crate::row::Row;
 use crawl_keys::CanonUrl;
 use crawl_pages::{NoMemory, Page, PageResult};
 
-/// Prints where the pages moved to, where this is told.
+/// Prints the URLs to which the pages moved, if this is listed.
 pub fn with_moved(out: Out, pages: &[PageResult], moved: bool) -> Result<Out, NoMemory>
     ensures { IfOk result (λ more. Adds out more (moved_lines moved pages.now)) }
 {

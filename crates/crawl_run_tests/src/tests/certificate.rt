@@ -1,4 +1,4 @@
-//! What no clause says: that certificates are given, and that each fault is the one that is meant.
+//! What no clause says: that certificates are given, and that each error is the one that is meant.
 mod accounts;
 mod faults;
 mod messages;

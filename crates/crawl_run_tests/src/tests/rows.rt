@@ -1,4 +1,4 @@
-//! The worked rows: what workers lose, and what they find, in order.
+//! Test vectors: what workers lose, and what they find, in order.
 use crate::tests::runs::{Found, How, Run};
 use crate::tests::sources::{Counting, Fails, OneMoved};
 use crawl_keys::canonical;
@@ -65,7 +65,7 @@ static ROWS: [Row; 8] = [
         lost: 0,
         urls: &[A, PATH_1, PATH_2],
     },
-    // It goes on after a link that was refused, and counts each.
+    // It continues after a link that was refused, and counts each.
     Row {
         name: "two_links_lost",
         web: THREE_LINKS,
@@ -112,7 +112,7 @@ static ROWS: [Row; 8] = [
         lost: 1,
         urls: &[],
     },
-    // The fetch that waits for another one ends well only where two workers fetch at once, here by `run_threads` and by
+    // The fetch that waits for another one ends well only if two workers fetch at the same time, here by `run_threads` and by
     // `run_worker` in two threads. Workers that run in turn on one thread meet every clause of `run_threads` too.
     Row {
         name: "workers_run_together, two_workers_wait_for_each_other",

@@ -32,11 +32,11 @@ pub struct Run<'a> {
     pub urls: &'a [&'a str],
 }
 
-// What all workers lost, how many results they have, and how many of these stand at their places in the run's URLs.
+// What all workers lost, how many results they have, and how many of these are at their indices in the run's URLs.
 pub type Found = (u64, usize, usize);
 
 impl Run<'_> {
-    // What is found, where the ends come by place and have an account.
+    // What is found, if the ends come by index and have an account.
     pub fn found<F: Fetch + Sync, R: Threads + Wait + Sync>(
         self,
         rt: &R,
@@ -89,7 +89,7 @@ pub fn seeded<K: Name, R: Wait>(
     seeder.end(frontier)
 }
 
-// The ends of all workers, or none where the call fails.
+// The ends of all workers, or none if the call fails.
 fn run_by<K: Name + Send + Sync, F: Fetch + Sync, R: Threads + Wait + Sync>(
     rt: &R,
     alloc: Global,
@@ -152,7 +152,7 @@ fn at_places(results: &[PageResult], urls: &[&str]) -> usize {
     count
 }
 
-// What the ends have, where they come by place.
+// What the ends have, if they come by index.
 fn found_in<K: Name>(ends: &[WorkerEnd<K>], run: Run<'_>) -> Option<Found> {
     let (mut lost, mut results, mut listed) = (0u64, 0usize, 0usize);
     for (place, end) in ends.iter().enumerate() {

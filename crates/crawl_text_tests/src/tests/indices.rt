@@ -10,13 +10,13 @@ use std::marker::Model;
 /// The number of random lists.
 const LISTS: u64 = 100_000;
 
-/// As many as `rt try` can run, with each initial capacity once.
+/// The number that `rt try` can run, with each initial capacity once.
 const FEW_LISTS: u64 = 24;
 
 /// The number of random texts for a list.
 const DRAWS: usize = 40;
 
-/// As many of each of the three hashes, of which one slot's bucket takes eight.
+/// The same number of each of the three hashes, of which one slot's bucket takes eight.
 const TEXTS: [&str; 36] = [
     "a", "b", "c", "d", "e", "f", "g", "h", "i", "j", "k", "l", "aa", "bb", "cc", "dd", "ee", "ff",
     "gg", "hh", "ii", "jj", "kk", "ll", "aaa", "bbb", "ccc", "ddd", "eee", "fff", "ggg", "hhh",
@@ -77,7 +77,7 @@ impl Words {
         })
     }
 
-    /// Adds the word unless it is there, and returns where it was found.
+    /// Adds the word unless it is there, and returns its index.
     fn add(&mut self, word: Word) -> Result<Option<usize>, AllocError> {
         let found = self.index.find_or_insert(&self.list, &word)?;
         if found.is_some() {

@@ -249,7 +249,7 @@ fn share_a_name(alloc: Global, one: &Base, other: &Base) -> bool {
     from_one.is_ok() && from_one == other.resolve(alloc, "x")
 }
 
-/// A text, and how its URL stands to that of `http://a.test?q#f`.
+/// A text, and how its URL relates to that of `http://a.test?q#f`.
 const COMPARED: &[(&str, Ordering)] = &[
     ("HTTP://A.TEST:80/?q", Ordering::Equal),
     ("http://a.test/?p", Ordering::Less),
@@ -263,7 +263,7 @@ fn spellings_are_equal(rt: HostRuntime) {
     }
 }
 
-// The order, where the URLs are equal and keys of one set just if the order says so.
+// The order, if the URLs are equal and keys of one set exactly if the order says so.
 fn compares(alloc: Global, input: &str) -> Option<Ordering> {
     match canonical(alloc, input) {
         Ok(url) => compares_to_one(alloc, &url),

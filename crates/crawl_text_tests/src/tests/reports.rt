@@ -244,7 +244,7 @@ fn is_copied(one: &PageResult) -> bool {
     }
 }
 
-/// A saved web, and the report of its page as if it had as many more links as a `u64` can count.
+/// A saved web, and the report of its page as if it had more links by the most that a `u64` can count.
 const PAST_64_BITS: &[Asked] = &[
     (
         "savedweb 1\npage http://a.test/",

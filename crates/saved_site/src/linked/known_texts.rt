@@ -105,7 +105,7 @@ impl KnownTexts {
         }
     }
 
-    /// Adds a text, where it is not known.
+    /// Adds a text, if it is not known.
     pub(crate) fn add(
         &mut self,
         alloc: Global,

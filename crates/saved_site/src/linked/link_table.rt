@@ -1,4 +1,4 @@
-//! Where the links of pages lead, as indices of URLs.
+//! The URLs to which the links of pages lead, as indices.
 ghost use Rattle.std.specs.Prelude.{◌≡◌, true, None, IfOk, OnOk, count_by, is_none};
 ghost use Rattle.std.specs.List.{filter_map};
 ghost use Rattle.saved_web.specs.Ahead.{KeepIndices, LeadTo};
@@ -68,7 +68,7 @@ impl LinkTable {
         }
     }
 
-    /// Where a page leads, by what stands under it.
+    /// The URLs to which a page leads, by its links or its redirect.
     pub(crate) fn leads(
         &mut self,
         alloc: Global,
@@ -140,7 +140,7 @@ impl LinkTable {
         }
     }
 
-    /// The same of a text that is not known: where it leads to one URL from all pages of the folder, it is known from now on.
+    /// Likewise for a text that is not known: if it leads to one URL from all pages of the folder, it is known from now on.
     fn learn(
         &mut self,
         alloc: Global,
@@ -189,7 +189,7 @@ fn url_index(
     }
 }
 
-/// Where a redirect leads.
+/// The URL to which a redirect leads.
 fn moved_to(alloc: Global, base: &Base, text: &LineText) -> Result<Option<CanonUrl>, AllocError>
     ensures { IfOk result (λ to. to ≡ link_url base.now text.now) }
 {

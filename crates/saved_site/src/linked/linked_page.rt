@@ -8,12 +8,12 @@ use crawl_pages::{Links, Page};
 use hash_index::Keyed;
 use std::alloc::{AllocError, Global};
 
-/// Where a page leads.
+/// The URLs to which a page leads.
 #[derive(Drop)]
 pub(crate) enum Leads {
-    /// The indices of its links' URLs, in order, and how many links it has besides that lead to no URL.
+    /// The indices of its links' URLs, in order, and how many further links lead to no URL.
     Links { indices: Vec<u32>, skipped: u64 },
-    /// Where it moved to.
+    /// The URL to which it moved.
     Moved(Option<CanonUrl>),
 }
 

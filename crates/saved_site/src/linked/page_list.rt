@@ -15,7 +15,7 @@ use std::alloc::{AllocError, Global};
 #[derive(Drop)]
 pub(crate) struct PageList {
     pub(crate) list: Vec<LinkedPage>,
-    /// Where the page of each URL stands.
+    /// The index of each URL's page.
     pub(crate) index: HashIndex,
 }
 

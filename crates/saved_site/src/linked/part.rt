@@ -39,7 +39,7 @@ impl Part {
         Part { urls, pages }
     }
 
-    /// The page at the URL, where there is one.
+    /// The page at the URL, if there is one.
     pub(crate) fn page(&self, alloc: Global, url: &CanonUrl) -> Result<Option<Page>, AllocError>
         ensures { IfOk result (λ page. page ≡ page_with self.now url.now) }
     {

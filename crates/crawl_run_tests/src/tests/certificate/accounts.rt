@@ -12,7 +12,7 @@ use std::alloc::Global;
 use std::marker::Brand;
 use std::sync::Wait;
 
-// More URLs than any of the runs has at once.
+// More URLs than any of the runs has at the same time.
 const MAX_PENDING: u64 = 30_000;
 
 // What a run left.
@@ -22,7 +22,7 @@ pub struct Run {
     pub results: Vec<PageResult>,
 }
 
-// The URLs of these texts, where they have one.
+// The URLs of these texts, if they have one.
 pub fn urls_of(alloc: Global, texts: &[&str]) -> Vec<CanonUrl> {
     let mut urls = Vec::new(alloc);
     for text in texts {

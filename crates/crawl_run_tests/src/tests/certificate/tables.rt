@@ -154,7 +154,7 @@ pub static GROUPS: [Group; 10] = [
             (NONE, &[A, C], More(A), Fault(Twice, A)),
         ],
     },
-    // After the change only `b` links to `c`, and it has as many hops.
+    // After the change only `b` links to `c`, and it has the same number of hops.
     Group {
         name: "linked_with_as_many_hops",
         workers: 3,
@@ -260,7 +260,7 @@ const C3: &str = "http://a.test/c3";
 
 const C4: &str = "http://a.test/c4";
 
-/// A run with so many results that four threads look at a chunk each. An error in any chunk is an error of the run. A page in
+/// A run with enough results that four threads look at a chunk each. An error in any chunk is an error of the run. A page in
 /// each chunk links to no entry, or to itself; or it is fetched once more, at the end of the last chunk.
 pub static FAULTS_IN_EACH_CHUNK: Group = Group {
     name: "faults_in_each_chunk",

@@ -31,7 +31,7 @@ fn is_marked(marks: &[bool], index: usize) -> bool {
     }
 }
 
-// Whether there are so many pages, and every entry with hops is seen to be linked.
+// Whether there is this number of pages, and every entry with hops is seen to be linked.
 fn is_all_seen<R: Threads + Sync>(rt: &R, alloc: Global, run: &Run) -> bool {
     let Ok(Some(marks)) = seen_linked(rt, alloc, &run.account, &run.results) else {
         return false;

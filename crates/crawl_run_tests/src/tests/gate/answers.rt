@@ -1,4 +1,4 @@
-//! What a call answers, as plain data. Each pass comes back, so that a row goes on with it.
+//! The results of calls, as plain data. Each pass comes back, so that a row continues with it.
 ghost use Rattle.crawl_gate.specs.Seat.{IsSeatOf};
 ghost use Rattle.crawl_gate.specs.Enter.{GivesSeatOf};
 
@@ -40,7 +40,7 @@ pub fn closed(gate: &Gate, pass: Pass) -> Answer
     }
 }
 
-/// What an entering call beside a unit ended with: the count with the unit that it took, and when that is given back.
+/// What an entering call with a unit ended with: the count with the unit that it took, and when that is given back.
 pub fn entered_beside(gate: &Gate, held: &mut Unit, end: Enter) -> (u64, Answer, Pass)
     requires held { IsSeatOf gate.now held.old }
     requires end { GivesSeatOf gate.now end }

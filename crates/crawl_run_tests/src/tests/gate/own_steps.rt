@@ -1,4 +1,4 @@
-//! That a call makes no step besides those that its clauses name, by a pass which it splits off and drops.
+//! That a call makes no step but those that its clauses name, by a pass which it splits off and drops.
 ghost use Rattle.crawl_gate.specs.Seat.{IsSeatOf};
 
 use crate::tests::gate::answers::{Answer, closed};
@@ -20,7 +20,7 @@ enum Call {
     Leave,
 }
 
-// Makes the call, where it is one of a pass.
+// Makes the call, if it is one of a pass.
 fn call_of_pass<R: Wait>(rt: &R, gate: &Gate, mut pass: Pass, call: Call)
     requires { IsSeatOf gate.now pass }
 {
@@ -34,7 +34,7 @@ fn call_of_pass<R: Wait>(rt: &R, gate: &Gate, mut pass: Pass, call: Call)
     }
 }
 
-// Makes the call, where it is one of a unit; else leaves, so that no unit is held.
+// Makes the call, if it is one of a unit; else leaves, so that no unit is held.
 fn call_of_unit<R: Wait>(rt: &R, gate: &Gate, mut unit: Unit, pass: Pass, call: Call)
     requires { IsSeatOf gate.now unit × IsSeatOf gate.now pass }
 {
@@ -60,7 +60,7 @@ fn after(rt: &impl Wait, gate: &Gate, mut unit: Unit, call: Call) -> (GateState,
     (found, closed(gate, looking))
 }
 
-// A call of a pass meets a gate with no unit, one of a unit that unit alone: how many are held after it, and whether the gate
+// A call of a pass meets a gate with no unit, and one of a unit meets only that unit: how many are held after it, and whether the gate
 // is closed.
 static AFTER: [(Call, u64, bool); 10] = [
     (Call::Split, 0, false),

@@ -12,7 +12,7 @@ use std::thread::{Threads, join};
 // How many pieces of work the first job has.
 const PIECES: u64 = 1000;
 
-// It stands for one gate, so that a job's type can say whose unit the job carries.
+// It names one gate, so that a job's type can say whose unit the job carries.
 pub trait Pool {
     ghost gate: { GateId };
 }
@@ -21,7 +21,7 @@ impl Pool for Brand {
     ghost gate = { no_gate };
 }
 
-// So many pieces of work, and the unit that counts them as one job.
+// A number of pieces of work, and the unit that counts them as one job.
 #[derive(Drop)]
 struct Job<K: Pool> {
     pieces: u64,
@@ -30,7 +30,7 @@ struct Job<K: Pool> {
     ghost counted: { IsSeatOf K.gate unit },
 }
 
-// Takes jobs until no worker has one. Answers how many pieces of work it did.
+// Takes jobs until no worker has one. Returns how many pieces of work it did.
 fn work<K: Pool, R: Wait>(rt: &R, gate: &Gate, jobs: &Mutex<Vec<Job<K>>>, mut pass: Pass) -> u64
     requires gate { gate.now ≡ K.gate }
     requires pass { IsSeatOf gate.now pass }
@@ -53,7 +53,7 @@ fn work<K: Pool, R: Wait>(rt: &R, gate: &Gate, jobs: &Mutex<Vec<Job<K>>>, mut pa
     unreachable!()
 }
 
-// Makes a job of half of the pieces, where the gate has room for its unit.
+// Makes a job of half of the pieces, if the gate has room for its unit.
 fn hand_out_half<K: Pool, R: Wait>(rt: &R, gate: &Gate, jobs: &Mutex<Vec<Job<K>>>, job: &mut Job<K>)
     requires { gate.now ≡ K.gate }
 {

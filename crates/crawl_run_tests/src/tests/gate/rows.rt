@@ -34,7 +34,7 @@ const SHUT: GateState = GateState {
     closed: true,
 };
 
-// The answers of a gate of one to these calls, with the unit that it came with.
+// The results of these calls of a gate of one, with the unit that it came with.
 fn of_one(gate: &Gate, mut unit: Unit) -> ([GateState; 2], [Answer; 6], u64)
     requires { IsSeatOf gate.now unit }
 {
@@ -73,7 +73,7 @@ fn gate_of_one(rt: HostRuntime) {
     assert!(rt; answers_as_one(rt.alloc()));
 }
 
-// The answers beside a held unit: the count first; a try, a call that goes on trying, and one by a pass alone.
+// The results with a held unit: the count first; a try, a call that continues to try, and one by only a pass.
 fn beside<R: Wait>(rt: &R, gate: &Gate, mut held: Unit) -> ([u64; 3], [Answer; 3])
     requires { IsSeatOf gate.now held }
 {
@@ -87,7 +87,7 @@ fn beside<R: Wait>(rt: &R, gate: &Gate, mut held: Unit) -> ([u64; 3], [Answer; 3
     ([before, one, other], [tried, went, alone])
 }
 
-// Whether a gate of this maximum answers so beside its first unit, each of the three times.
+// Whether a gate of this maximum has these results with its first unit, each of the three times.
 fn answers_beside(rt: &impl Wait, alloc: Global, max: u64, met: [u64; 3], answer: Answer) -> bool {
     match Gate::new(alloc, max) {
         Ok((gate, held)) => {

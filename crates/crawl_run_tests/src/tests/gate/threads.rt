@@ -15,8 +15,8 @@ const ENTRIES: u64 = 100_000;
 // The gate's maximum, below the number of threads.
 const ROOM: u64 = 3;
 
-// Enters and leaves `ENTRIES` times, and tries again where the gate is full. Answers the most units that were in the threads'
-// hands at once, or none if the gate was closed.
+// Enters and leaves `ENTRIES` times, and tries again if the gate is full. Returns the most units that were in the threads'
+// hands at the same time, or none if the gate was closed.
 fn come_and_go<R: Wait>(rt: &R, gate: &Gate, inside: &AtomicU64, mut pass: Pass) -> Option<u64>
     requires { IsSeatOf gate.now pass }
 {
@@ -84,7 +84,7 @@ fn four_come<R: Threads + Wait + Sync>(rt: &R, gate: &Gate, mut first: Pass) -> 
     [a, b, c, d]
 }
 
-// Whether the gate has room for so many, and no more, whatever four threads do; and is closed once they have gone.
+// Whether the gate has room for this many, and no more, whatever four threads do; and is closed once they have gone.
 fn has_room<R: Threads + Wait + Sync>(rt: &R, gate: &Gate, opening: Unit) -> bool
     requires { IsSeatOf gate.now opening }
 {

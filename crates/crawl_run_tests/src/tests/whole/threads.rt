@@ -27,7 +27,7 @@ enum Outcome {
     Fault,
 }
 
-/// A report, and counts of queues, where these matter.
+/// A report, and counts of queues, if these matter.
 #[derive(Clone, Copy)]
 struct Expected {
     report: &'static str,
@@ -225,7 +225,7 @@ fn workers_run_together(rt: HostRuntime) {
     assert!(rt; first_waits(&rt, rt.alloc(), Mode::Turns) == Outcome::Lacks);
 }
 
-/// A crawl of the ring, where every third fetch fails.
+/// A crawl of the ring, in which every third fetch fails.
 fn third_fails<R: Threads + Wait + Sync>(rt: &R, alloc: Global, count: u32) -> Outcome {
     let mode = Mode::Threads;
     match SavedWeb::read(alloc, RING.as_bytes()) {
