@@ -126,7 +126,7 @@ firsts_push n queues firsts first own count is at are = λ queue below. elim (ca
 laid_apart : (account : AccountId) (all : List Entry) (firsts : List ℕ) → AreLaidOut account all firsts → DifferByUrl all
 laid_apart account all firsts are = subst DifferByUrl (sym are.whole) (account_differs account are.queues)
 
--- entries of one URL stand at one index
+-- entries of one URL are at one index
 same_index : (entries : List Entry) → DifferByUrl entries → (i k : ℕ) (x e : Entry) → slice_get entries i ≡ Some x → slice_get entries k ≡ Some e → x.url ≡ e.url → i ≡ k
 same_index entries apart i k x e at_i at_k same = grind (arith, cases_lt, slice_get_within, get_or_from_slice_get)
 
@@ -162,7 +162,7 @@ module _ (account : AccountId) (all : List Entry) (firsts : List ℕ) (are : Are
       let is : before account all firsts are url queue own below ≡ first = sym (at ∙ get_or_from_slice_get firsts queue (before account all firsts are url queue own below) first there.2) in
       answer all (laid_apart account all firsts are) url (Some (first + i)) (in_account account all firsts are url queue own below (Some i) told ∙ ap (λ n. Some (n + i)) is)
 
--- what stands at a guess
+-- what is at a guess
 pub answers_guess : (account : AccountId) (all : List Entry) (firsts : List ℕ) → AreLaidOut account all firsts → (url : List ℕ) (k : ℕ) → stands_at all k url ≡ true → IsAnswer all url (Some k)
 answers_guess account all firsts are url k stands = of_this (slice_get all k) refl stands
   where

@@ -54,7 +54,7 @@ by_test p q told same is = subst (λ t. IsLeast t told) (λ i text. same text i)
 
 -- ---- one, and two
 
--- a text alone, where it passes the test
+-- a text alone, if it passes the test
 pub only_one : (text : List ℕ) (test : List ℕ → Bool) → IsLeast (λ t. bytes_eq text t && test t) (url_if (test text) text)
 only_one text test = grind (arith, and_from, text_itself, and_parts, same_text, not_below_itself, false_from_ne_true, both_ways)
 

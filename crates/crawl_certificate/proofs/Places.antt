@@ -138,7 +138,7 @@ or_once_more k a b t = grind arith
 pub marks_push : (entries : List Entry) (links : List (List ℕ)) (link : List ℕ) (known test : Entry → Bool) → map (λ e. (known e || (stands_in links e.url && test e)) || (bytes_eq link e.url && test e)) entries ≡ map (λ e. known e || (stands_in (links ++ link ∷ []) e.url && test e)) entries
 marks_push entries links link known test = grind (arith, maps_agree, or_once_more, any_push)
 
--- ---- entries one hop behind the entry of a URL
+-- ---- entries one hop after the entry of a URL
 
 behind_found : (entries : List Entry) (url : List ℕ) (k : ℕ) → Finds entries url (Some k) → (before : Entry) → slice_get entries k ≡ Some before → (e : Entry) → (e.hops == before.hops + 1) ≡ is_behind entries url e
 behind_found entries url k found before at e =

@@ -53,7 +53,7 @@ pub twice_push : (xs : List PageResult) (r : PageResult) (url : List ℕ) → is
 twice_push xs r url =
     twice_of_both xs (r ∷ []) url ∙ tidy (is_twice xs url) (is_twice (r ∷ []) url) (has_result xs url) (bytes_eq r.url url) (one_result r url)
 
--- one more result, where no URL of a result is a stray
+-- one more result, if no URL of a result is a stray
 pub least_twice : (xs : List PageResult) (r : PageResult) (stray of_one told again : Option (List ℕ)) → (stray ≡ None → IsLeast (is_twice xs) told) → (of_one ≡ None → again ≡ url_if (has_result xs r.url) r.url) → lesser stray of_one ≡ None → IsLeast (is_twice (xs ++ r ∷ [])) (lesser told again)
 least_twice xs r stray of_one told again before now none =
     let parts = lesser_none stray of_one none in

@@ -83,7 +83,7 @@ stands_at_place links i link url within is same = any_from (λ own. bytes_eq own
 pub read_at : {X : Type 0} (xs : List X) (i : ℕ) (x : X) → i < length xs → x ≡ get_or xs i x → slice_get xs i ≡ Some x
 read_at xs i x within is = slice_get_read xs (length xs) i x refl within is
 
--- an entry that stands at an index
+-- an entry that is at an index
 pub stands_here : (entries : List Entry) (k : ℕ) (e : Entry) (url : List ℕ) → slice_get entries k ≡ Some e → e.url ≡ url → stands_at entries k url ≡ true
 stands_here entries k e url at same = subst (λ o. at_this o url ≡ true) (sym at) (subst (λ u. bytes_eq e.url u ≡ true) same (text_itself e.url))
 
@@ -113,7 +113,7 @@ founded_more allowed seeds holds entries marks i e mark within is at only passes
     by_mark true then' h = subst (λ b. (allowed e.now.url && (if e.now.hops == 0 then is_in seeds e.now.url else b)) ≡ true) (sym (then' refl)) h
     by_mark false then' h = stays (allowed e.now.url) (e.now.hops == 0) (is_in seeds e.now.url) (holds e.now) h
 
--- all URLs, where there are as many entries as results
+-- all URLs, if there are as many entries as results
 urls_by_index : (entries : List Entry) (results : List PageResult) → length entries ≡ length results → ((k : ℕ) (r : PageResult) → slice_get results k ≡ Some r → stands_at entries k r.url ≡ true) → entry_urls entries ≡ result_urls results
 urls_by_index [] [] long own = refl
 urls_by_index [] (r ∷ rs) long own = absurd (omega (arith, long))
@@ -127,7 +127,7 @@ pub all_urls : (entries : List Entry) (results : List PageResult) → length ent
 all_urls entries results long own =
     urls_by_index entries results long (λ k r at. let same : 0 + k ≡ k = omega arith in subst (λ n. stands_at entries n r.url ≡ true) same (own k r at))
 
--- an entry that stands at an index with the URL
+-- an entry that is at an index with the URL
 pub stands_there : (entries : List Entry) (k : ℕ) (url : List ℕ) → stands_at entries k url ≡ true → (e : Entry) × (slice_get entries k ≡ Some e) × (e.url ≡ url)
 stands_there entries k url h = by_case (slice_get entries k) refl h
   where
@@ -173,7 +173,7 @@ linked_front entries xs ys e link = list_any-append (λ (r : PageResult). stands
 linked_back : (entries : List Entry) (xs ys : List PageResult) (e : Entry) → is_linked entries ys e ≡ true → is_linked entries (xs ++ ys) e ≡ true
 linked_back entries xs ys e link = list_any-append (λ (r : PageResult). stands_in (links_of r.page) e.url && is_behind entries r.url e) xs ys ∙ or_right _ _ link
 
--- walks over results and over those behind them
+-- walks over results and over those after them
 walks_together : (entries : List Entry) (first behind : ℕ) (xs ys : List PageResult) (marks more : List Bool) → (first + length (xs ++ ys) < 2 ^ 64 → behind ≡ first + length xs) → IsWalk entries first xs marks → IsWalk entries behind ys more → IsWalk entries first (xs ++ ys) (in_one marks more)
 walks_together entries first behind xs ys marks more at p q = record {
   long = length_in_one marks more ∙ p.long;
@@ -187,7 +187,7 @@ walks_together entries first behind xs ys marks more at p q = record {
       (λ k e at mark. linked_front entries xs ys e (p.only k e at mark)) (λ k e at mark. linked_back entries xs ys e (q.only k e at mark));
 }
 
--- the same of two parts of a chunk
+-- likewise for two parts of a chunk
 pub parts_together : (entries here' there' : List Entry) → here' ≡ entries → there' ≡ entries → (first front behind : ℕ) → front ≡ first → (xs ys whole : List PageResult) → xs ++ ys ≡ whole → (first + length whole < 2 ^ 64 → behind ≡ first + length xs)
     → (one other all : List Bool) → IsWalk here' front xs one → IsWalk there' behind ys other → all ≡ in_one one other → IsWalk entries first whole all
 parts_together entries here' there' e f first front behind at xs ys whole joined past one other all p q both =

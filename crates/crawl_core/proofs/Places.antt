@@ -27,7 +27,7 @@ get_set_other (z ∷ zs) zero (suc j) y apart = refl
 get_set_other (z ∷ zs) (suc i) zero y apart = refl
 get_set_other (z ∷ zs) (suc i) (suc j) y apart = get_set_other zs i j y (grind (arith, apart))
 
--- what a place has after a write: at that place the new element, where the old one stood, and at another what it had
+-- what a place has after a write: at that place the new element, if the old one stood, and at another what it had
 pub set_cases : {X : Type 0} (P : Option X → Type 0) (xs : List X) (place there : ℕ) (old new : X) → slice_get xs place ≡ Some old → (nat_eq place there ≡ true → slice_get xs there ≡ Some old → P (Some new)) → (nat_eq place there ≡ false → P (slice_get xs there)) → P (slice_get (slice_set xs place new) there)
 set_cases P xs place there old new at same other = grind (arith, slice_set, eqb-true, get_set_same, get_set_other)
 
@@ -50,7 +50,7 @@ from_filter_map {X} {Y} h (x ∷ xs) k y at = by_first (h x) refl k (λ k. from_
     by_first (Some z) e zero later at = record { place = 0; item = x; at = refl; gives = e ∙ at }
     by_first (Some z) e (suc k) later at = later_source h x xs y (later k at)
 
--- an element that comes through stands behind those that came before it
+-- an element that comes through stands after those that came before it
 pub at_rank : {X Y : Type 0} (h : X → Option Y) (xs : List X) (i : ℕ) (x : X) (y : Y) → slice_get xs i ≡ Some x → h x ≡ Some y → slice_get (filter_map h xs) (length (filter_map h (take i xs))) ≡ Some y
 at_rank h [] i x y at e = absurd (cc)
 at_rank h (z ∷ zs) zero x y at e = let here : h z ≡ Some y = ap h (cc) ∙ e in rw here refl

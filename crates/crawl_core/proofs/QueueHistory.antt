@@ -155,7 +155,7 @@ leaves_in_order workers max events replies run = record {
 
 -- ## One fetch at a time
 
--- from a busy subqueue on, a take from it stands behind a done
+-- from a busy subqueue on, a take from it stands after a done
 done_before : (queue : ℕ) (old : State) (history : List (Event × Reply)) (new : State) → Sound old → Run old history new → is_busy (slice_get old.subqueues queue) ≡ true → (j : ℕ) (url : List ℕ) → slice_get history j ≡ Some (Take queue, told.Taken url) → (k : ℕ) × (left : ℕ) × (k < j) × (slice_get history k ≡ Some (Done queue, told.Count left))
 done_before queue old [] new sound run busy j url at = absurd (cc)
 done_before queue old (x ∷ xs) new sound run busy zero url at =

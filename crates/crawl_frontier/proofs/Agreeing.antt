@@ -19,7 +19,7 @@ numbered_at id n [] k x all at = absurd (cc (at))
 numbered_at id n (y ∷ ys) zero x all at = let same : y ≡ x = cc in (ap (λ e. e.sender) (sym same) ∙ all.0, ap (λ e. e.number) (sym same) ∙ (all.1 ∙ omega arith))
 numbered_at id n (y ∷ ys) (suc k) x all at = let r = numbered_at id (n + 1) ys k x all.2 at in (r.0, omega (arith, r.1))
 
--- two numbered lists of one length, where each entry of the first stands in the second
+-- two numbered lists of one length, where each entry of the first is in the second
 pub same_numbered : (id n : ℕ) (xs ys : List Entry) → Numbered id n xs → Numbered id n ys → length xs ≡ length ys → ((j : ℕ) (x : Entry) → At xs j x → (k : ℕ) × At ys k x) → xs ≡ ys
 same_numbered id n [] [] a b len stands = refl
 same_numbered id n [] (y ∷ ys) a b len stands = absurd (omega arith)
@@ -64,7 +64,7 @@ entries_of-at id (e ∷ es) (suc k) x at own = later (eqb e.sender id) (entries_
     later true r = (suc r.0, r.1)
     later false r = r
 
--- each accepted entry of the log stands in the list
+-- each accepted entry of the log is in the list
 pub sent_to-stands : (q : ℕ) (es : List Entry) (log : List Logged) → ((k : ℕ) (l : Logged) → At log k l → queue_of l ≡ q → Stands es l) → (j : ℕ) (x : Entry) → At (sent_to q log) j x → (k : ℕ) × At es k x
 sent_to-stands q es [] stands j x at = absurd (cc (at))
 sent_to-stands q es (Seen u p ∷ ls) stands j x at = sent_to-stands q es ls (λ k. stands (suc k)) j x at
@@ -132,7 +132,7 @@ agree_first lists b bs settled old new (within, agree, differ) le one differs =
     later : OneDisagrees old lists bs → OneDisagrees old lists (b ∷ bs)
     later d = (suc d.0, d.1, d.2, d.3)
 
--- what stands in the second of two lists
+-- what is in the second of two lists
 pub second_half : {X : Type 0} (xs ys : List X) (j : ℕ) (x : X) → At ys j x → (i : ℕ) × At (xs ++ ys) i x
 second_half [] ys j x at = (j, at)
 second_half (z ∷ zs) ys j x at = let r = second_half zs ys j x at in (suc r.0, r.1)

@@ -85,7 +85,7 @@ raised_known queues workers before after ls r known = record {
   there = there_stays (lists_of before) (lists_of after) ls (all_stay before after r) known.there;
 }
 
--- ---- what is known stands in the shards
+-- ---- what is known is in the shards
 
 pub has_url_at : (es : List Entry) (k : ℕ) (e : Entry) → At es k e → has_url e.url es ≡ true
 has_url_at [] k e at = absurd (cc (at))

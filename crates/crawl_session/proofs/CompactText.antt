@@ -57,7 +57,7 @@ needed_whole settings had state (line ∷ more) all =
     by_need true rest whole = All-cons IsUnfinished line rest (All-head IsUnfinished line more all) whole
     by_need false rest whole = whole
 
--- ---- lines as they stand in a log are those lines
+-- ---- lines as they are in a log are those lines
 
 strip_return : (line : List ℕ) → strip_carriage_return (line ++ 13 ∷ []) ≡ line
 strip_return line = grind (arith, common_steps, length-append, slice_index, get_or-append_seam, take-append_seam)

@@ -43,7 +43,7 @@ so_far_none had old out all = record {
   compacts = record { settings = refl; comes = λ state shown. (refl, (refl, shown)) };
 }
 
--- the text of a line, where it is needed
+-- the text of a line, if it is needed
 abbrev pub added : Bool → List ℕ → List ℕ
 added b line = if b then log_line line else []
 

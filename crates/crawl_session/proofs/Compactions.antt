@@ -50,7 +50,7 @@ done_with_it state named = exchanges.done_with state named
 abbrev pub Same : Frontier → Frontier → Type 0
 Same state next = (words : Words) × (next ≡ with_words state words)
 
--- the same of the machine
+-- likewise for the machine
 abbrev SameMachine : State → State → Type 0
 SameMachine state next = (words : Words) × (next ≡ machine.with_words state words)
 

@@ -1,4 +1,4 @@
--- Lines of bytes that are cut in two, and of bytes behind an unfinished line that was cut short.
+-- Lines of bytes that are cut in two, and of bytes after an unfinished line that was cut short.
 use Rattle.std.proofs.Common.{◌≡◌, ◌⊎◌, ℕ, ◌+◌, ◌<◌, ◌==◌, inl, inr, Bool, true, false, List, [], ◌∷◌, ◌++◌, length, take, map, nat_lt, slice_index, Option, Result, Err, refl, sym, ap, subst, ◌∙◌, arith, append-nil, append_assoc, eqb-true, ltb-true, ltb-false, lt-ltb, ne_eqb}
 use Rattle.std.proofs.lemmas.Grind.{common_steps}
 use Rattle.std.specs.List.{slice_split}
@@ -32,9 +32,9 @@ before_others part parts h = grind arith
 parts_below : (bytes : List ℕ) → 0 < length (slice_split is_lf bytes)
 parts_below bytes = omega (arith, length-slice_split is_lf bytes)
 
--- ---- whole lines, and bytes behind them
+-- ---- whole lines, and bytes after them
 
--- whole lines, and then those of the bytes behind them
+-- whole lines, and then those of the bytes after them
 pub lines_behind : (front rest : List ℕ) → AreWhole front → lines (front ++ rest) ≡ lines front ++ lines rest
 lines_behind front rest whole = grind (arith, append_assoc, lines_cut)
 

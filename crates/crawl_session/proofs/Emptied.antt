@@ -53,7 +53,7 @@ no_units state owned none sender = grind (arith, nil_from_length)
 own_sender : (d : Deferred) → has_sender d.sender d ≡ 1
 own_sender d = ap {B = ℕ} (λ b. cond b 1 0) (eqb_same d.sender)
 
--- no URL that was put back, where none has a sender
+-- no URL that was put back, if none has a sender
 none_put_back : (deferrals : Deferrals) → ((sender : ℕ) → units_in sender deferrals ≡ 0) → deferrals ≡ no_deferrals
 none_put_back deferrals none = by_parts deferrals.waiting deferrals.fetched none
   where

@@ -247,7 +247,7 @@ finishing_passes state named (Some d) is sound settled = let found = in_range st
 abbrev as_later : ℕ → Result Request RequestError
 as_later named = Ok (Later named)
 
--- the URL stands behind all that was accepted
+-- the URL stands after all that was accepted
 pushed_fine : (queue : Subqueue) (next : Subqueue) (deferrals : Deferrals) (url : List ℕ) (sender n : ℕ) → n ≡ length queue.accepted → next.accepted ≡ queue.accepted → Fine (Some queue) deferrals → Fine (Some next) (waits_again deferrals (record { url = url; sender = sender; after = n }))
 pushed_fine queue next deferrals url sender n is same fine = grind (arith, within_push)
 

@@ -4,13 +4,13 @@ use Rattle.std.proofs.lemmas.List.{length-drop, take-append-le, drop-append-le, 
 use Rattle.std.proofs.Math.ListN.{drop_of_length-le}
 use Rattle.crawl_session.specs.declared.deferrals.Deferred.{Deferred}
 
--- after so many were taken, these URLs wait that were not; each that was put back stands behind as many as the queue had
+-- after so many were taken, these URLs wait that were not; each that was put back stands after as many as the queue had
 -- accepted then
 abbrev pub in_line : ℕ → List (List ℕ) → List Deferred → List (List ℕ)
 in_line taken urls [] = urls
 in_line taken urls (d ∷ ds) = take (d.after - taken) urls ++ d.url ∷ in_line (taken + (d.after - taken)) (drop (d.after - taken) urls) ds
 
--- none stands behind more than that
+-- none stands after more than that
 abbrev pub Within : ℕ → List Deferred → Type 0
 Within most [] = Unit {0}
 Within most (d ∷ ds) = (d.after ≤ most) × Within most ds
@@ -23,7 +23,7 @@ pub within_push : (most : ℕ) (ds : List Deferred) (d : Deferred) → d.after �
 within_push most [] d below within = (below, tt)
 within_push most (e ∷ ds) d below within = (within.0, within_push most ds d below within.1)
 
--- what is left behind the first that was put back
+-- what is left after the first that was put back
 rest_within : (taken n : ℕ) (urls : List (List ℕ)) (ds : List Deferred) → n ≤ length urls → Within (taken + length urls) ds → Within (taken + n + length (drop n urls)) ds
 rest_within taken n urls ds below within = grind (arith, length-drop, within_more)
 

@@ -39,7 +39,7 @@ abbrev pub busy_at : Option Subqueue → Option Deferred → Option (List ℕ)
 busy_at queue (Some d) = Some d.url
 busy_at queue None = fetched_at queue
 
--- no URL was put back behind more than were accepted; and while one is fetched that was put back before, the machine's queue is
+-- no URL was put back after more than were accepted; and while one is fetched that was put back before, the machine's queue is
 -- not busy
 pub record Fine (queue : Option Subqueue) (deferrals : Deferrals) : Type 0 where
   pub within : Within (accepted_at queue) deferrals.waiting

@@ -15,7 +15,7 @@ use Rattle.crawl_session.proofs.Queues.{busy_of}
 use Rattle.crawl_session.proofs.Runs.{session_runs, zipped, as_run}
 use Rattle.crawl_session.proofs.Sees.{quiet_first, quiet_rest, sees_accepted}
 
--- what is at a place of a list is there with more behind it
+-- what is at a place of a list is there with more after it
 got_of_front : {A : Type 0} (xs ys : List A) (k : ℕ) (x : A) → slice_get xs k ≡ Some x → slice_get (xs ++ ys) k ≡ Some x
 got_of_front [] ys k x at = absurd (cc)
 got_of_front (z ∷ zs) ys zero x at = at

@@ -86,7 +86,7 @@ take_leaves state named queue = grind arith
 done_leaves : (state : State) (named : ℕ) (queue : Option Subqueue) → Leaves state.gate.holders (can_be_told (Done named)) (done_with state named queue)
 done_leaves state named queue = grind arith
 
--- the same of a gate's turn
+-- likewise for a gate's turn
 record Keeps (holders : List ℕ) (test : Reply → Bool) (done : GateTurn) : Type 0 where
   same : done.gate.holders ≡ holders
   passes : test done.reply ≡ true

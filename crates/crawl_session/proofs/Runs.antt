@@ -32,7 +32,7 @@ entering_runs state url queue = grind arith
 offering_runs : (state : State) (url : List ℕ) (queue : ℕ) → RunsFrom state (offering state url queue)
 offering_runs state url queue = runs_after state (event.Look client) (λ _ looked. entering looked url queue) (λ _ looked. entering_runs looked url queue)
 
--- the same of what comes of a request
+-- likewise for what comes of a request
 abbrev RunsTo : Frontier → Outcome → Type 0
 RunsTo frontier x = Run frontier.machine x.history x.state.machine
 

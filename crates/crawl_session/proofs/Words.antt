@@ -49,7 +49,7 @@ pub record Alike (x y : Exchange) : Type 0 where
   pub words : Words
   pub state : x.state ≡ with_words y.state words
 
--- the same of turns, and of turns of the gate
+-- likewise for turns, and of turns of the gate
 record AlikeTurn (x y : Turn) : Type 0 where
   reply : x.reply ≡ y.reply
   words : Words

@@ -42,7 +42,7 @@ pub(crate) fn is_coded(value: &[u8]) -> bool
     is_marked(&value[last..])
 }
 
-/// The same of any value, however short.
+/// Likewise for any value, however short.
 fn has_mark(value: &[u8]) -> bool
     ensures { result ≡ false → text_of value.now ≡ value.now }
 {

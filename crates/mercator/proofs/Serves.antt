@@ -129,7 +129,7 @@ plain_log wrong.NoMemory is = refl
 plain_log (wrong.Log why) is = refl
 plain_log fault is = absurd is
 
--- a fault's line is told, behind what a session with a log may have told
+-- a fault's line is told, after what a session with a log may have told
 pub tells_fault : (plan : Plan) (old middle new : Option (List ℕ)) (line : List ℕ) → (has_notices plan ≡ false → middle ≡ old) → MayNote plan old middle → Begins middle new line → TellsFault plan old new line
 tells_fault (asks.ServeLog asked) old middle new line silent noted told = (middle, noted, told)
 tells_fault (asks.Site options) old middle new line silent noted told = (middle, told)

@@ -78,7 +78,7 @@ unbegun_of workers max bytes listed texts suffixes meaning seeds failure sound s
       counted = subst (λ m. CountsLosses workers (allows suffixes) m seeds failure.error failure.culprit failure.losses) both counted;
     })
 
--- the same of a report
+-- likewise for a report
 refused_by : (workers max : ℕ) (bytes : List ℕ) (texts suffixes : List (List ℕ)) (failure : CrawlFailure) (error : CrawlError) → failure.error ≡ error → CrawlFails workers max failure.error
     → IsSiteFailure workers bytes [] texts suffixes failure → IsRefused workers max bytes texts suffixes (of_crawl_by error failure)
 refused_by workers max bytes texts suffixes failure crawl.NoMemory is fails failed = tt

@@ -38,6 +38,6 @@ first_line line rest inner =
     ∙ before_others line (slice_split is_lf rest) (omega (arith, length-slice_split is_lf rest))
     ∙ ap (λ (x : List ℕ). x ∷ lines rest) (keeps_end line pass)
 
--- a front, a text and a LF, with more behind them
+-- a front, a text and a LF, with more after them
 pub line_on : (front text rest : List ℕ) → (front ++ text ++ 10 ∷ []) ++ rest ≡ (front ++ text) ++ 10 ∷ rest
 line_on front text rest = append_assoc (front ++ text) (10 ∷ []) rest

@@ -80,7 +80,7 @@ web_cut pages all =
 
 -- ---- one line
 
--- a line behind others fails what it says
+-- a line after others fails what it says
 said_of : (earlier : List (List ℕ)) (line : List ℕ) (said : Line (List ℕ)) → 0 < length earlier → Says line said → fault_after earlier line ≡ said_fault (before earlier) said
 said_of earlier line said some is =
     ap (text_fault (before earlier)) (is.reads (length earlier + 1))
@@ -102,7 +102,7 @@ any_push p earlier line b is =
 
 -- ---- the lines under a page
 
--- behind these lines stands a page, and under it no redirect
+-- after these lines stands a page, and under it no redirect
 record OnPage (earlier : List (List ℕ)) : Type 0 where
   some : 0 < length earlier
   page : list_any is_page earlier ≡ true
@@ -141,7 +141,7 @@ links_sound earlier (text ∷ more) fit on =
 
 -- ---- a page with its lines
 
--- the lines are a saved web of version 2, and no page in them is behind this URL
+-- the lines are a saved web of version 2, and no page in them is after this URL
 record UpTo (earlier : List (List ℕ)) (last : List ℕ) : Type 0 where
   some : 0 < length earlier
   second : is_second earlier ≡ true
@@ -191,7 +191,7 @@ behind_both : (a b c : List ℕ) → is_behind a b ≡ true → is_behind b c �
 behind_both a b c e f =
     ap is_lt (nat_list_cmp_total.trans a b c (lt_less (slice_cmp nat_cmp a b) e) (lt_less (slice_cmp nat_cmp b c) f))
 
--- a URL that is behind another is not that one
+-- a URL that is after another is not that one
 behind_other : (a b : List ℕ) → is_behind a b ≡ true → bytes_eq a b ≡ false
 behind_other a b e = sym (is_eq-slice_cmp a b) ∙ ap is_eq (lt_less (slice_cmp nat_cmp a b) e)
 

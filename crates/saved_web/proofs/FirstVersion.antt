@@ -21,7 +21,7 @@ said_none b (says.Moved text) first passes = absurd (let clash = rw first at pas
 said_none b says.Empty first passes = refl
 said_none b says.Other first passes = refl
 
--- ---- nor do all lines behind the header
+-- ---- nor do all lines after the header
 
 lines_none : (header : List ℕ) (earlier all : List (List ℕ)) → is_second (header ∷ earlier) ≡ false → SoundAfter fault_after (header ∷ earlier) all → list_any is_moved_line all ≡ false
 lines_none header earlier [] first sound = refl
@@ -30,7 +30,7 @@ lines_none header earlier (line ∷ more) first sound =
     (said_passes (before (header ∷ earlier)) line (ne_eqb (length (header ∷ earlier) + 1) 1 (λ one. omega (arith, one))) sound.0) in
     rw here (lines_none header (earlier ++ line ∷ []) more first sound.1)
 
--- ---- so no page behind it has moved
+-- ---- so no page after it has moved
 
 put_none : (said : Line (List ℕ)) (later : Option (List ℕ)) → says_moved said ≡ false → later ≡ None → put_moved said later ≡ None
 put_none (says.Page text) later not none = refl

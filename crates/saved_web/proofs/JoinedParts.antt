@@ -1,4 +1,4 @@
--- Two parts of a saved web, each read behind the header, put together.
+-- Two parts of a saved web, each read after the header, put together.
 use Rattle.std.proofs.Common.{◌≡◌, ℕ, ◌+◌, ◌<◌, ◌==◌, Bool, true, false, ◌||◌, List, [], ◌∷◌, ◌++◌, length, nat_lt, Option, Some, None, IfSome, is_some, Result, Ok, Err, refl, sym, ap, subst, ◌∙◌, arith, append_assoc, append-nil, length-append, ne_eqb}
 use Rattle.std.specs.Bool.{if◌then◌else◌}
 use Rattle.std.specs.List.{list_any, cons_option}
@@ -34,7 +34,7 @@ or_true : (a b : Bool) → b ≡ true → (a || b) ≡ true
 or_true true b e = refl
 or_true false b e = e
 
--- ---- a line that passes behind some lines passes behind others
+-- ---- a line that passes after some lines passes after others
 
 -- what is before a line in one place, and in another: no check that it passes there fails here
 record Passes (b d : Before) (said : Line (List ℕ)) : Type 0 where
@@ -89,7 +89,7 @@ line_again : (b d : Before) (line : List ℕ) → (b.number == 1) ≡ false → 
 line_again b d line first later k passes =
     text_again b d (nat_lt line_limit (length line)) (is_utf8 line) line first later (said_again b d (line_of line) k) passes
 
--- ---- the lines of a part, behind the header alone and behind the part before
+-- ---- the lines of a part, after the header alone and after the part before
 
 no_page_at : (header url : List ℕ) → line_of header ≡ says.Other → is_page_at url header ≡ false
 no_page_at header url other = ap (λ said. option_map_or (λ own. bytes_eq own url) (url_said said) false) other

@@ -7,7 +7,7 @@ use Rattle.saved_web.specs.WebFaults.{fault_after, IsSound, IsWebFault, IsWebRef
 use Rattle.saved_pages.specs.declared.error.WebError.{WebError}
 use Rattle.saved_pages.specs.declared.error.WebError.TheVariants as wrong
 
--- the fault of the first of these lines that has one, behind the earlier ones
+-- the fault of the first of these lines that has one, after the earlier ones
 first_fault : List (List ℕ) → List (List ℕ) → Option WebError
 first_fault earlier [] = None
 first_fault earlier (line ∷ more) = option_or (fault_after earlier line) (first_fault (earlier ++ line ∷ []) more)

@@ -14,7 +14,7 @@ use Rattle.saved_pages.specs.declared.line.Line.{Line}
 use Rattle.saved_pages.specs.declared.line.Line.TheVariants as says
 use Rattle.saved_web.specs.declared.long.LinksFound.{LinksFound}
 
--- a line that is no page, before those behind it
+-- a line that is no page, before those after it
 put_before : (said : Line (List ℕ)) (all front back : List (List ℕ)) → says_page said ≡ false → all ≡ front ++ back → put_link said all ≡ put_link said front ++ back
 put_before (says.Page text) all front back page same = absurd (cc)
 put_before (says.Link text) all front back page same = ap (λ texts. text ∷ texts) same
@@ -22,7 +22,7 @@ put_before (says.Moved text) all front back page same = same
 put_before says.Empty all front back page same = same
 put_before says.Other all front back page same = same
 
--- where no page is among the first lines, the links behind them are of the same page
+-- where no page is among the first lines, the links after them are of the same page
 links_of_both : (xs ys : List (List ℕ)) → list_any is_page xs ≡ false → link_texts (xs ++ ys) ≡ link_texts xs ++ link_texts ys
 links_of_both [] ys none = refl
 links_of_both (x ∷ xs) ys none =
@@ -55,7 +55,7 @@ no_links says.Other texts page = absurd (cc)
 pub page_begins : {all more : List (List ℕ)} (line : List ℕ) → all ≡ line ∷ more → is_page line ≡ true → link_texts all ≡ []
 page_begins {all} {more} line first page = ap link_texts first ∙ no_links (line_of line) (link_texts more) page
 
--- the page of all lines, where those behind the first ones begin with another page
+-- the page of all lines, where those after the first ones begin with another page
 pub whole_page : (url : List ℕ) (all own after : List (List ℕ)) (told : Option Page) → all ≡ own ++ after → link_texts after ≡ [] → None ≡ moved_text all → IfSome told (λ page. page ≡ found_page url (link_texts own)) → IfSome told (λ page. page ≡ page_behind url (Some all))
 whole_page url all own after None split none moved is = tt
 whole_page url all own after (Some page) split none moved is =

@@ -17,7 +17,7 @@ get_front [] ys k x at = absurd (cc)
 get_front (y ∷ xs) ys zero x at = at
 get_front (y ∷ xs) ys (suc k) x at = get_front xs ys k x at
 
--- an element behind the first list is one of the second
+-- an element after the first list is one of the second
 get_behind : {X : Type 0} (xs ys : List X) (k : ℕ) → slice_get (xs ++ ys) (length xs + k) ≡ slice_get ys k
 get_behind [] ys k = let e : 0 + k ≡ k = omega arith in ap (slice_get ys) e
 get_behind (x ∷ xs) ys k = let e : suc (length xs) + k ≡ suc (length xs + k) = omega arith in ap (slice_get (x ∷ xs ++ ys)) e ∙ get_behind xs ys k

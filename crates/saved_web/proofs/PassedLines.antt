@@ -1,4 +1,4 @@
--- What a line that passes its checks says, behind the first one.
+-- What a line that passes its checks says, after the first one.
 use Rattle.std.proofs.Common.{◌≡◌, ℕ, ◌==◌, Bool, true, false, List, length, nat_lt, None, Ok, Err}
 use Rattle.std.specs.Bool.{if◌then◌else◌}
 use Rattle.std.specs.Str.{is_utf8}

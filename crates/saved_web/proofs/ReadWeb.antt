@@ -35,7 +35,7 @@ or_true false = refl
 
 -- ---- one more page
 
--- the lines behind a page that is known
+-- the lines after a page that is known
 abbrev told : Option PageRead → Option (List (List ℕ))
 told o = option_map (λ page. lines page.behind) o
 
@@ -191,7 +191,7 @@ found_on all rest number above pages line more after new first behind passes add
   found = found_more all rest pages line more new first (subst (Adds pages new (page_url line)) (sym behind) adds) k.found;
 }
 
--- ---- behind the last line
+-- ---- after the last line
 
 or_none : (o : Option (List (List ℕ))) → option_or o None ≡ o
 or_none None = refl
@@ -247,7 +247,7 @@ nothing_read all = record {
   found = λ url. refl;
 }
 
--- behind the header
+-- after the header
 pub header_read : (second : Bool) (header : List ℕ) (behind : List (List ℕ)) → IsHeader second header → FoundTo (header ∷ behind) behind 1 (record { second = second; link = false; moved = false }) []
 header_read second header behind h =
     let no_page : list_any is_page (header ∷ []) ≡ false = ap (λ said. says_page said || false) h.other in

@@ -19,7 +19,7 @@ linked_counted all results r o c is k =
     let kept : IsCount all results r.url c = subst (IsTally all results r.url) is k in
     ap (with_pages r) kept.count
 
--- what is counted in some results and in those behind them fits where all of these do
+-- what is counted in some results and in those after them fits where all of these do
 pub sources_fit : (front back : List PageResult) (url : List ℕ) → length front + length back < 2 ^ 64 → length (sources_of front url) + length (sources_of back url) < 2 ^ 64
 sources_fit front back url fits =
     omega (arith, length-filter (links_to url) front, length-filter (links_to url) back, count_by-le-length (links_to url) front, count_by-le-length (links_to url) back)
@@ -29,7 +29,7 @@ pub linked_more : (front back : List PageResult) (r : PageResult) → with_pages
 linked_more front back r =
     ap (with_pages r) (sym (ap length (filter-append (links_to r.url) front back) ∙ length-append (sources_of front r.url) (sources_of back r.url)))
 
--- the count that stands at an index
+-- the count that is at an index
 pub pages_there : (list : List code.Linked) (results told : List PageResult) → map linked_at list ≡ map (linked results) told → (k : ℕ) (one : PageResult) → slice_get told k ≡ Some one → option_map linked_at (slice_get list k) ≡ Some (linked results one)
 pages_there list results told same k one is =
     sym (slice_get-map linked_at list k) ∙ ap (λ xs. slice_get xs k) same ∙ slice_get-map (linked results) told k ∙ ap (option_map (linked results)) is

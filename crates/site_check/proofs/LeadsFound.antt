@@ -19,7 +19,7 @@ use Rattle.site_check.specs.declared.leads.Lead.{Lead}
 use Rattle.site_check.specs.declared.leads.Target as made
 use Rattle.site_check.specs.declared.linked.Linked as code
 
--- ---- lists behind one another
+-- ---- lists after one another
 
 no_more : {X : Type 0} (xs : List X) → xs ++ [] ≡ xs
 no_more [] = refl

@@ -19,12 +19,12 @@ use Rattle.site_check.specs.declared.names.Namesakes.TheVariants.{One, Several}
 
 -- ---- the last part of a path
 
--- a text without slashes is all behind the last
+-- a text without slashes is all after the last
 no_slash : (bs : List ℕ) → list_any is_slash bs ≡ false → behind_slashes bs ≡ bs
 no_slash [] none = refl
 no_slash (b ∷ bs) none = cond-false (list_any is_slash (b ∷ bs)) _ _ none
 
--- the name so far, or what is behind a slash of the rest
+-- the name so far, or what follows a slash of the rest
 abbrev pub name_on : List ℕ → List ℕ → List ℕ
 name_on name rest = cond (list_any is_slash rest) (behind_slashes rest) name
 

@@ -39,13 +39,13 @@ abbrev pub or_top : List ℕ → List ℕ
 or_top [] = codes "./"
 or_top text = text
 
--- without the front, where it begins with it
+-- without the front, if it begins with it
 abbrev pub shown : List ℕ → List ℕ → List ℕ
 shown front url = or_top (if begins front url then drop (length front) url else url)
 
 -- ---- what is known to be broken
 
--- an entry stands for the texts that begin with it
+-- an entry matches the texts that begin with it
 abbrev pub is_ignored : List (List ℕ) → List ℕ → Bool
 is_ignored entries text = list_any (λ entry. begins entry text) entries
 

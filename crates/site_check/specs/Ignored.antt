@@ -1,4 +1,4 @@
--- The entries of what is known to be broken, and which of them stand for nothing.
+-- The entries of what is known to be broken, and which of them match nothing.
 use Rattle.std.specs.Prelude.{◌≡◌, ◌==◌, ℕ, Bool, true, not, List, [], ◌∷◌, ◌++◌, drop, filter, if◌then◌else◌, string_bytes}
 use Rattle.std.specs.List.{list_any, flat_map}
 use Rattle.std.specs.Str.{trim}
@@ -56,11 +56,11 @@ part_in b = if_part b.kind (string_bytes b.target)
 abbrev pub parts_in : List Broken → List (List ℕ)
 parts_in all = flat_map part_in all
 
--- the texts that no entry stands for
+-- the texts that no entry matches
 abbrev pub not_ignored : List (List ℕ) → List (List ℕ) → List (List ℕ)
 not_ignored entries texts = filter (λ text. not (is_ignored entries text)) texts
 
--- of all parts that pages lack those are told that no entry stands for; the entries stand for none of them, and for no page that is
+-- of all parts that pages lack those are listed that no entry matches; the entries match none of them, and for no page that is
 -- not there
 pub record AreUnused (front : List ℕ) (entries : List (List ℕ)) (results : List PageResult) (told : List (List ℕ)) (all : List (List ℕ)) : Type 0 where
   pub parts : List (List ℕ)

@@ -75,13 +75,13 @@ leads_at number_of source [] indices = []
 leads_at number_of source (url ∷ urls) [] = []
 leads_at number_of source (url ∷ urls) (index ∷ indices) = lead_to source index (number_of url) ++ leads_at number_of source urls indices
 
--- there is no link that stands at an index
+-- there is no link that is at an index
 abbrev pub HasNoLink : List (List ℕ) → List ℕ → Type 0
 HasNoLink [] indices = Unit {0}
 HasNoLink (url ∷ urls) [] = Unit {0}
 HasNoLink (url ∷ urls) (index ∷ indices) = ⊥
 
--- those of a page that was found, whose links stand at these indices by its URL
+-- those of a page that was found, whose links are at these indices by its URL
 abbrev pub leads_of : (List ℕ → Option ℕ) → (List ℕ → List ℕ) → ℕ → List ℕ → Page → List Lead
 leads_of number_of indices_of source url (Found links skipped) = leads_at number_of source links (indices_of url)
 leads_of number_of indices_of source url (Moved to) = []

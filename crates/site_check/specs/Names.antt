@@ -20,7 +20,7 @@ use Rattle.site_check.specs.declared.names.Namesakes.TheVariants.{One, Several}
 abbrev pub is_slash : ℕ → Bool
 is_slash b = b == 47
 
--- what is behind the last slash, or all
+-- what follows the last slash, or all
 abbrev pub behind_slashes : List ℕ → List ℕ
 behind_slashes [] = []
 behind_slashes (b ∷ bs) = if list_any is_slash (b ∷ bs) then behind_slashes bs else b ∷ bs
@@ -52,7 +52,7 @@ only_told front files places [] = None
 only_told front files places (page ∷ []) = page_told front files places page.url page.file
 only_told front files places (page ∷ other ∷ more) = None
 
--- what is told beside a target whose links stand at these places: the only page of the site with its file name
+-- what is told beside a target whose links are at these places: the only page of the site with its file name
 abbrev pub same_name : List ℕ → SiteFiles → List ℕ → List Place → Option (List ℕ)
 same_name front files target places =
     if length (last_part target) == 0 then None else only_told front files places (filter (has_name (last_part target)) (pages_of files))

@@ -1,4 +1,4 @@
--- The rows that values of a report stand for.
+-- The rows that values of a report mean.
 use Rattle.std.specs.Prelude.{List, [], ◌∷◌, string_bytes}
 use Rattle.std.specs.List.{flat_map}
 use Rattle.std.specs.Option.{option_map}

@@ -70,7 +70,7 @@ fn missing_targets<'a>(
     Ok(all)
 }
 
-/// The number, where the page is not there and that is not known.
+/// The number, if the page is not there and that is not known.
 fn own_number(front: &str, ignores: &[String], number: usize, one: &PageResult) -> Option<usize>
     ensures { result ≡ own_number front.now (map string_bytes ignores.now) number one.now }
 {
@@ -214,7 +214,7 @@ fn indices_of<'p>(indices: &LinkIndices<'p>, url: &'p CanonUrl) -> &'p [u32]
     }
 }
 
-/// Appends those of these links, which stand at these indices, that lead to targets.
+/// Appends those of these links, which are at these indices, that lead to targets.
 fn push_leads<'p>(
     numbers: &TargetNumbers<'p>,
     source: usize,
@@ -259,7 +259,7 @@ fn push_lead(
     }
 }
 
-/// The first of some links, and those behind it.
+/// The first of some links, and those after it.
 #[derive(Clone, Copy)]
 struct First<'p, 'i> {
     url: &'p CanonUrl,

@@ -84,7 +84,7 @@ fn linked_here<'a>(
     with_counts(alloc, unfound, &tallies)
 }
 
-/// Each of these with the counts of both lists, which are of some results and of those behind them.
+/// Each of these with the counts of both lists, which are of some results and of those after them.
 fn sums<'a>(
     alloc: Global,
     unfound: &[&'a PageResult],

@@ -57,7 +57,7 @@ fn add_page<'a>(
     }
 }
 
-/// Adds a page at a URL, where it is made of a file.
+/// Adds a page at a URL, if it is made of a file.
 fn add_file<'a>(
     names: &mut Names<'a>,
     url: &'a str,
@@ -92,8 +92,8 @@ fn known_with(known: Option<&Namesakes>, number: usize) -> Namesakes
     }
 }
 
-/// What is told beside a target whose links stand at these places: the only page of the site with its file name, unless such a
-/// link stands in its file.
+/// What is told beside a target whose links are at these places: the only page of the site with its file name, unless such a
+/// link is in its file.
 pub(crate) fn same_name<'n>(
     alloc: Global,
     front: &str,
@@ -206,7 +206,7 @@ fn path_of(url: &str) -> &str
     }
 }
 
-/// What is behind the last slash, or all.
+/// What follows the last slash, or all.
 fn behind_slashes(path: &[u8]) -> &[u8]
     ensures { result.now ≡ behind_slashes path.now }
 {
@@ -219,14 +219,14 @@ fn behind_slashes(path: &[u8]) -> &[u8]
     name
 }
 
-/// What is behind a byte that is a slash, or the name so far.
+/// What follows a byte that is a slash, or the name so far.
 fn name_on<'a>(byte: u8, more: &'a [u8], name: &'a [u8]) -> &'a [u8]
     ensures { result.now ≡ (if is_slash byte then more.now else name.now) }
 {
     if byte == b'/' { more } else { name }
 }
 
-/// The first byte, and those behind it.
+/// The first byte, and those after it.
 pub(crate) fn split_byte(bytes: &[u8]) -> Option<(u8, &[u8])>
     ensures { MatchOption result (bytes.now ≡ []) (λ x. bytes.now ≡ x.0 ∷ x.1.now) }
 {

@@ -2,7 +2,7 @@
 ghost use Rattle.std.specs.Prelude.{◌≡◌, length, drop, if◌then◌else◌};
 ghost use Rattle.site_check.specs.Broken.{begins, or_top, shown};
 
-/// The URL without the front, where it begins with that.
+/// The URL without the front, if it begins with that.
 pub(crate) fn shown<'a>(front: &str, url: &'a str) -> &'a str
     ensures { result.now ≡ shown front.now url.now }
 {

@@ -1,4 +1,4 @@
-//! Pages gone through by threads. Of n, the k-th takes each page whose number leaves k, where it does not take a part.
+//! Pages gone through by threads. Of n, the k-th takes each page whose number leaves k, if it does not take a part.
 ghost use Rattle.std.specs.Prelude.{◌≡◌, ◌++◌, ◌+◌, ◌<◌, ◌^◌, IfOk, length};
 ghost use Rattle.site_check.specs.Leads.{indices_at, leads_from, number_at};
 
@@ -14,8 +14,8 @@ use std::sync::atomic::AtomicUsize;
 use std::thread;
 use std::thread::{Threads, join};
 
-/// How often results are halved, so that as many threads look at a part as two to this power. They are more than work at once,
-/// since the pages of one part can have more links than those of another.
+/// How often results are halved: the number of threads is two to this power. They are more than run at the same time, since the
+/// pages of one part can have more links than those of another.
 const HALVINGS: u32 = 4;
 
 /// Some of the results, the first of which has this number, and what their links are looked for in.
@@ -143,7 +143,7 @@ pub(crate) fn locate_by<R: Threads + Sync, B: FileBytes + Sync>(
     joined(alloc, parts)
 }
 
-/// All that the threads found, or that a growth was refused.
+/// All that the threads found, or that an allocation failed.
 fn joined<T: Drop>(
     alloc: Global,
     parts: Vec<Result<Vec<T>, NoMemory>>,

@@ -9,14 +9,14 @@ const TOLD: usize = 10;
 /// The files with most broken links, most first, at most ten.
 pub(crate) fn worst(alloc: Global, broken: &[Broken]) -> Result<Vec<FileCount>, NoMemory> {
     let mut runs = runs_of(alloc, broken)?;
-    // The links of a row stand in the order of files: little is left to sort.
+    // The links of a row are in the order of files: little is left to sort.
     runs.sort_by(|a: &Count<'_>, b: &Count<'_>| a.file.cmp(b.file))?;
     let counts = summed(alloc, runs.as_slice())?;
     let most = most_first(alloc, counts.as_slice())?;
     told(alloc, most.as_slice())
 }
 
-/// A file, and how many broken links stand in it, or come one after another there.
+/// A file, and how many broken links are in it, or come one after another there.
 #[derive(Clone, Copy)]
 struct Count<'a> {
     file: &'a str,
@@ -51,7 +51,7 @@ fn summed<'a>(alloc: Global, runs: &[Count<'a>]) -> Result<Vec<Count<'a>>, NoMem
     Ok(counts)
 }
 
-/// Adds links to the last count where they stand in its file, or else behind it.
+/// Adds links to the last count where they are in its file, or else after it.
 fn add<'a>(more: Count<'a>, counts: &mut Vec<Count<'a>>) -> Result<(), NoMemory> {
     if let Some(last) = counts.last_mut()
         && last.file == more.file
@@ -72,7 +72,7 @@ fn most_first<'a>(alloc: Global, counts: &[Count<'a>]) -> Result<Vec<Count<'a>>,
     Ok(first)
 }
 
-/// Inserts a file where it comes among the first, and leaves out what comes last behind ten.
+/// Inserts a file where it comes among the first, and leaves out what comes last after ten.
 fn insert<'a>(count: Count<'a>, first: &mut Vec<Count<'a>>) -> Result<(), NoMemory> {
     let place = first
         .iter()
