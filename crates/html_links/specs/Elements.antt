@@ -85,7 +85,7 @@ abbrev pub is_shadow : Option (List ℕ) → Bool
 is_shadow None = false
 is_shadow (Some mode) = same_name mode (codes "open") || same_name mode (codes "closed")
 
--- the contents of the element are not part of the page, by its third wanted value
+-- the contents of the element are not part of the page, by the third value that is read of it
 abbrev pub is_inert : Element → Option (List ℕ) → Bool
 is_inert element.Template mode = not (is_shadow mode)
 is_inert _ mode = false

@@ -86,7 +86,7 @@ form_if is some = if is then some else form.Nothing
 abbrev pub meta_form : Values → Form
 meta_form v = if is_keyword (codes "refresh") v.second then form.Refresh else if names_url v.third then form.Link else form_if (names_url v.name) form.Link
 
--- how the first value that is wanted of an element names documents
+-- how the first value that is read of an element names documents
 abbrev pub first_form : Element → Values → Form
 first_form element.Base v = form.Nothing
 first_form element.Meta v = meta_form v
@@ -116,7 +116,7 @@ abbrev pub third_links : Element → Values → List (List ℕ)
 third_links element.Image v = value_links form.Link v.third
 third_links _ v = []
 
--- the links of the values that are wanted of an element
+-- the links of the values that are read of an element
 abbrev pub links_with : Element → Values → List (List ℕ)
 links_with element v = first_links element v ++ second_links element v ++ third_links element v
 

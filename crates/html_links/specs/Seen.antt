@@ -1,4 +1,4 @@
--- What a reader of links sees of a page: of each start tag its name and element, and the values of its wanted attributes.
+-- What a reader of links sees of a page: of each start tag its name and element, and the values of the attributes that are read.
 -- The contents of a `template` element are in its template contents, a document fragment that is not part of the page, unless
 -- it becomes a shadow root.
 use Rattle.std.specs.Prelude.{◌<◌, ℕ, zero, suc, if◌then◌else◌, List, [], ◌∷◌, length, map, Option, None, Some}

@@ -1,4 +1,4 @@
--- The values of a tag's wanted attributes, and of those that each tag may have. Of attributes with the same name, the first counts.
+-- The values of a tag's attributes that are read, and of those that each tag may have. Of attributes with one name, the first counts.
 use Rattle.std.specs.Prelude.{ℕ, if◌then◌else◌, List, [], ◌∷◌, map, codes, Option, None, Some}
 use Rattle.std.specs.Option.{option_or}
 use Rattle.std.specs.Str.{bytes_eq}

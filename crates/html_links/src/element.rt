@@ -29,7 +29,7 @@ pub(crate) enum Element {
     Other,
 }
 
-/// The names of the wanted attributes of an element. An empty name is that of no attribute.
+/// The names of the attributes that are read of an element. An empty name is that of no attribute.
 #[derive(Clone, Copy)]
 pub(crate) struct Wanted {
     pub(crate) first: &'static [u8],
@@ -160,7 +160,7 @@ fn names(first: &'static [u8], second: &'static [u8], third: &'static [u8]) -> W
     }
 }
 
-/// Whether the contents of the element are not part of the page, by its third wanted value.
+/// Whether the contents of the element are not part of the page, by the third value that is read of it.
 pub(crate) fn is_inert(element: Element, mode: Option<&[u8]>) -> bool
     ensures { result ≡ is_inert element (bytes_at mode.entry) }
 {

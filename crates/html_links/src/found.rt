@@ -1,4 +1,4 @@
-//! The attributes of a tag that are wanted.
+//! The attributes of a tag that are read.
 ghost use Rattle.std.specs.Prelude.{◌≡◌, true, codes, Some};
 ghost use Rattle.std.specs.Option.{option_or};
 ghost use Rattle.html_links.specs.Tags.{tag_of};
@@ -13,7 +13,7 @@ use crate::lengths::may_be;
 use crate::raw_text::same_name;
 use crate::tag::{AttributeAt, Piece, next_piece};
 
-/// The values of wanted attributes as written, the first of each name.
+/// The values of the attributes that are read, as written, the first of each name.
 #[derive(Clone, Copy)]
 pub(crate) struct Values<'a> {
     pub(crate) first: Option<&'a [u8]>,
@@ -71,7 +71,7 @@ impl<'a> Values<'a> {
     }
 }
 
-/// The lengths of the names of attributes that are wanted of an element, or of each.
+/// The lengths of the names of attributes that are read of an element, or of each.
 static LENGTHS: [u16; 32] = [
     0x0, 0x0, 0x200, 0x40, 0x8, 0x0, 0x200, 0x0, 0x208, 0x402, 0x0, 0x0, 0x80, 0x0, 0x8, 0x0, 0xa0,
     0x0, 0x4, 0x2034, 0x8, 0x0, 0x10, 0x0, 0x200, 0x0, 0x0, 0x0, 0x0, 0x0, 0x0, 0x0,
@@ -160,7 +160,7 @@ fn take_attribute<'a>(
     take_wanted(values, &wanted_of(element), attribute, left);
 }
 
-/// Takes the values of another attribute, by the wanted names.
+/// Takes the values of another attribute, by the names that are read.
 #[inline(always)]
 fn take_wanted<'a>(
     values: &mut Values<'a>,
@@ -184,8 +184,8 @@ fn take_wanted<'a>(
     take_named(&mut values.name, b"name", attribute);
 }
 
-/// Finds the wanted values of a tag, from the bytes after its name. Returns the bytes after the tag, or nothing if the tag does
-/// not end.
+/// Finds the values of a tag that are read, from the bytes after its name. Returns the bytes after the tag, or nothing if the tag
+/// does not end.
 #[inline(always)]
 pub(crate) fn values_in<'a>(
     element: Element,

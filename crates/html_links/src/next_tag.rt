@@ -37,7 +37,7 @@ enum Step<'a> {
     End,
 }
 
-/// The first start tag that begins in these bytes, ends, and may name something, and its wanted values.
+/// The first start tag that begins in these bytes, ends, and may name something, and its values that are read.
 #[inline(always)]
 pub(crate) fn next_tag<'a>(bytes: &'a [u8], values: &mut Values<'a>) -> Option<NextTag<'a>>
     ensures finds { Finds result (values_at values.new) (seen_in bytes.now) }

@@ -163,7 +163,7 @@ pub(crate) fn take_base(
     }
 }
 
-/// Passes on the links of a tag's wanted values.
+/// Passes on the links of a tag's values.
 fn push_values<L: Links>(
     element: Element,
     values: &Values<'_>,
@@ -177,7 +177,7 @@ fn push_values<L: Links>(
     push_third(element, values, decoded, links)
 }
 
-/// Passes on the links of the first wanted value.
+/// Passes on the links of the first value.
 #[inline(always)]
 pub(crate) fn push_first<L: Links>(
     element: Element,
@@ -194,7 +194,7 @@ pub(crate) fn push_first<L: Links>(
     push_some(form, value, decoded, links)
 }
 
-/// Passes on the links of the second wanted value.
+/// Passes on the links of the second value.
 #[inline(always)]
 pub(crate) fn push_second<L: Links>(
     element: Element,
@@ -211,7 +211,7 @@ pub(crate) fn push_second<L: Links>(
     push_some(form, value, decoded, links)
 }
 
-/// Passes on the link of the third wanted value.
+/// Passes on the link of the third value.
 #[inline(always)]
 pub(crate) fn push_third<L: Links>(
     element: Element,
@@ -227,7 +227,7 @@ pub(crate) fn push_third<L: Links>(
     }
 }
 
-/// How the first wanted value names documents.
+/// How the first value names documents.
 #[inline(always)]
 fn first_form(
     element: Element,
@@ -247,7 +247,7 @@ fn first_form(
     }
 }
 
-/// How the second wanted value names documents.
+/// How the second value names documents.
 #[inline(always)]
 fn second_form(
     element: Element,

@@ -16,7 +16,7 @@ use Rattle.saved_site.specs.declared.page.SitePage.{SitePage}
 use Rattle.saved_site.specs.declared.page.Under.{Under}
 use Rattle.saved_site.specs.declared.page.Under.TheVariants.{Links, Moved}
 
--- ---- what stands under a page, with the next pages after it
+-- ---- what belongs to a page, with the next pages after it
 
 no_move : (pages : List SitePage) → AllPages pages → moved_text (flat_map page_lines pages) ≡ None
 no_move [] all = refl

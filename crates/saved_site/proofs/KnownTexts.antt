@@ -27,7 +27,7 @@ text_at known text k d found =
     sym (get_or-map (λ (one : TextIndex). one.0) known k d d.0 (within_at known text k found))
     ∙ get_or_from_slice_get (texts known) k text d.0 (found_at (texts known) text k (sym found))
 
--- the text that is found is known, with the index that stands there
+-- the text that is found is known, with its index
 pub contains_at : (known : List TextIndex) (text : List ℕ) (k : ℕ) (d : TextIndex) → Some k ≡ index_of (texts known) text → Contains known (text, (get_or known k d).1)
 contains_at known text k d found =
     subst (λ t. Contains known (t, (get_or known k d).1)) (text_at known text k d found) (Contains-get_or known k d (within_at known text k found))
@@ -45,7 +45,7 @@ pub folder_push : (known longer : List TextIndex) (text : List ℕ) (index : Opt
 folder_push known longer text index is are own =
     subst AreOfFolder (sym is) (All-push (λ (one : TextIndex). is_of_folder one.0 ≡ true) known (text, index) are own)
 
--- where URLs keep their indices, what is known stays right
+-- if URLs keep their indices, what is known stays right
 pub known_still : (base : List ℕ) (old new : List (List ℕ)) (known : List TextIndex) → KeepIndices old new → AreKnown base old known → AreKnown base new known
 known_still base old new known keep are = λ k d inside. leads_still old new _ _ keep (are k d inside)
 

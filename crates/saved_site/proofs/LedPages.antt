@@ -30,7 +30,7 @@ led_links urls (index ∷ indices) (link ∷ links) lead =
     let rest : LeadTo urls indices links = cc in
     rw at (ap (λ ls. link ∷ ls) (led_links urls indices links rest))
 
--- where URLs keep their indices, a link leads to the same
+-- if URLs keep their indices, a link leads to the same
 pub leads_still : (old new : List (List ℕ)) (index : Option ℕ) (link : Option (List ℕ)) → KeepIndices old new → LeadsTo old index link → LeadsTo new index link
 leads_still old new None None keep leads = refl
 leads_still old new None (Some url) keep leads = absurd (cc)

@@ -102,7 +102,7 @@ any_push p earlier line b is =
 
 -- ---- the lines under a page
 
--- after these lines stands a page, and under it no redirect
+-- after these lines comes a page, and no redirect belongs to it
 record OnPage (earlier : List (List ℕ)) : Type 0 where
   some : 0 < length earlier
   page : list_any is_page earlier ≡ true

@@ -19,7 +19,7 @@ linked_counted all results r o c is k =
     let kept : IsCount all results r.url c = subst (IsTally all results r.url) is k in
     ap (with_pages r) kept.count
 
--- what is counted in some results and in those after them fits where all of these do
+-- what is counted in some results and in those after them fits if all of these do
 pub sources_fit : (front back : List PageResult) (url : List ℕ) → length front + length back < 2 ^ 64 → length (sources_of front url) + length (sources_of back url) < 2 ^ 64
 sources_fit front back url fits =
     omega (arith, length-filter (links_to url) front, length-filter (links_to url) back, count_by-le-length (links_to url) front, count_by-le-length (links_to url) back)

@@ -28,7 +28,7 @@ no_front front url lacks =
       | inr without ↦ sym (cond-false _ _ _ without)
     ]
 
--- what references point to passes where they do
+-- what references point to passes if they do
 any_pointed : {X : Type 0} (p : X → Bool) (xs : List (Bor X)) → list_any p (pointed xs) ≡ list_any (λ x. p x.now) xs
 any_pointed p [] = refl
 any_pointed p (x ∷ xs) = ap (λ b. p x.now || b) (any_pointed p xs)

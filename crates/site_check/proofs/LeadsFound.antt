@@ -100,7 +100,7 @@ indices_put old new key i updates url =
     ap (λ o. option_map_or (λ (x : Bor (List ℕ)). x.now) o []) (put_at old new key (Some i) updates url)
     ∙ either_indices (bytes_eq key url) i (tree.get_by (λ k. by_hash url k) old)
 
--- nothing is found where nothing is kept
+-- nothing is found if nothing is kept
 pub none_at : (numbers : Numbers) → length numbers.entries ≡ 0 → (url : List ℕ) → number_at numbers url ≡ None
 none_at numbers none url = ap (lookup (tree.is_at (λ k. by_hash url k))) (empty numbers.entries none)
   where

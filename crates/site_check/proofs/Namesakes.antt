@@ -110,7 +110,7 @@ names_more pages n name old new within is e =
     subst (λ l. IsKnown pages l new) (sym found)
     (subst (λ o. IsKnown pages (front ++ cond (has_name name page) (page ∷ []) []) o) (sym known) (known_on (has_name name page) pages front page n old at is))
 
--- ---- what is told of a name
+-- ---- what is reported of a name
 
 -- none has it
 pub none_known : (front : List ℕ) (files : SiteFiles) (places : List Place) (pages found : List PageFile) (known : Option Namesakes) → known ≡ None → IsKnown pages found known →

@@ -1,4 +1,4 @@
--- What a check tells of the results of a crawl: the pages that are not there, and those that moved, with how many pages link to them.
+-- What a check reports of the results of a crawl: the pages that are missing, and those that moved, with how many pages link to them.
 use Rattle.std.specs.Prelude.{◌==◌, ℕ, Bool, not, if◌then◌else◌, List, [], ◌∷◌, length, take, drop, codes, Option}
 use Rattle.std.specs.List.{list_any, flat_map}
 use Rattle.std.specs.Option.{option_map}
@@ -29,7 +29,7 @@ linked_at l = record { result = l.result.now; pages = l.pages }
 abbrev pub result_at : code.Linked → PageResult
 result_at l = l.result.now
 
--- ---- how a URL is told
+-- ---- how a URL is reported
 
 abbrev pub begins : List ℕ → List ℕ → Bool
 begins front text = bytes_eq (take (length front) text) front

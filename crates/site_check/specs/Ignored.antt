@@ -38,14 +38,14 @@ entries_in bytes = flat_map entry_in (lines (without_mark bytes))
 abbrev pub unused : List (List ℕ) → List (List ℕ) → List (List ℕ)
 unused entries texts = filter (λ entry. not (list_any (begins entry) texts)) entries
 
--- the pages that are not there, as they are told
+-- the missing pages, as they are reported
 abbrev pub text_at : List ℕ → PageResult → List (List ℕ)
 text_at front r = if is_missing r.page then shown front r.url ∷ [] else []
 
 abbrev pub missing_texts : List ℕ → List PageResult → List (List ℕ)
 missing_texts front results = flat_map (text_at front) results
 
--- the texts of the parts that rows tell
+-- the texts of the anchors in rows
 abbrev pub if_part : Kind → List ℕ → List (List ℕ)
 if_part NoPage text = []
 if_part NoAnchor text = text ∷ []

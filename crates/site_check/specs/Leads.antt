@@ -36,7 +36,7 @@ is_told front entries r = is_missing r.page && not (is_ignored entries (shown fr
 abbrev pub own_number : List ℕ → List (List ℕ) → ℕ → PageResult → Option ℕ
 own_number front entries number r = if is_told front entries r then Some number else None
 
--- the pages that are told, numbered among all of these
+-- the pages that are reported, numbered among all of these
 abbrev pub missing_from : List ℕ → List (List ℕ) → ℕ → List PageResult → List Target
 missing_from front entries number [] = []
 missing_from front entries number (r ∷ more) = to_number r.url (own_number front entries number r) ++ missing_from front entries (number + 1) more
@@ -58,7 +58,7 @@ moved_number number_of Missing = None
 abbrev pub moved_target : (List ℕ → Option ℕ) → PageResult → List Target
 moved_target number_of r = to_number r.url (moved_number number_of r.page)
 
--- the URLs of pages that are told, and of those that moved to one of them
+-- the URLs of pages that are reported, and of those that moved to one of them
 abbrev pub targets_of : List ℕ → List (List ℕ) → List PageResult → List Target
 targets_of front entries results =
     let missing = missing_from front entries 0 results in missing ++ flat_map (moved_target (number_in missing)) results
@@ -92,7 +92,7 @@ abbrev pub leads_from : (List ℕ → Option ℕ) → (List ℕ → List ℕ) �
 leads_from number_of indices_of source [] = []
 leads_from number_of indices_of source (r ∷ more) = leads_of number_of indices_of source r.url r.page ++ leads_from number_of indices_of (source + 1) more
 
--- where the links of the document at a URL stand, of the last of these with the URL
+-- the positions of the links in the document at a URL, of the last of these with the URL
 abbrev pub indices_with : List ℕ → List ℕ → LinkPlaces → List ℕ
 indices_with url before p = if bytes_eq p.url url then p.indices.items else before
 

@@ -52,12 +52,12 @@ only_told front files places [] = None
 only_told front files places (page ∷ []) = page_told front files places page.url page.file
 only_told front files places (page ∷ other ∷ more) = None
 
--- what is told beside a target whose links are at these places: the only page of the site with its file name
+-- what is reported with a target whose links are at these positions: the only page of the site with its file name
 abbrev pub same_name : List ℕ → SiteFiles → List ℕ → List Place → Option (List ℕ)
 same_name front files target places =
     if length (last_part target) == 0 then None else only_told front files places (filter (has_name (last_part target)) (pages_of files))
 
--- that is told of pages alone
+-- this is reported only of pages
 abbrev pub name_for : Kind → Option (List ℕ) → Option (List ℕ)
 name_for NoPage name = name
 name_for NoAnchor name = None
@@ -68,7 +68,7 @@ own_name front files b = name_for b.kind (same_name front files (string_bytes b.
 abbrev pub told_name : Broken → Option (List ℕ)
 told_name b = option_map string_bytes b.same_name
 
--- beside each row stands that name
+-- each row has that name
 abbrev pub AreNamed : List ℕ → SiteFiles → List Broken → Type 0
 AreNamed front files all = map told_name all ≡ map (own_name front files) all
 

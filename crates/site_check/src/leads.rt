@@ -1,4 +1,4 @@
-//! Links that lead to what is told: to a page that is not there, or to a part that a page lacks.
+//! Links that lead to what is reported: to a missing page, or to a missing anchor.
 ghost use Rattle.std.specs.Prelude.{◌≡◌, ◌∷◌, ◌++◌, ◌+◌, ◌<◌, ◌^◌, ℕ, List, [], IfOk, MatchOption, OnOk, fold, length, map, string_bytes};
 ghost use Rattle.std.specs.List.{flat_map};
 ghost use Rattle.std.specs.Option.{option_copied};
@@ -15,7 +15,7 @@ use hash_order::HashedText;
 use std::alloc::Global;
 use std::collections::BTreeMap;
 
-/// A link that leads to what is told.
+/// A link that leads to what is reported.
 #[derive(Clone, Copy)]
 pub(crate) struct Lead {
     /// The number of the result that has it.
@@ -147,7 +147,7 @@ fn number_of<'a>(numbers: &TargetNumbers<'a>, url: &'a CanonUrl) -> Option<usize
     numbers.get(&url.hashed()).copied()
 }
 
-/// Where the links of documents stand, by their URLs.
+/// The positions of the links of documents, by their URLs.
 pub(crate) type LinkIndices<'a> = BTreeMap<HashedText<'a>, &'a [u32]>;
 
 pub(crate) fn link_indices(

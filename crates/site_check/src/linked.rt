@@ -19,11 +19,11 @@ pub(crate) struct Linked<'a> {
     pub(crate) pages: u64,
 }
 
-/// How often results are halved, so that the links of as many parts as two to this power are counted by threads.
+/// How often results are halved: the links of two to this power chunks are counted by threads.
 const HALVINGS: u32 = 4;
 
 /// The results that found no page, in their order, each with how many results have its URL among their links. These are counted by
-/// threads where there may be four.
+/// threads if there may be four.
 pub(crate) fn linked_results<'a, R: Threads + Sync>(
     rt: &R,
     alloc: Global,
@@ -38,7 +38,7 @@ pub(crate) fn linked_results<'a, R: Threads + Sync>(
 }
 
 /// Each of these, with how many of some results have its URL among their links, by a thread for each half of the results, as often
-/// as they are halved. Where none can be started this one looks at both.
+/// as they are halved. If none can be started this one counts both.
 fn linked_in<'a, R: Threads + Sync>(
     rt: &R,
     alloc: Global,

@@ -92,7 +92,7 @@ fn known_with(known: Option<&Namesakes>, number: usize) -> Namesakes
     }
 }
 
-/// What is told beside a target whose links are at these places: the only page of the site with its file name, unless such a
+/// What is reported with a target whose links are at these positions: the only page of the site with its file name, unless such a
 /// link is in its file.
 pub(crate) fn same_name<'n>(
     alloc: Global,

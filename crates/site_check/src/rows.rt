@@ -18,7 +18,7 @@ use crawl_keys::CanonUrl;
 use crawl_pages::{NoMemory, Page};
 use std::alloc::Global;
 
-/// The rows of the pages that are not there, in order, with where links to each stand.
+/// The rows of the missing pages, in order, with the positions of the links to each.
 pub(crate) fn broken_rows<'n>(
     alloc: Global,
     input: CheckInput<'_>,
@@ -62,7 +62,7 @@ fn push_row<'n>(
     }
 }
 
-/// A row of a page that is told so and that so many pages link to, unless that is known.
+/// Appends a row for a missing page, with its text and how many pages link to it, unless that is known.
 fn push_missing<'n>(
     alloc: Global,
     input: CheckInput<'_>,

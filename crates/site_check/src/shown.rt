@@ -1,4 +1,4 @@
-//! How a URL is told.
+//! How a URL is reported.
 ghost use Rattle.std.specs.Prelude.{◌≡◌, length, drop, if◌then◌else◌};
 ghost use Rattle.site_check.specs.Broken.{begins, or_top, shown};
 

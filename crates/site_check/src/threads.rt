@@ -53,7 +53,7 @@ impl<'a, 'p> Part<'a, 'p> {
     }
 }
 
-/// The links of results that lead to targets, by threads where there may be four.
+/// The links of results that lead to targets, by threads if there may be four.
 pub(crate) fn leads_by<'p, R: Threads + Sync>(
     rt: &R,
     alloc: Global,
@@ -76,7 +76,7 @@ pub(crate) fn leads_by<'p, R: Threads + Sync>(
     leads_of_part(rt, alloc, halvings, part)
 }
 
-/// Those of a part, by a thread for each half of it, as often as it is halved. Where none can be started this one looks at both.
+/// Those of a chunk, by a thread for each half of it, as often as it is halved. If none can be started this one reads both.
 fn leads_of_part<R: Threads + Sync>(
     rt: &R,
     alloc: Global,
@@ -103,7 +103,7 @@ fn leads_of_part<R: Threads + Sync>(
     Ok(first)
 }
 
-/// The parts that documents lack and results link to, by so many threads.
+/// The anchors that documents lack and results link to, by several threads.
 pub(crate) fn lacked_by<'p, R: Threads + Sync>(
     rt: &R,
     alloc: Global,
@@ -121,7 +121,7 @@ pub(crate) fn lacked_by<'p, R: Threads + Sync>(
     joined(alloc, parts)
 }
 
-/// Where these links stand, which stand together by their pages. Each thread reads the pages that it looks at.
+/// The locations of these links, which are together by their pages. Each thread reads the pages that it takes.
 pub(crate) fn locate_by<R: Threads + Sync, B: FileBytes + Sync>(
     rt: &R,
     alloc: Global,

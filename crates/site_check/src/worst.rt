@@ -3,7 +3,7 @@ use check_report::{Broken, FileCount};
 use crawl_pages::NoMemory;
 use std::alloc::Global;
 
-/// How many files are told.
+/// How many files are listed.
 const TOLD: usize = 10;
 
 /// The files with most broken links, most first, at most ten.
@@ -24,7 +24,7 @@ struct Count<'a> {
 }
 
 impl Count<'_> {
-    /// Whether it comes before the other: with more links, or with as many and a lesser name.
+    /// Whether it comes before the other: with more links, or with equally many and a lesser name.
     fn is_before(&self, other: &Count<'_>) -> bool {
         self.links > other.links || self.links == other.links && self.file < other.file
     }
@@ -42,7 +42,7 @@ fn runs_of(alloc: Global, broken: &[Broken]) -> Result<Vec<Count<'_>>, NoMemory>
     Ok(runs)
 }
 
-/// Those of a file together, which stand together.
+/// Those of a file together, which follow each other.
 fn summed<'a>(alloc: Global, runs: &[Count<'a>]) -> Result<Vec<Count<'a>>, NoMemory> {
     let mut counts = Vec::new(alloc);
     for run in runs {
@@ -51,7 +51,7 @@ fn summed<'a>(alloc: Global, runs: &[Count<'a>]) -> Result<Vec<Count<'a>>, NoMem
     Ok(counts)
 }
 
-/// Adds links to the last count where they are in its file, or else after it.
+/// Adds links to the last count if they are in its file, or else after it.
 fn add<'a>(more: Count<'a>, counts: &mut Vec<Count<'a>>) -> Result<(), NoMemory> {
     if let Some(last) = counts.last_mut()
         && last.file == more.file
