@@ -21,7 +21,7 @@ pub struct UrlQueue {
     waiting: VecDeque<Text>,
     /// All that were ever accepted, oldest first.
     seen: Vec<Text>,
-    /// Where each of these stands.
+    /// The index of each of these.
     index: HashIndex,
     /// How many of each sender were accepted.
     numbers: BTreeMap<u64, u64>,
