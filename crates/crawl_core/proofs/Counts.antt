@@ -1,4 +1,4 @@
--- How the count of what is kept changes with a subqueue, and that the machine's events on subqueues make the table's moves.
+-- How the count of the kept state changes with a subqueue, and that the machine's events on subqueues are the table's moves.
 use Rattle.std.proofs.Common.{◌≡◌, ℕ, suc, ◌-◌, ◌≤◌, Bool, true, false, List, ◌∷◌, length, drop, slice_get, slice_set, Option, Some, refl, sym, ap, ◌∙◌, arith}
 use Rattle.std.specs.Option.{option_map}
 use Rattle.std.specs.Ordering.{nat_cmp}
@@ -15,11 +15,11 @@ use Rattle.crawl_core.specs.GateSide.{let_go, holds}
 use Rattle.crawl_core.specs.Kept.{Kept, KeptQueue, IsCounted, kept_count, outstanding, has_seen}
 use Rattle.crawl_core.specs.Moves.{Moves, accepting}
 
--- what a test of an element answers is what it answers of the element that is there
+-- the result of a test at an index is its result for the element at that index
 pub there : {X Y : Type 0} (f : X → Y) (o : Option X) (y : Y) → option_map f o ≡ Some y → (x : X) × (o ≡ Some x) × (f x ≡ y)
 there f o y e = grind arith
 
--- what is kept after an event, and the count that is stored with it, are right
+-- the kept state after an event, and the count that is stored with it, are right
 pub record Fits (old : Kept) (event : Event) (reply : Reply) (new : Kept) (count : ℕ) : Type 0 where
   pub counts : IsCounted new count
   pub moves : Moves old event reply new
@@ -50,7 +50,7 @@ done_fits {kept} {count} place new counted busy set =
       };
     }
 
--- a URL that is taken stays out: it does not wait any more, and its subqueue is busy
+-- a URL that is taken is still unfinished: it no longer waits, and its subqueue is busy
 pub take_fits : {kept : Kept} {count : ℕ} (place : ℕ) (url : List ℕ) (new : List KeptQueue) → IsCounted kept count → option_map (λ q. q.busy) (slice_get kept.queues place) ≡ Some false → ((queue : KeptQueue) → slice_get kept.queues place ≡ Some queue → queue.waiting ≡ url ∷ drop 1 queue.waiting) → ((queue : KeptQueue) → slice_get kept.queues place ≡ Some queue → new ≡ slice_set kept.queues place (record queue { waiting = drop 1 queue.waiting; busy = true })) → Fits kept (Take place) (told.Taken url) (with_queues kept new) count
 take_fits {kept} {count} place url new counted idle oldest set =
     let here = there (λ (q : KeptQueue). q.busy) (slice_get kept.queues place) false idle in

@@ -1,7 +1,6 @@
--- What one step does to the invariants and to each subqueue, event by event.
+-- The effect of one step on the invariants and on each subqueue, event by event.
 use Rattle.std.proofs.Common.{◌≡◌, ℕ, zero, suc, ◌+◌, cond, arith, ◌≤◌, Bool, true, false, not, List, [], ◌∷◌, ◌++◌, length, take, map, slice_get, Option, Some, None, refl, sym, ap, ◌∙◌, eqb-true, true≢false}
 use Rattle.std.proofs.lemmas.Grind.{common_steps}
-use Rattle.std.proofs.lemmas.Bool.Decides.{nat_tests}
 use Rattle.std.specs.Bool.{if◌then◌else◌}
 use Rattle.std.specs.Option.{option_to_list}
 use Rattle.std.proofs.lemmas.List.{take-append-le, map-append}
@@ -18,11 +17,11 @@ use Rattle.crawl_core.specs.History.{accepted_by, taken_by, done_by}
 use Rattle.crawl_core.specs.Invariants.{SubqueueInvariant, EachSubqueue}
 use Rattle.crawl_core.proofs.Places.{set_cases}
 
--- what holds of both branches holds of a choice
+-- a property of both branches is a property of the choice
 pub cond_both : {A : Type 0} (P : A → Type 0) (b : Bool) (x y : A) → (b ≡ true → P x) → (b ≡ false → P y) → P (if b then x else y)
 cond_both P b x y first second = grind arith
 
--- ## What a step does to one subqueue
+-- ## The effect of a step on one subqueue
 
 abbrev pub messages : Option Subqueue → List Message
 messages None = []
@@ -40,8 +39,8 @@ abbrev pub finished_at : Option Subqueue → ℕ
 finished_at None = 0
 finished_at (Some queue) = finished queue
 
--- the subqueues after a turn: one more message where the event was accepted, one more URL where one was taken, one more
--- fetch done where one was; and a subqueue is busy from a take on, until it is done
+-- the subqueues after a turn: one more message if the event was accepted, one more URL if one was taken, one more
+-- finished fetch if one was finished; and a subqueue is busy from a take until the fetch is finished
 pub record QueueEffect (old : State) (event : Event) (done : Turn) : Type 0 where
   pub accepts : (queue : ℕ) → messages (slice_get done.state.subqueues queue) ≡ messages (slice_get old.subqueues queue) ++ option_to_list (accepted_by queue event done.reply)
   pub takes : (queue : ℕ) → urls_taken (slice_get done.state.subqueues queue) ≡ urls_taken (slice_get old.subqueues queue) ++ option_to_list (taken_by queue event done.reply)
@@ -50,13 +49,13 @@ pub record QueueEffect (old : State) (event : Event) (done : Turn) : Type 0 wher
   pub ends : (queue : ℕ) → is_busy (slice_get old.subqueues queue) ≡ true → is_busy (slice_get done.state.subqueues queue) ≡ false → (left : ℕ) × (event ≡ Done queue) × (done.reply ≡ told.Count left)
 
 pub append_nil : {A : Type 0} (xs : List A) → xs ≡ xs ++ []
-append_nil xs = grind (arith, nat_tests, common_steps)
+append_nil xs = grind (arith, common_steps)
 
--- where the subqueues stay and nothing was accepted or taken
+-- if the subqueues do not change and nothing was accepted or taken
 same_queues : (old : State) (event : Event) (done : Turn) → done.state.subqueues ≡ old.subqueues → ((queue : ℕ) → accepted_by queue event done.reply ≡ None) → ((queue : ℕ) → taken_by queue event done.reply ≡ None) → ((queue : ℕ) → done_by queue event done.reply ≡ false) → QueueEffect old event done
 same_queues old event done same accepts takes none = grind (arith, append_nil)
 
--- one element more than the first n
+-- the first n elements and one more
 pub take_one_more : {A : Type 0} (xs : List A) (n : ℕ) (x : A) → slice_get xs n ≡ Some x → take (suc n) xs ≡ take n xs ++ x ∷ []
 take_one_more [] n x at = absurd (cc)
 take_one_more (y ∷ ys) zero x at = let same : Some y ≡ Some x = at in ap (λ o. option_to_list o) same
@@ -137,7 +136,7 @@ done_effect state place (Some queue) at sound =
     })
     (λ _. same_queues state (Done place) _ refl (λ there. refl) (λ there. refl) (λ there. refl))
 
--- the gate's steps leave the subqueues
+-- the gate's steps do not change the subqueues
 gate_step : (state : State) (event : Event) (done : GateTurn) → ((queue : ℕ) → accepted_by queue event done.reply ≡ None) → ((queue : ℕ) → taken_by queue event done.reply ≡ None) → ((queue : ℕ) → done_by queue event done.reply ≡ false) → QueueEffect state event (by_gate state done)
 gate_step state event done accepts takes none = same_queues state event (by_gate state done) refl accepts takes none
 

@@ -1,5 +1,5 @@
--- What a run's history says of the opening unit and of the senders that hold one.
-use Rattle.std.proofs.Common.{◌≡◌, ℕ, suc, ◌≤◌, Bool, true, false, cond, not, ◌||◌, ◌&&◌, List, [], ◌∷◌, nat_eq, fold, slice_get, Option, Some, None, refl, sym, ap, subst, ◌∙◌, arith, eqb-true}
+-- What a run's history states about the opening unit and about the senders that hold a unit.
+use Rattle.std.proofs.Common.{◌≡◌, ℕ, suc, Bool, true, false, not, ◌||◌, ◌&&◌, List, [], ◌∷◌, nat_eq, fold, slice_get, Option, Some, None, refl, ap, ◌∙◌, arith, eqb-true}
 use Rattle.std.specs.Bool.{if◌then◌else◌}
 use Rattle.std.specs.List.{list_any}
 use Rattle.std.specs.Ordering.{nat_cmp}
@@ -13,106 +13,60 @@ use Rattle.crawl_core.specs.declared.word.Word.{Word}
 use Rattle.crawl_core.specs.declared.event.Event.{Event}
 use Rattle.crawl_core.specs.declared.event.Event.TheVariants.{Look, Enter, Admit, Back, EndSeeds, Take, Done, Close}
 use Rattle.crawl_core.specs.declared.reply.Reply.{Reply}
-use Rattle.crawl_core.specs.Messages.{Message, has_url}
-use Rattle.crawl_core.specs.Subqueue.{Subqueue, oldest}
+use Rattle.crawl_core.specs.Subqueue.{Subqueue}
 use Rattle.crawl_core.specs.GateSide.{GateTurn, holds, remembers, same_word, enter_with}
 use Rattle.crawl_core.specs.State.{State, start, count_of, word_of, unfinished_in}
-use Rattle.crawl_core.specs.Step.{Turn, turn, by_gate, admit_to, take_oldest, take_from, done_with}
+use Rattle.crawl_core.specs.Step.{Turn, turn, by_gate, admit_to, take_from, done_with}
 use Rattle.crawl_core.specs.Run.{Run}
 use Rattle.crawl_core.specs.History.{ends_seeds, was_ended, holds_after, has_unit, word_after, last_word}
 use Rattle.crawl_core.proofs.Sets.{list_any-insert_key, lookup-insert_entry}
-use Rattle.crawl_core.proofs.Holders.{Rising, RisingKeys, lower_keys}
+use Rattle.crawl_core.proofs.Holders.{Rising, RisingKeys, lower, lower_keys}
 use Rattle.crawl_core.proofs.Effects.{cond_both}
 use Rattle.crawl_core.proofs.Sound.{Sound, gate_effect}
 use Rattle.crawl_core.proofs.RunParts.{start_sound}
 
--- ## Numbers put in and taken out
+-- ## Numbers that are inserted and removed
 
 is_at_number : (q x : ℕ) → is_at (nat_cmp q) x ≡ nat_eq x q
 is_at_number q x = grind (arith, nat_tests)
 
 apart_at : (q x : ℕ) → (x ≡ q → ⊥) → is_at (nat_cmp q) x ≡ false
-apart_at q x apart = by_test (nat_eq x q) refl
-  where
-    by_test : (b : Bool) → nat_eq x q ≡ b → is_at (nat_cmp q) x ≡ false
-    by_test true same = absurd (apart (eqb-true x q same))
-    by_test false other = is_at_number q x ∙ other
+apart_at q x apart = grind arith
 
 none_at : (q : ℕ) (xs : List ℕ) → Rising (suc q) xs → list_any (is_at (nat_cmp q)) xs ≡ false
 none_at q [] rising = refl
-none_at q (x ∷ xs) rising =
-    let more : Rising (suc q) xs = higher (suc x) (suc q) xs (omega (arith, rising.0)) rising.1 in
-    rw (apart_at q x (λ same. omega (arith, same, rising.0))) (none_at q xs more)
-  where
-    higher : (least less : ℕ) (ys : List ℕ) → less ≤ least → Rising least ys → Rising less ys
-    higher least less [] below up = tt
-    higher least less (y ∷ ys) below up = (omega (arith, below, up.0), up.1)
+none_at q (x ∷ xs) rising = grind (arith, lower, apart_at, none_at q xs)
 
--- a number that was taken out is not there any more
+-- a number that was removed is no longer in the list
 taken_out : (least k : ℕ) (xs : List ℕ) → Rising least xs → list_any (is_at (nat_cmp k)) (remove_key (is_at (nat_cmp k)) xs) ≡ false
 taken_out least k [] rising = refl
-taken_out least k (x ∷ xs) rising = by_first (is_at (nat_cmp k) x) refl (taken_out (suc x) k xs rising.1)
-  where
-    by_first : (b : Bool) → is_at (nat_cmp k) x ≡ b → list_any (is_at (nat_cmp k)) (remove_key (is_at (nat_cmp k)) xs) ≡ false → list_any (is_at (nat_cmp k)) (cond (is_at (nat_cmp k) x) xs (x ∷ remove_key (is_at (nat_cmp k)) xs)) ≡ false
-    by_first true here rest =
-        let same : x ≡ k = eqb-true x k (sym (is_at_number k x) ∙ here) in
-        rw here (none_at k xs (subst (λ n. Rising (suc n) xs) same rising.1))
-    by_first false other rest = rw (other, other) rest
+taken_out least k (x ∷ xs) rising = grind (arith, eqb-true, is_at_number, none_at, taken_out (suc x) k xs rising.1)
 
--- and another stays
+-- and every other number is
 pub others_stay : (q k : ℕ) (xs : List ℕ) → (k ≡ q → ⊥) → list_any (is_at (nat_cmp q)) (remove_key (is_at (nat_cmp k)) xs) ≡ list_any (is_at (nat_cmp q)) xs
 others_stay q k [] apart = refl
-others_stay q k (x ∷ xs) apart = by_first (is_at (nat_cmp k) x) refl (others_stay q k xs apart)
-  where
-    by_first : (b : Bool) → is_at (nat_cmp k) x ≡ b → list_any (is_at (nat_cmp q)) (remove_key (is_at (nat_cmp k)) xs) ≡ list_any (is_at (nat_cmp q)) xs → list_any (is_at (nat_cmp q)) (cond (is_at (nat_cmp k) x) xs (x ∷ remove_key (is_at (nat_cmp k)) xs)) ≡ list_any (is_at (nat_cmp q)) (x ∷ xs)
-    by_first true here rest =
-        let same : x ≡ k = eqb-true x k (sym (is_at_number k x) ∙ here) in
-        rw (here, apart_at q x (λ is. apart (sym same ∙ is))) refl
-    by_first false other rest = rw (other, rest) refl
+others_stay q k (x ∷ xs) apart = grind (arith, eqb-true, is_at_number, apart_at, others_stay q k xs apart)
 
 pub holds_less : (xs : List ℕ) (k q : ℕ) → Rising 0 xs → list_any (is_at (nat_cmp q)) (remove_key (is_at (nat_cmp k)) xs) ≡ (if nat_eq k q then false else list_any (is_at (nat_cmp q)) xs)
-holds_less xs k q rising = by_test (nat_eq k q) refl
-  where
-    by_test : (b : Bool) → nat_eq k q ≡ b → list_any (is_at (nat_cmp q)) (remove_key (is_at (nat_cmp k)) xs) ≡ (if b then false else list_any (is_at (nat_cmp q)) xs)
-    by_test true here = let same : k ≡ q = eqb-true k q here in rw (← same) (taken_out 0 k xs rising)
-    by_test false other = others_stay q k xs (eqb-false k q other)
+holds_less xs k q rising = grind (arith, eqb-true, taken_out, others_stay, eqb-false)
 
 word_none : {X : Type 0} (q : ℕ) (es : List (ℕ × X)) → RisingKeys (suc q) es → lookup (is_at (nat_cmp q)) es ≡ None
 word_none q [] rising = refl
-word_none q (e ∷ es) rising =
-    let more = lower_keys (suc e.0) (suc q) es (omega (arith, rising.0)) rising.1 in
-    rw (apart_at q e.0 (λ same. omega (arith, same, rising.0))) (word_none q es more)
+word_none q (e ∷ es) rising = grind (arith, lower_keys, apart_at, word_none q es)
 
 word_taken_out : {X : Type 0} (least k : ℕ) (es : List (ℕ × X)) → RisingKeys least es → lookup (is_at (nat_cmp k)) (remove_entry (is_at (nat_cmp k)) es) ≡ None
 word_taken_out least k [] rising = refl
-word_taken_out {X} least k (e ∷ es) rising = by_first (is_at (nat_cmp k) e.0) refl (word_taken_out (suc e.0) k es rising.1)
-  where
-    by_first : (b : Bool) → is_at (nat_cmp k) e.0 ≡ b → lookup (is_at (nat_cmp k)) (remove_entry (is_at (nat_cmp k)) es) ≡ None → lookup (is_at (nat_cmp k)) (cond (is_at (nat_cmp k) e.0) es (e ∷ remove_entry (is_at (nat_cmp k)) es)) ≡ None
-    by_first true here rest =
-        let same : e.0 ≡ k = eqb-true e.0 k (sym (is_at_number k e.0) ∙ here) in
-        rw here (word_none k es (subst (λ n. RisingKeys (suc n) es) same rising.1))
-    by_first false other rest = rw (other, other) rest
+word_taken_out {X} least k (e ∷ es) rising = grind (arith, eqb-true, is_at_number, word_none, word_taken_out (suc e.0) k es rising.1)
 
 other_words_stay : {X : Type 0} (q k : ℕ) (es : List (ℕ × X)) → (k ≡ q → ⊥) → lookup (is_at (nat_cmp q)) (remove_entry (is_at (nat_cmp k)) es) ≡ lookup (is_at (nat_cmp q)) es
 other_words_stay q k [] apart = refl
-other_words_stay {X} q k (e ∷ es) apart = by_first (is_at (nat_cmp k) e.0) refl (other_words_stay q k es apart)
-  where
-    by_first : (b : Bool) → is_at (nat_cmp k) e.0 ≡ b → lookup (is_at (nat_cmp q)) (remove_entry (is_at (nat_cmp k)) es) ≡ lookup (is_at (nat_cmp q)) es → lookup (is_at (nat_cmp q)) (cond (is_at (nat_cmp k) e.0) es (e ∷ remove_entry (is_at (nat_cmp k)) es)) ≡ lookup (is_at (nat_cmp q)) (e ∷ es)
-    by_first true here rest =
-        let same : e.0 ≡ k = eqb-true e.0 k (sym (is_at_number k e.0) ∙ here) in
-        rw (here, apart_at q e.0 (λ is. apart (sym same ∙ is))) refl
-    by_first false other rest = rw (other, rest) refl
+other_words_stay {X} q k (e ∷ es) apart = grind (arith, eqb-true, is_at_number, apart_at, other_words_stay q k es apart)
 
 words_less : {X : Type 0} (es : List (ℕ × X)) (k q : ℕ) → RisingKeys 0 es → lookup (is_at (nat_cmp q)) (remove_entry (is_at (nat_cmp k)) es) ≡ (if nat_eq k q then None else lookup (is_at (nat_cmp q)) es)
-words_less {X} es k q rising = by_test (nat_eq k q) refl
-  where
-    by_test : (b : Bool) → nat_eq k q ≡ b → lookup (is_at (nat_cmp q)) (remove_entry (is_at (nat_cmp k)) es) ≡ (if b then None else lookup (is_at (nat_cmp q)) es)
-    by_test true here = let same : k ≡ q = eqb-true k q here in rw (← same) (word_taken_out 0 k es rising)
-    by_test false other = other_words_stay q k es (eqb-false k q other)
+words_less {X} es k q rising = grind (arith, eqb-true, word_taken_out, other_words_stay, eqb-false)
 
 or_cond : (b held : Bool) → (b || held) ≡ (if b then true else held)
-or_cond true held = refl
-or_cond false held = refl
+or_cond b held = grind arith
 
 -- ## Each event
 
@@ -123,20 +77,14 @@ pub record Held (old : State) (event : Event) (done : Turn) : Type 0 where
   pub words : (sender : ℕ) → remembers done.state.gate sender ≡ word_after sender (remembers old.gate sender) event done.reply
 
 and_all : (b : Bool) → b ≡ (b && true)
-and_all true = refl
-and_all false = refl
+and_all b = grind arith
 
 and_none : (b : Bool) → false ≡ (b && false)
-and_none true = refl
-and_none false = refl
+and_none b = grind arith
 
--- where the gate's half stays, and the reply tells of no unit
+-- if the gate's half does not change, and the reply reports no unit
 same_gate : (old : State) (event : Event) (done : Turn) → done.state.gate ≡ old.gate → ends_seeds event done.reply ≡ false → ((sender : ℕ) (held : Bool) → holds_after sender held event done.reply ≡ held) → ((sender : ℕ) (word : Option Word) → word_after sender word event done.reply ≡ word) → Held old event done
-same_gate old event done same going still silent = record {
-  opening = rw (same, going) (and_all old.gate.opening);
-  holders = λ sender. rw same (sym (still sender (holds old.gate sender)));
-  words = λ sender. rw same (sym (silent sender (remembers old.gate sender)));
-}
+same_gate old event done same going still silent = grind arith
 
 enter_held : (state : State) → Sound state → (who : ℕ) (word : Option Word) → Held state (Enter who) (by_gate state (enter_with state.gate (unfinished_in state) who word))
 enter_held state sound who None = same_gate state (Enter who) _ refl refl (λ sender held. refl) (λ sender word. refl)
@@ -152,32 +100,13 @@ enter_held state sound who (Some word) =
     })))
 
 admit_held : (state : State) → Sound state → (who place : ℕ) (url : List ℕ) (o : Option Subqueue) → Held state (Admit who url place) (admit_to state who url place o)
-admit_held state sound who place url None = same_gate state (Admit who url place) _ refl refl (λ sender held. refl) (λ sender word. refl)
-admit_held state sound who place url (Some queue) =
-    let P : Turn → Type 0 = Held state (Admit who url place) in
-    cond_both P (not (holds state.gate who)) _ _ (λ _. same_gate state (Admit who url place) _ refl refl (λ sender held. refl) (λ sender word. refl))
-    (λ _. cond_both P (has_url queue.accepted url) _ _ (λ _. same_gate state (Admit who url place) _ refl refl (λ sender held. refl) (λ sender word. refl))
-    (λ _. record {
-      opening = and_all state.gate.opening;
-      holders = λ sender. holds_less state.gate.holders who sender sound.holders;
-      words = λ sender. refl;
-    }))
+admit_held state sound who place url o = grind (arith, same_gate, cond_both, and_all, holds_less)
 
 take_held : (state : State) (place : ℕ) (o : Option Subqueue) → Held state (Take place) (take_from state place o)
-take_held state place None = same_gate state (Take place) _ refl refl (λ sender held. refl) (λ sender word. refl)
-take_held state place (Some queue) =
-    cond_both (Held state (Take place)) queue.busy _ _ (λ _. same_gate state (Take place) _ refl refl (λ sender held. refl) (λ sender word. refl))
-    (λ _. by_oldest (oldest queue))
-  where
-    by_oldest : (first : Option Message) → Held state (Take place) (take_oldest state place queue first)
-    by_oldest None = same_gate state (Take place) _ refl refl (λ sender held. refl) (λ sender word. refl)
-    by_oldest (Some m) = same_gate state (Take place) _ refl refl (λ sender held. refl) (λ sender word. refl)
+take_held state place o = grind arith
 
 done_held : (state : State) (place : ℕ) (o : Option Subqueue) → Held state (Done place) (done_with state place o)
-done_held state place None = same_gate state (Done place) _ refl refl (λ sender held. refl) (λ sender word. refl)
-done_held state place (Some queue) =
-    cond_both (Held state (Done place)) queue.busy _ _ (λ _. same_gate state (Done place) _ refl refl (λ sender held. refl) (λ sender word. refl))
-    (λ _. same_gate state (Done place) _ refl refl (λ sender held. refl) (λ sender word. refl))
+done_held state place o = grind arith
 
 pub held : (state : State) → Sound state → (event : Event) → Held state event (turn state event)
 held state sound (Look who) = record {
@@ -208,23 +137,15 @@ held state sound Close =
 -- ## Runs
 
 and_not : (a b c : Bool) → ((a && not b) && not c) ≡ (a && not (b || c))
-and_not true true c = refl
-and_not true false c = refl
-and_not false b c = refl
+and_not a b c = grind arith
 
 run_opening : (old : State) (history : List (Event × Reply)) (new : State) → Sound old → Run old history new → new.gate.opening ≡ (old.gate.opening && not (was_ended history))
 run_opening old [] new sound run = rw run (and_all old.gate.opening)
-run_opening old (x ∷ xs) new sound run =
-    let after = subst Sound (sym run.1.state_is) (gate_effect old sound x.0).sound in
-    let here : run.0.gate.opening ≡ (old.gate.opening && not (ends_seeds x.0 x.1)) = rw (run.1.state_is, run.1.reply_is) (held old sound x.0).opening in
-    run_opening run.0 xs new after run.2 ∙ ap (λ b. b && not (was_ended xs)) here ∙ and_not old.gate.opening (ends_seeds x.0 x.1) (was_ended xs)
+run_opening old (x ∷ xs) new sound run = grind (arith, gate_effect, held, and_not, run_opening run.0 xs new)
 
 run_holders : (sender : ℕ) (old : State) (history : List (Event × Reply)) (new : State) → Sound old → Run old history new → holds new.gate sender ≡ fold (λ held (x : Event × Reply). holds_after sender held x.0 x.1) (holds old.gate sender) history
 run_holders sender old [] new sound run = rw run refl
-run_holders sender old (x ∷ xs) new sound run =
-    let after = subst Sound (sym run.1.state_is) (gate_effect old sound x.0).sound in
-    let here : holds run.0.gate sender ≡ holds_after sender (holds old.gate sender) x.0 x.1 = rw (run.1.state_is, run.1.reply_is) ((held old sound x.0).holders sender) in
-    run_holders sender run.0 xs new after run.2 ∙ ap (λ b. fold (λ held (y : Event × Reply). holds_after sender held y.0 y.1) b xs) here
+run_holders sender old (x ∷ xs) new sound run = grind (arith, gate_effect, held, run_holders sender run.0 xs new)
 
 pub opening_of : (workers max : ℕ) (history : List (Event × Reply)) (state : State) → Run (start workers max) history state → state.gate.opening ≡ not (was_ended history)
 opening_of workers max history state run = run_opening (start workers max) history state (start_sound workers max) run
@@ -234,10 +155,7 @@ holders_of workers max history state run sender = run_holders sender (start work
 
 run_words : (sender : ℕ) (old : State) (history : List (Event × Reply)) (new : State) → Sound old → Run old history new → remembers new.gate sender ≡ fold (λ word (x : Event × Reply). word_after sender word x.0 x.1) (remembers old.gate sender) history
 run_words sender old [] new sound run = rw run refl
-run_words sender old (x ∷ xs) new sound run =
-    let after = subst Sound (sym run.1.state_is) (gate_effect old sound x.0).sound in
-    let here : remembers run.0.gate sender ≡ word_after sender (remembers old.gate sender) x.0 x.1 = rw (run.1.state_is, run.1.reply_is) ((held old sound x.0).words sender) in
-    run_words sender run.0 xs new after run.2 ∙ ap (λ w. fold (λ word (y : Event × Reply). word_after sender word y.0 y.1) w xs) here
+run_words sender old (x ∷ xs) new sound run = grind (arith, gate_effect, held, run_words sender run.0 xs new)
 
 pub words_of : (workers max : ℕ) (history : List (Event × Reply)) (state : State) → Run (start workers max) history state → (sender : ℕ) → remembers state.gate sender ≡ last_word history sender
 words_of workers max history state run sender = run_words sender (start workers max) history state (start_sound workers max) run

@@ -1,5 +1,5 @@
 -- The unit of the URL that a subqueue is busy with goes to a sender.
-use Rattle.std.proofs.Common.{◌≡◌, ℕ, suc, ◌+◌, ◌-◌, ◌<◌, ◌≤◌, Bool, true, false, not, ◌&&◌, cond, if◌then◌else◌, is_some, unwrap_or, List, [], ◌∷◌, length, nat_eq, slice_get, slice_set, Option, Some, None, refl, sym, ap, subst, ◌∙◌, arith, true≢false, ne_eqb}
+use Rattle.std.proofs.Common.{◌≡◌, ℕ, suc, ◌+◌, ◌-◌, ◌<◌, ◌≤◌, Bool, true, false, not, ◌&&◌, cond, unwrap_or, List, [], ◌∷◌, length, nat_eq, slice_get, slice_set, Option, Some, None, refl, sym, ap, subst, ◌∙◌, arith, true≢false, ne_eqb}
 use Rattle.std.proofs.lemmas.Bool.Decides.{nat_tests}
 use Rattle.std.specs.Option.{option_map}
 use Rattle.std.specs.Ordering.{nat_cmp}
@@ -11,108 +11,75 @@ use Rattle.std.specs.Map.{lookup, remove_entry}
 use Rattle.std.proofs.lemmas.Cmp.{nat_cmp_total}
 use Rattle.std.proofs.lemmas.List.{length-map, length-drop}
 use Rattle.std.proofs.lemmas.Option.{slice_get_within}
-use Rattle.crawl_core.specs.declared.event.Event.TheVariants.{Look, Enter, Done}
 use Rattle.crawl_core.specs.declared.machine.handing.Progress.{Progress}
 use Rattle.crawl_core.specs.declared.reply.Reply.TheVariants as told
 use Rattle.crawl_core.specs.declared.reply.Refusal.TheVariants as why
 use Rattle.crawl_core.specs.declared.word.Word.{Word}
-use Rattle.crawl_core.specs.Flags.{one_if, same_flag}
-use Rattle.crawl_core.specs.GateSide.{GateSide, GateTurn, enter, enter_with, grant, holds, look, remembers, same_word, shown_word, turned_away, units_out}
+use Rattle.crawl_core.specs.Flags.{one_if}
+use Rattle.crawl_core.specs.GateSide.{GateSide, enter, grant, holds, look, remembers, same_word, shown_word, units_out}
 use Rattle.crawl_core.specs.Handing.{Hands, can_hand_over, handed_over, has_room, is_fetching, kept_progress, lets_in, progress, progress_of}
-use Rattle.crawl_core.specs.Kept.{Kept, KeptQueue, IsCounted, kept_count, outstanding, outstanding_in}
-use Rattle.crawl_core.specs.Messages.{Message}
+use Rattle.crawl_core.specs.Kept.{Kept, KeptQueue, IsCounted, kept_count, outstanding}
 use Rattle.crawl_core.specs.Shows.{Shows, ShowsQueue}
 use Rattle.crawl_core.specs.State.{State, count_of, unfinished_in}
-use Rattle.crawl_core.specs.Step.{Turn, turn, by_gate, counted, done_with, refused, with_subqueue}
-use Rattle.crawl_core.specs.Subqueue.{Subqueue, after_finishing, unfinished, waiting}
+use Rattle.crawl_core.specs.Step.{counted, with_subqueue}
+use Rattle.crawl_core.specs.Subqueue.{Subqueue, after_finishing, unfinished}
 use Rattle.crawl_core.proofs.Places.{sum_at}
 use Rattle.crawl_core.proofs.RunParts.{eqb_same}
 use Rattle.crawl_core.proofs.Sets.{lookup-insert_entry}
 use Rattle.crawl_core.proofs.Simulation.{AllZip-slice_get, AllZip-slice_set, Both, finished_shows, sums}
 use Rattle.crawl_core.proofs.Sound.{length-insert_key}
 
--- ---- what is kept says how many units are out, and how far each subqueue is
+-- ---- the kept state determines how many units are held, and how far each subqueue is
 
 pub kept_count_of : (kept : Kept) (state : State) → Shows kept state → kept_count kept ≡ count_of state
-kept_count_of kept state shows =
-    ap (λ (g : GateSide). units_out g (outstanding_in kept)) shows.gate ∙ ap (units_out state.gate) (sums kept.queues state.subqueues shows.queues)
+kept_count_of kept state shows = grind (arith, sums)
 
 abbrev made : ℕ → ℕ → Bool → Progress
 made accepted taken busy = record { accepted = accepted; taken = taken; busy = busy }
 
 progress_shows : (kept : KeptQueue) (queue : Subqueue) → ShowsQueue kept queue → kept_progress kept ≡ progress queue
-progress_shows kept queue shows =
-    let url : Message → List ℕ = λ m. m.url in
-    let waits : length kept.waiting ≡ length queue.accepted - queue.taken =
-    ap length shows.waits ∙ length-map (waiting queue) url ∙ length-drop queue.taken queue.accepted in
-    let all : length kept.seen ≡ length queue.accepted = ap length shows.seen ∙ length-map queue.accepted url in
-    let taken : length kept.seen - length kept.waiting ≡ queue.taken = omega (arith, waits, all, shows.within) in
-    ap (λ (n : ℕ). made n (length kept.seen - length kept.waiting) kept.busy) all
-    ∙ ap (λ (n : ℕ). made (length queue.accepted) n kept.busy) taken
-    ∙ ap (made (length queue.accepted) queue.taken) shows.busy
+progress_shows kept queue shows = grind (arith, length-map, length-drop)
 
 both_progress : (kept : Option KeptQueue) (queue : Option Subqueue) → Both ShowsQueue kept queue → option_map kept_progress kept ≡ option_map progress queue
-both_progress None None both = refl
-both_progress None (Some queue) both = absurd both
-both_progress (Some kept) None both = absurd both
-both_progress (Some kept) (Some queue) both = ap Some (progress_shows kept queue both)
+both_progress kept queue both = grind (arith, progress_shows)
 
 pub kept_progress_of : (kept : Kept) (state : State) (queue : ℕ) → Shows kept state → option_map kept_progress (slice_get kept.queues queue) ≡ progress_of state queue
 kept_progress_of kept state queue shows =
     both_progress (slice_get kept.queues queue) (slice_get state.subqueues queue) (AllZip-slice_get ShowsQueue kept.queues state.subqueues queue shows.queues)
 
--- ---- where the unit cannot be handed over
+-- ---- if the unit cannot be handed over
 
 abbrev kept_busy : KeptQueue → Bool
 kept_busy queue = queue.busy
 
 both_busy : (kept : Option KeptQueue) (queue : Option Subqueue) → Both ShowsQueue kept queue → unwrap_or (option_map kept_busy kept) false ≡ is_fetching queue
-both_busy None None both = refl
-both_busy None (Some queue) both = absurd both
-both_busy (Some kept) None both = absurd both
-both_busy (Some kept) (Some queue) both = both.busy
+both_busy kept queue both = grind arith
 
 fetching_shows : (kept : Kept) (state : State) (queue : ℕ) → Shows kept state → unwrap_or (option_map kept_busy (slice_get kept.queues queue)) false ≡ is_fetching (slice_get state.subqueues queue)
 fetching_shows kept state queue shows =
     both_busy (slice_get kept.queues queue) (slice_get state.subqueues queue) (AllZip-slice_get ShowsQueue kept.queues state.subqueues queue shows.queues)
 
--- a queue that is busy is there
+-- a queue that is busy exists
 pub fetching_below : (queues : List KeptQueue) (queue : ℕ) → unwrap_or (option_map kept_busy (slice_get queues queue)) false ≡ true → queue < length queues
-fetching_below queues queue busy = by_queue (slice_get queues queue) refl busy
-  where
-    by_queue : (o : Option KeptQueue) → slice_get queues queue ≡ o → unwrap_or (option_map kept_busy o) false ≡ true → queue < length queues
-    by_queue None at busy = absurd (true≢false (sym busy))
-    by_queue (Some found) at busy = slice_get_within queues queue found at
+fetching_below queues queue busy = grind (arith, slice_get_within)
 
 never : (b : Bool) → false ≡ (b && false)
-never true = refl
-never false = refl
+never b = grind arith
 
 pub stays_idle : (kept : Kept) (queue sender : ℕ) → unwrap_or (option_map kept_busy (slice_get kept.queues queue)) false ≡ false → Hands kept queue sender false kept
-stays_idle kept queue sender idle state shows =
-    (ap (λ b. b && (lets_in state.gate sender && has_room state)) (sym idle ∙ fetching_shows kept state queue shows), shows)
+stays_idle kept queue sender idle state shows = grind (arith, fetching_shows)
 
 pub stays_out : (kept : Kept) (queue sender : ℕ) → lets_in kept.gate sender ≡ false → Hands kept queue sender false kept
-stays_out kept queue sender out state shows =
-    let fetching = is_fetching (slice_get state.subqueues queue) in
-    (never fetching ∙ ap (λ b. fetching && (b && has_room state)) (sym out ∙ ap (λ (g : GateSide). lets_in g sender) shows.gate), shows)
+stays_out kept queue sender out state shows = grind arith
 
--- ---- where it can
+-- ---- if it can be handed over
 
 same_word_same : (word : Word) → same_word word word ≡ true
 same_word_same word = grind (arith, nat_tests)
 
--- a sender that holds nothing and remembers this very word enters an open gate that has room
+-- a sender that holds no unit and remembers exactly this word enters an open gate that has room
 entry_is : (gate : GateSide) (messages sender : ℕ) → holds gate sender ≡ false → remembers gate sender ≡ Some (shown_word gate messages) → gate.closed ≡ false → nat_eq (units_out gate messages) gate.max ≡ false → enter gate messages sender ≡ grant gate messages sender
-entry_is gate messages sender free word open_gate room =
-    let last : GateTurn = grant gate messages sender in
-    let second : GateTurn = if nat_eq (units_out gate messages) gate.max then turned_away gate why.Full else last in
-    let first : GateTurn = if gate.closed then turned_away gate why.Closed else second in
-    ap (λ b. if b then turned_away gate why.Busy else enter_with gate messages sender (remembers gate sender)) free
-    ∙ ap (enter_with gate messages sender) word
-    ∙ ap (λ b. if not b then record { reply = told.Lost; gate = gate } else first) (same_word_same (shown_word gate messages))
-    ∙ ap (λ b. if b then turned_away gate why.Closed else second) open_gate
-    ∙ ap (λ b. if b then turned_away gate why.Full else last) room
+entry_is gate messages sender free word open_gate room = grind arith
 
 is_at_self : (sender : ℕ) → is_at (nat_cmp sender) sender ≡ true
 is_at_self sender = grind (arith, nat_tests)
@@ -122,17 +89,17 @@ looked_word gate messages sender =
     lookup-insert_entry nat_cmp_total sender sender (shown_word gate messages) gate.remembered
     ∙ ap (λ b. cond b (Some (shown_word gate messages)) (lookup (is_at (nat_cmp sender)) gate.remembered)) (is_at_self sender)
 
--- a word that comes and goes leaves the same, whichever it is
+-- inserting and removing a sender's word leaves the map as it was
 any_word : (entries : List (ℕ × Word)) (sender : ℕ) (word other : Word) → remove_entry (is_at (nat_cmp sender)) (insert_entry nat_cmp entries sender word) ≡ remove_entry (is_at (nat_cmp sender)) (insert_entry nat_cmp entries sender other)
 any_word [] sender word other = grind (arith, nat_tests)
 any_word (e ∷ es) sender word other = grind (arith, nat_tests, any_word es)
 
--- a holder that comes and goes
+-- a holder that is inserted and removed
 pub back_out : (holders : List ℕ) (sender : ℕ) → list_any (is_at (nat_cmp sender)) holders ≡ false → remove_key (is_at (nat_cmp sender)) (insert_key nat_cmp holders sender) ≡ holders
 back_out [] sender free = grind (arith, nat_tests)
 back_out (x ∷ xs) sender free = grind (arith, nat_tests, back_out xs, true≢false)
 
--- what the gate is with the sender, which looked and entered
+-- the gate after the sender has looked and entered
 abbrev pub receiving : GateSide → ℕ → Word → GateSide
 receiving gate sender word = record gate {
   holders = insert_key nat_cmp gate.holders sender;
@@ -150,16 +117,7 @@ full a b apart same = true≢false (sym apart ∙ ap not (ap (λ n. nat_eq n b) 
 
 pub handed_is : (state : State) (queue sender : ℕ) (found : Subqueue) → slice_get state.subqueues queue ≡ Some found → found.busy ≡ true → lets_in state.gate sender ≡ true → count_of (with_subqueue state queue (after_finishing found)) + 1 ≡ count_of state → has_room state ≡ true
     → handed_over state queue sender ≡ record { gate = receiving state.gate sender (shown_word state.gate (unfinished_in (with_subqueue state queue (after_finishing found)))); subqueues = slice_set state.subqueues queue (after_finishing found) }
-handed_is state queue sender found at busy lets fewer roomy =
-    let flags = both_not state.gate.closed (holds state.gate sender) lets in
-    let freed : State = with_subqueue state queue (after_finishing found) in
-    let done : turn state (Done queue) ≡ counted freed = ap (done_with state queue) at ∙ ap (λ b. if b then counted freed else refused state why.Nothing) busy in
-    let messages = unfinished_in freed in
-    let gate : GateSide = (look state.gate messages sender).gate in
-    let room : nat_eq (units_out gate messages) gate.max ≡ false = ne_eqb (units_out gate messages) gate.max (λ (same : units_out gate messages ≡ gate.max). full (count_of state) (suc state.gate.max) roomy (omega (arith, fewer, same))) in
-    let entered = entry_is gate messages sender flags.1 (looked_word state.gate messages sender) flags.0 room in
-    ap (λ (t : Turn). (turn (turn t.state (Look sender)).state (Enter sender)).state) done
-    ∙ ap (λ (t : GateTurn). record freed { gate = t.gate }) entered
+handed_is state queue sender found at busy lets fewer roomy = grind (arith, both_not, full, entry_is, looked_word)
 
 abbrev Sets : Kept → ℕ → List KeptQueue → Type 0
 Sets kept queue queues = (found : KeptQueue) → slice_get kept.queues queue ≡ Some found → queues ≡ slice_set kept.queues queue (record found { busy = false })

@@ -1,4 +1,4 @@
--- Lists of numbers that rise, as the senders that hold a unit, and maps by such keys, as the words that senders remember.
+-- Ascending lists of numbers (the senders that hold a unit), and maps by such keys (the words that senders remember).
 use Rattle.std.proofs.Common.{◌≡◌, ℕ, zero, suc, ◌≤◌, Bool, List, [], ◌∷◌, slice_get, Some, refl, ap, arith}
 use Rattle.std.proofs.lemmas.Bool.Decides.{nat_tests}
 use Rattle.std.specs.Ordering.{nat_cmp}
@@ -30,7 +30,7 @@ not_below least [] i s rising at = absurd (cc)
 not_below least (x ∷ xs) zero s rising at = let same = same_Some _ _ at in omega (arith, same, rising.0)
 not_below least (x ∷ xs) (suc i) s rising at = let rest = not_below (suc x) xs i s rising.1 at in omega (arith, rest, rising.0)
 
--- numbers that rise are different
+-- ascending numbers differ
 pub rising_differ : (least : ℕ) (xs : List ℕ) → Rising least xs → (i j s : ℕ) → slice_get xs i ≡ Some s → slice_get xs j ≡ Some s → i ≡ j
 rising_differ least [] rising i j s at_i at_j = absurd (cc)
 rising_differ least (x ∷ xs) rising zero zero s at_i at_j = refl
@@ -38,7 +38,7 @@ rising_differ least (x ∷ xs) rising zero (suc j) s at_i at_j = let same = same
 rising_differ least (x ∷ xs) rising (suc i) zero s at_i at_j = let same = same_Some _ _ at_j in let above = not_below (suc x) xs i s rising.1 at_i in absurd (omega (arith, same, above))
 rising_differ least (x ∷ xs) rising (suc i) (suc j) s at_i at_j = ap suc (rising_differ (suc x) xs rising.1 i j s at_i at_j)
 
--- the keys rise
+-- the keys ascend
 abbrev pub RisingKeys : {X : Type 0} → ℕ → List (ℕ × X) → Type 0
 RisingKeys least [] = Unit {0}
 RisingKeys least (e ∷ es) = (least ≤ e.0) × RisingKeys (suc e.0) es

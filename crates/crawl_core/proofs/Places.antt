@@ -1,4 +1,4 @@
--- Lemmas on lists by their places.
+-- Lemmas on lists and indices.
 use Rattle.std.proofs.Common.{◌≡◌, ℕ, zero, suc, ◌+◌, ◌<◌, true, false, List, [], ◌∷◌, ◌++◌, length, take, map, nat_eq, slice_get, slice_set, Option, Some, None, refl, ap, ◌∙◌, arith, eqb-true, inl, inr, ◌⊎◌}
 use Rattle.std.proofs.lemmas.Bool.Decides.{nat_tests}
 use Rattle.std.specs.List.{sum_by, filter_map, cons_option, zip}
@@ -7,7 +7,7 @@ use Rattle.std.proofs.lemmas.List.{length-set}
 use Rattle.std.proofs.lemmas.List.Sums.{sum_by-set}
 use Rattle.std.proofs.lemmas.Option.{slice_get_within, get_or_from_slice_get}
 
--- the sum over a list, after one element is another
+-- the sum over a list after one element was replaced
 pub sum_at : {X : Type 0} (f : X → ℕ) (xs : List X) (place : ℕ) (old new : X) → slice_get xs place ≡ Some old → sum_by f (slice_set xs place new) + f old ≡ sum_by f xs + f new
 sum_at f xs place old new at =
     rw (get_or_from_slice_get xs place old old at) at (sum_by-set f xs place new old (slice_get_within xs place old at))
@@ -27,11 +27,11 @@ get_set_other (z ∷ zs) zero (suc j) y apart = refl
 get_set_other (z ∷ zs) (suc i) zero y apart = refl
 get_set_other (z ∷ zs) (suc i) (suc j) y apart = get_set_other zs i j y (grind (arith, apart))
 
--- what a place has after a write: at that place the new element, if the old one stood, and at another what it had
+-- what is at an index after a write: the new element at the index that was written, the old elements elsewhere
 pub set_cases : {X : Type 0} (P : Option X → Type 0) (xs : List X) (place there : ℕ) (old new : X) → slice_get xs place ≡ Some old → (nat_eq place there ≡ true → slice_get xs there ≡ Some old → P (Some new)) → (nat_eq place there ≡ false → P (slice_get xs there)) → P (slice_get (slice_set xs place new) there)
 set_cases P xs place there old new at same other = grind (arith, slice_set, eqb-true, get_set_same, get_set_other)
 
--- an element of a filtered list comes from one of the list
+-- an element of a filtered list comes from an element of the list
 pub record Source {X Y : Type 0} (h : X → Option Y) (xs : List X) (y : Y) : Type 0 where
   pub place : ℕ
   pub item : X
@@ -50,13 +50,13 @@ from_filter_map {X} {Y} h (x ∷ xs) k y at = by_first (h x) refl k (λ k. from_
     by_first (Some z) e zero later at = record { place = 0; item = x; at = refl; gives = e ∙ at }
     by_first (Some z) e (suc k) later at = later_source h x xs y (later k at)
 
--- an element that comes through stands after those that came before it
+-- an element that passes the filter comes after those that passed before it
 pub at_rank : {X Y : Type 0} (h : X → Option Y) (xs : List X) (i : ℕ) (x : X) (y : Y) → slice_get xs i ≡ Some x → h x ≡ Some y → slice_get (filter_map h xs) (length (filter_map h (take i xs))) ≡ Some y
 at_rank h [] i x y at e = absurd (cc)
 at_rank h (z ∷ zs) zero x y at e = let here : h z ≡ Some y = ap h (cc) ∙ e in rw here refl
 at_rank {X} {Y} h (z ∷ zs) (suc i) x y at e = grind (arith, nat_tests, at_rank h zs i x y)
 
--- and before those that come later
+-- and before those that pass later
 pub rank_below : {X Y : Type 0} (h : X → Option Y) (xs : List X) (i j : ℕ) (x : X) (y : Y) → i < j → slice_get xs i ≡ Some x → h x ≡ Some y → length (filter_map h (take i xs)) < length (filter_map h (take j xs))
 rank_below h [] i j x y lt at e = absurd (cc)
 rank_below h (z ∷ zs) i zero x y lt at e = absurd (omega arith)

@@ -1,5 +1,6 @@
--- What a run's history says of a subqueue.
-use Rattle.std.proofs.Common.{cond, ◌≡◌, ℕ, zero, suc, ◌+◌, ◌-◌, ◌<◌, Bool, true, false, List, [], ◌∷◌, ◌++◌, take, drop, map, replicate, slice_get, Option, Some, None, refl, sym, ap, subst, ◌∙◌, arith, true≢false, filter_map}
+-- What a run's history states about a subqueue.
+use Rattle.std.proofs.lemmas.Grind.{common_steps}
+use Rattle.std.proofs.Common.{cond, ◌≡◌, ℕ, zero, suc, ◌+◌, ◌-◌, ◌<◌, Bool, true, false, List, [], ◌∷◌, ◌++◌, take, drop, map, slice_get, Option, Some, None, refl, sym, ap, subst, ◌∙◌, arith, true≢false, filter_map}
 use Rattle.std.specs.List.{zip, cons_option}
 use Rattle.std.specs.Option.{option_to_list}
 use Rattle.std.proofs.lemmas.List.{append_assoc}
@@ -9,7 +10,7 @@ use Rattle.crawl_core.specs.declared.event.Event.TheVariants.{Take, Done}
 use Rattle.crawl_core.specs.declared.reply.Reply.{Reply}
 use Rattle.crawl_core.specs.declared.reply.Reply.TheVariants as told
 use Rattle.crawl_core.specs.Messages.{Message, message_with, numbers_of}
-use Rattle.crawl_core.specs.Subqueue.{Subqueue, empty_subqueue}
+use Rattle.crawl_core.specs.Subqueue.{Subqueue}
 use Rattle.crawl_core.specs.State.{State, start}
 use Rattle.crawl_core.specs.Step.{turn}
 use Rattle.crawl_core.specs.Run.{Run, IsRun}
@@ -22,15 +23,14 @@ use Rattle.crawl_core.proofs.Sound.{Sound, gate_effect, some_is}
 
 -- ## First in, first out, once
 
--- what a subqueue accepted, and what was taken from it, after a run
+-- the URLs that a subqueue accepted, and those that were taken from it, after a run
 record Grows (queue : ℕ) (old : State) (history : List (Event × Reply)) (new : State) : Type 0 where
   pub accepts : messages (slice_get new.subqueues queue) ≡ messages (slice_get old.subqueues queue) ++ accepted_in queue history
   pub takes : urls_taken (slice_get new.subqueues queue) ≡ urls_taken (slice_get old.subqueues queue) ++ taken_urls queue history
   pub finishes : finished_at (slice_get new.subqueues queue) ≡ finished_at (slice_get old.subqueues queue) + done_in queue history
 
 cons_option_is : {A : Type 0} (o : Option A) (xs : List A) → cons_option o xs ≡ option_to_list o ++ xs
-cons_option_is None xs = refl
-cons_option_is (Some x) xs = refl
+cons_option_is o xs = grind arith
 
 -- a step's effect on the subqueues, in a sound state
 pub step_effect : (state : State) → Sound state → (event : Event) → QueueEffect state event (turn state event)
@@ -60,13 +60,9 @@ grows queue old (x ∷ xs) new sound run =
 
 -- the first state has nothing in any subqueue
 nothing_yet : (workers max queue : ℕ) → (messages (slice_get (start workers max).subqueues queue) ≡ []) × (urls_taken (slice_get (start workers max).subqueues queue) ≡ []) × (finished_at (slice_get (start workers max).subqueues queue) ≡ 0)
-nothing_yet workers max queue = by_place (slice_get (replicate workers empty_subqueue) queue) (get-replicate workers empty_subqueue queue)
-  where
-    by_place : (o : Option Subqueue) → ((found : Subqueue) → o ≡ Some found → found ≡ empty_subqueue) → (messages o ≡ []) × (urls_taken o ≡ []) × (finished_at o ≡ 0)
-    by_place None is_empty = (refl, refl, refl)
-    by_place (Some found) is_empty = let e = is_empty found refl in (rw e refl, rw e refl, rw e refl)
+nothing_yet workers max queue = grind (arith, get-replicate, messages, urls_taken, finished_at)
 
--- at the end of a run a subqueue has accepted what the history says; so with what was taken from it, and what is done
+-- at the end of a run a subqueue has accepted the URLs that the history names; the same for taken URLs and finished ones
 pub record History (queue : ℕ) (history : List (Event × Reply)) (end : State) : Type 0 where
   pub accepted : accepted_in queue history ≡ messages (slice_get end.subqueues queue)
   pub taken : taken_urls queue history ≡ urls_taken (slice_get end.subqueues queue)
@@ -96,15 +92,14 @@ map_take (x ∷ xs) (suc n) zero url at = at
 map_take (x ∷ xs) (suc n) (suc k) url at = map_take xs n k url at
 
 taken_among : (o : Option Subqueue) (k : ℕ) (url : List ℕ) → slice_get (urls_taken o) k ≡ Some url → slice_get (map (λ m. m.url) (messages o)) k ≡ Some url
-taken_among None k url at = absurd (cc)
-taken_among (Some queue) k url at = map_take queue.accepted queue.taken k url at
+taken_among o k url at = grind (arith, map_take)
 
 pub takes_in_order : (workers max : ℕ) (events : List Event) (replies : List Reply) → IsRun workers max events replies → TakesInOrder (zip events replies)
 takes_in_order workers max events replies run queue k url at =
     let h = history_of workers max queue events replies run in
     rw h.accepted (taken_among (slice_get run.end.subqueues queue) k url (rw h.taken at at))
 
--- a URL at a place is that of the message there
+-- the URL at an index is the URL of the message at that index
 pub url_at : (xs : List Message) (k : ℕ) (url : List ℕ) → slice_get (map (λ m. m.url) xs) k ≡ Some url → (m : Message) × (slice_get xs k ≡ Some m) × (m.url ≡ url)
 url_at [] k url at = absurd (cc)
 url_at (x ∷ xs) zero url at = (x, refl, some_is at)
@@ -129,16 +124,13 @@ left_at None = []
 left_at (Some queue) = take queue.taken queue.accepted
 
 left_are : (o : Option Subqueue) → ((found : Subqueue) → o ≡ Some found → SubqueueInvariant found) → filter_map (message_with (messages o)) (urls_taken o) ≡ left_at o
-left_are None sound = refl
-left_are (Some queue) sound = firsts_found queue.accepted queue.taken (sound queue refl).distinct
+left_are o sound = grind (arith, common_steps, firsts_found)
 
 left_urls : (o : Option Subqueue) → map (λ (m : Message). m.url) (left_at o) ≡ urls_taken o
-left_urls None = refl
-left_urls (Some queue) = refl
+left_urls o = grind arith
 
 left_numbered : (o : Option Subqueue) → ((found : Subqueue) → o ≡ Some found → SubqueueInvariant found) → (sender k number : ℕ) → slice_get (numbers_of (left_at o) sender) k ≡ Some number → number ≡ k
-left_numbered None sound sender k number at = absurd (cc)
-left_numbered (Some queue) sound sender k number at = firsts_numbered queue.accepted queue.taken sender (sound queue refl).numbered k number at
+left_numbered o sound sender k number at = grind (arith, common_steps, firsts_numbered)
 
 left_of : (queue : ℕ) (history : List (Event × Reply)) (end : State) → History queue history end → left_in queue history ≡ left_at (slice_get end.subqueues queue)
 left_of queue history end said = rw (said.accepted, said.taken) (left_are (slice_get end.subqueues queue) said.sound)
@@ -155,7 +147,7 @@ leaves_in_order workers max events replies run = record {
 
 -- ## One fetch at a time
 
--- from a busy subqueue on, a take from it stands after a done
+-- after a subqueue is busy, the next take from it comes after a done
 done_before : (queue : ℕ) (old : State) (history : List (Event × Reply)) (new : State) → Sound old → Run old history new → is_busy (slice_get old.subqueues queue) ≡ true → (j : ℕ) (url : List ℕ) → slice_get history j ≡ Some (Take queue, told.Taken url) → (k : ℕ) × (left : ℕ) × (k < j) × (slice_get history k ≡ Some (Done queue, told.Count left))
 done_before queue old [] new sound run busy j url at = absurd (cc)
 done_before queue old (x ∷ xs) new sound run busy zero url at =

@@ -1,5 +1,5 @@
 -- The laws of whole runs.
-use Rattle.std.proofs.Common.{cond, ◌≡◌, inl, inr, ℕ, zero, suc, ◌-◌, ◌<◌, ◌≤◌, Bool, true, false, List, [], ◌∷◌, ◌++◌, length, take, drop, map, nat_eq, slice_get, Option, Some, None, refl, sym, ap, subst, ◌∙◌, arith, eqb-true, ◌||◌, not, filter_map}
+use Rattle.std.proofs.Common.{cond, ◌≡◌, inl, inr, ℕ, zero, suc, ◌-◌, ◌<◌, ◌≤◌, Bool, true, false, List, [], ◌∷◌, ◌++◌, length, take, drop, map, nat_eq, slice_get, Option, Some, None, refl, sym, ap, subst, ◌∙◌, arith, eqb-true, ◌||◌, filter_map}
 use Rattle.std.specs.Bool.{if◌then◌else◌}
 use Rattle.std.specs.List.{zip, cons_option, Contains, list_any}
 use Rattle.std.specs.Option.{option_map}
@@ -15,11 +15,10 @@ use Rattle.crawl_core.specs.declared.event.Event.TheVariants.{Look, Enter, Admit
 use Rattle.crawl_core.specs.declared.reply.Reply.{Reply}
 use Rattle.crawl_core.specs.declared.reply.Reply.TheVariants as told
 use Rattle.crawl_core.specs.Flags.{one_if}
-use Rattle.crawl_core.specs.Messages.{Message, has_url}
-use Rattle.crawl_core.specs.Subqueue.{oldest, Subqueue, finished, unfinished}
-use Rattle.crawl_core.specs.GateSide.{holds}
+use Rattle.crawl_core.specs.Messages.{Message}
+use Rattle.crawl_core.specs.Subqueue.{Subqueue, finished, unfinished}
 use Rattle.crawl_core.specs.State.{State, start, count_of}
-use Rattle.crawl_core.specs.Step.{take_from, take_oldest, turn, Turn, admit_to}
+use Rattle.crawl_core.specs.Step.{take_from, turn, admit_to}
 use Rattle.crawl_core.specs.Run.{Run, IsRun}
 use Rattle.crawl_core.specs.History.{accepted_by, taken_by, done_by, accepted_in, accepted_urls, taken_urls, done_in, is_quiet, AssignsEachUrl, IsAdmitted, TakesOnce, TakesWhereAdmitted, NamesItsSubqueue, StaysClosed}
 use Rattle.crawl_core.specs.Invariants.{SubqueueInvariant, EachSubqueue, GateInvariant, HasRoom, IsAfter, IsState, IsFinished}
@@ -41,7 +40,7 @@ gate_invariant workers max history state some run =
     let both = run_keeps (λ s. Sound s × (count_of s ≤ s.gate.max)) (λ s sound event. let effect = gate_effect s sound.0 event in (effect.sound, effect.within sound.1)) (start workers max) history state (start_sound workers max, rw (start_count workers max) some) run in
     record { within = both.1; empty = both.0.empty; met = both.0.met; holders = rising_differ 0 state.gate.holders both.0.holders }
 
--- ## What the history says of a state
+-- ## What the history states about a state
 
 length_first : {A : Type 0} (xs : List A) (n : ℕ) → n ≤ length xs → length (take n xs) ≡ n
 length_first [] zero within = refl
@@ -83,7 +82,7 @@ state_of_history workers max history state run =
 
 -- ## Closing
 
--- where no unit is out, all is finished
+-- if no unit is held, every URL is finished
 finished_at_zero : (state : State) → Sound state → count_of state ≡ 0 → IsFinished state
 finished_at_zero state sound none = record {
   opened = no_flag state.gate.opening (omega (arith, none));
@@ -147,13 +146,9 @@ accepted_source queue (Admit sender url place) (told.Accepted there number) m is
     by_test false other is = absurd (cc)
 accepted_source queue (Admit sender url place) _ m is = absurd (cc)
 
--- an acceptance is told of the subqueue that was asked
+-- the reply `Accepted` names the subqueue of its event
 told_place : (state : State) (sender place : ℕ) (url : List ℕ) (o : Option Subqueue) (there number : ℕ) → told.Accepted there number ≡ (admit_to state sender url place o).reply → there ≡ place
-told_place state sender place url None there number = λ e. absurd (cc)
-told_place state sender place url (Some queue) there number =
-    let P : Turn → Type 0 = λ t. told.Accepted there number ≡ t.reply → there ≡ place in
-    cond_both P (not (holds state.gate sender)) _ _ (λ _ e. absurd (cc))
-    (λ _. cond_both P (has_url queue.accepted url) _ _ (λ _ e. absurd (cc)) (λ _ e. cc))
+told_place state sender place url o there number = grind arith
 
 named_in : (workers max : ℕ) (history : List (Event × Reply)) (end : State) → Run (start workers max) history end → NamesItsSubqueue history
 named_in workers max history end run k sender queue there number url at =
@@ -226,29 +221,15 @@ message_was_admitted workers max history state run queue k found m at at_k =
     let event : Event × Reply → Event = λ x. x.0 in
     (came.0, came.1, slice_get-map event history came.0 ∙ ap (option_map event) came.3)
 
--- ## What the history of a closed run says
+-- ## What the history of a closed run states
 
 closing_accepts : (queue : ℕ) (event : Event) → accepted_by queue event told.Closed ≡ None
-closing_accepts queue (Look sender) = refl
-closing_accepts queue (Enter sender) = refl
-closing_accepts queue (Admit sender url place) = refl
-closing_accepts queue (Back sender) = refl
-closing_accepts queue EndSeeds = refl
-closing_accepts queue (Take place) = refl
-closing_accepts queue (Done place) = refl
-closing_accepts queue Close = refl
+closing_accepts queue event = grind arith
 
 closing_takes : (queue : ℕ) (event : Event) → taken_by queue event told.Closed ≡ None
-closing_takes queue (Look sender) = refl
-closing_takes queue (Enter sender) = refl
-closing_takes queue (Admit sender url place) = refl
-closing_takes queue (Back sender) = refl
-closing_takes queue EndSeeds = refl
-closing_takes queue (Take place) = refl
-closing_takes queue (Done place) = refl
-closing_takes queue Close = refl
+closing_takes queue event = grind arith
 
--- what a list without its last element, which gives nothing, gives
+-- a `filter_map` over a list is not changed by a last element that gives nothing
 filter_map-last : {X Y : Type 0} (h : X → Option Y) (xs : List X) (x : X) → h x ≡ None → filter_map h (xs ++ x ∷ []) ≡ filter_map h xs
 filter_map-last h [] x none = rw none refl
 filter_map-last h (y ∷ ys) x none = ap (cons_option (h y)) (filter_map-last h ys x none)
@@ -259,10 +240,9 @@ take_all [] (suc n) e = refl
 take_all (x ∷ xs) zero e = absurd (omega (arith, e))
 take_all (x ∷ xs) (suc n) e = ap (λ ys. x ∷ ys) (take_all xs n (omega (arith, e)))
 
--- what was taken from a subqueue with nothing left
+-- the URLs that were taken from a subqueue that has none left
 taken_whole : (o : Option Subqueue) → ((found : Subqueue) → o ≡ Some found → found.taken ≡ length found.accepted) → urls_taken o ≡ map (λ m. m.url) (messages o)
-taken_whole None all = refl
-taken_whole (Some queue) all = ap (map (λ (m : Message). m.url)) (take_all queue.accepted queue.taken (all queue refl))
+taken_whole o all = grind (arith, take_all)
 
 pub drained : (workers max : ℕ) (front back : List (Event × Reply)) (event : Event) (end : State) → Run (start workers max) (front ++ (event, told.Closed) ∷ back) end → (queue : ℕ) → taken_urls queue front ≡ accepted_urls queue front
 drained workers max front back event end run queue =
@@ -275,22 +255,11 @@ drained workers max front back event end run queue =
     sym taken ∙ said.taken ∙ whole ∙ ap (map (λ (m : Message). m.url)) (sym said.accepted ∙ accepted)
 
 closing_done : (queue : ℕ) (event : Event) → done_by queue event told.Closed ≡ false
-closing_done queue (Look sender) = refl
-closing_done queue (Enter sender) = refl
-closing_done queue (Admit sender url place) = refl
-closing_done queue (Back sender) = refl
-closing_done queue EndSeeds = refl
-closing_done queue (Take place) = refl
-closing_done queue (Done place) = refl
-closing_done queue Close = refl
+closing_done queue event = grind arith
 
--- as many are finished as were taken where nothing is being fetched
+-- if nothing is being fetched, as many URLs are finished as were taken
 done_whole : (o : Option Subqueue) → ((found : Subqueue) → o ≡ Some found → (found.busy ≡ false) × (found.taken ≤ length found.accepted)) → finished_at o ≡ length (urls_taken o)
-done_whole None all = refl
-done_whole (Some queue) all =
-    let idle : one_if queue.busy ≡ 0 = ap one_if (all queue refl).0 in
-    let as_many = length_first queue.accepted queue.taken (all queue refl).1 in
-    rw length-map (omega (arith, idle, as_many))
+done_whole o all = grind (arith, length_first, length-map)
 
 pub all_done : (workers max : ℕ) (front back : List (Event × Reply)) (event : Event) (end : State) → Run (start workers max) (front ++ (event, told.Closed) ∷ back) end → (queue : ℕ) → done_in queue front ≡ length (taken_urls queue front)
 all_done workers max front back event end run queue =
@@ -302,7 +271,7 @@ all_done workers max front back event end run queue =
     let done : done_in queue (front ++ x ∷ []) ≡ done_in queue front = rw (sum_by-append (λ (y : Event × Reply). cond (done_by queue y.0 y.1) 1 0) front (x ∷ []), closing_done queue event) (omega arith) in
     sym done ∙ said.done ∙ whole ∙ ap length (sym said.taken ∙ taken)
 
--- an accepted URL stands among the accepted URLs
+-- an accepted URL is among the accepted URLs
 accepted_among : (xs : List Message) (url : List ℕ) → list_any (λ (m : Message). bytes_eq m.url url) xs ≡ true → Contains (map (λ (m : Message). m.url) xs) url
 accepted_among [] url e = absurd (cc)
 accepted_among (x ∷ xs) url e = by_first (bytes_eq x.url url) refl (accepted_among xs url) e
@@ -313,17 +282,10 @@ accepted_among (x ∷ xs) url e = by_first (bytes_eq x.url url) refl (accepted_a
 
 -- a reply `Seen` was given by a subqueue that had accepted the URL
 seen_by : (state : State) (sender place : ℕ) (url : List ℕ) (o : Option Subqueue) → told.Seen ≡ (admit_to state sender url place o).reply → Contains (map (λ (m : Message). m.url) (messages o)) url
-seen_by state sender place url None = λ e. absurd (cc)
-seen_by state sender place url (Some queue) =
-    let P : Turn → Type 0 = λ t. told.Seen ≡ t.reply → Contains (map (λ (m : Message). m.url) queue.accepted) url in
-    cond_both P (not (holds state.gate sender)) _ _ (λ _ e. absurd (cc))
-    (λ _. cond_both P (has_url queue.accepted url) _ _ (λ seen e. accepted_among queue.accepted url seen) (λ _ e. absurd (cc)))
+seen_by state sender place url o = grind (arith, cond_both, accepted_among)
 
 pub seen_means_accepted : (workers max : ℕ) (front back : List (Event × Reply)) (sender queue : ℕ) (url : List ℕ) (end : State) → Run (start workers max) (front ++ (Admit sender url queue, told.Seen) ∷ back) end → Contains (accepted_urls queue front) url
-seen_means_accepted workers max front back sender queue url end run =
-    let parts = run_split (start workers max) front ((Admit sender url queue, told.Seen) ∷ back) end run in
-    let said = history_at workers max queue front parts.0 parts.1 in
-    rw said.accepted (seen_by parts.0 sender queue url (slice_get parts.0.subqueues queue) parts.2.1.reply_is)
+seen_means_accepted workers max front back sender queue url end run = grind (arith, run_split, history_at, seen_by)
 
 -- ## Empty
 
@@ -332,7 +294,7 @@ get_none [] n none = omega arith
 get_none (x ∷ xs) zero none = absurd (cc)
 get_none (x ∷ xs) (suc n) none = let rest = get_none xs n none in omega (arith, rest)
 
--- all that is longer than the list is the list
+-- the first n elements are the whole list if n is at least its length
 take_beyond : {A : Type 0} (xs : List A) (n : ℕ) → length xs ≤ n → take n xs ≡ xs
 take_beyond [] zero beyond = refl
 take_beyond [] (suc n) beyond = refl
@@ -341,17 +303,7 @@ take_beyond (x ∷ xs) (suc n) beyond = ap (λ ys. x ∷ ys) (take_beyond xs n (
 
 -- a reply `Empty` was given by a subqueue with nothing left
 empty_by : (state : State) (place : ℕ) (o : Option Subqueue) → told.Empty ≡ (take_from state place o).reply → urls_taken o ≡ map (λ (m : Message). m.url) (messages o)
-empty_by state place None = λ e. refl
-empty_by state place (Some queue) =
-    let P : Turn → Type 0 = λ t. told.Empty ≡ t.reply → urls_taken (Some queue) ≡ map (λ (m : Message). m.url) queue.accepted in
-    cond_both P queue.busy _ _ (λ _ e. absurd (cc)) (λ _. by_oldest (oldest queue) refl)
-  where
-    by_oldest : (first : Option Message) → oldest queue ≡ first → told.Empty ≡ (take_oldest state place queue first).reply → urls_taken (Some queue) ≡ map (λ (m : Message). m.url) queue.accepted
-    by_oldest None none e = ap (map (λ (m : Message). m.url)) (take_beyond queue.accepted queue.taken (get_none queue.accepted queue.taken none))
-    by_oldest (Some m) is e = absurd (cc)
+empty_by state place o = grind (arith, urls_taken, cond_both, take_beyond, get_none)
 
 pub empty_means_taken : (workers max : ℕ) (front back : List (Event × Reply)) (queue : ℕ) (end : State) → Run (start workers max) (front ++ (Take queue, told.Empty) ∷ back) end → taken_urls queue front ≡ accepted_urls queue front
-empty_means_taken workers max front back queue end run =
-    let parts = run_split (start workers max) front ((Take queue, told.Empty) ∷ back) end run in
-    let said = history_at workers max queue front parts.0 parts.1 in
-    rw (said.accepted, said.taken) (empty_by parts.0 queue (slice_get parts.0.subqueues queue) parts.2.1.reply_is)
+empty_means_taken workers max front back queue end run = grind (arith, run_split, history_at, empty_by)

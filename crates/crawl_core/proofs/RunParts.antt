@@ -1,5 +1,6 @@
--- Parts of a run, and what every run keeps.
-use Rattle.std.proofs.Common.{Bool, true, false, ◌||◌, eq-eqb, cond, ◌≡◌, ℕ, zero, suc, ◌+◌, ◌-◌, ◌<◌, List, [], ◌∷◌, ◌++◌, length, take, drop, nat_eq, replicate, slice_get, Some, refl, sym, ap, subst, ◌∙◌, arith, true≢false, mul-zero, zero-add}
+-- Parts of a run, and the invariants of every run.
+use Rattle.std.proofs.lemmas.Grind.{common_steps}
+use Rattle.std.proofs.Common.{Bool, true, ◌||◌, eq-eqb, ◌≡◌, ℕ, zero, suc, ◌+◌, ◌-◌, ◌<◌, List, [], ◌∷◌, ◌++◌, length, take, drop, nat_eq, replicate, slice_get, Some, refl, sym, ap, subst, ◌∙◌, arith, mul-zero, zero-add}
 use Rattle.std.specs.List.{count_by, zip}
 use Rattle.std.proofs.lemmas.List.{length-replicate}
 use Rattle.std.proofs.lemmas.List.Sums.{sum_by-cons}
@@ -13,7 +14,7 @@ use Rattle.crawl_core.specs.GateSide.{holds}
 use Rattle.crawl_core.specs.State.{State, start, count_of}
 use Rattle.crawl_core.specs.Step.{Step, turn}
 use Rattle.crawl_core.specs.Run.{Run, IsRun}
-use Rattle.crawl_core.specs.History.{comes_out, comes_back, told_count, AreOut, TellsUnits, says_closed, was_closed, TellsClosing}
+use Rattle.crawl_core.specs.History.{comes_out, comes_back, told_count, AreOut, TellsUnits, was_closed, TellsClosing}
 use Rattle.crawl_core.proofs.Effects.{take_one_more}
 use Rattle.crawl_core.proofs.RunSteps.{Run-push}
 use Rattle.crawl_core.proofs.Sound.{Sound, gate_effect, or_nothing, some_is}
@@ -29,13 +30,13 @@ slice_get-drop xs zero k = rw (zero-add k) refl
 slice_get-drop [] (suc n) k = refl
 slice_get-drop (x ∷ xs) (suc n) k = let sum : suc n + k ≡ suc (n + k) = omega arith in slice_get-drop xs n k ∙ sym (ap (slice_get (x ∷ xs)) sum)
 
--- a later place of a list, from what comes after an earlier one
+-- a later index of a list, counted from an earlier one
 pub later_place : {A : Type 0} (xs : List A) (i j : ℕ) (x : A) → i < j → slice_get xs j ≡ Some x → slice_get (drop (suc i) xs) (j - suc i) ≡ Some x
 later_place xs i j x below at = let place : suc i + (j - suc i) ≡ j = omega arith in slice_get-drop xs (suc i) (j - suc i) ∙ ap (slice_get xs) place ∙ at
 
 -- ## Parts of a run
 
--- what each turn keeps, a run keeps
+-- a property that each turn keeps is kept by a run
 pub run_keeps : (P : State → Type 0) → ((state : State) → P state → (event : Event) → P (turn state event).state) → (old : State) (history : List (Event × Reply)) (new : State) → P old → Run old history new → P new
 run_keeps P keeps old [] new holds run = subst P (sym run) holds
 run_keeps P keeps old (x ∷ xs) new holds run = run_keeps P keeps run.0 xs new (subst P (sym run.1.state_is) (keeps old holds x.0)) run.2
@@ -50,22 +51,8 @@ pub record Moment (old : State) (history : List (Event × Reply)) (place : ℕ) 
 
 pub run_at : (old : State) (history : List (Event × Reply)) (place : ℕ) (x : Event × Reply) (new : State) → Run old history new → slice_get history place ≡ Some x → Moment old history place x new
 run_at old [] place x new run at = absurd (cc)
-run_at old (y ∷ ys) zero x new run at = record {
-  before = old;
-  after = run.0;
-  came = refl;
-  step = subst (λ z. Step old z.0 z.1 run.0) (some_is at) run.1;
-  goes = run.2;
-}
-run_at old (y ∷ ys) (suc place) x new run at =
-    let rest = run_at run.0 ys place x new run.2 at in
-    record {
-      before = rest.before;
-      after = rest.after;
-      came = (run.0, run.1, rest.came);
-      step = rest.step;
-      goes = rest.goes;
-    }
+run_at old (y ∷ ys) zero x new run at = grind (arith, some_is)
+run_at old (y ∷ ys) (suc place) x new run at = grind (arith, run_at run.0 ys place x new run.2 at)
 
 -- a run of two parts
 pub run_split : (old : State) (front back : List (Event × Reply)) (new : State) → Run old (front ++ back) new → (mid : State) × Run old front mid × Run mid back new
@@ -80,18 +67,7 @@ get-replicate (suc n) x zero y at = sym (some_is at)
 get-replicate (suc n) x (suc i) y at = get-replicate n x i y at
 
 pub start_sound : (workers max : ℕ) → Sound (start workers max)
-start_sound workers max = record {
-  empty = λ closed. absurd (true≢false (sym closed));
-  met = λ _. refl;
-  holders = tt;
-  words = tt;
-  queues = λ place queue at. rw (get-replicate workers _ place queue at) (record {
-    within = omega arith;
-    distinct = λ i j m n at_i at_j same. absurd (cc);
-    numbered = λ k m at_k. absurd (cc);
-    begun = omega arith;
-  });
-}
+start_sound workers max = grind (arith, get-replicate)
 
 pub run_sound : (workers max : ℕ) (history : List (Event × Reply)) (state : State) → Run (start workers max) history state → Sound state
 run_sound workers max history state run =
@@ -105,30 +81,20 @@ same_runs old [] (r ∷ rs) others new new' n m run other = absurd (omega (arith
 same_runs old [] [] (r ∷ rs) new new' n m run other = absurd (omega (arith, m))
 same_runs old (e ∷ es) [] others new new' n m run other = absurd (omega (arith, n))
 same_runs old (e ∷ es) (r ∷ rs) [] new new' n m run other = absurd (omega (arith, m))
-same_runs old (e ∷ es) (r ∷ rs) (q ∷ qs) new new' n m run other =
-    let reply : r ≡ q = run.1.reply_is ∙ sym other.1.reply_is in
-    let next : other.0 ≡ run.0 = other.1.state_is ∙ sym run.1.state_is in
-    let rest = same_runs run.0 es rs qs new new' (omega (arith, n)) (omega (arith, m)) run.2 (rw next at other.2) in
-    rw (reply, rest) refl
+same_runs old (e ∷ es) (r ∷ rs) (q ∷ qs) new new' n m run other = grind (arith, same_runs run.0 es rs qs new new')
 
 pub one_run : (workers max : ℕ) (events : List Event) (replies others : List Reply) → IsRun workers max events replies → IsRun workers max events others → replies ≡ others
-one_run workers max events replies others run other =
-    same_runs (start workers max) events replies others run.end other.end run.as_many other.as_many run.run other.run
+one_run workers max events replies others run other = grind (arith, same_runs)
 
 -- ## The units
 
 pub start_count : (workers max : ℕ) → count_of (start workers max) ≡ 1
 start_count workers max = rw (sum_by-replicate unfinished workers empty_subqueue, mul-zero workers) refl
 
--- the units out change by those that came out and those that came back
+-- the number of units held changes by the units that were taken and given back
 run_units : (old : State) (history : List (Event × Reply)) (new : State) → Sound old → Run old history new → count_of new + count_by (λ (x : Event × Reply). comes_back x.1) history ≡ count_of old + count_by (λ (x : Event × Reply). comes_out x.1) history
 run_units old [] new sound run = rw run refl
-run_units old (x ∷ xs) new sound run =
-    let effect = gate_effect old sound x.0 in
-    let after = subst Sound (sym run.1.state_is) effect.sound in
-    let here : count_of run.0 + cond (comes_back x.1) 1 0 ≡ count_of old + cond (comes_out x.1) 1 0 = rw (run.1.state_is, run.1.reply_is) effect.units in
-    let rest = run_units run.0 xs new after run.2 in
-    rw (sum_by-cons (λ (y : Event × Reply). cond (comes_back y.1) 1 0) x xs, sum_by-cons (λ (y : Event × Reply). cond (comes_out y.1) 1 0) x xs) (omega (arith, here, rest))
+run_units old (x ∷ xs) new sound run = grind (arith, common_steps, gate_effect, sum_by-cons, run_units run.0 xs new)
 
 pub units_out_of : (workers max : ℕ) (history : List (Event × Reply)) (state : State) → Run (start workers max) history state → AreOut (count_of state) history
 units_out_of workers max history state run =
@@ -148,17 +114,11 @@ tells_units workers max events replies run k count event reply at told_is =
 -- ## Closed or not
 
 or_three : (a b c : Bool) → ((a || b) || c) ≡ (a || (b || c))
-or_three true b c = refl
-or_three false b c = refl
+or_three a b c = grind arith
 
 run_closes : (old : State) (history : List (Event × Reply)) (new : State) → Sound old → Run old history new → new.gate.closed ≡ (old.gate.closed || was_closed history)
 run_closes old [] new sound run = rw run (or_nothing old.gate.closed)
-run_closes old (x ∷ xs) new sound run =
-    let effect = gate_effect old sound x.0 in
-    let after = subst Sound (sym run.1.state_is) effect.sound in
-    let here : run.0.gate.closed ≡ (old.gate.closed || says_closed x.1) = rw (run.1.state_is, run.1.reply_is) effect.closing in
-    let rest = run_closes run.0 xs new after run.2 in
-    rest ∙ ap (λ b. b || was_closed xs) here ∙ or_three old.gate.closed (says_closed x.1) (was_closed xs)
+run_closes old (x ∷ xs) new sound run = grind (arith, gate_effect, or_three, run_closes run.0 xs new)
 
 pub closed_of : (workers max : ℕ) (history : List (Event × Reply)) (state : State) → Run (start workers max) history state → state.gate.closed ≡ was_closed history
 closed_of workers max history state run = run_closes (start workers max) history state (start_sound workers max) run

@@ -23,7 +23,7 @@ zip_push [] (b ∷ ys) x y e = absurd (omega (arith, e))
 zip_push (a ∷ xs) [] x y e = absurd (omega (arith, e))
 zip_push (a ∷ xs) (b ∷ ys) x y e = ap (λ zs. (a, b) ∷ zs) (zip_push xs ys x y (omega (arith, e)))
 
--- a run continues by a step
+-- a run continues by one step
 pub Run-push : (old : State) (xs : List (Event × Reply)) (mid : State) (x : Event × Reply) (new : State) → Run old xs mid → Step mid x.0 x.1 new → Run old (xs ++ x ∷ []) new
 Run-push old [] mid x new run step = (new, rw (← run) step, refl)
 Run-push old (first ∷ xs) mid x new run step = (run.0, run.1, Run-push run.0 xs mid x new run.2 step)

@@ -4,7 +4,7 @@ use Rattle.std.specs.Ordering.{nat_cmp}
 use Rattle.std.specs.BTreeMap.{BTreeMap, Updates}
 use Rattle.crawl_core.specs.Kept.{number_at}
 
--- with one more of a sender, and one text more, no sender has more than there are
+-- after one more URL of a sender, no sender has more URLs than there are URLs
 pub few_after : (m n : BTreeMap ℕ ℕ) (sender number count : ℕ) → Updates nat_cmp m n sender (Some (number + 1)) → number ≡ number_at m.entries sender
     → ((s : ℕ) → number_at m.entries s ≤ count) → (s : ℕ) → number_at n.entries s ≤ count + 1
 few_after m n sender number count updates is few s = grind arith

@@ -28,7 +28,7 @@ use Rattle.crawl_core.specs.Moves.{Moves, Move, move, by_gate, counted, admit_to
 use Rattle.crawl_core.specs.Shows.{Shows, ShowsQueue, Makes}
 use Rattle.crawl_core.proofs.Sets.{lookup-insert_entry}
 
--- R of what two lists have at a place: both have an element there, or neither
+-- R of the elements of two lists at an index: either both have an element there, or neither
 abbrev pub Both : {A B : Type 0} → (A → B → Type 0) → Option A → Option B → Type 0
 Both R None None = Unit {0}
 Both R (Some a) (Some b) = R a b
@@ -53,13 +53,13 @@ AllZip-replicate : {A B : Type 0} (R : A → B → Type 0) (n : ℕ) (x : A) (y 
 AllZip-replicate R zero x y r = tt
 AllZip-replicate R (suc n) x y r = (r, AllZip-replicate R n x y r)
 
--- what lies from a place on begins with the element there
+-- the rest of a list from an index on begins with the element at that index
 pub drop-slice_get : {A : Type 0} (xs : List A) (n : ℕ) → MatchOption (slice_get xs n) (drop n xs ≡ []) (λ x. drop n xs ≡ x ∷ drop (suc n) xs)
 drop-slice_get {A} [] n = drop_of_length-le {A = A} [] (omega arith)
 drop-slice_get (x ∷ xs) zero = refl
 drop-slice_get (x ∷ xs) (suc n) = drop-slice_get xs n
 
--- what is kept of a subqueue has as many URLs out as the subqueue
+-- the kept form of a subqueue has as many unfinished URLs as the subqueue
 outstanding-unfinished : (kept : KeptQueue) (queue : Subqueue) → ShowsQueue kept queue → outstanding kept ≡ unfinished queue
 outstanding-unfinished kept queue shown = grind (arith, length-map, length-drop)
 
@@ -69,7 +69,7 @@ sums [] (q ∷ qs) z = absurd z
 sums (k ∷ ks) [] z = absurd z
 sums (k ∷ ks) (q ∷ qs) z = let first = outstanding-unfinished k q z.0 in let rest = sums ks qs z.1 in rw (sum_by-cons outstanding k ks, sum_by-cons unfinished q qs) (omega (arith, first, rest))
 
--- ## What an event does to one subqueue
+-- ## The effect of an event on one subqueue
 
 is_at_number : (s sender : ℕ) → is_at (nat_cmp s) sender ≡ nat_eq sender s
 is_at_number s sender = grind (arith, nat_tests)
@@ -110,11 +110,11 @@ finished_shows kept queue shown = grind arith
 
 -- ## The table
 
--- a state, with these queues in the place of its subqueues
+-- a state with these queues instead of its subqueues
 abbrev pub keeping : List KeptQueue → State → Kept
 keeping queues state = record { gate = state.gate; queues = queues }
 
--- the move is the step's: the same reply, and what is kept is the state's
+-- the move is the step: the same reply, and the kept state is that of the new state
 pub record Agrees (made : Move) (done : Turn) : Type 0 where
   pub queues : List KeptQueue
   pub shown : AllZip ShowsQueue queues done.state.subqueues
@@ -123,15 +123,15 @@ pub record Agrees (made : Move) (done : Turn) : Type 0 where
 agrees_if : (b : Bool) (made made' : Move) (done done' : Turn) → Agrees made done → Agrees made' done' → Agrees (if b then made else made') (if b then done else done')
 agrees_if b made made' done done' first second = grind arith
 
--- nothing but the reply, which is the same
+-- only a reply, which is the same
 unchanged : (queues : List KeptQueue) (state : State) → AllZip ShowsQueue queues state.subqueues → (reply : Reply) → Agrees (record { reply = reply; kept = keeping queues state }) (record { reply = reply; state = state })
 unchanged queues state shown reply = record { queues = queues; shown = shown; is_move = refl }
 
--- a count, of what is left
+-- a count of the rest
 counted_agrees : (queues : List KeptQueue) (state : State) → AllZip ShowsQueue queues state.subqueues → Agrees (counted (keeping queues state)) (step.counted state)
 counted_agrees queues state shown = record { queues = queues; shown = shown; is_move = rw (sums queues state.subqueues shown) refl }
 
--- a step of the gate, which is told how many messages are not done
+-- a step of the gate, which gets the number of unfinished messages
 gate_agrees : (queues : List KeptQueue) (state : State) → AllZip ShowsQueue queues state.subqueues → (done : ℕ → GateTurn) → Agrees (by_gate (keeping queues state) (done (sum_by outstanding queues))) (step.by_gate state (done (sum_by unfinished state.subqueues)))
 gate_agrees queues state shown done = record { queues = queues; shown = shown; is_move = rw (sums queues state.subqueues shown) refl }
 

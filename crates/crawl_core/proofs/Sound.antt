@@ -1,5 +1,5 @@
 -- The invariants, and that each step keeps them.
-use Rattle.std.proofs.Common.{unwrap_or, ◌≡◌, ℕ, zero, suc, ◌+◌, ◌≤◌, Bool, true, false, cond, not, ◌&&◌, ◌||◌, List, [], ◌∷◌, length, nat_eq, slice_get, Option, Some, None, refl, sym, ap, subst, ◌∙◌, arith, eqb-true, true≢false, Ordering}
+use Rattle.std.proofs.Common.{unwrap_or, ◌≡◌, ℕ, zero, suc, ◌+◌, ◌≤◌, Bool, true, false, cond, not, ◌||◌, List, [], ◌∷◌, length, nat_eq, slice_get, Option, Some, None, refl, sym, ap, subst, ◌∙◌, arith, true≢false, Ordering}
 use Rattle.std.proofs.lemmas.Bool.Decides.{nat_tests}
 use Rattle.std.specs.List.{list_any, list_all}
 use Rattle.std.specs.Ordering.{nat_cmp}
@@ -31,7 +31,7 @@ use Rattle.crawl_core.proofs.Places.{sum_at, set_cases, push_cases, length-slice
 use Rattle.crawl_core.proofs.Holders.{Rising, Rising-insert_key, Rising-remove_key, RisingKeys, RisingKeys-insert_entry, RisingKeys-remove_entry}
 use Rattle.crawl_core.proofs.Effects.{cond_both}
 
--- what every state of a run meets, but that the count is at most the maximum
+-- what is true of every state of a run, except that the count is at most the maximum
 pub record Sound (state : State) : Type 0 where
   pub empty : state.gate.closed ≡ true → count_of state ≡ 0
   pub met : state.gate.closed ≡ false → list_all (λ entry. not entry.1.closed) state.gate.remembered ≡ true
@@ -40,7 +40,7 @@ pub record Sound (state : State) : Type 0 where
   pub queues : EachSubqueue SubqueueInvariant state
 
 -- a turn keeps the invariants, the maximum and the number of subqueues, and a closed gate stays closed and quiet; and the
--- number of units changes by those that the reply tells of, and is the one that it tells
+-- number of units changes as the reply reports, and is the number that it reports
 pub record GateEffect (old : State) (done : Turn) : Type 0 where
   pub sound : Sound done.state
   pub within : count_of old ≤ old.gate.max → count_of done.state ≤ done.state.gate.max
@@ -55,14 +55,11 @@ pub record GateEffect (old : State) (done : Turn) : Type 0 where
 pub or_nothing : (b : Bool) → b ≡ (b || false)
 or_nothing b = grind arith
 
-or_always : (b : Bool) → true ≡ (b || true)
-or_always b = grind arith
-
 -- a reply that changes nothing
 still : (state : State) → Sound state → (reply : Reply) → is_quiet reply ≡ true → (reply ≡ told.Closed → ⊥) → says_closed reply ≡ false → comes_back reply ≡ comes_out reply → ((count : ℕ) → told_count reply ≡ Some count → count_of state ≡ count) → GateEffect state (record { reply = reply; state = state })
 still state sound reply quiet other open_still even tells = grind arith
 
--- one that tells of no unit either
+-- a reply that changes nothing and reports no unit
 abbrev is_silent : Reply → Bool
 is_silent told.Lost = true
 is_silent told.Seen = true
@@ -90,12 +87,7 @@ list_all-insert_entry {X} p R (e ∷ es) k v all here = grind (arith, nat_tests,
 
 list_all-remove_entry : {X : Type 0} (p : X → Bool) (test : ℕ → Bool) (entries : List (ℕ × X)) → list_all (λ e. p e.1) entries ≡ true → list_all (λ e. p e.1) (remove_entry test entries) ≡ true
 list_all-remove_entry p test [] all = refl
-list_all-remove_entry {X} p test (e ∷ es) all = at_first (test e.0) (p e.1) refl all (list_all-remove_entry p test es)
-  where
-    at_first : (found b : Bool) → p e.1 ≡ b → (b && list_all (λ e. p e.1) es) ≡ true → (list_all (λ e. p e.1) es ≡ true → list_all (λ e. p e.1) (remove_entry test es) ≡ true) → list_all (λ e. p e.1) (cond found es (e ∷ remove_entry test es)) ≡ true
-    at_first true true first rest more = rest
-    at_first false true first rest more = rw first (more rest)
-    at_first found false first rest more = absurd (cc)
+list_all-remove_entry {X} p test (e ∷ es) all = grind (arith, list_all-remove_entry p test es)
 
 -- ## Senders that hold a unit
 
@@ -103,13 +95,13 @@ pub length-insert_key : (holders : List ℕ) (k : ℕ) → list_any (is_at (nat_
 length-insert_key [] k absent = refl
 length-insert_key (x ∷ xs) k absent = grind (arith, nat_tests, length-insert_key xs)
 
--- one that holds a unit is counted
+-- a sender that holds a unit is counted
 pub holder_counts : (gate : GateSide) (messages sender : ℕ) → holds gate sender ≡ true → units_out (let_go gate sender) messages + 1 ≡ units_out gate messages
 holder_counts gate messages sender held = let fewer = length-remove_key (is_at (nat_cmp sender)) gate.holders held in omega (arith, fewer)
 
 -- ## One subqueue of a closed gate
 
--- nothing is unfinished in it where nothing is out
+-- no URL is unfinished in it if no unit is held
 pub none_unfinished : (state : State) (place : ℕ) (queue : Subqueue) → slice_get state.subqueues place ≡ Some queue → count_of state ≡ 0 → unfinished queue ≡ 0
 none_unfinished state place queue at none =
     let sum = sum_at unfinished state.subqueues place queue empty_subqueue at in
@@ -117,7 +109,7 @@ none_unfinished state place queue at none =
 
 -- ## The gate's turns
 
--- what a turn of the gate alone has to keep
+-- what a turn that only changes the gate must keep
 abbrev GateKeeps : State → GateTurn → Type 0
 GateKeeps state done = GateEffect state (by_gate state done)
 
@@ -156,27 +148,7 @@ fewer_sound : (state after : State) → Sound state → count_of after + 1 ≡ c
 fewer_sound state after sound fewer closed_is max_is remembered_is holders as_many queues = grind arith
 
 close_sound : (state : State) → Sound state → GateKeeps state (close state.gate (unfinished_in state))
-close_sound state sound =
-    cond_both (GateKeeps state) (state.gate.closed || nat_eq (count_of state) 0) _ _
-    (λ may. record {
-      sound = record { empty = λ _. closing_empty state sound may; met = λ opened. absurd (true≢false opened); holders = sound.holders; words = sound.words; queues = sound.queues };
-      within = λ within. within;
-      closes = λ _. refl;
-      closing = or_always state.gate.closed;
-      stays = λ _. (refl, refl);
-      max = refl;
-      as_many = refl;
-      units = refl;
-      tells = λ count is. closing_empty state sound may ∙ some_is is;
-    })
-    (λ _. still state sound (told.Pending (count_of state)) refl (λ e. absurd (cc)) refl refl (λ count is. some_is is))
-  where
-    closing_empty : (state : State) → Sound state → (state.gate.closed || nat_eq (count_of state) 0) ≡ true → count_of state ≡ 0
-    closing_empty state sound may = by_flag state.gate.closed refl may
-      where
-        by_flag : (b : Bool) → state.gate.closed ≡ b → (b || nat_eq (count_of state) 0) ≡ true → count_of state ≡ 0
-        by_flag true closed may = sound.empty closed
-        by_flag false opened may = eqb-true (count_of state) 0 may
+close_sound state sound = grind arith
 
 look_sound : (state : State) → Sound state → (sender : ℕ) → GateEffect state (turn state (Look sender))
 look_sound state sound sender = record {

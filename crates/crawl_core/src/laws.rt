@@ -18,8 +18,8 @@ pub fn one_run()
     ensures one { (workers max : ℕ) (events : List Event) (replies others : List Reply) → IsRun workers max events replies → IsRun workers max events others → replies ≡ others }
 {}
 
-/// First in, first out, once: for each subqueue the k-th URL taken is the k-th accepted, no URL is accepted twice, the
-/// messages of one sender leave with the numbers 0, 1, 2, .. in this order, and one fetch is on at a time.
+/// First in, first out, once: in each subqueue the k-th URL taken is the k-th accepted, no URL is accepted twice, the
+/// messages of a sender leave with the numbers 0, 1, 2, .. in this order, and there is one fetch at a time.
 pub fn taken_once_in_order()
     ensures in_order { (workers max : ℕ) (events : List Event) (replies : List Reply) → IsRun workers max events replies → TakesInOrder (zip events replies) }
     ensures once { (workers max : ℕ) (events : List Event) (replies : List Reply) → IsRun workers max events replies → AcceptsOnce (zip events replies) }
@@ -31,8 +31,8 @@ pub fn taken_once_in_order()
     ensures where_admitted { (workers max : ℕ) (events : List Event) (replies : List Reply) → IsRun workers max events replies → AssignsEachUrl events → TakesWhereAdmitted events (zip events replies) }
 {}
 
-/// Nothing is made up: an acceptance names the subqueue that its event names; and each URL that a subqueue has accepted,
-/// and each that was taken from it, was admitted to it by one of the events.
+/// Nothing is invented: the reply `Accepted` names the subqueue of its event, and each URL that a subqueue has accepted or
+/// that was taken from it was admitted to it by one of the events.
 pub fn admitted_before()
     ensures named { (workers max : ℕ) (events : List Event) (replies : List Reply) → IsRun workers max events replies → NamesItsSubqueue (zip events replies) }
     ensures accepted { (workers max : ℕ) (history : List (Event × Reply)) (state : State) → Run (start workers max) history state → (queue k : ℕ) (found : Subqueue) (m : Message) → slice_get state.subqueues queue ≡ Some found → slice_get found.accepted k ≡ Some m → IsAdmitted (map (λ x. x.0) history) queue m.url }
@@ -63,8 +63,8 @@ pub fn closed_for_good()
     ensures { (workers max : ℕ) (events : List Event) (replies : List Reply) → IsRun workers max events replies → StaysClosed (zip events replies) }
 {}
 
-/// Every state of a run has the gate's invariant and, in each subqueue, the subqueue's; it has the run's numbers, and it is
-/// what the history says. So are the counts in the replies, and whether a look finds the gate closed.
+/// Every state of a run meets the gate's invariant and, in each subqueue, the subqueue's. It has the run's limits, and its
+/// history determines it. The same is true of the counts in the replies, and of whether a look finds the gate closed.
 pub fn invariants_in_runs()
     ensures gate { (workers max : ℕ) (history : List (Event × Reply)) (state : State) → HasRoom max → Run (start workers max) history state → GateInvariant state.gate (count_of state) }
     ensures subqueues { (workers max : ℕ) (history : List (Event × Reply)) (state : State) → Run (start workers max) history state → EachSubqueue SubqueueInvariant state }

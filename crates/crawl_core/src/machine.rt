@@ -100,7 +100,7 @@ impl Core {
     /// One step: the reply to the event.
     ///
     /// # Errors
-    /// Out of memory, if an allocation failed; the machine is then as it was. Only `Look`, `Enter` and `Admit` need memory.
+    /// Out of memory. The machine is then unchanged. Only `Look`, `Enter` and `Admit` need memory.
     #[tactic(auto, using(crate::proofs::Simulation::makes))]
     pub fn step(&mut self, event: &Event) -> Result<Reply, NoMemory>
         ensures step { IfOk result (λ reply. Makes self.old event.now reply self.new) }

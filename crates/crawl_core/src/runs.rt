@@ -13,7 +13,7 @@ use std::alloc::Global;
 /// A new frontier's replies to these events, one for each.
 ///
 /// # Errors
-/// Those of [`Core::new`]; `NoMemory` also where a step or a reply found no room.
+/// Those of [`Core::new`], and `NoMemory` if a step or a reply runs out of memory.
 pub fn run(alloc: Global, workers: u32, max: u64, events: &[Event]) -> Result<Vec<Reply>, CoreError>
     ensures run { IfOk result (λ replies. IsRun workers max events.now replies.items) }
     ensures limits { OnOk result (AreLimits workers max) }

@@ -1,10 +1,11 @@
--- Lists of entries, one entry longer or cut in two.
-use Rattle.std.proofs.Common.{◌≡◌, ℕ, ◌+◌, Bool, true, false, cond, eqb, suc, ◌≤◌, length, List, [], ◌∷◌, ◌++◌, refl, sym, ap, ◌∙◌, subst, append_assoc, arith}
+-- Lists of entries, with one more entry or cut in two.
+use Rattle.std.proofs.lemmas.Grind.{common_steps}
+use Rattle.std.proofs.Common.{◌≡◌, ℕ, ◌+◌, cond, eqb, ◌≤◌, length, List, [], ◌∷◌, ◌++◌, sym, subst, append_assoc, arith, Bool, true, false, refl, ap, ◌∙◌}
 use Rattle.std.proofs.lemmas.List.{append-nil}
-use Rattle.std.proofs.lemmas.Bool.Decides.{nat_tests}
 use Rattle.crawl_queues.specs.declared.entry.Entry.{Entry}
 use Rattle.crawl_queues.specs.Entries.{MayFollow, KeepsRule, count_of, entries_of}
 use Rattle.crawl_queues.specs.Books.{Numbered}
+use Rattle.std.proofs.lemmas.Bool.Decides.{nat_tests}
 
 module _ (n q : ℕ) where
   pub rule-snoc : (before xs : List Entry) (e : Entry) → KeepsRule n q before xs → MayFollow n q (before ++ xs) e → KeepsRule n q before (xs ++ e ∷ [])
@@ -22,11 +23,7 @@ count_of-snoc s (x ∷ xs) e = let r = count_of-snoc s xs e in omega arith
 
 pub count_of-le : (s : ℕ) (xs : List Entry) → count_of s xs ≤ length xs
 count_of-le s [] = omega arith
-count_of-le s (x ∷ xs) = let r = count_of-le s xs in by_case (eqb x.sender s) r
-  where
-    by_case : (b : Bool) → count_of s xs ≤ length xs → cond b 1 0 + count_of s xs ≤ suc (length xs)
-    by_case true r = omega arith
-    by_case false r = omega arith
+count_of-le s (x ∷ xs) = grind (arith, common_steps, count_of-le s xs)
 
 -- the entries of a sender in a list that keeps its rule
 pub rule-numbered : (n q id : ℕ) (before es : List Entry) → KeepsRule n q before es → Numbered id (count_of id before) (entries_of id es)

@@ -1,18 +1,18 @@
 -- The laws of a subqueue.
-use Rattle.std.proofs.Common.{◌≡◌, ◌≢◌, ℕ, zero, suc, ◌<◌, Bool, true, false, true≢false, List, [], ◌∷◌, ◌++◌, length, take, set, Some, slice_get, refl, sym, ap, ◌∙◌, subst, ⊎_elim, arith, append_assoc}
-use Rattle.std.specs.Prelude.{bytes_eq, ◌||◌}
+use Rattle.std.proofs.lemmas.Grind.{common_steps}
+use Rattle.std.proofs.Common.{◌≡◌, ◌≢◌, ℕ, zero, suc, ◌<◌, true, List, [], ◌∷◌, ◌++◌, take, set, Some, slice_get, refl, ap, arith, true≢false, length, sym, ◌∙◌, subst, ⊎_elim, append_assoc}
 use Rattle.std.proofs.lemmas.List.{append-nil}
 use Rattle.std.proofs.lemmas.Bool.{cases_order}
 use Rattle.std.proofs.lemmas.Slice.Eq.{bytes_eq-Decides}
 use lib.ListN.{get_elem?}
 use Rattle.crawl_queues.specs.declared.entry.Entry.{Entry}
-use Rattle.crawl_queues.specs.declared.entry.Message.{Message}
 use Rattle.crawl_queues.specs.declared.rule.PassView.{PassView}
 use Rattle.crawl_queues.specs.Entries.{MayFollow, KeepsRule, has_url}
 use Rattle.crawl_queues.specs.Rule.{SubqueueInvariant, pushing, popping, undivided, reunited, plain}
-use Rattle.crawl_queues.specs.History.{IsAcceptedList, Moment, SubqueueStep, ListsMove, settles, divides, pushes, pops, finds_nothing, takes_in, IsHistory, first_moment, AllKept}
+use Rattle.crawl_queues.specs.History.{IsAcceptedList, Moment, SubqueueStep, ListsMove, settles, divides, IsHistory, first_moment, AllKept, pushes, pops, finds_nothing, takes_in}
 use Rattle.crawl_queues.proofs.Entries.{rule-numbered}
 use Rattle.crawl_queues.proofs.Passing as pass
+use Rattle.crawl_queues.specs.declared.entry.Message.{Message}
 
 -- the k-th entry may follow those before it
 rule-get : (n q : ℕ) (before es : List Entry) (k : ℕ) (e : Entry) → KeepsRule n q before es → slice_get es k ≡ Some e → MayFollow n q (before ++ take k es) e
@@ -27,19 +27,8 @@ rule-get n q before (x ∷ xs) (suc k) e rule at =
 has_url-get : (es : List Entry) (j k : ℕ) (a : Entry) → j < k → slice_get es j ≡ Some a → has_url a.url (take k es) ≡ true
 has_url-get [] j k a lt at = absurd (cc (at))
 has_url-get (x ∷ xs) j zero a lt at = absurd (omega arith)
-has_url-get (x ∷ xs) zero (suc k) a lt at =
-    let same : x ≡ a = cc in
-    let equal : bytes_eq x.url a.url ≡ true = (bytes_eq-Decides x.url a.url).1 (ap (λ e. e.url) same) in
-    first (bytes_eq x.url a.url) (has_url a.url (take k xs)) equal
-  where
-    first : (b c : Bool) → b ≡ true → (b || c) ≡ true
-    first true c e = refl
-    first false c e = absurd (true≢false (sym e))
-has_url-get (x ∷ xs) (suc j) (suc k) a lt at = later (bytes_eq x.url a.url) (has_url a.url (take k xs)) (has_url-get xs j k a (omega arith) at)
-  where
-    later : (b c : Bool) → c ≡ true → (b || c) ≡ true
-    later true c e = refl
-    later false c e = e
+has_url-get (x ∷ xs) zero (suc k) a lt at = grind (arith, common_steps, bytes_eq-Decides)
+has_url-get (x ∷ xs) (suc j) (suc k) a lt at = grind (arith, common_steps, has_url-get xs j k a)
 
 pub accepted_lists : (workers q : ℕ) (es : List Entry) → KeepsRule workers q [] es → IsAcceptedList workers q es
 accepted_lists workers q es rule = record {

@@ -1,22 +1,21 @@
--- What the lines of a log say as the lists that are known grow, and with one line more.
-use Rattle.std.proofs.Common.{◌≡◌, ℕ, zero, suc, List, [], ◌∷◌, ◌++◌, set, Some, slice_get, refl, sym, ap, ◌∙◌}
-use Rattle.std.specs.Prelude.{slice_index_or}
+-- What the lines of a log state after the known lists have grown, and after one more line.
+use Rattle.std.proofs.lemmas.Grind.{common_steps}
+use Rattle.std.proofs.Common.{◌≡◌, ℕ, zero, suc, List, [], ◌∷◌, ◌++◌, set, Some, slice_get, refl, ap, ◌∙◌, arith, sym}
 use Rattle.std.proofs.lemmas.Option.{get_or_from_slice_get}
 use Rattle.crawl_queues.specs.declared.entry.Entry.{Entry}
 use Rattle.crawl_queues.specs.declared.log.LogLine.{LogLine}
-use Rattle.crawl_queues.specs.Growing.{no_entry}
 use Rattle.crawl_queues.specs.Logs.{entry_at, says, line_of, log_of, Has, AreThere, AllStay}
+use Rattle.std.specs.Prelude.{slice_index_or}
+use Rattle.crawl_queues.specs.Growing.{no_entry}
 
 pub entry_there : (lists : List (List Entry)) (q i : ℕ) (e : Entry) → Has lists q i e → entry_at lists q i ≡ e
 entry_there lists q i e has =
     ap (λ (es : List Entry). slice_index_or es i no_entry) (get_or_from_slice_get lists q has.0 [] has.1) ∙ get_or_from_slice_get has.0 i e no_entry has.2
 
 has_stays : (before after : List (List Entry)) (q i : ℕ) (e : Entry) → AllStay before after → Has before q i e → Has after q i e
-has_stays before after q i e stay has =
-    let now = stay q has.0 has.1 in
-    (now.0, now.1, now.2 i e has.2)
+has_stays before after q i e stay has = grind (arith, common_steps)
 
--- a line says as much of lists that have all that was known
+-- a line is also true of lists that contain all known entries
 line_stays : (before after : List (List Entry)) (l : LogLine) → AllStay before after → ((e : Entry) × Has before l.queue l.index e) → line_of after l ≡ line_of before l
 line_stays before after l stay there =
     ap (says l) (entry_there after l.queue l.index there.0 (has_stays before after l.queue l.index there.0 stay there.1) ∙ sym (entry_there before l.queue l.index there.0 there.1))
@@ -27,14 +26,13 @@ log_stays before after (l ∷ ls) stay there = λ i. line_stays before after l s
 
 pub there_stays : (before after : List (List Entry)) (ls : List LogLine) → AllStay before after → AreThere before ls → AreThere after ls
 there_stays before after [] stay there = tt
-there_stays before after (l ∷ ls) stay there =
-    ((there.0.0, has_stays before after l.queue l.index there.0.0 stay there.0.1), there_stays before after ls stay there.1)
+there_stays before after (l ∷ ls) stay there = grind (arith, common_steps, has_stays, there_stays before after ls stay there.1)
 
 log_snoc : (lists : List (List Entry)) (ls : List LogLine) (l : LogLine) → log_of lists (ls ++ l ∷ []) ≡ log_of lists ls ++ line_of lists l ∷ []
 log_snoc lists [] l = refl
 log_snoc lists (x ∷ xs) l = ap (λ t. line_of lists x ∷ t) (log_snoc lists xs l)
 
--- a further line says what is at its index
+-- one more line states what is at its index
 pub line_more : (lists : List (List Entry)) (ls : List LogLine) (l : LogLine) (e : Entry) → Has lists l.queue l.index e → log_of lists (ls ++ l ∷ []) ≡ log_of lists ls ++ says l e ∷ []
 line_more lists ls l e has = log_snoc lists ls l ∙ ap (λ x. log_of lists ls ++ says l x ∷ []) (entry_there lists l.queue l.index e has)
 
@@ -42,7 +40,7 @@ pub there_more : (lists : List (List Entry)) (ls : List LogLine) (l : LogLine) (
 there_more lists [] l e there has = ((e, has), tt)
 there_more lists (x ∷ xs) l e there has = (there.0, there_more lists xs l e there.1 has)
 
--- what was written at its index
+-- an element that was written at its own index
 pub set_same : {X : Type 0} (xs : List X) (i : ℕ) (x : X) → slice_get xs i ≡ Some x → set xs i x ≡ xs
 set_same [] i x e = refl
 set_same (z ∷ zs) zero x e = let same : x ≡ z = cc in ap (λ y. y ∷ zs) same

@@ -1,5 +1,6 @@
 -- Each move of a seat keeps the rule of a list that only grows.
-use Rattle.std.proofs.Common.{◌≡◌, ◌≢◌, ℕ, zero, suc, List, [], ◌∷◌, ◌++◌, set, true, false, true≢false, refl, sym, ap, ◌∙◌, subst, ⊎_elim}
+use Rattle.std.proofs.lemmas.Grind.{common_steps}
+use Rattle.std.proofs.Common.{◌≡◌, ◌≢◌, ℕ, zero, suc, List, [], ◌∷◌, ◌++◌, set, true, false, true≢false, refl, sym, ap, ◌∙◌, subst, arith}
 use mathlib.Core.Option.{some, some-ne-none, some-injective}
 use lib.ListN.{get_elem?}
 use Rattle.atomic_table.specs.Table.{Me, Allows, Splits, Joins, keeps, opening}
@@ -27,11 +28,7 @@ stays_on xs ys zs a b k x e = b k x (a k x e)
 
 fits_set : (owner : ℕ) (list : List Entry) (views : List ListView) (seat : ℕ) (w : ListView) → ((j : ℕ) (u : ListView) → j ≢ seat → get_elem? views j ≡ some u → Fits owner list j u)
     → Fits owner list seat w → (j : ℕ) (u : ListView) → get_elem? (set views seat w) j ≡ some u → Fits owner list j u
-fits_set owner list views seat w others mine j u e =
-    ⊎_elim
-    (λ (x : (j ≡ seat) × (w ≡ u)). subst (λ (y : ℕ × ListView). Fits owner list y.0 y.1) (λ i. (sym x.0 i, x.1 i)) mine)
-    (λ (x : (j ≢ seat) × (get_elem? views j ≡ some u)). others j u x.0 x.1)
-    (at_set views seat j w u e)
+fits_set owner list views seat w others mine j u e = grind (arith, common_steps, at_set)
 
 pub begins : (words : List ℕ) → Grows (opening words [] (owning []))
 begins words = (0, [], one)
@@ -71,34 +68,10 @@ compares slots seat m owns table h _ at _ =
     )
 
 pub tells : (seat : ℕ) (v : ListView) → v ≡ owning v.all → Splits Grows seat v v (beginning v.all)
-tells seat v is table h at =
-    let known = (h.2 seat v at).0 (ap (λ u. u.owns) is) in (
-      h.0,
-      h.1,
-      λ j u e. ⊎_elim
-          (λ was. h.2 j u (subst (λ l. get_elem? l j ≡ some u) (set_again table.views seat v at) was))
-          (λ (same : beginning v.all ≡ u). subst (Fits h.0 h.1 j) same ((λ o. off o), subst (λ l. Stays v.all l) known.1 (λ k x e. e)))
-          (at_snoc (set table.views seat v) (beginning v.all) u j e),
-    )
+tells seat v is table h at = grind (arith, common_steps, set_again, off, at_snoc)
 
 pub repeats : (seat : ℕ) (v : ListView) → Splits Grows seat v v (beginning v.begins)
-repeats seat v table h at = (
-  h.0,
-  h.1,
-  λ j u e. ⊎_elim
-      (λ was. h.2 j u (subst (λ l. get_elem? l j ≡ some u) (set_again table.views seat v at) was))
-      (λ (same : beginning v.begins ≡ u). subst (Fits h.0 h.1 j) same ((λ o. off o), (h.2 seat v at).1))
-      (at_snoc (set table.views seat v) (beginning v.begins) u j e),
-)
+repeats seat v table h at = grind (arith, common_steps, set_again, off, at_snoc)
 
 pub hands_in : (seat : ℕ) (v : ListView) (other : ℕ) (u : ListView) → v ≡ owning v.all → Joins Grows seat v other u (holding v.all u.begins) (beginning [])
-hands_in seat v other u is table h at apart there =
-    let w = holding v.all u.begins in
-    let mine = (h.2 seat v at).0 (ap (λ x. x.owns) is) in
-    let theirs = ⊎_elim (λ (t : (other ≡ seat) × (w ≡ u)). absurd (apart t.0)) (λ (t : (other ≢ seat) × (get_elem? table.views other ≡ some u)). h.2 other u t.1) (at_set table.views seat other w u there) in (
-      h.0,
-      h.1,
-      fits_set h.0 h.1 (set table.views seat w) other (beginning [])
-          (λ j y _ e. fits_set h.0 h.1 table.views seat w (λ i z _ e'. h.2 i z e') ((λ _. mine), theirs.1) j y e)
-          ((λ o. off o), stays_nil h.1),
-    )
+hands_in seat v other u is table h at apart there = grind (arith, common_steps, at_set, fits_set, off, stays_nil)

@@ -1,5 +1,6 @@
 -- Each move of a pass keeps the rule of a subqueue.
-use Rattle.std.proofs.Common.{◌≡◌, ◌≢◌, ◌⊎◌, ℕ, zero, suc, ◌+◌, true, false, true≢false, List, [], ◌∷◌, ◌++◌, length, map, set, sym, refl, ap, ◌∙◌, subst, inl, inr, ⊎_elim, append_assoc}
+use Rattle.std.proofs.lemmas.Grind.{common_steps}
+use Rattle.std.proofs.Common.{◌≡◌, ◌≢◌, ◌⊎◌, ℕ, zero, suc, ◌+◌, true, false, true≢false, List, [], ◌∷◌, ◌++◌, length, map, set, sym, refl, ap, ◌∙◌, subst, inl, inr, ⊎_elim, append_assoc, arith}
 use mathlib.Core.Option.{some, some-injective, some-ne-none}
 use mathlib.Core.List.{map-append}
 use lib.ListN.{get_elem?}
@@ -27,10 +28,7 @@ abbrev pub All : (ℕ → PassView → Type 0) → List PassView → Type 0
 All F views = (j : ℕ) (u : PassView) → get_elem? views j ≡ some u → F j u
 
 pub all_set : (F : ℕ → PassView → Type 0) (views : List PassView) (id : ℕ) (w : PassView) → F id w → ((j : ℕ) (u : PassView) → j ≢ id → get_elem? views j ≡ some u → F j u) → All F (set views id w)
-all_set F views id w mine others j u e = ⊎_elim
-    (λ (t : (j ≡ id) × (w ≡ u)). subst (λ (y : ℕ × PassView). F y.0 y.1) (λ i. (sym t.0 i, t.1 i)) mine)
-    (λ (t : (j ≢ id) × (get_elem? views j ≡ some u)). others j u t.0 t.1)
-    (at_set views id j w u e)
+all_set F views id w mine others j u e = grind (arith, common_steps, at_set)
 
 pub all_push : (F : ℕ → PassView → Type 0) (views : List PassView) (w : PassView) → F (length views) w → All F views → All F (views ++ w ∷ [])
 all_push F views w mine old j u e = ⊎_elim (old j u) (λ (t : (j ≡ length views) × (w ≡ u)). subst (λ (y : ℕ × PassView). F y.0 y.1) (λ i. (sym t.0 i, t.1 i)) mine) (at_push views w u j e)
@@ -99,7 +97,7 @@ divides id v is items views k at =
           (λ j u apart e. let o = k.passes j u e in record { sends = λ p. absurd (apart ((o.sends p).0 ∙ sym s.0)); takes = λ p. absurd (apart ((o.takes p).0 ∙ sym t.0)) }));
     }
 
--- a popping that has counted a pop that found nothing
+-- a `popping` that has counted a pop that found nothing
 unfoldable pub counts : (id : ℕ) (v : PassView) → v ≡ popping v.home v.taken v.empty_pops → Forks SubqueueInvariant id v (popping v.home v.taken (v.empty_pops + 1)) spent
 counts id v is items views k at =
     let mine = k.passes id v at in
@@ -200,7 +198,7 @@ unites id v other u is are items views k at two there =
       passes = all_set (PassFits k.home k.writer id k.sent k.taken) vs other spent (quiet k.home k.writer id k.sent k.taken other) (λ j y apart e. now j y e apart);
     }
 
--- what a pass with both rights learns
+-- what a pass with both rights knows
 pub compares : (id : ℕ) (v : PassView) → v.sends ≡ true → v.takes ≡ true → Learns SubqueueInvariant id v (λ items. v.sent ≡ v.taken ++ map plain items)
 compares id v a b items views k at =
     let f = k.passes id v at in

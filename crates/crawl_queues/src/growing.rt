@@ -67,6 +67,7 @@ impl Model for Beginning {
 
 impl Growing {
     /// An empty list, and the right to add to it.
+    #[tactic(auto, using(crate::proofs::Moves::begins))]
     pub fn new(alloc: Global) -> Result<(Growing, Owner), AllocError>
         ensures { IfOk result (λ r. r.1 ≡ owner_of r.0 []) }
     {
@@ -91,6 +92,7 @@ impl Growing {
     }
 
     /// A beginning of the list: what the list is now.
+    #[tactic(auto, using(crate::proofs::Moves::tells))]
     pub fn tell(&self, owner: &mut Owner) -> Beginning
         requires { owner.old.list ≡ self.now }
         ensures same { owner.new ≡ owner.old }
@@ -101,6 +103,7 @@ impl Growing {
     }
 
     /// One more beginning, equal to this one.
+    #[tactic(auto, using(crate::proofs::Moves::repeats))]
     pub fn again(&self, known: &mut Beginning) -> Beginning
         requires { known.old.list ≡ self.now }
         ensures same { known.new ≡ known.old }

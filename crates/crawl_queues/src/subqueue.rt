@@ -89,6 +89,7 @@ impl Drop for Subqueue {
 }
 
 // Writes the queue's home into the view of the pass that has both rights.
+#[tactic(auto, using(crate::proofs::Passing::settles))]
 fn settle<B: Stamp>(line: &Line, pass: &mut Pass, gate: &Gate, workers: u32, queue: u32)
     requires home { B.home ≡ record { gate = gate.now; workers = workers; queue = queue } }
     requires pass { IsSegPassOf line.now pass.old }
@@ -101,6 +102,7 @@ fn settle<B: Stamp>(line: &Line, pass: &mut Pass, gate: &Gate, workers: u32, que
 
 impl Subqueue {
     /// The empty queue with this index, its two rights, and a beginning of its list.
+    #[tactic(auto, using(crate::proofs::Passing::begins, crate::proofs::Passing::divides))]
     pub fn new(
         alloc: Global,
         gate: &Gate,

@@ -1,5 +1,5 @@
-//! What a session needs in addition to the events: the unit of a URL in progress goes to a sender, how far a subqueue is, and how many
-//! units are out.
+//! What a session needs in addition to the events: handing the unit of a URL in progress to a sender, the progress of a
+//! subqueue, and the number of units that are held.
 ghost use Rattle.std.specs.Prelude.{◌≡◌, false, slice_get, unwrap_or, IfOk, OnErr, OnOk};
 ghost use Rattle.std.specs.BTreeMap.{is_at, insert_entry};
 ghost use Rattle.std.specs.BTreeSet.{insert_key};
@@ -80,6 +80,7 @@ impl Core {
 ///
 /// # Errors
 /// Out of memory. Nothing changes.
+#[tactic(auto, using(crate::proofs::Handing::back_out))]
 fn enter(
     holders: &mut BTreeSet<u64>,
     remembered: &mut BTreeMap<u64, Word>,

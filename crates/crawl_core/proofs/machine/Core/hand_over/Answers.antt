@@ -1,6 +1,6 @@
-use Rattle.std.proofs.Common.{◌≡◌, ◌<◌, false, true, length, List, slice_get, unwrap_or, sym, ap, subst, ◌∙◌}
+use Rattle.std.proofs.Common.{◌≡◌, false, true, slice_get, unwrap_or, sym, subst, ◌∙◌, arith}
 use Rattle.std.specs.Option.{option_map}
-use Rattle.crawl_core.specs.Handing.{Hands, lets_in}
+use Rattle.crawl_core.specs.Handing.{lets_in}
 use Rattle.crawl_core.specs.Kept.{Kept, KeptQueue}
 use Rattle.crawl_core.proofs.Handing.{fetching_below, hands, hands_counts, stays_idle}
 use Rattle.crawl_core.proofs.machine.Core.hand_over.Goals as goal
@@ -9,8 +9,7 @@ pub returns-then-not-is_fetching-clause-hands : goal.returns-then-not-is_fetchin
 returns-then-not-is_fetching-clause-hands c = stays_idle c.args.self.now c.args.queue c.args.sender (sym c.is_fetching.ensures ∙ c.if-not-is_fetching.true)
 
 pub finish-requires : goal.finish-requires
-finish-requires c =
-    subst (λ (k : Kept). c.args.queue < length k.queues) (sym c.self.view_is) (fetching_below c.args.self.now.queues c.args.queue (sym c.is_fetching.ensures ∙ c.if-not-is_fetching.false))
+finish-requires c = grind (arith, fetching_below)
 
 pub invariant_of-self-2 : goal.invariant_of-self-2
 invariant_of-self-2 c =
