@@ -1,6 +1,8 @@
 -- The links of pages that are found ahead.
-use Rattle.std.proofs.Common.{◌≡◌, inl, inr, ℕ, ◌+◌, ◌<◌, List, [], ◌∷◌, ◌++◌, length, map, take, get_or, slice_get, Option, Some, None, IfSome, Result, Ok, Err, IfOk, refl, sym, ap, subst, ◌∙◌}
-use Rattle.std.specs.Str.Lines.{lines}
+use native.Mathlib.Omega.{arith}
+use Rattle.std.proofs.lemmas.Bool.Decides.{nat_tests}
+use Rattle.std.proofs.lemmas.Grind.{common_steps}
+use Rattle.std.proofs.Common.{◌≡◌, ℕ, ◌+◌, ◌<◌, List, [], ◌∷◌, ◌++◌, length, map, take, get_or, slice_get, Option, Some, IfSome, Result, Ok, Err, IfOk, refl, sym, ap, ◌∙◌}
 use Rattle.std.proofs.lemmas.List.{map-id, map_more, map_push}
 use Rattle.hash_index.specs.Lists.{index_of}
 use Rattle.hash_index.proofs.Listed.{found_at, push_cases}
@@ -9,7 +11,6 @@ use Rattle.saved_web.proofs.PartPlaces.{get_front}
 use Rattle.saved_web.specs.Ahead.{shown_page, LeadTo, KeepIndices, IsAhead, AreAhead}
 use Rattle.saved_web.specs.KnownPages.{known_page}
 use Rattle.saved_pages.specs.PageLists.{PageRead, page_with}
-use Rattle.saved_web.specs.SavedWeb.{page_behind}
 use Rattle.crawl_pages.specs.declared.page.Page.{Page}
 use Rattle.crawl_pages.specs.declared.page.Page.TheVariants.{Found}
 use Rattle.saved_web.specs.declared.ahead.chunk.LinksAhead.{LinksAhead}
@@ -19,9 +20,7 @@ use Rattle.saved_web.specs.declared.ahead.chunk.PageAhead.{PageAhead}
 
 -- the index that was found, in four bytes
 pub found_there : {E : Type 0} (urls : List (List ℕ)) (url : List ℕ) (index : ℕ) (told : Result ℕ E) → Some index ≡ index_of (map (λ u. u) urls) url → IfOk told (λ short. short ≡ index) → IfOk told (λ short. slice_get urls short ≡ Some url)
-found_there urls url index (Err e) found is = tt
-found_there urls url index (Ok short) found is =
-    ap (slice_get urls) is ∙ found_at urls url index (ap (λ texts. index_of texts url) (sym (map-id urls)) ∙ sym found)
+found_there urls url index told found is = grind (arith, found_at, map-id)
 
 -- the index of the URL that was pushed
 pub pushed_there : {E : Type 0} (urls longer : List (List ℕ)) (url : List ℕ) (last : ℕ) (told : Result ℕ E) → longer ≡ urls ++ url ∷ [] → last ≡ length urls → IfOk told (λ short. short ≡ last) → IfOk told (λ short. slice_get longer short ≡ Some url)
@@ -38,32 +37,23 @@ keep_pushed urls longer url is index other at = ap (λ l. slice_get l index) is 
 
 -- ---- links by the indices of their URLs
 
--- where URLs keep their indices, the same links are at them
+-- if URLs keep their indices, the same links are at them
 pub lead_still : (old new : List (List ℕ)) (indices : List ℕ) (links : List (List ℕ)) → KeepIndices old new → LeadTo old indices links → LeadTo new indices links
 lead_still old new [] [] keep lead = refl
 lead_still old new [] (link ∷ links) keep lead = absurd (cc)
 lead_still old new (index ∷ indices) [] keep lead = absurd (cc)
-lead_still old new (index ∷ indices) (link ∷ links) keep lead =
-    let at : slice_get old index ≡ Some link = cc in
-    let rest : LeadTo old indices links = cc in
-    (λ k. keep index link at k ∷ lead_still old new indices links keep rest k)
+lead_still old new (index ∷ indices) (link ∷ links) keep lead = grind (arith, lead_still old new indices links keep)
 
 -- one index more, of the next link
 pub lead_more : (urls : List (List ℕ)) (indices : List ℕ) (links : List (List ℕ)) (i index : ℕ) (link : List ℕ) → i < length links → link ≡ get_or links i link → LeadTo urls indices (take i links) → slice_get urls index ≡ Some link → LeadTo urls (indices ++ index ∷ []) (take (i + 1) links)
-lead_more urls indices links i index link below is lead at =
-    map_push (λ k. slice_get urls k) indices index
-    ∙ (λ k. lead k ++ at k ∷ [])
-    ∙ sym (map_more (λ one. Some one) links i link below ∙ ap (λ one. map (λ l. Some l) (take i links) ++ Some one ∷ []) (sym is))
+lead_more urls indices links i index link below is lead at = grind (arith, nat_tests, common_steps, map_push, map_more)
 
 -- no other links are at the indices
 same_links : (xs ys : List (List ℕ)) → map (λ link. Some link) xs ≡ map (λ link. Some link) ys → xs ≡ ys
 same_links [] [] same = refl
 same_links [] (y ∷ ys) same = absurd (cc)
 same_links (x ∷ xs) [] same = absurd (cc)
-same_links (x ∷ xs) (y ∷ ys) same =
-    let first : x ≡ y = cc in
-    let rest : map (λ link. Some link) xs ≡ map (λ link. Some link) ys = cc in
-    (λ k. first k ∷ same_links xs ys rest k)
+same_links (x ∷ xs) (y ∷ ys) same = grind (arith, same_links xs ys)
 
 -- the page with the links that are copied is the page
 pub copied_page : (page : Page) (urls : List (List ℕ)) (ahead : LinksAhead) (links : List (List ℕ)) → IsAhead page urls ahead → LeadTo urls ahead.indices.items links → Found links ahead.skipped ≡ page
@@ -79,18 +69,12 @@ still_ahead web pages old new keep are k page at =
 
 -- one page more
 pub more_ahead : (web : List PageRead) (pages longer : List PageAhead) (page : PageAhead) (urls : List (List ℕ)) → longer ≡ pages ++ page ∷ [] → AreAhead web pages urls → IsAhead (shown_page (slice_get web page.index)) urls page.links → AreAhead web longer urls
-more_ahead web pages longer page urls is are own k other at =
-    elim (push_cases pages page k other (sym (ap (λ l. slice_get l k) is) ∙ at)) [
-      | inl before ↦ are k other before.1
-      | inr last ↦ subst (λ (one : PageAhead). IsAhead (shown_page (slice_get web one.index)) urls one.links) last.1 own
-    ]
+more_ahead web pages longer page urls is are own k other at = grind (arith, push_cases)
 
 -- ---- the page at a URL
 
 shown_with : (pages : List PageRead) (url : List ℕ) (o : Option PageRead) → page_with pages url ≡ o → shown_page o ≡ known_page pages url
-shown_with pages url None is = rw is refl
-shown_with pages url (Some page) is = rw is (ap (λ u. page_behind u (Some (lines page.behind))) (with_url pages url page is))
+shown_with pages url o is = grind (arith, with_url)
 
 pub known_there : (pages : List PageRead) (url : List ℕ) (index : ℕ) (told : Option Page) → slice_get pages index ≡ page_with pages url → IfSome told (λ page. page ≡ shown_page (slice_get pages index)) → IfSome told (λ page. page ≡ known_page pages url)
-known_there pages url index None at is = tt
-known_there pages url index (Some page) at is = is ∙ ap shown_page at ∙ shown_with pages url (page_with pages url) refl
+known_there pages url index told at is = grind (arith, shown_with)

@@ -1,42 +1,35 @@
--- Two parts of a saved web, each read after the header, put together.
-use Rattle.std.proofs.Common.{◌≡◌, ℕ, ◌+◌, ◌<◌, ◌==◌, Bool, true, false, ◌||◌, List, [], ◌∷◌, ◌++◌, length, nat_lt, Option, Some, None, IfSome, is_some, Result, Ok, Err, refl, sym, ap, subst, ◌∙◌, arith, append_assoc, append-nil, length-append, ne_eqb}
+-- Two parts of a saved web, each read after the header, and joined.
+use Rattle.std.proofs.Common.{◌≡◌, ℕ, ◌+◌, ◌<◌, ◌==◌, Bool, true, false, ◌||◌, List, [], ◌∷◌, ◌++◌, length, Option, Some, None, IfSome, is_some, Result, Ok, Err, refl, sym, ap, subst, ◌∙◌, arith, append_assoc, append-nil, length-append, ne_eqb}
 use Rattle.std.specs.Bool.{if◌then◌else◌}
 use Rattle.std.specs.List.{list_any, cons_option}
 use Rattle.std.specs.Option.{option_map, option_or, option_map_or}
-use Rattle.std.specs.Result.{result_ok}
-use Rattle.std.specs.Str.{bytes_eq, is_utf8}
+use Rattle.std.specs.Str.{bytes_eq}
 use Rattle.std.specs.Str.Lines.{lines}
-use Rattle.std.proofs.lemmas.Bool.{cond-true, cond-false, or_parts}
+use Rattle.std.proofs.lemmas.Bool.{cond-true, cond-false, or_parts, or_right}
 use Rattle.std.proofs.lemmas.List.{map-append}
 use Rattle.std.proofs.lemmas.List.Elements.{filter_map-append}
 use Rattle.std.proofs.lemmas.List.Folds.{list_any-append}
 use Rattle.std.proofs.lemmas.Slice.Eq.{bytes_eq-Decides}
-use Rattle.crawl_keys.specs.CanonicalText.{canonical}
 use Rattle.crawl_keys.specs.declared.error.KeyError.{KeyError}
 use Rattle.saved_web.proofs.PassedLines.{said_passes}
 use Rattle.saved_web.proofs.ReadWeb.{known_urls}
 use Rattle.saved_web.specs.KnownPages.{KnownPages, known_page}
 use Rattle.text_lines.specs.LeastFault.{SoundAfter}
-use Rattle.crawl_limits.specs.Limits.{line_limit}
 use Rattle.saved_pages.specs.PageLists.{PageRead, urls, has}
 use Rattle.saved_pages.specs.PageLists as list
 use Rattle.saved_web.specs.Reading.{AreRead, AreReadBehind, IsHeader}
 use Rattle.saved_web.specs.SavedWeb.{lines_behind, put_link, link_texts, put_moved, moved_text, page_with, page_behind, page_of, page_urls}
 use Rattle.saved_pages.specs.WebChecks.{Before, page_fault, under_fault, said_fault, text_fault, line_fault}
 use Rattle.saved_web.specs.WebFaults.{under_last_page, before, fault_after}
-use Rattle.saved_pages.specs.WebLines.{line_of_text, line_of, says_page, url_said, is_page, is_page_at, page_url, is_link, is_moved_line}
+use Rattle.saved_pages.specs.WebLines.{line_of_text, line_of, says_page, url_said, is_page, is_page_at, page_url}
 use Rattle.text_lines.specs.declared.lines.LineError.TheVariants.{TooLong, NotText}
 use Rattle.saved_pages.specs.declared.error.WebError.TheVariants as wrong
 use Rattle.saved_pages.specs.declared.line.Line.{Line}
 use Rattle.saved_pages.specs.declared.line.Line.TheVariants as says
 
-or_true : (a b : Bool) → b ≡ true → (a || b) ≡ true
-or_true true b e = refl
-or_true false b e = e
-
 -- ---- a line that passes after some lines passes after others
 
--- what is before a line in one place, and in another: no check that it passes there fails here
+-- what is before a line in one position and in another: each check that it passes there, it passes here
 record Passes (b d : Before) (said : Line (List ℕ)) : Type 0 where
   second : d.second ≡ b.second
   some_page : b.some_page ≡ true → d.some_page ≡ true
@@ -45,80 +38,46 @@ record Passes (b d : Before) (said : Line (List ℕ)) : Type 0 where
   known : (url : List ℕ) → url_said said ≡ Some url → b.known url ≡ false → d.known url ≡ false
 
 unknown : (n : ℕ) (b : Bool) → (if b then Some (wrong.PageTwice n) else None) ≡ None → b ≡ false
-unknown n true e = absurd (cc)
-unknown n false e = refl
+unknown n b e = grind arith
 
 page_again : (n m : ℕ) (known other : List ℕ → Bool) (url : Result (List ℕ) KeyError) → ((u : List ℕ) → url ≡ Ok u → known u ≡ false → other u ≡ false) → page_fault n known url ≡ None → page_fault m other url ≡ None
-page_again n m known other (Err e) stays passes = absurd (cc)
-page_again n m known other (Ok u) stays passes = rw (stays u refl (unknown n (known u) passes)) refl
+page_again n m known other url stays passes = grind (arith, unknown)
 
 under_parts : (n : ℕ) (some mixed : Bool) → under_fault n some mixed ≡ None → (some ≡ true) × (mixed ≡ false)
-under_parts n true true passes = absurd (cc)
-under_parts n true false passes = (refl, refl)
-under_parts n false mixed passes = absurd (cc)
+under_parts n some mixed passes = grind arith
 
 under_again : (n m : ℕ) (some mixed more other : Bool) → under_fault n some mixed ≡ None → (some ≡ true → more ≡ true) → (some ≡ true → other ≡ mixed) → under_fault m more other ≡ None
-under_again n m some mixed more other passes page same =
-    let parts = under_parts n some mixed passes in
-    rw (page parts.0, same parts.0 ∙ parts.1) refl
+under_again n m some mixed more other passes page same = grind (arith, under_parts)
 
 moved_again : (b d : Before) (s t : Bool) → t ≡ s → (b.some_page ≡ true → d.some_page ≡ true) → (b.some_page ≡ true → (d.link || d.moved) ≡ (b.link || b.moved))
     → (if s then under_fault b.number b.some_page (b.link || b.moved) else Some (wrong.BadLine b.number)) ≡ None → (if t then under_fault d.number d.some_page (d.link || d.moved) else Some (wrong.BadLine d.number)) ≡ None
-moved_again b d true true e page same passes =
-    under_again b.number d.number b.some_page (b.link || b.moved) d.some_page (d.link || d.moved) passes page same
-moved_again b d true false e page same passes = absurd (cc)
-moved_again b d false t e page same passes = absurd (cc)
+moved_again b d s t e page same passes = grind (arith, under_again)
 
 said_again : (b d : Before) (said : Line (List ℕ)) → Passes b d said → said_fault b said ≡ None → said_fault d said ≡ None
-said_again b d (says.Page text) k passes =
-    page_again b.number d.number b.known d.known (canonical text) (λ u is new. k.known u (ap result_ok is) new) passes
-said_again b d (says.Link text) k passes =
-    under_again b.number d.number b.some_page b.moved d.some_page d.moved passes k.some_page k.moved
-said_again b d (says.Moved text) k passes =
-    moved_again b d b.second d.second k.second k.some_page (λ some i. k.link some i || k.moved some i) passes
-said_again b d says.Empty k passes = refl
-said_again b d says.Other k passes = absurd (cc)
+said_again b d said k passes = grind (arith, page_again, under_again, moved_again)
 
 text_again : (b d : Before) (long utf8 : Bool) (line : List ℕ) → (b.number == 1) ≡ false → (d.number == 1) ≡ false → (said_fault b (if utf8 then line_of_text line else says.Other) ≡ None → said_fault d (if utf8 then line_of_text line else says.Other) ≡ None)
     → text_fault b (if long then Err (TooLong b.number) else if utf8 then Ok line else Err (NotText b.number)) ≡ None → text_fault d (if long then Err (TooLong d.number) else if utf8 then Ok line else Err (NotText d.number)) ≡ None
-text_again b d true utf8 line first later said passes = absurd (cc)
-text_again b d false false line first later said passes = absurd (cc)
-text_again b d false true line first later said passes = rw later (said (rw first at passes))
+text_again b d long utf8 line first later said passes = grind arith
 
 line_again : (b d : Before) (line : List ℕ) → (b.number == 1) ≡ false → (d.number == 1) ≡ false → Passes b d (line_of line) → line_fault b line ≡ None → line_fault d line ≡ None
-line_again b d line first later k passes =
-    text_again b d (nat_lt line_limit (length line)) (is_utf8 line) line first later (said_again b d (line_of line) k) passes
+line_again b d line first later k passes = grind (arith, text_again, said_again)
 
--- ---- the lines of a part, after the header alone and after the part before
+-- ---- the lines of a part, after only the header and after the part before
 
 no_page_at : (header url : List ℕ) → line_of header ≡ says.Other → is_page_at url header ≡ false
 no_page_at header url other = ap (λ said. option_map_or (λ own. bytes_eq own url) (url_said said) false) other
 
 under_behind : (xs ys : List (List ℕ)) → list_any is_page ys ≡ true → under_last_page (xs ++ ys) ≡ under_last_page ys
 under_behind [] ys page = refl
-under_behind (x ∷ xs) ys page =
-    let some : list_any is_page ((x ∷ xs) ++ ys) ≡ true = list_any-append is_page (x ∷ xs) ys ∙ or_true (list_any is_page (x ∷ xs)) (list_any is_page ys) page in
-    cond-true _ _ _ some ∙ under_behind xs ys page
+under_behind (x ∷ xs) ys page = grind (arith, list_any-append, or_right, cond-true, under_behind xs ys page)
 
 page_later : (header : List ℕ) (earlier : List (List ℕ)) → line_of header ≡ says.Other → list_any is_page (header ∷ earlier) ≡ true → list_any is_page earlier ≡ true
-page_later header earlier other some =
-    let first : false ≡ is_page header = sym (ap says_page other) in
-    ap (λ b. b || list_any is_page earlier) first ∙ some
+page_later header earlier other some = grind arith
 
 passes_behind : (header : List ℕ) (front earlier : List (List ℕ)) (line : List ℕ) → line_of header ≡ says.Other → ((url : List ℕ) → page_url line ≡ Some url → list_any (is_page_at url) front ≡ false)
     → Passes (before (header ∷ earlier)) (before (header ∷ front ++ earlier)) (line_of line)
-passes_behind header front earlier line other apart =
-    let under : list_any is_page (header ∷ earlier) ≡ true → under_last_page (header ∷ front ++ earlier) ≡ under_last_page (header ∷ earlier) =
-    λ some. under_behind (header ∷ front) earlier (page_later header earlier other some) ∙ sym (under_behind (header ∷ []) earlier (page_later header earlier other some)) in
-    record {
-      second = refl;
-      some_page = λ some. list_any-append is_page (header ∷ front) earlier ∙ or_true (list_any is_page (header ∷ front)) (list_any is_page earlier) (page_later header earlier other some);
-      link = λ some. ap (list_any is_link) (under some);
-      moved = λ some. ap (list_any is_moved_line) (under some);
-      known = λ url is new.
-          let parts = or_parts (is_page_at url header) (list_any (is_page_at url) earlier) new in
-          (λ i. no_page_at header url other i || list_any-append (is_page_at url) front earlier i) ∙ (λ i. apart url is i || parts.1 i);
-    }
+passes_behind header front earlier line other apart = grind (arith, under_behind, page_later, list_any-append, or_right, or_parts, no_page_at)
 
 page_here : (line url : List ℕ) → page_url line ≡ Some url → is_page_at url line ≡ true
 page_here line url is = ap (λ own. option_map_or (λ u. bytes_eq u url) own false) is ∙ (bytes_eq-Decides url url).1 refl
@@ -129,7 +88,7 @@ sound_behind header front earlier [] other apart sound = tt
 sound_behind header front earlier (line ∷ more) other apart sound =
     let here = passes_behind header front earlier line other (λ url is. apart url (ap (λ b. b || list_any (is_page_at url) more) (page_here line url is))) in
     let passes = line_again (before (header ∷ earlier)) (before (header ∷ front ++ earlier)) line (ne_eqb (length (header ∷ earlier) + 1) 1 (λ one. omega (arith, one))) (ne_eqb (length (header ∷ front ++ earlier) + 1) 1 (λ one. omega (arith, one))) here sound.0 in
-    let later = sound_behind header front (earlier ++ line ∷ []) more other (λ url there. apart url (or_true (is_page_at url line) (list_any (is_page_at url) more) there)) sound.1 in
+    let later = sound_behind header front (earlier ++ line ∷ []) more other (λ url there. apart url (or_right (is_page_at url line) (list_any (is_page_at url) more) there)) sound.1 in
     (passes, subst (λ ls. SoundAfter fault_after (header ∷ ls) more) (sym (append_assoc front earlier (line ∷ []))) later)
 
 sound_append : (earlier xs ys : List (List ℕ)) → SoundAfter fault_after earlier xs → SoundAfter fault_after (earlier ++ xs) ys → SoundAfter fault_after earlier (xs ++ ys)
@@ -143,16 +102,7 @@ abbrev Begins : List (List ℕ) → Type 0
 Begins lines = (link_texts lines ≡ []) × (moved_text lines ≡ None)
 
 at_begin : (b : Before) (said : Line (List ℕ)) (more : List (List ℕ)) → b.some_page ≡ false → said_fault b said ≡ None → (says_page said ≡ false → Begins more) → (put_link said (link_texts more) ≡ []) × (put_moved said (moved_text more) ≡ None)
-at_begin b (says.Page text) more none passes later = (refl, refl)
-at_begin b (says.Link text) more none passes later =
-    absurd (let parts = under_parts b.number b.some_page b.moved passes in let clash : true ≡ false = sym parts.0 ∙ none in cc)
-at_begin b (says.Moved text) more none passes later = absurd (by_version b.second passes)
-  where
-    by_version : (second : Bool) → (if second then under_fault b.number b.some_page (b.link || b.moved) else Some (wrong.BadLine b.number)) ≡ None → ⊥
-    by_version true passes = let parts = under_parts b.number b.some_page (b.link || b.moved) passes in let clash : true ≡ false = sym parts.0 ∙ none in cc
-    by_version false passes = cc
-at_begin b says.Empty more none passes later = later refl
-at_begin b says.Other more none passes later = absurd (cc)
+at_begin b said more none passes later = grind (arith, under_parts)
 
 unlinked : (earlier more : List (List ℕ)) → 0 < length earlier → list_any is_page earlier ≡ false → SoundAfter fault_after earlier more → Begins more
 unlinked earlier [] some none sound = (refl, refl)
@@ -173,26 +123,19 @@ moved_ends (x ∷ xs) ys none = ap (put_moved (line_of x)) (moved_ends xs ys non
 
 pub with_url-append : (ps qs : KnownPages) (url : List ℕ) → list.page_with (ps ++ qs) url ≡ option_or (list.page_with ps url) (list.page_with qs url)
 with_url-append [] qs url = refl
-with_url-append (p ∷ ps) qs url = by_first (bytes_eq p.url url) _ _ _ (with_url-append ps qs url)
-  where
-    by_first : (b : Bool) (all more later : Option PageRead) → all ≡ option_or more later → (if b then Some p else all) ≡ option_or (if b then Some p else more) later
-    by_first true all more later e = refl
-    by_first false all more later e = e
+with_url-append (p ∷ ps) qs url = grind (arith, with_url-append ps qs url)
 
 some_or : (a b : Option PageRead) → is_some (option_or a b) ≡ (is_some a || is_some b)
-some_or (Some x) b = refl
-some_or None b = refl
+some_or a b = grind arith
 
 pub has-append : (ps qs : KnownPages) (url : List ℕ) → has (ps ++ qs) url ≡ (has ps url || has qs url)
 has-append ps qs url = ap is_some (with_url-append ps qs url) ∙ some_or (list.page_with ps url) (list.page_with qs url)
 
 first_of : (a b : Option PageRead) → is_some a ≡ true → option_or a b ≡ a
-first_of (Some x) b some = refl
-first_of None b some = absurd (cc)
+first_of a b some = grind arith
 
 other_of : (a b : Option PageRead) → is_some a ≡ false → option_or a b ≡ b
-other_of (Some x) b none = absurd (cc)
-other_of None b none = refl
+other_of a b none = grind arith
 
 told : Option PageRead → Option (List (List ℕ))
 told o = option_map (λ page. lines page.behind) o
@@ -217,19 +160,11 @@ behind_some url (x ∷ xs) = by_first (is_page_at url x) _ _ (behind_some url xs
 
 behind_first : (url : List ℕ) (xs ys behind : List (List ℕ)) → lines_behind xs url ≡ Some behind → lines_behind (xs ++ ys) url ≡ Some (behind ++ ys)
 behind_first url [] ys behind is = absurd (cc)
-behind_first url (x ∷ xs) ys behind is = by_first (is_page_at url x) is (behind_first url xs ys behind)
-  where
-    by_first : (b : Bool) → (if b then Some xs else lines_behind xs url) ≡ Some behind → (lines_behind xs url ≡ Some behind → lines_behind (xs ++ ys) url ≡ Some (behind ++ ys)) → (if b then Some (xs ++ ys) else lines_behind (xs ++ ys) url) ≡ Some (behind ++ ys)
-    by_first true is more = let same : xs ≡ behind = cc in ap (λ ls. Some (ls ++ ys)) same
-    by_first false is more = more is
+behind_first url (x ∷ xs) ys behind is = grind (arith, behind_first url xs ys behind)
 
 behind_later : (url : List ℕ) (xs ys : List (List ℕ)) → lines_behind xs url ≡ None → lines_behind (xs ++ ys) url ≡ lines_behind ys url
 behind_later url [] ys is = refl
-behind_later url (x ∷ xs) ys is = by_first (is_page_at url x) is (behind_later url xs ys)
-  where
-    by_first : (b : Bool) → (if b then Some xs else lines_behind xs url) ≡ None → (lines_behind xs url ≡ None → lines_behind (xs ++ ys) url ≡ lines_behind ys url) → (if b then Some (xs ++ ys) else lines_behind (xs ++ ys) url) ≡ lines_behind ys url
-    by_first true is more = absurd (cc)
-    by_first false is more = more is
+behind_later url (x ∷ xs) ys is = grind (arith, behind_later url xs ys)
 
 found_in_both : (header : List ℕ) (front back : List (List ℕ)) (ps qs : KnownPages) (url : List ℕ) → line_of header ≡ says.Other → AreRead (header ∷ front) ps → AreRead (header ∷ back) qs → Begins back → (first : Option (List (List ℕ))) → lines_behind (header ∷ front) url ≡ first → known_page (ps ++ qs) url ≡ page_of (header ∷ front ++ back) url
 found_in_both header front back ps qs url other p q begins (Some behind) is =

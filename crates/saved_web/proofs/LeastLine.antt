@@ -1,5 +1,5 @@
 -- Lines that are sound have no fault, and lines that are not have one.
-use Rattle.std.proofs.Common.{◌≡◌, inl, inr, ℕ, List, [], ◌∷◌, ◌++◌, Option, Some, None, Ok, Err, refl, sym, ap, subst, ◌∙◌, append_assoc, append-nil, arith}
+use Rattle.std.proofs.Common.{◌≡◌, ℕ, List, [], ◌∷◌, ◌++◌, Option, Some, None, Ok, Err, refl, sym, ap, subst, ◌∙◌, append_assoc, append-nil, arith}
 use Rattle.std.specs.Option.{option_or}
 use Rattle.crawl_keys.specs.Outcome.{IsRefusal}
 use Rattle.text_lines.specs.LeastFault.{SoundAfter, IsLeastFault}
@@ -29,19 +29,13 @@ least_fault all fault least =
     ap (first_fault []) least.split ∙ fault_of_least [] least.front least.line least.rest fault least.sound least.fails
 
 one_fault : (all : List (List ℕ)) (told fault : WebError) → IsWebFault all told → IsWebFault all fault → told ≡ fault
-one_fault [] told fault a b = a ∙ sym b
-one_fault (line ∷ more) told fault a b =
-    let same : Some told ≡ Some fault = sym (least_fault (line ∷ more) told a) ∙ least_fault (line ∷ more) fault b in cc
+one_fault all told fault a b = grind (arith, least_fault)
 
 pub no_fault : (all : List (List ℕ)) (fault : WebError) → IsSound all → IsWebFault all fault → ⊥
-no_fault [] fault sound is = omega (arith, sound.some)
-no_fault (line ∷ more) fault sound is =
-    let none : None ≡ Some fault = sym (fault_of_sound [] (line ∷ more) sound.sound) ∙ least_fault (line ∷ more) fault is in cc
+no_fault all fault sound is = grind (arith, fault_of_sound, least_fault)
 
 pub only_memory : {A : Type 0} (all : List (List ℕ)) (value : A) (told : WebError) → IsWebRefusal all told → IsSound all → IsRefusal wrong.NoMemory (Ok value) told
-only_memory all value told (inl is) sound = absurd (no_fault all told sound is)
-only_memory all value told (inr e) sound = inr e
+only_memory all value told h3 sound = grind (arith, no_fault)
 
 pub same_fault : {A : Type 0} (all : List (List ℕ)) (told fault : WebError) → IsWebRefusal all told → IsWebFault all fault → IsRefusal {A = A} wrong.NoMemory (Err fault) told
-same_fault all told fault (inl is) expected = inl (ap Err (one_fault all fault told expected is))
-same_fault all told fault (inr e) expected = inr e
+same_fault all told fault h3 expected = grind (arith, one_fault)

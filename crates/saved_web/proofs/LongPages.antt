@@ -1,13 +1,13 @@
 -- The links of two parts of a page, put together.
-use Rattle.std.proofs.Common.{◌≡◌, ℕ, ◌+◌, Bool, true, false, cond, List, [], ◌∷◌, ◌++◌, Option, Some, None, IfSome, refl, sym, ap, ◌∙◌}
-use Rattle.std.specs.List.{count_by, filter_map, list_any}
-use Rattle.std.specs.Option.{is_none}
+use native.Mathlib.Omega.{arith}
+use Rattle.std.proofs.Common.{◌≡◌, ℕ, ◌+◌, Bool, true, false, cond, List, [], ◌∷◌, ◌++◌, Option, Some, None, IfSome, refl, ap, ◌∙◌}
+use Rattle.std.specs.List.{count_by, list_any}
 use Rattle.std.proofs.lemmas.Bool.{or_parts}
 use Rattle.std.proofs.lemmas.List.Elements.{filter_map-append}
 use Rattle.std.proofs.lemmas.List.Sums.{sum_by-append}
 use Rattle.saved_web.specs.LongPages.{AreFound}
 use Rattle.saved_web.proofs.JoinedParts.{links_end}
-use Rattle.saved_web.specs.SavedWeb.{put_link, link_texts, link_url, moved_text, found_page, page_with, page_behind}
+use Rattle.saved_web.specs.SavedWeb.{put_link, link_texts, moved_text, found_page, page_behind}
 use Rattle.crawl_pages.specs.declared.page.Page.{Page}
 use Rattle.saved_pages.specs.WebLines.{line_of, says_page, is_page}
 use Rattle.saved_pages.specs.declared.line.Line.{Line}
@@ -16,18 +16,12 @@ use Rattle.saved_web.specs.declared.long.LinksFound.{LinksFound}
 
 -- a line that is no page, before those after it
 put_before : (said : Line (List ℕ)) (all front back : List (List ℕ)) → says_page said ≡ false → all ≡ front ++ back → put_link said all ≡ put_link said front ++ back
-put_before (says.Page text) all front back page same = absurd (cc)
-put_before (says.Link text) all front back page same = ap (λ texts. text ∷ texts) same
-put_before (says.Moved text) all front back page same = same
-put_before says.Empty all front back page same = same
-put_before says.Other all front back page same = same
+put_before said all front back page same = grind arith
 
--- where no page is among the first lines, the links after them are of the same page
+-- if no page is among the first lines, the links after them are of the same page
 links_of_both : (xs ys : List (List ℕ)) → list_any is_page xs ≡ false → link_texts (xs ++ ys) ≡ link_texts xs ++ link_texts ys
 links_of_both [] ys none = refl
-links_of_both (x ∷ xs) ys none =
-    let parts = or_parts (is_page x) (list_any is_page xs) none in
-    put_before (line_of x) (link_texts (xs ++ ys)) (link_texts xs) (link_texts ys) parts.0 (links_of_both xs ys parts.1)
+links_of_both (x ∷ xs) ys none = grind (arith, or_parts, put_before, links_of_both xs ys)
 
 count_of_both : (p : List ℕ → Bool) (xs ys : List (List ℕ)) → count_by p (xs ++ ys) ≡ count_by p xs + count_by p ys
 count_of_both p xs ys = sum_by-append (λ x. cond (p x) 1 0) xs ys
@@ -35,29 +29,15 @@ count_of_both p xs ys = sum_by-append (λ x. cond (p x) 1 0) xs ys
 -- what is found of both parts
 pub both_found : (url : List ℕ) (all front back : List (List ℕ)) (first second : LinksFound) (both : Option LinksFound) → all ≡ front ++ back → list_any is_page front ≡ false → AreFound url front first → AreFound url back second
     → IfSome both (λ found. found.links.items ≡ first.links.items ++ second.links.items) → IfSome both (λ found. found.skipped ≡ first.skipped + second.skipped) → IfSome both (AreFound url all)
-both_found url all front back first second None split none f s links skipped = tt
-both_found url all front back first second (Some found) split none f s links skipped =
-    let texts : link_texts all ≡ link_texts front ++ link_texts back = ap link_texts split ∙ links_of_both front back none in
-    let no_url : List ℕ → Bool = λ text. is_none (link_url url text) in
-    record {
-      links = links ∙ (λ i. f.links i ++ s.links i) ∙ sym (filter_map-append (link_url url) (link_texts front) (link_texts back)) ∙ ap (filter_map (link_url url)) (sym texts);
-      skipped = skipped ∙ (λ i. f.skipped i + s.skipped i) ∙ sym (count_of_both no_url (link_texts front) (link_texts back)) ∙ ap (count_by no_url) (sym texts);
-    }
+both_found url all front back first second both split none f s links skipped = grind (arith, links_of_both, filter_map-append, count_of_both)
 
--- where the first line is a page, no link is one of the page before
+-- if the first line is a page, no link is one of the page before
 no_links : (said : Line (List ℕ)) (texts : List (List ℕ)) → says_page said ≡ true → put_link said texts ≡ []
-no_links (says.Page text) texts page = refl
-no_links (says.Link text) texts page = absurd (cc)
-no_links (says.Moved text) texts page = absurd (cc)
-no_links says.Empty texts page = absurd (cc)
-no_links says.Other texts page = absurd (cc)
+no_links said texts page = grind arith
 
 pub page_begins : {all more : List (List ℕ)} (line : List ℕ) → all ≡ line ∷ more → is_page line ≡ true → link_texts all ≡ []
 page_begins {all} {more} line first page = ap link_texts first ∙ no_links (line_of line) (link_texts more) page
 
--- the page of all lines, where those after the first ones begin with another page
+-- the page of all lines, if those after the first ones begin with another page
 pub whole_page : (url : List ℕ) (all own after : List (List ℕ)) (told : Option Page) → all ≡ own ++ after → link_texts after ≡ [] → None ≡ moved_text all → IfSome told (λ page. page ≡ found_page url (link_texts own)) → IfSome told (λ page. page ≡ page_behind url (Some all))
-whole_page url all own after None split none moved is = tt
-whole_page url all own after (Some page) split none moved is =
-    let texts : link_texts own ≡ link_texts all = sym (ap link_texts split ∙ links_end own after none) in
-    is ∙ (λ i. page_with url (moved i) (texts i))
+whole_page url all own after told split none moved is = grind (arith, links_end)

@@ -1,9 +1,10 @@
 -- Pages in parts, one after another.
-use Rattle.std.proofs.Common.{◌≡◌, ℕ, ◌+◌, ◌<◌, Bool, true, false, ◌||◌, List, [], ◌∷◌, ◌++◌, length, take, drop, get_or, Option, Some, None, is_some, refl, sym, ap, subst, ◌∙◌, append-nil}
-use Rattle.std.specs.Bool.{if◌then◌else◌}
+use native.Mathlib.Omega.{arith}
+use Rattle.std.proofs.lemmas.Bool.Decides.{nat_tests}
+use Rattle.std.proofs.lemmas.Grind.{common_steps}
+use Rattle.std.proofs.Common.{◌≡◌, ℕ, ◌+◌, ◌<◌, Bool, true, false, ◌||◌, List, ◌++◌, length, take, drop, get_or, Option, Some, None, refl, sym, ◌∙◌, append-nil}
 use Rattle.std.specs.List.{flat_map}
 use Rattle.std.specs.Option.{option_or}
-use Rattle.std.specs.Str.{bytes_eq}
 use Rattle.std.proofs.lemmas.Bool.{or_parts}
 use Rattle.std.proofs.lemmas.List.{drop_more, map-append, take_more}
 use Rattle.std.proofs.lemmas.List.Concat.{flat_map-append}
@@ -12,17 +13,13 @@ use Rattle.saved_web.proofs.JoinedParts.{with_url-append, has-append}
 use Rattle.saved_pages.specs.PageLists.{PageRead, urls, page_with, has}
 
 or_none : (o : Option PageRead) → o ≡ None → (later : Option PageRead) → option_or o later ≡ later
-or_none (Some x) is later = absurd (cc)
-or_none None is later = refl
+or_none o is later = grind arith
 
 or_some : (o : Option PageRead) (x : PageRead) → o ≡ Some x → (later : Option PageRead) → option_or o later ≡ Some x
-or_some (Some y) x is later = is
-or_some None x is later = absurd (cc)
+or_some o x is later = grind arith
 
 at_part : (parts : List (List PageRead)) (i : ℕ) (part : List PageRead) (url : List ℕ) → i < length parts → part ≡ get_or parts i part → page_with (flat_map (λ p. p) (drop i parts)) url ≡ option_or (page_with part url) (page_with (flat_map (λ p. p) (drop (i + 1) parts)) url)
-at_part parts i part url below is =
-    let cut : drop i parts ≡ part ∷ drop (i + 1) parts = drop_more parts i part below ∙ ap (λ p. p ∷ drop (i + 1) parts) (sym is) in
-    ap (λ ps. page_with (flat_map (λ p. p) ps) url) cut ∙ with_url-append part (flat_map (λ p. p) (drop (i + 1) parts)) url
+at_part parts i part url below is = grind (arith, drop_more, with_url-append)
 
 -- a part without the URL is passed over
 pub passed_part : (parts : List (List PageRead)) (i : ℕ) (part : List PageRead) (url : List ℕ) → i < length parts → part ≡ get_or parts i part → page_with part url ≡ None → page_with (flat_map (λ p. p) (drop (i + 1) parts)) url ≡ page_with (flat_map (λ p. p) (drop i parts)) url
@@ -36,17 +33,13 @@ found_part parts i part url x below is some =
 
 -- one part more
 pages_more : (parts : List (List PageRead)) (i : ℕ) (part : List PageRead) → i < length parts → part ≡ get_or parts i part → flat_map (λ p. p) (take (i + 1) parts) ≡ flat_map (λ p. p) (take i parts) ++ part
-pages_more parts i part below is =
-    let cut : take (i + 1) parts ≡ take i parts ++ part ∷ [] = take_more parts i part below ∙ ap (λ p. take i parts ++ p ∷ []) (sym is) in
-    ap (flat_map (λ p. p)) cut ∙ flat_map-append (λ p. p) (take i parts) (part ∷ []) ∙ ap (λ ps. flat_map (λ p. p) (take i parts) ++ ps) (append-nil part)
+pages_more parts i part below is = grind (arith, nat_tests, common_steps, take_more, flat_map-append, append-nil)
 
 pub urls_more : (parts : List (List PageRead)) (i : ℕ) (part : List PageRead) → i < length parts → part ≡ get_or parts i part → urls (flat_map (λ p. p) (take (i + 1) parts)) ≡ urls (flat_map (λ p. p) (take i parts)) ++ urls part
-urls_more parts i part below is =
-    ap urls (pages_more parts i part below is) ∙ map-append (λ (page : PageRead). page.url) (flat_map (λ p. p) (take i parts)) part
+urls_more parts i part below is = grind (arith, nat_tests, common_steps, pages_more, map-append)
 
 part_more : (parts : List (List PageRead)) (i : ℕ) (part : List PageRead) (url : List ℕ) → i < length parts → part ≡ get_or parts i part → has (flat_map (λ p. p) (take (i + 1) parts)) url ≡ (has (flat_map (λ p. p) (take i parts)) url || has part url)
-part_more parts i part url below is =
-    ap (λ ps. has ps url) (pages_more parts i part below is) ∙ has-append (flat_map (λ p. p) (take i parts)) part url
+part_more parts i part url below is = grind (arith, nat_tests, common_steps, pages_more, has-append)
 
 -- pages none of which has the URL, and one part more
 pub none_in_more : (parts : List (List PageRead)) (i : ℕ) (part other : List PageRead) → i < length parts → part ≡ get_or parts i part → ((url : List ℕ) → has other url ≡ true → has (flat_map (λ p. p) (take i parts)) url ≡ false) → ((url : List ℕ) → has other url ≡ true → has part url ≡ false) → (url : List ℕ) → has other url ≡ true → has (flat_map (λ p. p) (take (i + 1) parts)) url ≡ false
@@ -64,29 +57,8 @@ none_of_more parts i part others below is before here url there =
 
 -- one page more
 pub none_with_more : (list : List PageRead) (i : ℕ) (page : PageRead) (others : List PageRead) → i < length list → page ≡ get_or list i page → ((url : List ℕ) → has (take i list) url ≡ true → has others url ≡ false) → has others page.url ≡ false → (url : List ℕ) → has (take (i + 1) list) url ≡ true → has others url ≡ false
-none_with_more list i page others below is before here url there =
-    by_page (has (take i list) url) (bytes_eq page.url url) refl refl (sym more ∙ there)
-  where
-    one : (b : Bool) → is_some (if b then Some page else None) ≡ b
-    one true = refl
-    one false = refl
-
-    more : has (take (i + 1) list) url ≡ (has (take i list) url || bytes_eq page.url url)
-    more =
-        let cut : take (i + 1) list ≡ take i list ++ page ∷ [] = take_more list i page below ∙ ap (λ p. take i list ++ p ∷ []) (sym is) in
-        ap (λ ps. has ps url) cut ∙ has-append (take i list) (page ∷ []) url ∙ ap (λ b. has (take i list) url || b) (one (bytes_eq page.url url))
-
-    by_page : (a b : Bool) → has (take i list) url ≡ a → bytes_eq page.url url ≡ b → (a || b) ≡ true → has others url ≡ false
-    by_page true b is_a is_b e = before url is_a
-    by_page false true is_a is_b e = subst (λ u. has others u ≡ false) ((bytes_eq-Decides page.url url).0 is_b) here
-    by_page false false is_a is_b e = absurd (cc)
+none_with_more list i page others below is before here url there = grind (arith, nat_tests, common_steps, take_more, has-append, bytes_eq-Decides)
 
 -- two halves of a list
 pub none_in_halves : (list front back others : List PageRead) (first second : Bool) → front ++ back ≡ list → (first ≡ false → (url : List ℕ) → has front url ≡ true → has others url ≡ false) → (second ≡ false → (url : List ℕ) → has back url ≡ true → has others url ≡ false) → (first || second) ≡ false → (url : List ℕ) → has list url ≡ true → has others url ≡ false
-none_in_halves list front back others first second whole before behind none url there =
-    by_half (has front url) (has back url) refl refl (sym (has-append front back url) ∙ ap (λ ps. has ps url) whole ∙ there)
-  where
-    by_half : (a b : Bool) → has front url ≡ a → has back url ≡ b → (a || b) ≡ true → has others url ≡ false
-    by_half true b is_a is_b e = before (or_parts first second none).0 url is_a
-    by_half false true is_a is_b e = behind (or_parts first second none).1 url is_b
-    by_half false false is_a is_b e = absurd (cc)
+none_in_halves list front back others first second whole before behind none url there = grind (arith, has-append, or_parts)

@@ -1,5 +1,7 @@
 -- Pages in parts, by their indices among all.
-use Rattle.std.proofs.Common.{◌≡◌, ℕ, zero, suc, ◌+◌, ◌<◌, List, [], ◌∷◌, ◌++◌, length, drop, get_or, slice_get, Option, Some, None, IfSome, SomeIff, sym, ap, subst, ◌∙◌, arith}
+use Rattle.std.proofs.lemmas.Bool.Decides.{nat_tests}
+use Rattle.std.proofs.lemmas.Grind.{common_steps}
+use Rattle.std.proofs.Common.{◌≡◌, ℕ, zero, suc, ◌+◌, ◌<◌, List, [], ◌∷◌, ◌++◌, length, drop, get_or, slice_get, Option, Some, IfSome, SomeIff, sym, ap, subst, ◌∙◌, arith}
 use Rattle.std.specs.Borrow.{Bor}
 use Rattle.std.specs.List.{flat_map}
 use Rattle.std.specs.Option.{option_map}
@@ -27,19 +29,16 @@ abbrev pub from_part : List (List PageRead) → ℕ → List PageRead
 from_part parts i = flat_map (λ part. part) (drop i parts)
 
 at_part : (parts : List (List PageRead)) (i : ℕ) (part : List PageRead) → i < length parts → part ≡ get_or parts i part → from_part parts i ≡ part ++ from_part parts (i + 1)
-at_part parts i part below is =
-    ap (flat_map (λ p. p)) (drop_more parts i part below ∙ ap (λ p. p ∷ drop (i + 1) parts) (sym is))
+at_part parts i part below is = grind (arith, drop_more)
 
--- a part that is passed over has so many of the indices
+-- a part that is passed over has as many of the indices as pages
 pub passed_place : (parts : List (List PageRead)) (i : ℕ) (part : List PageRead) (k : ℕ) → i < length parts → part ≡ get_or parts i part → slice_get (from_part parts (i + 1)) k ≡ slice_get (from_part parts i) (length part + k)
-passed_place parts i part k below is =
-    sym (ap (λ pages. slice_get pages (length part + k)) (at_part parts i part below is) ∙ get_behind part (from_part parts (i + 1)) k)
+passed_place parts i part k below is = grind (arith, nat_tests, common_steps, at_part, get_behind)
 
 pub found_place : (parts : List (List PageRead)) (i : ℕ) (part : List PageRead) (k : ℕ) (page : PageRead) → i < length parts → part ≡ get_or parts i part → slice_get part k ≡ Some page → slice_get (from_part parts i) k ≡ Some page
-found_place parts i part k page below is at =
-    ap (λ pages. slice_get pages k) (at_part parts i part below is) ∙ get_front part (from_part parts (i + 1)) k page at
+found_place parts i part k page below is at = grind (arith, nat_tests, common_steps, at_part, get_front)
 
--- at the URL's index in the first part that has it stands the page with the URL
+-- the page with the URL is at its index in the first part that has it
 pub found_index : (parts : List (List PageRead)) (i : ℕ) (part : List PageRead) (url : List ℕ) (k : ℕ) → i < length parts → part ≡ get_or parts i part → Some k ≡ index_of (urls part) url → slice_get (from_part parts i) k ≡ page_with (from_part parts i) url
 found_index parts i part url k below is found =
     let named : slice_get (urls part) k ≡ Some url = found_at (urls part) url k (sym found) in
@@ -50,8 +49,7 @@ found_index parts i part url k below is found =
 
 -- what is lent of a part is the page at the index
 pub lent_page : (part pages : List PageRead) (k : ℕ) (o : Option (Bor PageRead)) → option_map (λ page. page.now) o ≡ slice_get part k → ((page : PageRead) → slice_get part k ≡ Some page → slice_get pages k ≡ Some page) → (j : ℕ) (all : List PageRead) → slice_get pages k ≡ slice_get all j → IfSome o (λ page. slice_get all j ≡ Some page.now)
-lent_page part pages k None at there j all same = tt
-lent_page part pages k (Some page) at there j all same = sym same ∙ there page.now (sym at)
+lent_page part pages k o at there j all same = grind arith
 
 -- the same, counted from all pages
 pub passed_index : (parts : List (List PageRead)) (all : List PageRead) (i before next : ℕ) (part : List PageRead) → i < length parts → part ≡ get_or parts i part → next ≡ before + length part
@@ -61,9 +59,7 @@ passed_index parts all i before next part below is sum at k =
     passed_place parts i part k below is ∙ at (length part + k) ∙ ap (slice_get all) same
 
 pub passed_rest : (parts : List (List PageRead)) (shown : Option PageRead) (i k left : ℕ) (part : List PageRead) → i < length parts → part ≡ get_or parts i part → length part + left ≡ k → slice_get (from_part parts i) k ≡ shown → slice_get (from_part parts (i + 1)) left ≡ shown
-passed_rest parts shown i k left part below is sum at =
-    passed_place parts i part left below is ∙ ap (slice_get (from_part parts i)) sum ∙ at
+passed_rest parts shown i k left part below is sum at = grind (arith, passed_place)
 
 pub summed_index : (all : List PageRead) (shown : Option PageRead) (told : Option ℕ) (P : Type 0) (sum : ℕ) → SomeIff told P sum → slice_get all sum ≡ shown → IfSome told (λ index. slice_get all index ≡ shown)
-summed_index all shown None P sum is at = tt
-summed_index all shown (Some index) P sum is at = ap (slice_get all) is.1 ∙ at
+summed_index all shown told P sum is at = grind arith

@@ -1,8 +1,10 @@
--- Under a page of a saved web stand links alone, or one moved line alone.
-use Rattle.std.proofs.Common.{◌≡◌, inl, inr, ℕ, ◌+◌, ◌<◌, Bool, true, false, ◌||◌, not, cond, List, [], ◌∷◌, ◌++◌, length, Some, None, refl, sym, ap, subst, ◌∙◌, arith, ne_eqb, length-append, append_assoc, append-nil}
+-- Under a page of a saved web are only links, or only one moved line.
+use Rattle.std.proofs.lemmas.Bool.Decides.{nat_tests}
+use Rattle.std.proofs.lemmas.Grind.{common_steps}
+use Rattle.std.proofs.Common.{◌≡◌, inl, inr, ℕ, ◌+◌, ◌<◌, Bool, true, false, not, cond, List, [], ◌∷◌, ◌++◌, length, Some, None, refl, sym, ap, subst, ◌∙◌, arith, ne_eqb, length-append, append_assoc, append-nil}
 use Rattle.std.specs.Bool.{if◌then◌else◌}
 use Rattle.std.specs.List.{list_any, count_by}
-use Rattle.std.proofs.lemmas.Bool.{cases_Bool, cond-true, cond-false}
+use Rattle.std.proofs.lemmas.Bool.{cases_Bool, cond-true, cond-false, or_parts}
 use Rattle.std.proofs.lemmas.List.Sums.{sum_by-append, take_while-cons}
 use Rattle.saved_web.proofs.PassedLines.{said_passes}
 use Rattle.saved_web.proofs.ReadWeb.{under_more}
@@ -10,7 +12,7 @@ use Rattle.text_lines.specs.LeastFault.{SoundAfter}
 use Rattle.saved_web.specs.SavedWeb.{lines_behind, up_to_page, IsUnmixed}
 use Rattle.saved_pages.specs.WebChecks.{Before, under_fault, said_fault}
 use Rattle.saved_web.specs.WebFaults.{under_last_page, before, fault_after, IsSound}
-use Rattle.saved_pages.specs.WebLines.{line_of, says_page, says_link, says_moved, url_said, is_page, is_link, is_moved_line, is_page_at}
+use Rattle.saved_pages.specs.WebLines.{line_of, says_page, url_said, is_page, is_link, is_moved_line, is_page_at}
 use Rattle.std.specs.Option.{option_map_or}
 use Rattle.std.specs.Str.{bytes_eq}
 use Rattle.saved_pages.specs.declared.error.WebError.TheVariants as wrong
@@ -19,61 +21,31 @@ use Rattle.saved_pages.specs.declared.line.Line.TheVariants as says
 
 -- ---- counts
 
-or_parts : (a b : Bool) → (a || b) ≡ false → (a ≡ false) × (b ≡ false)
-or_parts true b e = absurd (cc)
-or_parts false b e = (refl, e)
-
 count_none : (p : List ℕ → Bool) (lines : List (List ℕ)) → list_any p lines ≡ false → count_by p lines ≡ 0
 count_none p [] none = refl
-count_none p (line ∷ more) none =
-    let parts = or_parts (p line) (list_any p more) none in
-    rw (parts.0, count_none p more parts.1) refl
+count_none p (line ∷ more) none = grind (arith, or_parts, count_none p more)
 
 grows : (p : Line (List ℕ) → Bool) (lines : List (List ℕ)) (line : List ℕ) (said : Line (List ℕ)) → line_of line ≡ said → count_by (λ l. p (line_of l)) (lines ++ line ∷ []) ≡ count_by (λ l. p (line_of l)) lines + cond (p said) 1 0
-grows p lines line said is =
-    let more = sum_by-append (λ l. cond (p (line_of l)) 1 0) lines (line ∷ []) in
-    let one = ap {B = ℕ} (λ s. cond (p s) 1 0) is in
-    omega (arith, more, one)
+grows p lines line said is = grind (arith, sum_by-append)
 
 -- ---- one more line
 
 passes_under : (number : ℕ) (some mixed : Bool) → under_fault number some mixed ≡ None → mixed ≡ false
-passes_under number true true passes = absurd (cc)
-passes_under number true false passes = refl
-passes_under number false mixed passes = absurd (cc)
+passes_under number some mixed passes = grind arith
 
 passes_moved : (number : ℕ) (second some mixed : Bool) → (if second then under_fault number some mixed else Some (wrong.BadLine number)) ≡ None → mixed ≡ false
-passes_moved number true some mixed passes = passes_under number some mixed passes
-passes_moved number false some mixed passes = absurd (cc)
+passes_moved number second some mixed passes = grind (arith, passes_under)
 
 stays : (under more : List (List ℕ)) → count_by is_moved_line more ≡ count_by is_moved_line under → count_by is_link more ≡ count_by is_link under → IsUnmixed under → IsUnmixed more
-stays under more moved link (inl none) = inl (moved ∙ none)
-stays under more moved link (inr one) = inr (moved ∙ one.0, link ∙ one.1)
+stays under more moved link h4 = grind arith
 
 line_more : (b : Before) (under : List (List ℕ)) (line : List ℕ) (said : Line (List ℕ)) → line_of line ≡ said → b.link ≡ list_any is_link under → b.moved ≡ list_any is_moved_line under → said_fault b said ≡ None → says_page said ≡ false → IsUnmixed under → IsUnmixed (under ++ line ∷ [])
-line_more b under line (says.Page text) is link moved passes here unmixed = absurd (cc)
-line_more b under line (says.Link text) is link moved passes here unmixed =
-    let none = count_none is_moved_line under (sym moved ∙ passes_under b.number b.some_page b.moved passes) in
-    let more = grows says_moved under line (says.Link text) is in
-    inl (omega (arith, none, more))
-line_more b under line (says.Moved text) is link moved passes here unmixed =
-    let parts = or_parts b.link b.moved (passes_moved b.number b.second b.some_page (b.link || b.moved) passes) in
-    let no_move = count_none is_moved_line under (sym moved ∙ parts.1) in
-    let no_link = count_none is_link under (sym link ∙ parts.0) in
-    let moves = grows says_moved under line (says.Moved text) is in
-    let links = grows says_link under line (says.Moved text) is in
-    inr (omega (arith, no_move, moves), omega (arith, no_link, links))
-line_more b under line says.Empty is link moved passes here unmixed =
-    let moves = grows says_moved under line says.Empty is in
-    let links = grows says_link under line says.Empty is in
-    stays under (under ++ line ∷ []) (omega (arith, moves)) (omega (arith, links)) unmixed
-line_more b under line says.Other is link moved passes here unmixed = absurd (cc)
+line_more b under line said is link moved passes here unmixed = grind (arith, nat_tests, common_steps, count_none, passes_under, grows, or_parts, passes_moved, stays)
 
 -- ---- all lines up to the next page
 
 pub up_to_page-page : (line : List ℕ) (more : List (List ℕ)) → is_page line ≡ true → up_to_page (line ∷ more) ≡ []
-up_to_page-page line more page =
-    take_while-cons (λ l. not (is_page l)) line more ∙ cond-false _ _ _ (ap not page)
+up_to_page-page line more page = grind (arith, take_while-cons, cond-false)
 
 pub up_to_page-other : (line : List ℕ) (more : List (List ℕ)) → is_page line ≡ false → up_to_page (line ∷ more) ≡ line ∷ up_to_page more
 up_to_page-other line more page =
@@ -104,11 +76,7 @@ unmixed_on earlier (line ∷ more) some sound unmixed =
 -- ---- from the page's own line on
 
 page_here : (url line : List ℕ) (said : Line (List ℕ)) → option_map_or (λ own. bytes_eq own url) (url_said said) false ≡ true → says_page said ≡ true
-page_here url line (says.Page text) at = refl
-page_here url line (says.Link text) at = absurd (cc)
-page_here url line (says.Moved text) at = absurd (cc)
-page_here url line says.Empty at = absurd (cc)
-page_here url line says.Other at = absurd (cc)
+page_here url line said at = grind arith
 
 unmixed_from : (url : List ℕ) (earlier all behind : List (List ℕ)) → SoundAfter fault_after earlier all → lines_behind all url ≡ Some behind → IsUnmixed (up_to_page behind)
 unmixed_from url earlier [] behind sound found = absurd (cc)

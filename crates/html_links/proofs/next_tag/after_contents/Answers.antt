@@ -5,11 +5,5 @@ use Rattle.html_links.proofs.next_tag.after_contents.Goals as goal
 pub returns-in_default-clause-reads : goal.returns-in_default-clause-reads
 returns-in_default-clause-reads c = grind (arith, none_within)
 
-pub returns-then-is_inert-clause-reads : goal.returns-then-is_inert-clause-reads
-returns-then-is_inert-clause-reads c = grind arith
-
 pub returns-then-is_inert-clause-leaves : goal.returns-then-is_inert-clause-leaves
 returns-then-is_inert-clause-leaves c = rest_leaves c.after_template.result c.in-Some.rest.now c.args.text.now c.in-Some.ensures.leaves c.after_template.ensures.leaves
-
-pub returns-else-is_inert-clause-reads : goal.returns-else-is_inert-clause-reads
-returns-else-is_inert-clause-reads c = grind arith

@@ -1,4 +1,3 @@
-use Rattle.std.proofs.Common.{arith}
 use Rattle.html_links.proofs.Passing.{sought_all, sought_on, has_then}
 use Rattle.html_links.proofs.next_tag.next_tag.Goals as goal
 
@@ -10,9 +9,6 @@ markup-preserved c = sought_on c.args.bytes.now c.markup.rest.now c.in-Pass.more
 
 pub returns-in-Take-clause-finds : goal.returns-in-Take-clause-finds
 returns-in-Take-clause-finds c = has_then _ _ _ c.markup.invariant.has c.in-Take.ensures.0
-
-pub returns-in-Take-clause-leaves : goal.returns-in-Take-clause-leaves
-returns-in-Take-clause-leaves c = grind arith
 
 pub returns-in-End-clause-finds : goal.returns-in-End-clause-finds
 returns-in-End-clause-finds c = has_then _ _ _ c.markup.invariant.has c.in-End.ensures

@@ -3,9 +3,6 @@ use Rattle.std.specs.Ordering.{is_eq, is_lt}
 use Rattle.page_anchors.proofs.Searched.{found_at, half_before, half_behind, none_found}
 use Rattle.page_anchors.proofs.search.has_id.Goals as goal
 
-pub halves-init : goal.halves-init
-halves-init c = grind arith
-
 pub halves-preserved-then-is_lt : goal.halves-preserved-then-is_lt
 halves-preserved-then-is_lt c =
     half_behind c.args.ids.now c.args.text.now c.id.result.now c.halves.low _ c.halves.high c.halves.invariant (omega (arith, c.halves-test.true)) c.id.ensures

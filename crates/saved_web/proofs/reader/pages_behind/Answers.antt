@@ -4,11 +4,7 @@ use Rattle.saved_web.proofs.ReadWeb.{read_fault, found_on, all_read}
 use Rattle.saved_web.proofs.reader.pages_behind.Goals as goal
 
 pub loop-line-init : goal.loop-line-init
-loop-line-init c = record {
-  text = search rules;
-  few = omega arith;
-  read = λ all start. rw c.new-pages.ensures start;
-}
+loop-line-init c = grind arith
 
 pub loop-line-preserved : goal.loop-line-preserved
 loop-line-preserved c = record {
@@ -20,11 +16,7 @@ loop-line-preserved c = record {
 }
 
 pub returns-in_err-above-clause-fault : goal.returns-in_err-above-clause-fault
-returns-in_err-above-clause-fault c =
-    let p = err_from_is_err_and c.from_residual.result c.from_residual.ensures.1 in
-    rw (p.1, p.2) (λ all start.
-    read_fault all c.loop-line.rest.now c.loop-line.number c.loop-line.above c.loop-line.pages c.in-Some.line.now c.in-Some.more.now c.in_err-above.field-0.0 c.in-Some.ensures.cut c.in_err-above.ensures.tells
-    (c.loop-line.invariant.read all start).read)
+returns-in_err-above-clause-fault c = grind (arith, err_from_is_err_and, read_fault)
 
 pub returns-clause-read : goal.returns-clause-read
 returns-clause-read c = λ all start.

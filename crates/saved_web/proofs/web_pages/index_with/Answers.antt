@@ -1,17 +1,14 @@
-use Rattle.std.proofs.Common.{rules, arith, ◌≡◌, ◌+◌, slice_get, Some, None, refl, sym, ap, ◌∙◌}
+use Rattle.std.proofs.Common.{rules, arith, ◌≡◌, None, sym, ◌∙◌}
 use Rattle.std.specs.List.{flat_map}
 use Rattle.hash_index.specs.Lists.{index_of}
-use Rattle.saved_pages.specs.PageLists.{page_with, urls}
+use Rattle.saved_pages.specs.PageLists.{urls}
 use Rattle.saved_pages.proofs.PageIndex.{no_page}
 use Rattle.saved_web.proofs.PartPages.{passed_part}
 use Rattle.saved_web.proofs.PartPlaces.{found_index, passed_index, summed_index}
 use Rattle.saved_web.proofs.web_pages.index_with.Goals as goal
 
 pub loop-part-init : goal.loop-part-init
-loop-part-init c = record {
-  same = refl;
-  at = λ k. let e : k ≡ 0 + k = omega arith in ap (slice_get (flat_map (λ part. part) c.args.parts.now)) e;
-}
+loop-part-init c = grind arith
 
 pub loop-part-preserved : goal.loop-part-preserved
 loop-part-preserved c =
@@ -25,11 +22,4 @@ loop-part-preserved c =
     }
 
 pub returns-in-Some : goal.returns-in-Some
-returns-in-Some c =
-    let parts = c.args.parts.now in
-    let part = c.part-item.result in
-    let url = c.args.url.now in
-    let all = flat_map (λ p. p) parts in
-    let found : Some c.in-Some.index ≡ index_of (urls part) url = search rules in
-    summed_index all (page_with all url) c.checked_add.result _ (c.loop-part.before + c.in-Some.index) c.checked_add.ensures
-    (sym (c.loop-part.invariant.at c.in-Some.index) ∙ found_index parts c.loop-part.part-index part url c.in-Some.index c.loop-part-test.true c.part-item.is found ∙ c.loop-part.invariant.same)
+returns-in-Some c = grind (arith, summed_index, found_index)

@@ -1,3 +1,4 @@
+use native.Mathlib.Omega.{arith}
 use Rattle.std.proofs.Common.{rules, ◌≡◌, [], ◌∷◌, ◌++◌, get_or, Some, None, sym, subst, ◌∙◌}
 use Rattle.std.specs.List.{All}
 use Rattle.std.proofs.lemmas.List.Elements.{All-push, All-contains}
@@ -10,10 +11,7 @@ use Rattle.saved_web.proofs.LinkIndex.{texts, within_at, contains_at}
 use Rattle.saved_web.proofs.known_links.KnownLinks.learn.Goals as goal
 
 pub link_at-requires : goal.link_at-requires
-link_at-requires c =
-    let known = c.self.inside.links.items in
-    let found : Some c.in-Some.index ≡ index_of (texts known) c.args.text.now = search rules in
-    rw c.deref.ensures.value (within_at known c.args.text.now c.in-Some.index found)
+link_at-requires c = grind (arith, texts, within_at)
 
 pub returns-in-Some-clause-link : goal.returns-in-Some-clause-link
 returns-in-Some-clause-link c =
