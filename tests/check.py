@@ -35,7 +35,7 @@ import drawn
 from checking import drawing, forms, loading, samples
 from checking.documents import TOOL
 from checking.known import KNOWN, Known, To, Zeros
-from checking.model import Model, Moved, Row, Settings, is_short
+from checking.model import INDEX_FILES, Model, Moved, Row, Settings, is_short
 from checking.tags import document_tags
 from checking.webs import Converter, first_difference, model_fault
 
@@ -48,6 +48,13 @@ KINDS = "brokenpage brokenanchor placepage placeanchor worst redirect unreached 
 LEAST = 5
 
 
+def rules(settings: Settings) -> List[str]:
+    """The options for the pages of a folder."""
+    words = [f"--index-file={name}" for name in settings.indices] if settings.indices != INDEX_FILES else []
+    words += ["--fallback=html"] if settings.fallback else []
+    return words + [f"--{name}" for name in ("exact", "follow", "queries") if getattr(settings, name)]
+
+
 def arguments(settings: Settings, folder: str, scratch: str, form: str = "--json") -> List[str]:
     """The arguments of the command."""
     words = ["check", form] if form else ["check"]
@@ -55,9 +62,7 @@ def arguments(settings: Settings, folder: str, scratch: str, form: str = "--json
     words += ["--unreached"] if settings.unreached else []
     words += ["--external"] if settings.external else []
     words += [f"--seed={seed}" for seed in settings.seeds]
-    words += ["--exact"] if settings.exact else []
-    words += ["--follow"] if settings.follow else []
-    words += ["--queries"] if settings.queries else []
+    words += rules(settings)
     words += [f"--workers={settings.workers}"] if settings.workers > 1 else []
     if settings.ignores:
         entries = Path(scratch, "ignores")
@@ -168,7 +173,7 @@ def known_faults(program: Optional[str], number: int) -> Faults:
         folder = write_known(known, Path(scratch, "site"))
         settings = Settings(BASE, follow=known.follow)._replace(**dict(known.rules))
         faults = [(f"{known.name}, model", known_fault(known, Model(folder, settings._replace(front=BASE)).rows()))]
-        if program and not known.rules:
+        if program:
             faults.append((known.name, difference(printed_rows(program, settings, folder), Model(folder, settings).rows())))
         return faults
 
@@ -204,10 +209,11 @@ def random_settings(draw: Random) -> Settings:
     base = draw.choice((BASE, BASE, BASE + "manual/"))
     ignores = draw.choice([(), (), (base + "gone",), (base + "a", "x", base + "sub/#")])
     seeds = draw.choice([(), (), (), ("sub/",), ("#x", "a.html?b", "gone/../b.html"), ("?", "index.html", "%61.html?x", "a?y"), ("./", "s%75b")])
+    host = drawing.random_host(draw)
     return Settings(
-        base, ignores=ignores, anchors=draw.random() < 0.8, unreached=draw.random() < 0.5, exact=draw.random() < 0.2,
+        base, ignores=ignores, anchors=draw.random() < 0.8, unreached=draw.random() < 0.5, exact=host.exact,
         external=draw.random() < 0.5, follow=draw.random() < 0.3, queries=draw.random() < 0.15, seeds=seeds,
-        workers=draw.choice((1, 1, 2, 4, 64)),
+        workers=draw.choice((1, 1, 2, 4, 64)), indices=host.index_files or INDEX_FILES, fallback=host.fallback,
     )
 
 
@@ -289,8 +295,7 @@ def compare_models(seed: int, number: int) -> Outcome:
             served = Model(folder, SERVER)
         except drawn.NotPlain:
             return Outcome(number, [], Counter(), True)
-        options = [f"--{name}" for name in ("exact", "follow", "queries") if getattr(settings, name)]
-        faults: Faults = [("model", model_fault(model, converter().web(folder, options, BASE))), ("server", server_fault(served, folder))]
+        faults: Faults = [("model", model_fault(model, converter().web(folder, rules(settings), BASE))), ("server", server_fault(served, folder))]
         return Outcome(number, faults, Counter(), False)
 
 

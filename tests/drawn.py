@@ -977,10 +977,10 @@ COMMANDS: dict[str, tuple[str, ...]] = {
     ),
     "check": (
         "--workers=2 --json --html --annotations --all-sources --unreached --external --no-anchors "
-        f"--ignore={LIST} --seed=./ --seed=.. --exact --queries --follow",
+        f"--ignore={LIST} --seed=./ --seed=.. --index-file=index.html --index-file=x --fallback=html --exact --queries --follow",
         f". . . none {LIST}", "http://a.test/ http://b.test/x/ ftp://x",
     ),
-    "site": ("--exact --queries --follow", ". . none", "http://a.test/ http://b.test/x x"),
+    "site": ("--index-file=index.htm --fallback=html --exact --queries --follow", ". . none", "http://a.test/ http://b.test/x x"),
     "replay": ("", f"- - {LIST} none"),
     "key": ("--workers=2", "http://a.test/ http://é.test x"),
     "serve": (
