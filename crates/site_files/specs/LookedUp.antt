@@ -1,12 +1,6 @@
--- The paths that a server looks up.
-use Rattle.std.specs.Prelude.{ℕ, ◌==◌, Bool, true, List, [], ◌∷◌, ◌++◌, codes, take, drop}
+-- The URLs that a server looks up.
+use Rattle.std.specs.Prelude.{ℕ, ◌==◌, List, ◌++◌, codes, take, drop}
 use Rattle.std.specs.List.{position_or_len}
-
--- the path of the top, which is empty, or one that ends with a slash
-abbrev pub is_folder : List ℕ → Bool
-is_folder [] = true
-is_folder (b ∷ []) = b == 47
-is_folder (b ∷ c ∷ bs) = is_folder (c ∷ bs)
 
 -- the number of bytes of a URL before its query
 abbrev pub path_length : List ℕ → ℕ

@@ -5,7 +5,6 @@ ghost use Rattle.crawl_keys.specs.CanonicalText.{canonical};
 ghost use Rattle.percent_encoding.specs.Percent.{percent_decode};
 ghost use Rattle.site_files.specs.Below.{IsTop, is_mark, without_slashes};
 ghost use Rattle.site_files.specs.Errors.{IsOfFiles};
-ghost use Rattle.site_files.specs.LookedUp.{is_folder};
 
 use crate::below::is_slashed;
 use crate::error::SiteError;
@@ -347,8 +346,7 @@ fn file_path(name: &str, queries: bool) -> Option<(&str, Option<&str>)> {
 
 /// The folder of the file with this path, if the file has this name.
 fn folder_of<'a>(path: &'a str, name: &str) -> Option<&'a str>
-    ensures path { IfSome result (λ folder. path.now ≡ folder.now ++ name.now) }
-    ensures folder { IfSome result (λ folder. is_folder folder.now ≡ true) }
+    ensures { IfSome result (λ folder. path.now ≡ folder.now ++ name.now) }
 {
     match path.strip_suffix(name) {
         Some(folder) if folder.is_empty() || folder.ends_with('/') => Some(folder),
