@@ -48,6 +48,13 @@ KINDS = "brokenpage brokenanchor placepage placeanchor worst redirect unreached 
 LEAST = 5
 
 
+def rules(settings: Settings) -> List[str]:
+    """The options for the pages of a folder."""
+    words = [f"--index-file={name}" for name in settings.indices] if settings.indices != INDEX_FILES else []
+    words += ["--fallback=html"] if settings.fallback else []
+    return words + [f"--{name}" for name in ("exact", "follow", "queries") if getattr(settings, name)]
+
+
 def arguments(settings: Settings, folder: str, scratch: str, form: str = "--json") -> List[str]:
     """The arguments of the command."""
     words = ["check", form] if form else ["check"]
@@ -163,7 +170,7 @@ def known_faults(program: Optional[str], number: int) -> Faults:
         folder = write_known(known, Path(scratch, "site"))
         settings = Settings(BASE, follow=known.follow)._replace(**dict(known.rules))
         faults = [(f"{known.name}, model", known_fault(known, Model(folder, settings._replace(front=BASE)).rows()))]
-        if program and not known.rules:
+        if program:
             faults.append((known.name, difference(printed_rows(program, settings, folder), Model(folder, settings).rows())))
         return faults
 
@@ -281,8 +288,7 @@ def compare_models(seed: int, number: int) -> Outcome:
             served = Model(folder, SERVER)
         except drawn.NotPlain:
             return Outcome(number, [], Counter(), True)
-        options = [f"--{name}" for name in ("exact", "follow", "queries") if getattr(settings, name)]
-        faults: Faults = [("model", model_fault(model, converter().web(folder, options, BASE))), ("server", server_fault(served, folder))]
+        faults: Faults = [("model", model_fault(model, converter().web(folder, rules(settings), BASE))), ("server", server_fault(served, folder))]
         return Outcome(number, faults, Counter(), False)
 
 

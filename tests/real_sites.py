@@ -32,7 +32,7 @@ from pathlib import Path
 from random import Random
 from typing import Any, Dict, Iterator, List, NamedTuple, Optional, Tuple
 
-from check import arguments
+from check import arguments, rules
 from checking import generators, loading, samples
 from checking.model import Model, Moved, Response, Row, Settings
 from checking.samples import Finding
@@ -96,10 +96,14 @@ def run(words: List[str], given: Optional[bytes] = None) -> "subprocess.Complete
     return subprocess.run(words, input=given or b"", capture_output=True, check=False, timeout=SECONDS)
 
 
+def settings_of(site: Site) -> Settings:
+    """The settings of a site's check."""
+    return Settings(site.base, unreached=True, external=True, seeds=site.starts, fallback=site.fallback)
+
+
 def rows_of(program: str, site: Site) -> List[Row]:
     """The rows that the program prints for a site."""
-    settings = Settings(site.base, unreached=True, external=True, seeds=site.starts)
-    done = run([program, *arguments(settings, site.folder, "")])
+    done = run([program, *arguments(settings_of(site), site.folder, "")])
     rows = [json.loads(line) for line in done.stdout.splitlines()]
     for row in rows:
         row.pop("base", None)
@@ -141,7 +145,7 @@ def report_of(model: Model) -> List[str]:
 
 def crawl_differences(program: str, site: Site, model: Model) -> List[str]:
     """How the crawls of a site's saved web differ from the model's search."""
-    web = run([program, "site", site.folder, site.base])
+    web = run([program, "site", *rules(settings_of(site)), site.folder, site.base])
     if web.returncode:
         return [f"site: exit status {web.returncode}, {web.stderr.decode(errors='replace')}"]
     expected, found = report_of(model), []
@@ -182,7 +186,7 @@ def sampled(site: Site, findings: List[Finding], options: Options) -> List[str]:
 
 def compare(options: Options, site: Site) -> Outcome:
     """Compares a site."""
-    model = Model(site.folder, Settings(site.base, unreached=True, external=True, seeds=site.starts))
+    model = Model(site.folder, settings_of(site))
     rows, expected = rows_of(options.program, site), model.rows()
     findings = findings_of(rows, site.base)
     faults = differences(rows, expected) + planted_fault(site, findings) + crawl_differences(options.program, site, model)

@@ -444,9 +444,28 @@ class Folders(Converting):
     def test_another_index_file(self) -> None:
         self.put("home.htm", '<html><a href="x">')
         self.assertEqual(
-            self.converted("--index", "home.htm"),
+            self.converted("--index-file", "home.htm"),
             {"http://a.test/": ["link x"], "http://a.test/home.htm": ["link /"]},
         )
+
+    def test_the_first_index_file_of_a_folder_counts(self) -> None:
+        self.put("index.htm", '<html><a href="x">')
+        self.put("index.xhtml", '<html><a href="y">')
+        below = {"http://a.test/index.htm": ["link x"], "http://a.test/index.xhtml": ["link y"]}
+        self.assertEqual(self.converted(), {**below, "http://a.test/": ["link x"], "http://a.test/index.htm": ["link /"]})
+        names = ("--index-file=index.xhtml", "--index-file=index.htm")
+        self.assertEqual(
+            self.converted(*names), {**below, "http://a.test/": ["link y"], "http://a.test/index.xhtml": ["link /"]}
+        )
+        self.assertEqual(self.converted("--index-file=index.html"), below)
+
+    def test_a_suffix_that_a_link_omits(self) -> None:
+        self.put("index.html", '<html><a href="a"><a href="a?b"><a href="a/"><a href="index"><a href="%61#c">')
+        self.put("a.html", "<html>")
+        aliases = {f"http://a.test/{name}": ["link /a.html"] for name in ("%61", "a", "a?b")}
+        indices = {f"http://a.test/{name}": ["link /"] for name in ("index.html", "index")}
+        pages = self.converted("--fallback", "html")
+        self.assertEqual({url: pages[url] for url in pages if url != "http://a.test/"}, {**aliases, **indices, "http://a.test/a.html": []})
 
     def test_queries_of_names(self) -> None:
         self.put("list.html?page=2", '<html><a href="list.html?page=3"><a href="list.html?p%61ge=2">')

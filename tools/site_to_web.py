@@ -57,6 +57,11 @@ pages of a folder, as a plain static server returns them:
     server ignores for a file. The page of an alias has one link, which is the file's
     own URL. So the links of a file are followed once.
   - In the same way, a link to `/dir` in another spelling leads to a redirect.
+  - An index file is `index.html` or, if its folder has none, `index.htm` or
+    `index.xhtml`. With --index-file, index files have the given names instead; the
+    first that a folder has counts.
+  - With --fallback html, a path that has no page and does not end with a slash is
+    looked up again with `.html` added.
   - With --exact, a link in another spelling or with a query leads to no page. With
     --queries, a `?` in a file name starts the query (the own URL of `index.html?x`
     is `/?x`), and no query is ignored.
@@ -108,6 +113,7 @@ FILE_LIMIT = 1 << 30  # most bytes of a file whose links are read
 SECONDS, SECONDS_PER_MILLION_BYTES = 1.0, 5.0
 FAULT, BAD_WORDS = 1, 3  # exit statuses, the same as those of mercator: an error, and a bad command line
 
+INDEX_FILES = ("index.html", "index.htm", "index.xhtml")
 HTML_KINDS = ("text/html", "application/xhtml+xml")
 STYLE_KIND = "text/css"
 # Python's own table of suffixes without that of the machine, so that it is the same everywhere
@@ -929,6 +935,12 @@ def split_name(name: bytes, queries: bool) -> tuple[bytes, bytes, bytes]:
     return name.partition(b"?") if queries else (name, b"", b"")
 
 
+def with_html(url: str) -> str:
+    """Return a URL with `.html` after its path, unless that ends with a slash."""
+    path, mark, query = url.partition("?")
+    return url if path.endswith("/") else path + ".html" + mark + query
+
+
 class Folder:
     """The pages of a folder.
 
@@ -942,8 +954,10 @@ class Folder:
         self.files: dict[str, bytes] = {}
         self.own: dict[bytes, str] = {}
         self.moves: dict[str, str] = {}
-        index = os.fsencode(options.index)
+        self.fallback = options.fallback is not None
+        self.index_files = [os.fsencode(name) for name in options.index_file or INDEX_FILES]
         names = entries_below(self.folder, web, options.follow)
+        self.names = set(names.paths)
         self.linked = {self.url(name): self.url(own) for name, own in names.links.items()}
         for name in names.paths:
             if not is_utf8(name):
@@ -953,10 +967,16 @@ class Folder:
                 continue
             self.keep(self.url(name, self.queries), name)
             path, mark, query = split_name(name, self.queries)
-            if os.path.basename(path) == index:
-                self.keep(self.url(path[: -len(index)] + mark + query, self.queries), name)
+            folder = path[: len(path) - len(os.path.basename(path))]
+            index = self.index_file(folder, mark + query)
+            if index and path == folder + index:
+                self.keep(self.url(folder + mark + query, self.queries), name)
         if not self.files:
             raise Fault(f"no files in {folder}")
+
+    def index_file(self, folder: bytes, query: bytes) -> bytes:
+        """Return the first name of an index file that a folder has with this query, or an empty name."""
+        return next((name for name in self.index_files if folder + name + query in self.names), b"")
 
     def url(self, name: bytes, queries: bool = False) -> str:
         """Return the URL of a path below the folder. With `queries`, a question mark starts the query."""
@@ -1010,6 +1030,8 @@ class Folder:
         if text in self.files or text in self.moves or (self.exact and plain != text):
             return None
         plain = self.own_url(plain)
+        if self.fallback and plain not in self.files and plain not in self.moves:
+            plain = with_html(plain)
         return (text, plain) if self.has_spellings(plain) else None
 
     def own_url(self, url: str) -> str:
@@ -1029,7 +1051,8 @@ class Folder:
         """Return the URLs among links that spell a page's URL differently, each with the page's URL."""
         base = url_of(url)
         # Only links with escapes, a query, a backslash or consecutive slashes in the path can, unless symbolic links lead to folders
-        marked = [link for link in dict.fromkeys(links) if self.linked or SPELLED_LINK.search(link)]
+        # or suffixes are omitted
+        marked = [link for link in dict.fromkeys(links) if self.linked or self.fallback or SPELLED_LINK.search(link)]
         found = (self.spelled_otherwise(link, base) for link in marked)
         return {} if self.exact and not self.linked else dict(filter(None, found))
 
@@ -1287,7 +1310,13 @@ def command_line() -> CommandLine:
     words.add_argument("base", nargs="?", metavar="BASE", help="URL of the folder, such as http://docs.test/")
     words.add_argument("--warc", nargs="+", metavar="FILE", help="convert web archives instead of FOLDER and BASE")
     words.add_argument(
-        "--index", default="index.html", metavar="NAME", help="name of the index files (default: index.html)"
+        "--index-file",
+        action="append",
+        metavar="NAME",
+        help="name of index files, in place of index.html, index.htm and index.xhtml; repeatable",
+    )
+    words.add_argument(
+        "--fallback", choices=["html"], help="look up a path that has no page again with .html added"
     )
     words.add_argument(
         "--queries", action="store_true", help="read a ? in a file name as the start of a query (for `wget -r`)"
@@ -1320,6 +1349,8 @@ def run(words: argparse.ArgumentParser) -> None:
     options = words.parse_args()
     if bool(options.warc) == bool(options.folder) or bool(options.folder) != bool(options.base):
         words.error("give FOLDER and BASE, or --warc FILE..")
+    if options.exact and options.fallback:
+        words.error("--exact and --fallback exclude each other")
     web = Web(options)
     if options.warc:
         archive = Archive(web)

@@ -10,7 +10,7 @@ import shutil
 import socket
 from pathlib import Path
 from random import Random
-from typing import Any, List
+from typing import Any, List, NamedTuple, Tuple
 from urllib.parse import quote as escaped
 
 NAMES = """index.html index.html index.html a.html b.htm c d.txt e%20f.html g h.html \u00fc.html i?j.html k#l.html m+n.html [o].html p&q.html
@@ -229,9 +229,26 @@ def linked_path(draw: Random, place: str) -> str:
     return path_to(draw, spelled(draw, path), place and place + "/") + draw.choice([*ENDS[:14], "#x", "#y"])
 
 
+class Host(NamedTuple):
+    """Random rules of a host."""
+
+    exact: bool
+    fallback: bool  # a file is also found without its suffix .html
+    index_files: Tuple[str, ...]  # in place of the usual ones, if there are any
+
+
+def random_host(draw: Random) -> Host:
+    """Random rules of a host. Those that exclude each other are not drawn together."""
+    exact = draw.random() < 0.2
+    return Host(exact, not exact and draw.random() < 0.25, draw.choice([(), (), (), ("index.htm",), ("a.html", "index.html"), ("index.htm", "index.html")]))
+
+
 def random_options(draw: Random) -> List[str]:
     """Random options of `mercator site`."""
-    options = ["--exact"] if draw.random() < 0.2 else []
+    host = random_host(draw)
+    options = ["--exact"] if host.exact else []
+    options += ["--fallback", "html"] if host.fallback else []
+    options += [f"--index-file={name}" for name in host.index_files]
     options += ["--queries"] if draw.random() < 0.3 else []
     return options + (["--follow"] if draw.random() < 0.3 else [])
 

@@ -21,12 +21,12 @@ class Style(NamedTuple):
     settings: Dict[str, str]
     broken: FrozenSet[str]
     path: str = ""  # the path of the site on its host
-    starts: Tuple[str, ...] = ()
+    fallback: bool = False  # whether links omit the suffix .html
 
 
-def style(name: str, broken: str, path: str = "", start: str = "", **settings: str) -> Style:
+def style(name: str, broken: str, path: str = "", fallback: bool = False, **settings: str) -> Style:
     """A style with these settings and broken links."""
-    return Style(name, settings, frozenset(broken.split()), path, (start,) if start else ())
+    return Style(name, settings, frozenset(broken.split()), path, fallback)
 
 
 def write(top: Path, files: Dict[str, str]) -> None:
@@ -154,7 +154,7 @@ JEKYLL_STYLES = [
     style("files", "about.html#missing about.html#nowhere gone.gif gone.html", permalink="none", suffix=".html"),
     style("folders", "about/#missing about/#nowhere about/gone.gif gone.html", permalink="pretty", suffix="/"),
     style("path", "about/#missing about/#nowhere about/gone.gif gone.html", "proj/", permalink="pretty", suffix="/"),
-    style("without-suffix", "about about.html#missing about.html#nowhere gone.gif gone.html", permalink="none", suffix=""),
+    style("without-suffix", "about.html#missing about.html#nowhere gone.gif gone.html", fallback=True, permalink="none", suffix=""),
 ]
 
 
@@ -183,7 +183,7 @@ DOCBOOK = {
 DOCBOOK_STYLES = [
     style("chunks", "gone.html img/gone.gif", format="xhtml"),
     style("one-page", "gone.html img/gone.gif", format="xhtml-nochunks"),
-    style("xhtml", "gone.html img/gone.gif", start="index.xhtml", format="xhtml", suffix=".xhtml"),
+    style("xhtml", "gone.html img/gone.gif", format="xhtml", suffix=".xhtml"),
 ]
 
 
@@ -220,6 +220,6 @@ def sites(scratch: Path, names: List[str]) -> Iterator[Site]:
             top = scratch / name / kind.name
             top.mkdir(parents=True)
             try:
-                yield Site(f"{name} {kind.name}", str(make(top, kind)), BASE + kind.path, kind.starts, kind.broken)
+                yield Site(f"{name} {kind.name}", str(make(top, kind)), BASE + kind.path, (), kind.broken, kind.fallback)
             except NotMade as fault:
                 print(f"{name} {kind.name}: skipped, {fault}", flush=True)

@@ -26,7 +26,7 @@ class Known(NamedTuple):
     broken: List[str]
     rows: Tuple[Dict[str, Any], ...] = ()  # some members of some rows
     follow: bool = False  # whether symbolic links out of the folder are followed
-    rules: Tuple[Tuple[str, Any], ...] = ()  # rules of hosts that only the model has
+    rules: Tuple[Tuple[str, Any], ...] = ()  # settings of the host's rules
 
 
 def total(pages: int, links: int, redirects: int, aliases: int) -> Tuple[Dict[str, Any]]:
@@ -34,7 +34,7 @@ def total(pages: int, links: int, redirects: int, aliases: int) -> Tuple[Dict[st
     return ({"kind": "total", "pages": pages, "links": links, "redirects": redirects, "aliases": aliases},)
 
 
-INDICES = (("indices", ("index.html", "index.htm", "index.xhtml")),)
+INDICES = (("indices", ("home.html", "index.htm")),)
 FALLBACK = (("fallback", True),)
 
 
@@ -259,6 +259,15 @@ KNOWN = [
         },
         ["d/gone d/index.html:1:9", "d/index.htm#x index.htm:1:20", "d/none d/index.htm:1:9", "f/ index.htm:1:99", "index.html index.htm:1:110"],
         total(pages=5, links=9, redirects=0, aliases=1),
+    ),
+    Known(
+        "other names of index files",
+        {
+            "home.html": "<a href=d/><a href=d/home.html><a href=d/index.htm#x><a href=e/#x><a href=f/>", "d/home.html": "<a href=gone>",
+            "d/index.htm": "<a href=none>", "e/index.htm": "<p id=x>", "f/index.html": "",
+        },
+        ["d/gone d/home.html:1:9", "d/index.htm#x home.html:1:40", "d/none d/index.htm:1:9", "f/ home.html:1:75"],
+        total(pages=4, links=7, redirects=0, aliases=1),
         rules=INDICES,
     ),
     Known(

@@ -60,6 +60,9 @@ class Link(NamedTuple):
     place: Place
 
 
+INDEX_FILES = ("index.html", "index.htm", "index.xhtml")
+
+
 class Settings(NamedTuple):
     """The settings of a check."""
 
@@ -74,8 +77,7 @@ class Settings(NamedTuple):
     queries: bool = False
     seeds: Tuple[str, ...] = ()  # links on the top at which the search starts
     workers: int = 1  # which makes no difference
-    # Rules of hosts that the program does not have yet
-    indices: Tuple[str, ...] = ("index.html",)  # the names of index files; in each folder the first one counts
+    indices: Tuple[str, ...] = INDEX_FILES  # the names of index files; in each folder the first one counts
     fallback: bool = False  # a file is also found without its suffix .html
 
 

@@ -13,3 +13,4 @@ class Site(NamedTuple):
     base: str
     starts: Tuple[str, ...] = ()
     broken: Optional[FrozenSet[str]] = None  # the targets of all broken links, without the base, if they are known
+    fallback: bool = False  # whether links omit the suffix .html

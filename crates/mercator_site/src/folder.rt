@@ -22,9 +22,14 @@ use std::thread::Threads;
 /// The number of threads that read documents.
 const THREADS: usize = 4;
 
+/// The names of index files, unless others are given.
+const INDEX_FILES: &[&str] = &["index.html", "index.htm", "index.xhtml"];
+
+/// The rules by which names become pages, without anchors and positions.
 fn rules_of(alloc: Global, options: &SiteOptions) -> Result<Rules, AllocError> {
     Ok(Rules {
-        index: String::from_str(alloc, "index.html")?,
+        index_files: index_files(alloc, options.index_files.as_slice())?,
+        html_fallback: options.html_fallback,
         queries: options.queries,
         exact: options.exact,
         follow: options.follow,
@@ -32,6 +37,26 @@ fn rules_of(alloc: Global, options: &SiteOptions) -> Result<Rules, AllocError> {
         places: false,
         threads: THREADS,
     })
+}
+
+/// The names of index files that are given or, if there are none, the usual ones.
+fn index_files(alloc: Global, given: &[String]) -> Result<Vec<String>, AllocError> {
+    let mut names = Vec::new(alloc);
+    for name in given {
+        names.push(name.clone()?)?;
+    }
+    if names.is_empty() {
+        push_index_files(alloc, &mut names)?;
+    }
+    Ok(names)
+}
+
+/// Appends the usual names of index files.
+fn push_index_files(alloc: Global, names: &mut Vec<String>) -> Result<(), AllocError> {
+    for name in INDEX_FILES {
+        names.push(String::from_str(alloc, name)?)?;
+    }
+    Ok(())
 }
 
 fn check_rules(alloc: Global, options: &CheckOptions) -> Result<Rules, AllocError> {
@@ -126,13 +151,22 @@ fn push_no_index(
     notices: &mut Vec<Notice>,
     input: SiteNames<'_>,
 ) -> Result<(), AllocError> {
-    let index = input.rules.index.as_str();
-    if input.seeds.is_empty() && !input.names.iter().any(|name| name.as_str() == index) {
+    if input.seeds.is_empty()
+        && !has_index(input.names, input.rules.index_files.as_slice())
+        && let Some(index) = input.rules.index_files.first()
+    {
         let place = String::from_str(alloc, "./")?;
         let words = format!(in alloc; "no {index}, nothing to check (use --seed)")?;
         notices.push(Notice { place, words })?;
     }
     Ok(())
+}
+
+/// Whether one of the names is that of an index file at the top.
+fn has_index(names: &[String], index_files: &[String]) -> bool {
+    names
+        .iter()
+        .any(|name| index_files.iter().any(|index| *index == *name))
 }
 
 /// The settings of the check. Without BASE the site has the name of the folder, and URLs are printed without the top's URL.

@@ -38,6 +38,10 @@ pub struct SiteOptions {
     pub folder: String,
     /// The URL of the top of the folder.
     pub base: String,
+    /// The names of index files; if there are none, `index.html`, `index.htm` and `index.xhtml`.
+    pub index_files: Vec<String>,
+    /// Whether a path without a page is looked up again with `.html` added, unless it ends with a slash.
+    pub html_fallback: bool,
     /// Whether only the exact spelling of a page's URL is accepted.
     pub exact: bool,
     /// Whether a `?` in a file name is the start of a query.

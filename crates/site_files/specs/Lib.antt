@@ -1,3 +1,4 @@
 pub mod Below
 pub mod Errors
 pub mod Files
+pub mod LookedUp

@@ -1,5 +1,5 @@
 //! The pages of a site, by the names of its files.
-ghost use Rattle.std.specs.Prelude.{◌≡◌, ◌++◌, ◌∷◌, ℕ, List, [], IfErr, IfOk, Ok, false, string_bytes, true};
+ghost use Rattle.std.specs.Prelude.{◌≡◌, ◌++◌, ◌∷◌, ℕ, List, [], IfErr, IfOk, IfSome, Ok, false, string_bytes, true};
 ghost use Rattle.std.specs.List.{list_any};
 ghost use Rattle.crawl_keys.specs.CanonicalText.{canonical};
 ghost use Rattle.percent_encoding.specs.Percent.{percent_decode};
@@ -13,17 +13,18 @@ use crate::folder_links::{FolderLink, LinkedFolders};
 use crate::notes::{Left, Note};
 use crawl_keys::{CanonUrl, KeyError, canonical};
 use std::alloc::{AllocError, Global};
-use std::cmp::Ordering;
 
 /// The rules by which names become pages.
 #[derive(Debug, Drop)]
 pub struct Rules {
-    /// The name of index files.
-    pub index: String,
+    /// The names of index files. The page of a folder is the file with the first of these names that the folder has.
+    pub index_files: Vec<String>,
     /// Whether a `?` in a file name is the start of a query, as `wget -r` writes it.
     pub queries: bool,
     /// Whether only the exact spelling of a page's URL is accepted.
     pub exact: bool,
+    /// Whether a path without a page is looked up again with `.html` added, unless it ends with a slash.
+    pub html_fallback: bool,
     /// Whether anchors and links to anchors are read.
     pub anchors: bool,
     /// Whether the positions of links are kept.
@@ -98,7 +99,7 @@ impl Site {
         }
         let site = Site::at(alloc, base)?;
         let entries = site.entries_of(names, rules)?;
-        let mut entries = without_doubles(entries, names, notes)?;
+        let mut entries = without_doubles(entries, names, rules, notes)?;
         let own = own_numbers(alloc, entries.as_mut_slice(), names.len())?;
         let linked = site.linked_folders(links)?;
         let Site {
@@ -155,12 +156,15 @@ impl Site {
     fn entries_of(&self, names: &[String], rules: &Rules) -> Result<Vec<Entry>, SiteError>
         ensures { IfErr result IsOfFiles }
     {
-        // Three lists in the order of names, which is nearly that of URLs: little is left to sort.
+        // Lists in the order of names, which is nearly that of URLs, so little is left to sort. Of pages with one URL, the first stays the
+        // first.
         let mut entries = Vec::new(*self.top.allocator());
         self.push_files(names, rules, &mut entries)?;
-        self.push_indices(names, rules, &mut entries)?;
+        for index_file in &rules.index_files {
+            self.push_indices(names, index_file.as_str(), rules.queries, &mut entries)?;
+        }
         self.push_folders(names, &mut entries)?;
-        entries.sort_by(|a: &Entry, b: &Entry| order_of(a, b))?;
+        entries.sort_by(|a: &Entry, b: &Entry| a.url.as_str().cmp(b.url.as_str()))?;
         Ok(entries)
     }
 
@@ -174,25 +178,26 @@ impl Site {
         ensures { IfErr result IsOfFiles }
     {
         for (index, name) in names.iter().enumerate() {
-            if let Some((path, query)) = file_path(name.as_str(), rules) {
+            if let Some((path, query)) = file_path(name.as_str(), rules.queries) {
                 self.push(path, query, name_source(path, index, rules), entries)?;
             }
         }
         Ok(())
     }
 
-    /// Adds the page at the URL of the folder of each index file.
+    /// Adds the page at the URL of the folder of each file with this name.
     fn push_indices(
         &self,
         names: &[String],
-        rules: &Rules,
+        index_file: &str,
+        queries: bool,
         entries: &mut Vec<Entry>,
     ) -> Result<(), SiteError>
         ensures { IfErr result IsOfFiles }
     {
         for (index, name) in names.iter().enumerate() {
-            if let Some((path, query)) = file_path(name.as_str(), rules)
-                && let Some(folder) = folder_of(path, rules)
+            if let Some((path, query)) = file_path(name.as_str(), queries)
+                && let Some(folder) = folder_of(path, index_file)
             {
                 self.push(folder, query, Source::File(index), entries)?;
             }
@@ -250,14 +255,23 @@ impl Site {
 
 /// What a server returns for the URL of a file's name, if the file has this index and path.
 fn name_source(path: &str, index: usize, rules: &Rules) -> Source {
-    match folder_of(path, rules) {
-        Some(_) => Source::Index(index),
-        None => Source::File(index),
+    if is_index(path, rules) {
+        Source::Index(index)
+    } else {
+        Source::File(index)
     }
 }
 
-/// The number of the page at the own URL of each of `count` files. If another file has the URL of its folder, the own URL of an index
-/// file is that of its name.
+/// Whether the file with this path is an index file.
+fn is_index(path: &str, rules: &Rules) -> bool {
+    rules
+        .index_files
+        .iter()
+        .any(|name| folder_of(path, name.as_str()).is_some())
+}
+
+/// The number of the page at the own URL of each of `count` files. If another file has the URL of its folder, as an index file with an
+/// earlier name has, the own URL of an index file is that of its name.
 fn own_numbers(
     alloc: Global,
     entries: &mut [Entry],
@@ -308,12 +322,13 @@ fn add(url: &str, source: Source, entries: &mut Vec<Entry>) -> Result<(), SiteEr
 fn without_doubles(
     entries: Vec<Entry>,
     names: &[String],
+    rules: &Rules,
     notes: &mut Vec<Note>,
 ) -> Result<Vec<Entry>, AllocError> {
     let mut kept: Vec<Entry> = Vec::new(*entries.allocator());
     for entry in entries {
         if is_double(kept.as_slice(), &entry) {
-            tell_double(&entry, names, notes)?;
+            note_double(&entry, names, rules, notes)?;
         } else {
             kept.push(entry)?;
         }
@@ -322,33 +337,20 @@ fn without_doubles(
 }
 
 /// The path and the query of a file's name; none of a folder's.
-fn file_path<'a>(name: &'a str, rules: &Rules) -> Option<(&'a str, Option<&'a str>)> {
+fn file_path(name: &str, queries: bool) -> Option<(&str, Option<&str>)> {
     if name.ends_with('/') {
         return None;
     }
-    Some(split_name(name, rules.queries))
+    Some(split_name(name, queries))
 }
 
-/// The folder whose index file has this path.
-fn folder_of<'a>(path: &'a str, rules: &Rules) -> Option<&'a str> {
-    match path.strip_suffix(rules.index.as_str()) {
+/// The folder of the file with this path, if the file has this name.
+fn folder_of<'a>(path: &'a str, name: &str) -> Option<&'a str>
+    ensures { IfSome result (λ folder. path.now ≡ folder.now ++ name.now) }
+{
+    match path.strip_suffix(name) {
         Some(folder) if folder.is_empty() || folder.ends_with('/') => Some(folder),
         _ => None,
-    }
-}
-
-/// The order of URLs. Of pages with one URL, that of the first file comes first.
-fn order_of(a: &Entry, b: &Entry) -> Ordering {
-    match a.url.as_str().cmp(b.url.as_str()) {
-        Ordering::Equal => rank_of(a).cmp(&rank_of(b)),
-        order => order,
-    }
-}
-
-fn rank_of(entry: &Entry) -> usize {
-    match &entry.source {
-        Source::File(index) | Source::Index(index) => *index,
-        Source::Moved(_) => usize::MAX,
     }
 }
 
@@ -411,9 +413,16 @@ fn is_double(kept: &[Entry], entry: &Entry) -> bool {
     }
 }
 
-fn tell_double(entry: &Entry, names: &[String], notes: &mut Vec<Note>) -> Result<(), AllocError> {
+/// Adds a note about the file of a page that is left out, unless the page is that of a folder. Its file also has one at its name.
+fn note_double(
+    entry: &Entry,
+    names: &[String],
+    rules: &Rules,
+    notes: &mut Vec<Note>,
+) -> Result<(), AllocError> {
     if let Source::File(index) | Source::Index(index) = &entry.source
         && let Some(name) = names.get(*index)
+        && !is_of_folder(&entry.source, name.as_str(), rules)
     {
         notes.push(Note {
             left: Left::SameUrl,

@@ -1,5 +1,8 @@
-//! The URLs for which a server returns a page of the site, although they are not its URL: another spelling, a query, or a path through a
-//! symbolic link to a folder.
+//! The URLs for which a server returns a page of the site, although they are not its URL: another spelling, a query, a path through a
+//! symbolic link to a folder, or a name without its `.html`.
+ghost use Rattle.std.specs.Prelude.{◌≡◌, IfOk, string_bytes};
+ghost use Rattle.site_files.specs.LookedUp.{with_html};
+
 use crate::escapes::{push_looked_up, push_query, push_respelled};
 use crate::files::SiteFiles;
 use crawl_keys::CanonUrl;
@@ -7,10 +10,10 @@ use memchr::{memchr_iter, memchr3};
 use std::alloc::{AllocError, Global};
 
 impl SiteFiles<'_> {
-    /// Whether the URL of a link with this text can be another spelling. If no symbolic link leads to a folder, the text must have an
-    /// escape, a query, or consecutive slashes in its path. A backslash is a slash in a URL.
+    /// Whether the URL of a link with this text can be another spelling. If no symbolic link leads to a folder and there is no fallback,
+    /// the text must have an escape, a query, or consecutive slashes in its path. A backslash is a slash in a URL.
     pub fn can_spell(&self, text: &str) -> bool {
-        if !self.site.linked.is_empty() {
+        if self.rules.html_fallback || !self.site.linked.is_empty() {
             return true;
         }
         let bytes = text.as_bytes();
@@ -22,10 +25,23 @@ impl SiteFiles<'_> {
     /// # Errors
     /// Out of memory.
     pub fn look_up(&self, alloc: Global, url: &CanonUrl) -> Result<Option<usize>, AllocError> {
-        match self.plain_of(alloc, url.as_str())? {
-            Some(plain) => Ok(self.find(plain.as_str())),
-            None => Ok(None),
+        let Some(plain) = self.plain_of(alloc, url.as_str())? else {
+            return Ok(None);
+        };
+        match self.find(plain.as_str()) {
+            Some(page) => Ok(Some(page)),
+            None => self.look_up_html(alloc, plain.as_str()),
         }
+    }
+
+    /// The number of the page at this URL with `.html` added to its path, if the rules have this fallback and the path does not end with a
+    /// slash.
+    fn look_up_html(&self, alloc: Global, url: &str) -> Result<Option<usize>, AllocError> {
+        if !self.rules.html_fallback || path_of(url).ends_with('/') {
+            return Ok(None);
+        }
+        let html = with_html(alloc, url)?;
+        Ok(self.find(html.as_str()))
     }
 
     /// The URL of a file or folder that a server looks up for a canonical URL of the site, by the own names of folders. `None` if the URL
@@ -73,4 +89,31 @@ fn has_empty_name(text: &[u8]) -> bool {
         is_first = false;
     }
     false
+}
+
+/// The URL without its query.
+fn path_of(url: &str) -> &str {
+    match url.split_once('?') {
+        Some((path, _)) => path,
+        None => url,
+    }
+}
+
+/// The URL with `.html` after its path.
+fn with_html(alloc: Global, url: &str) -> Result<String, AllocError>
+    ensures { IfOk result (λ html. string_bytes html ≡ with_html url.now) }
+{
+    let mut html = String::new(alloc);
+    match url.split_once('?') {
+        Some((path, query)) => {
+            html.push_str(path)?;
+            html.push_str(".html?")?;
+            html.push_str(query)?;
+        }
+        None => {
+            html.push_str(url)?;
+            html.push_str(".html")?;
+        }
+    }
+    Ok(html)
 }

@@ -4,6 +4,7 @@ ghost use Rattle.std.specs.Prelude.{◌≡◌, IfOk};
 use crate::commands::arguments::{
     Flag, Valued, command_with, option, push, push_flags, push_options, values_of, word, workers,
 };
+use clap::builder::ValueParser;
 use clap::{Arg, ArgAction, ArgGroup, ArgMatches, Command};
 use mercator_site::{CheckForm, CheckOptions, Lists, ReportOptions, SiteOptions};
 use std::alloc::{AllocError, Global};
@@ -30,7 +31,7 @@ pub fn site_command<'a>(alloc: Global) -> Result<Command<'a>, AllocError> {
 }
 
 fn push_site_args<'a>(alloc: Global, args: &mut Vec<Arg<'a>>) -> Result<(), AllocError> {
-    push_flags(alloc, args, FOLDER_FLAGS)?;
+    push_folder_options(alloc, args)?;
     push(args, folder(alloc, "Folder to read"))?;
     let base = base(alloc, "URL of the folder, http or https");
     push(args, base.required(true))
@@ -60,7 +61,7 @@ fn push_check_args<'a>(alloc: Global, args: &mut Vec<Arg<'a>>) -> Result<(), All
     push_flags(alloc, args, CHECK_FLAGS)?;
     push_options(alloc, args, KNOWN_OPTIONS)?;
     push(args, seed(alloc))?;
-    push_flags(alloc, args, FOLDER_FLAGS)?;
+    push_folder_options(alloc, args)?;
     push(args, folder(alloc, "Folder to check"))?;
     let help = "URL of the folder, http or https; without it the report shows paths";
     push(args, base(alloc, help))
@@ -105,7 +106,40 @@ const KNOWN_OPTIONS: &[Valued] = &[Valued {
     help: "Ignore every target that equals or begins with a line of the file LIST",
 }];
 
-/// How the folder is read, and how file names and URLs correspond.
+/// How file names and URLs correspond, and how the folder is read.
+fn push_folder_options<'a>(alloc: Global, args: &mut Vec<Arg<'a>>) -> Result<(), AllocError> {
+    push(args, index_file(alloc))?;
+    push(args, fallback(alloc)?)?;
+    push_flags(alloc, args, FOLDER_FLAGS)
+}
+
+/// The option for the names of index files.
+fn index_file<'a>(alloc: Global) -> Arg<'a> {
+    option(
+        alloc,
+        "index-file",
+        "NAME",
+        "Name of index files, in place of index.html, index.htm and index.xhtml; repeatable",
+    )
+    .action(ArgAction::Append)
+}
+
+/// The suffixes that can be added to a path without a page.
+const SUFFIXES: &[&str] = &["html"];
+
+/// The option to look up a path again.
+fn fallback<'a>(alloc: Global) -> Result<Arg<'a>, AllocError> {
+    option(
+        alloc,
+        "fallback",
+        "SUFFIX",
+        "Look up a path that has no page again with .SUFFIX added; SUFFIX is html",
+    )
+    .value_parser(ValueParser::Names(SUFFIXES))
+    .hide_possible_values(true)
+    .conflicts_with("exact")
+}
+
 const FOLDER_FLAGS: &[Flag] = &[
     Flag {
         name: "exact",
@@ -148,6 +182,8 @@ pub fn site_options(
     Ok(SiteOptions {
         folder: String::from_str(alloc, found.get_str("folder").unwrap_or("."))?,
         base: String::from_str(alloc, base)?,
+        index_files: values_of(alloc, found, "index-file")?,
+        html_fallback: found.get_str("fallback").is_some(),
         exact: found.get_flag("exact"),
         queries: found.get_flag("queries"),
         follow: found.get_flag("follow"),

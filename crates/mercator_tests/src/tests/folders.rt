@@ -29,8 +29,11 @@ impl OneFile {
         names.push(String::from_str(alloc, "index.html")?)?;
         let mut bodies = Vec::new(alloc);
         bodies.push(b"<a href=gone.html>gone</a>".to_vec(alloc)?)?;
+        let mut index_files = Vec::new(alloc);
+        index_files.push(String::from_str(alloc, "index.html")?)?;
         let rules = Rules {
-            index: String::from_str(alloc, "index.html")?,
+            index_files,
+            html_fallback: false,
             queries: false,
             exact: false,
             follow: false,

@@ -1,4 +1,4 @@
-use Rattle.std.proofs.Common.{◌≡◌, sym, ◌∙◌}
+use Rattle.std.proofs.Common.{sym, ◌∙◌}
 use Rattle.site_files.proofs.Slashes.{one_less, stays}
 use Rattle.site_files.proofs.below.without_slashes.Goals as goal
 

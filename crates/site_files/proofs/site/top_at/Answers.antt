@@ -1,5 +1,4 @@
-use Rattle.std.proofs.Common.{◌≡◌, ℕ, List, Ok, ap, sym, ◌∙◌}
-use Rattle.crawl_keys.specs.CanonicalText.{canonical}
+use Rattle.std.proofs.Common.{Ok, ap, sym, ◌∙◌}
 use Rattle.site_files.proofs.Tops.{top_of}
 use Rattle.site_files.proofs.site.top_at.Goals as goal
 
