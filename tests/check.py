@@ -35,7 +35,7 @@ import drawn
 from checking import drawing, forms, loading, samples
 from checking.documents import TOOL
 from checking.known import KNOWN, Known, To, Zeros
-from checking.model import FLAGS, Model, Moved, Row, Settings, is_short
+from checking.model import FLAGS, INDEX_FILES, Model, Moved, Row, Settings, is_short
 from checking.tags import document_tags
 from checking.webs import Converter, first_difference, model_fault
 
@@ -48,17 +48,22 @@ KINDS = "brokenpage brokenanchor placepage placeanchor worst redirect unreached 
 LEAST = 5
 
 
-def rules(settings: Settings) -> List[str]:
-    """The options for the pages of a folder."""
+def host_options(settings: Settings) -> List[str]:
+    """The options for the rules of a host."""
     words = [f"--index-file={name}" for name in settings.indices] if settings.indices != INDEX_FILES else []
-    words += ["--fallback=html"] if settings.fallback else []
-    return words + [f"--{name}" for name in ("exact", "follow", "queries") if getattr(settings, name)]
+    return words + (["--fallback=html"] if settings.fallback else [])
+
+
+def site_options(settings: Settings) -> List[str]:
+    """The options for the pages of a folder."""
+    return host_options(settings) + [f"--{name}" for name in ("exact", "follow", "queries") if getattr(settings, name)]
 
 
 def arguments(settings: Settings, folder: str, scratch: str, form: str = "--json") -> List[str]:
     """The arguments of the command."""
     words = ["check", form] if form else ["check"]
     words += [flag.option for flag in FLAGS if getattr(settings, flag.setting) == flag.value(True)]
+    words += host_options(settings)
     words += [f"--seed={seed}" for seed in settings.seeds]
     words += [f"--workers={settings.workers}"] if settings.workers > 1 else []
     if settings.ignores:
@@ -207,6 +212,8 @@ def random_settings(draw: Random) -> Settings:
     ignores = draw.choice([(), (), (base + "gone",), (base + "a", "x", base + "sub/#")])
     seeds = draw.choice([(), (), (), ("sub/",), ("#x", "a.html?b", "gone/../b.html"), ("?", "index.html", "%61.html?x", "a?y"), ("./", "s%75b")])
     flags: Dict[str, Any] = {flag.setting: flag.value(draw.random() < flag.share) for flag in FLAGS}
+    host = drawing.random_host(draw)
+    flags.update(exact=host.exact, fallback=host.fallback, indices=host.index_files or INDEX_FILES)
     return Settings(base, ignores=ignores, seeds=seeds, workers=draw.choice((1, 1, 2, 4, 64)))._replace(**flags)
 
 
@@ -288,7 +295,7 @@ def compare_models(seed: int, number: int) -> Outcome:
             served = Model(folder, SERVER)
         except drawn.NotPlain:
             return Outcome(number, [], Counter(), True)
-        faults: Faults = [("model", model_fault(model, converter().web(folder, rules(settings), BASE))), ("server", server_fault(served, folder))]
+        faults: Faults = [("model", model_fault(model, converter().web(folder, site_options(settings), BASE))), ("server", server_fault(served, folder))]
         return Outcome(number, faults, Counter(), False)
 
 

@@ -982,7 +982,8 @@ COMMANDS: dict[str, tuple[str, ...]] = {
 # The values of each option that has one
 VALUES = {
     "workers": "2", "max-pending": "9", "within": "a.test", "seeds": LIST, "ignore": LIST,
-    "seed": "./ ..", "log": "log .", "compact": "new", "part": "0/2 2/2",
+    "seed": "./ ..", "index-file": "index.html x", "fallback": "html", "log": "log .", "compact": "new",
+    "part": "0/2 2/2",
 }
 ARGUMENTS = (
     *COMMANDS, "help", "play", "-", "--", "", "=", "-x", "-h", "--help", "--version", "--workers",
