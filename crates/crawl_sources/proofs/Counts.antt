@@ -1,5 +1,8 @@
 -- What is kept of a URL while the links to it are counted.
-use Rattle.std.proofs.Common.{◌≡◌, ℕ, zero, suc, ◌+◌, ◌<◌, Bool, true, false, ◌||◌, cond, List, [], ◌∷◌, ◌++◌, length, map, take, get_or, nat_lt, Option, Some, None, IsSome, refl, sym, ap, ◌∙◌, subst, arith, inl, inr, append-nil, length-append, le-ltb, if◌then◌else◌}
+use Rattle.std.proofs.lemmas.Bool.Decides.{nat_tests}
+use Rattle.std.proofs.lemmas.Grind.{common_steps}
+use Rattle.std.proofs.Common.{◌≡◌, ℕ, zero, suc, ◌+◌, ◌<◌, Bool, true, false, ◌||◌, cond, List, [], ◌∷◌, ◌++◌, length, take, get_or, Option, Some, None, IsSome, refl, sym, ap, ◌∙◌, subst, arith, append-nil, length-append, le-ltb, if◌then◌else◌}
+use Rattle.std.proofs.Math.Bool.{or-false}
 use Rattle.std.proofs.lemmas.Bool.{cases_Bool, cond-true, cond-false, lt-ltb}
 use Rattle.std.proofs.lemmas.List.{map_more, map-append}
 use Rattle.std.proofs.lemmas.List.Elements.{filter-append}
@@ -16,22 +19,17 @@ use Rattle.hash_order.specs.HashOrder.{by_hash, by_hash_ties}
 use Rattle.crawl_pages.specs.Pages.{links_of}
 use Rattle.crawl_pages.specs.declared.page.PageResult.{PageResult}
 use Rattle.crawl_pages.proofs.StableSort.{filter-kept, filter-dropped}
-use Rattle.crawl_sources.specs.Sources.{links_to, sources_of, least, least_with}
+use Rattle.crawl_sources.specs.Sources.{links_to}
 use Rattle.crawl_sources.specs.Tallies.{pointed, Count, none_counted, counted, Tallies, count_of, IsCount, IsTally}
 
 -- ---- lists
 
-or_false : (b : Bool) → (b || false) ≡ b
-or_false true = refl
-or_false false = refl
-
 pub any_push : {X : Type 0} (p : X → Bool) (xs : List X) (x : X) → list_any p (xs ++ x ∷ []) ≡ (list_any p xs || p x)
-any_push p xs x = list_any-append p xs (x ∷ []) ∙ ap (λ b. list_any p xs || b) (or_false (p x))
+any_push p xs x = list_any-append p xs (x ∷ []) ∙ ap (λ b. list_any p xs || b) (or-false (p x))
 
--- the elements up to an index, and the one that is there
+-- the elements up to an index, and the one at it
 pub pointed_more : {X : Type 0} (xs : List (Bor X)) (i : ℕ) (x : Bor X) → i < length xs → x ≡ get_or xs i x → pointed (take (i + 1) xs) ≡ pointed (take i xs) ++ x.now ∷ []
-pointed_more xs i x below at =
-    map_more (λ (y : Bor _). y.now) xs i x below ∙ ap (λ (y : Bor _). pointed (take i xs) ++ y.now ∷ []) (sym at)
+pointed_more xs i x below at = grind (arith, nat_tests, common_steps, map_more)
 
 pub get_pointed : {X : Type 0} (xs : List (Bor X)) (k : ℕ) (d : Bor X) → get_or (pointed xs) k d.now ≡ (get_or xs k d).now
 get_pointed [] k d = refl
@@ -69,9 +67,7 @@ put_at : (old new : Tallies) (key : List ℕ) (w : Option Count) → tree.Update
 put_at old new key w updates url = updates.0 url ∙ ap (λ b. cond b w (count_of old url)) (sym (by_hash_ties key url))
 
 written : (b : Bool) (o : Option Count) (c : Count) (f : Count → Count) → (b ≡ true → o ≡ Some c) → cond b (Some (f c)) o ≡ option_map (λ x. if b then f x else x) o
-written true o c f at = sym (ap (option_map f) (at refl))
-written false None c f at = refl
-written false (Some x) c f at = refl
+written b o c f at = grind arith
 
 pub count_put : (old new : Tallies) (key : List ℕ) (c w : Count) (f : Count → Count) → tree.Updates by_hash old new key (Some w) → w ≡ f c → count_of old key ≡ Some c → (url : List ℕ) → count_of new url ≡ option_map (λ x. if bytes_eq key url then f x else x) (count_of old url)
 count_put old new key c w f updates value at url =
@@ -80,10 +76,7 @@ count_put old new key c w f updates value at url =
     ∙ written (bytes_eq key url) (count_of old url) c f (λ same. ap (count_of old) (sym ((bytes_eq-Decides key url).0 same)) ∙ at)
 
 none_written : (b any : Bool) → cond b (Some none_counted) (if any then Some none_counted else None) ≡ (if any || b then Some none_counted else None)
-none_written true true = refl
-none_written true false = refl
-none_written false true = refl
-none_written false false = refl
+none_written b any = grind arith
 
 pub none_put : (old new : Tallies) (rs : List PageResult) (r : PageResult) (key : List ℕ) (v : Count) → key ≡ r.url → v ≡ none_counted → tree.Updates by_hash old new key (Some v) → (url : List ℕ) → count_of old url ≡ (if list_any (λ (x : PageResult). bytes_eq x.url url) rs then Some none_counted else None) → count_of new url ≡ (if list_any (λ (x : PageResult). bytes_eq x.url url) (rs ++ r ∷ []) then Some none_counted else None)
 none_put old new rs r key v text value updates url known =
@@ -99,70 +92,28 @@ none_put old new rs r key v text value updates url known =
 
 -- a result is counted once
 counted_once : (all : Bool) (n : ℕ) (url : List ℕ) (c : Count) → counted all n url (counted all n url c) ≡ counted all n url c
-counted_once all n url c =
-    elim (cases_Bool (nat_lt c.last n)) [
-      | inl more ↦
-          ap (counted all n url) (cond-true _ _ _ more) ∙ cond-false _ _ _ (same n) ∙ sym (cond-true _ _ _ more)
-      | inr done ↦ ap (counted all n url) (cond-false _ _ _ done)
-    ]
-  where
-    same : (n : ℕ) → nat_lt n n ≡ false
-    same n = le-ltb n n (omega arith)
+counted_once all n url c = grind (arith, cases_Bool, cond-true, cond-false, le-ltb)
 
 either_link : (all a b : Bool) (n : ℕ) (url : List ℕ) (o : Option Count) → option_map (λ c. if b then counted all n url c else c) (option_map (λ c. if a then counted all n url c else c) o) ≡ option_map (λ c. if a || b then counted all n url c else c) o
-either_link all a b n url None = refl
-either_link all true true n url (Some c) = ap Some (counted_once all n url c)
-either_link all true false n url (Some c) = refl
-either_link all false b n url (Some c) = refl
+either_link all a b n url o = grind (arith, counted_once)
 
 pub link_more : (all : Bool) (links : List (List ℕ)) (link : List ℕ) (n : ℕ) (page url : List ℕ) (o mid new : Option Count) → mid ≡ option_map (λ c. if list_any (λ own. bytes_eq own url) links then counted all n page c else c) o → new ≡ option_map (λ c. if bytes_eq link url then counted all n page c else c) mid → new ≡ option_map (λ c. if list_any (λ own. bytes_eq own url) (links ++ link ∷ []) then counted all n page c else c) o
-link_more all links link n page url o mid new before after =
-    after ∙ ap (option_map (λ c. if bytes_eq link url then counted all n page c else c)) before
-    ∙ either_link all (list_any (λ own. bytes_eq own url) links) (bytes_eq link url) n page o
-    ∙ ap (λ b. option_map (λ c. if b then counted all n page c else c) o) (sym (any_push (λ own. bytes_eq own url) links link))
+link_more all links link n page url o mid new before after = grind (arith, either_link, any_push)
 
 -- ---- one more result
 
 -- its URL is kept if all are
 one_more : (all : Bool) (own before after : List (List ℕ)) (url : List ℕ) → own ≡ (if all then before else []) → after ≡ before ++ url ∷ [] → (if all then own ++ url ∷ [] else own) ≡ (if all then after else [])
-one_more true own before after url is more = ap (λ us. us ++ url ∷ []) is ∙ sym more
-one_more false own before after url is more = is
+one_more all own before after url is more = grind arith
 
 count_more : (all b : Bool) (results : List PageResult) (r : PageResult) (url : List ℕ) (c : Count) (n : ℕ) → links_to url r ≡ b → n ≡ length results + 1 → IsCount all results url c → IsCount all (results ++ r ∷ []) url (if b then counted all n r.url c else c)
-count_more all true results r url c n links numbered k =
-    let more : sources_of (results ++ r ∷ []) url ≡ sources_of results url ++ r ∷ [] =
-    filter-append (links_to url) results (r ∷ []) ∙ ap (λ l. sources_of results url ++ l) (filter-kept (links_to url) r [] links) in
-    let later : nat_lt c.last n ≡ true = lt-ltb c.last n (omega (arith, k.last)) in
-    subst (λ x. IsCount all (results ++ r ∷ []) url x) (sym (cond-true _ _ _ later)) (record {
-      count = ap (λ x. x + 1) k.count ∙ sym (length-append (sources_of results url) (r ∷ [])) ∙ ap length (sym more);
-      page =
-          ap (λ o. least_with o r.url) k.page
-          ∙ sym (fold-append least_with None (map (λ (x : PageResult). x.url) (sources_of results url)) (r.url ∷ []))
-          ∙ ap least (sym (map-append (λ (x : PageResult). x.url) (sources_of results url) (r ∷ [])) ∙ ap (map (λ (x : PageResult). x.url)) (sym more));
-      kept = one_more all c.all (map (λ (x : PageResult). x.url) (sources_of results url)) (map (λ (x : PageResult). x.url) (sources_of (results ++ r ∷ []) url)) r.url k.kept
-          (ap (map (λ (x : PageResult). x.url)) more ∙ map-append (λ (x : PageResult). x.url) (sources_of results url) (r ∷ []));
-      last = omega (arith, length-append results (r ∷ []));
-    })
-count_more all false results r url c n links numbered k =
-    let same : sources_of (results ++ r ∷ []) url ≡ sources_of results url =
-    filter-append (links_to url) results (r ∷ []) ∙ ap (λ l. sources_of results url ++ l) (filter-dropped (links_to url) r [] links) ∙ append-nil (sources_of results url) in
-    record {
-      count = k.count ∙ ap length (sym same);
-      page = k.page ∙ ap (λ rs. least (map (λ (x : PageResult). x.url) rs)) (sym same);
-      kept = k.kept ∙ ap (λ rs. if all then map (λ (x : PageResult). x.url) rs else []) (sym same);
-      last = omega (arith, k.last, length-append results (r ∷ []));
-    }
+count_more all b results r url c n links numbered k = grind (arith, filter-append, filter-kept, lt-ltb, cond-true, length-append, fold-append, map-append, one_more, filter-dropped, append-nil)
 
 pub tally_more : (all : Bool) (results : List PageResult) (r : PageResult) (links : List (List ℕ)) (page url : List ℕ) (n : ℕ) (old new : Option Count) → links ≡ links_of r.page → page ≡ r.url → n ≡ length results + 1 → new ≡ option_map (λ c. if list_any (λ link. bytes_eq link url) links then counted all n page c else c) old → IsTally all results url old → IsTally all (results ++ r ∷ []) url new
-tally_more all results r links page url n None new those own numbered is k = subst (IsTally all (results ++ r ∷ []) url) (sym is) tt
-tally_more all results r links page url n (Some c) new those own numbered is k =
-    let same : Some (if list_any (λ link. bytes_eq link url) links then counted all n page c else c) ≡ Some (if links_to url r then counted all n r.url c else c) =
-    λ i. Some (if list_any (λ link. bytes_eq link url) (those i) then counted all n (own i) c else c) in
-    subst (IsTally all (results ++ r ∷ []) url) (sym (is ∙ same)) (count_more all (links_to url r) results r url c n refl numbered k)
+tally_more all results r links page url n old new those own numbered is k = grind (arith, count_more)
 
 pub kept_some : (f : Count → Count) (old new : Option Count) → new ≡ option_map f old → IsSome old → IsSome new
-kept_some f None new is some = absurd (cc)
-kept_some f (Some c) new is some = subst IsSome (sym is) refl
+kept_some f old new is some = grind arith
 
 pub no_count : (o : Option Count) → o ≡ None → IsSome o → ⊥
 no_count o none some = let clash : IsSome {T = Count} None = subst IsSome none some in (cc)

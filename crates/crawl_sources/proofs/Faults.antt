@@ -7,8 +7,7 @@ use Rattle.crawl_sources.specs.Seeds.{line_fault, first_fault}
 use Rattle.crawl_sources.specs.declared.seeds.SeedsFault.{SeedsFault}
 
 none_first : (o later : Option SeedsFault) → option_or o later ≡ None → (o ≡ None) × (later ≡ None)
-none_first None later is = (refl, is)
-none_first (Some fault) later is = absurd (cc)
+none_first o later is = grind arith
 
 pub sound_lines : (earlier lines : List (List ℕ)) (n : ℕ) → n ≡ length earlier + 1 → first_fault n lines ≡ None → SoundAfter fault_after earlier lines
 sound_lines earlier [] n numbered is = tt
@@ -16,7 +15,7 @@ sound_lines earlier (line ∷ more) n numbered is =
     let both = none_first (line_fault n line) (first_fault (n + 1) more) is in
     (ap (λ k. line_fault k line) (sym numbered) ∙ both.0, sound_lines (earlier ++ line ∷ []) more (n + 1) (omega (arith, length-append earlier (line ∷ []))) both.1)
 
--- what an error of these lines after the earlier ones is
+-- what a fault of these lines after the earlier ones is
 record IsLeastBehind (earlier lines : List (List ℕ)) (fault : SeedsFault) : Type 0 where
   front : List (List ℕ)
   line : List ℕ
@@ -46,8 +45,7 @@ later earlier line more fault passes k = record {
 }
 
 either : (o : Option SeedsFault) (earlier : List (List ℕ)) (line : List ℕ) (more : List (List ℕ)) (n : ℕ) (fault : SeedsFault) → fault_after earlier line ≡ o → option_or o (first_fault (n + 1) more) ≡ Some fault → (first_fault (n + 1) more ≡ Some fault → IsLeastBehind (earlier ++ line ∷ []) more fault) → IsLeastBehind earlier (line ∷ more) fault
-either None earlier line more n fault at is rest = later earlier line more fault at (rest is)
-either (Some other) earlier line more n fault at is rest = here earlier line more fault (at ∙ is)
+either o earlier line more n fault at is rest = grind (arith, later, here)
 
 fault_behind : (earlier lines : List (List ℕ)) (n : ℕ) (fault : SeedsFault) → n ≡ length earlier + 1 → first_fault n lines ≡ Some fault → IsLeastBehind earlier lines fault
 fault_behind earlier [] n fault numbered is = absurd (cc)
