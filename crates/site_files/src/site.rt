@@ -318,7 +318,7 @@ fn add(url: &str, source: Source, entries: &mut Vec<Entry>) -> Result<(), SiteEr
     Ok(())
 }
 
-/// The first page of each URL; a file that gets no page so has a note.
+/// The first page of each URL. Adds a note about each file that has no page because of this.
 fn without_doubles(
     entries: Vec<Entry>,
     names: &[String],
@@ -430,6 +430,12 @@ fn note_double(
         })?;
     }
     Ok(())
+}
+
+/// Whether the page of the file with this name is that of a folder.
+fn is_of_folder(source: &Source, name: &str, rules: &Rules) -> bool {
+    let (path, _) = split_name(name, rules.queries);
+    matches!(source, Source::File(_)) && is_index(path, rules)
 }
 
 /// The scheme and authority of a canonical URL, and what follows them.
