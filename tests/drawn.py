@@ -984,7 +984,7 @@ COMMANDS: dict[str, tuple[str, ...]] = {
     "replay": ("", f"- - {LIST} none"),
     "key": ("--workers=2", "http://a.test/ http://é.test x"),
     "serve": (
-        "--workers=2 --max-pending=3 --within=a.test --log=log --log=. --sync --compact=new "
+        "--workers=2 --max-pending=3 --within=a.test --log=log --log=. --sync --wait=1 --compact=new "
         "--part=0/2 --part=2/2",
     ),
 }
