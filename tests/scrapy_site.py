@@ -904,7 +904,7 @@ class Tests:
         process, files = self.start(site, MERCATOR, {"settings": settings})
         process.communicate(timeout=LONGEST)
         log = Path(files["log"]).read_text(encoding="utf-8")
-        is_right = not count.order and "made with other options" in log
+        is_right = not count.order and "made with --workers 3" in log
         self.check("used folder: refused", is_right, log[-TOLD:])
 
 

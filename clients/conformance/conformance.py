@@ -132,6 +132,7 @@ class Trap:
         self.workers, self.max_pending, self.chop, self.pipe, self.stderr = 2, 2**20, 0, 0, 0
         self.hold = self.locked = 0.0
         self.has_stats = False
+        self.says = ""
         self.limit = SECONDS
         self.expected = "closed"
         self.mistakes: List[str] = []
@@ -167,6 +168,8 @@ class Trap:
             self.events.append(Event(int(words[0]), words[1], words[2], " ".join(words[3:])))
         elif word in ("seeds", "mistakes"):
             setattr(self, word, words)
+        elif word == "says":
+            self.says = rest
         elif word == "stats":
             self.has_stats = True
         elif word == "expect" and rest in ("closed", "failure", "killed"):
@@ -371,6 +374,8 @@ class Run:
 
     def judge(self, status: Optional[int], stderr: str, facts: List[Dict[str, object]]) -> None:
         trap = self.trap
+        if trap.expected == "killed" and not any("killed" in fact for fact in facts):
+            trap.expected = "closed"  # it never sent what it would have been killed for
         self.violations += [str(fact["violation"]) for fact in facts if "violation" in fact]
         if status is None:
             self.violations.append(f"the crawler runs on for {trap.limit:g} seconds")
@@ -379,6 +384,8 @@ class Run:
                 self.violations.append("the crawler ended with status 0, as if the crawl were over")
             if not stderr:
                 self.violations.append("the crawler did not say on standard error what failed")
+            elif trap.says not in stderr:
+                self.violations.append(f"the crawler did not repeat the message `{trap.says}`")
         elif trap.expected == "killed":
             if status not in (-signal.SIGKILL, 128 + signal.SIGKILL):
                 self.violations.append(f"the crawler was not killed, but ended with status {status}")

@@ -205,12 +205,13 @@ class Frontier:
 class Log:
     """The log, which one program at a time may use."""
 
-    def __init__(self, name: str, trap: Trap) -> None:
+    def __init__(self, name: str, trap: Trap, wait: int) -> None:
         self.file = os.open(name, os.O_RDWR | os.O_CREAT | os.O_APPEND, 0o666)
-        try:
-            fcntl.flock(self.file, fcntl.LOCK_EX | fcntl.LOCK_NB)
-        except BlockingIOError:
-            fail(f"log {name}: in use by another program")
+        end = time.monotonic() + wait
+        while not self.lock():
+            if time.monotonic() >= end:
+                fail(f"log {name}: in use by another program", 5)
+            time.sleep(0.02)
         head = f"workers {trap.workers} max {trap.max_pending}".encode()
         first, *self.lines = Path(name).read_bytes().split(b"\n")[:-1] or [b""]
         if not first:
@@ -218,13 +219,20 @@ class Log:
         elif first != head:
             fail(f"log {name}: made with other options")
 
+    def lock(self) -> bool:
+        try:
+            fcntl.flock(self.file, fcntl.LOCK_EX | fcntl.LOCK_NB)
+            return True
+        except BlockingIOError:
+            return False
+
     def append(self, lines: List[bytes]) -> None:
         os.write(self.file, b"".join(line + b"\n" for line in lines))
 
 
-def fail(why: str) -> NoReturn:
+def fail(why: str, status: int = 1) -> NoReturn:
     print(f"mercator: {why}", file=sys.stderr)
-    sys.exit(1)
+    sys.exit(status)
 
 
 class Session:
@@ -289,6 +297,7 @@ class Session:
     def kill_crawler(self) -> None:
         """Kills the crawler once it can write no more. What it has written is read as usual."""
         time.sleep(1)
+        self.frontier.note(killed=os.getppid())
         os.kill(os.getppid(), signal.SIGKILL)
         self.is_orphan = True
 
@@ -336,6 +345,7 @@ def main() -> None:
     serve.add_argument("--within")
     serve.add_argument("--log")
     serve.add_argument("--sync", action="store_true")
+    serve.add_argument("--wait", type=int, default=0)
     name, port = (folder / "trap").read_text().split(" ")
     trap = read_trap(name, int(port))
     frontier = Frontier(trap, folder / "facts")
@@ -358,7 +368,7 @@ def main() -> None:
     sys.stderr.flush()
     log = None
     if words.log is not None:
-        log = Log(words.log, trap)
+        log = Log(words.log, trap, words.wait)
         frontier.replay(log.lines)
     Session(trap, frontier, log).run()
 

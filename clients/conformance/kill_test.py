@@ -132,15 +132,13 @@ class Killer:
     def compact(self) -> None:
         """Compacts the log, once the program of the crawler has ended."""
         new = self.folder / "compacted.log"
-        words = [self.program, "serve", f"--workers={WORKERS}", f"--log={self.log}", f"--compact={new}"]
-        end = time.monotonic() + SECONDS
-        while True:
-            ended = subprocess.run(words, stderr=subprocess.PIPE, text=True, check=False)
-            if ended.returncode == 0:
-                break
-            if ": in use" not in ended.stderr or time.monotonic() > end:
-                raise Violation(f"the log cannot be compacted: {ended.stderr.strip()}")
-            time.sleep(0.05)
+        words = [
+            self.program, "serve", f"--workers={WORKERS}", f"--log={self.log}", f"--compact={new}",
+            f"--wait={SECONDS:.0f}",
+        ]
+        ended = subprocess.run(words, stderr=subprocess.PIPE, text=True, check=False)
+        if ended.returncode != 0:
+            raise Violation(f"the log cannot be compacted: {ended.stderr.strip()}")
         new.replace(self.log)
         self.compactions += 1
 

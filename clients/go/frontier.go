@@ -89,22 +89,9 @@ type Frontier struct {
 }
 
 // Open starts a frontier. If the log exists, the crawl resumes. The program of a crawler that was
-// killed may use the log a moment longer: Open waits for it, and after about nine seconds fails
-// with ErrLogInUse. If ctx is done, also after Open has returned, the program is killed.
+// killed may use the log a moment longer: the new program waits for it, and after ten seconds Open
+// fails with ErrLogInUse. If ctx is done, also after Open has returned, the program is killed.
 func Open(ctx context.Context, options Options) (*Frontier, error) {
-	for wait, begun := 50*time.Millisecond, time.Now(); ; wait = wait * 3 / 2 {
-		f, err := start(ctx, options)
-		if err == nil || !strings.Contains(err.Error(), ": in use") {
-			return f, err
-		}
-		if time.Since(begun)+wait > 10*time.Second {
-			return nil, fmt.Errorf("%w: %v", ErrLogInUse, err)
-		}
-		time.Sleep(wait) // if ctx is done then, the next start fails
-	}
-}
-
-func start(ctx context.Context, options Options) (*Frontier, error) {
 	if options.Workers == 0 {
 		options.Workers = 4
 	}
@@ -122,6 +109,7 @@ func start(ctx context.Context, options Options) (*Frontier, error) {
 	add(options.MaxPending != 0, "--max-pending=", options.MaxPending)
 	add(options.Within != "", "--within=", options.Within)
 	add(options.Log != "", "--log=", options.Log)
+	add(options.Log != "", "--wait=10")
 	add(options.Sync, "--sync")
 	f := &Frontier{ctx: ctx, begun: map[int]bool{}}
 	f.cmd = exec.CommandContext(ctx, options.Program, args...)
@@ -143,6 +131,10 @@ func start(ctx context.Context, options Options) (*Frontier, error) {
 		return nil, fmt.Errorf("frontier: cannot start the program: %w", err)
 	}
 	_, err = f.exchange([]string{"again 0"})
+	var exit *exec.ExitError
+	if errors.As(err, &exit) && exit.ExitCode() == 5 {
+		err = fmt.Errorf("%w: %v", ErrLogInUse, err)
+	}
 	return f, err
 }
 

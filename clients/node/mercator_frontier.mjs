@@ -12,7 +12,6 @@
  */
 
 import { spawn } from 'node:child_process';
-import { setTimeout as sleep } from 'node:timers/promises';
 
 /**
  * The result of an offer: the queue that the URL waits in, and its number there from 0; or why it
@@ -167,7 +166,8 @@ export class Frontier {
 
   constructor(/** @type {Options} */ options) {
     const { workers = 4, maxPending, within, log, sync = false } = options;
-    const values = Object.entries({ workers, 'max-pending': maxPending, within, log })
+    const wait = log && 10; // seconds
+    const values = Object.entries({ workers, 'max-pending': maxPending, within, log, wait })
       .filter(([, value]) => value !== undefined).map(([name, value]) => `--${name}=${value}`);
     const args = ['serve', ...values, ...(sync ? ['--sync'] : [])];
     this.workers = workers;
@@ -181,22 +181,18 @@ export class Frontier {
   /**
    * Starts a frontier. If `log` exists, the crawl resumes, and each queue first gives out the URL
    * that was in progress. The program of a crawler that was killed may use the log a moment longer:
-   * this call waits for it, and after about nine seconds throws `LogInUse`.
+   * the new program waits for it, and after ten seconds this call throws `LogInUse`.
    */
   static async open(/** @type {Options} */ options = {}) {
-    for (let wait = 50, end = Date.now() + 10_000; ; wait *= 1.5) {
-      const frontier = new Frontier(options);
-      try {
-        const inProgress = frontier.#waiting.map((_, queue) => frontier.again(queue));
-        frontier.#resumed = await Promise.all(inProgress);
-        return frontier;
-      } catch (error) {
-        await frontier.close();
-        const text = error instanceof FrontierEnded && error.status === 1 ? error.stderr : '';
-        if (!/^mercator: log .*: in use/m.test(text)) throw error;
-        if (Date.now() + wait > end) throw new LogInUse(text);
-      }
-      await sleep(wait);
+    const frontier = new Frontier(options);
+    try {
+      const inProgress = frontier.#waiting.map((_, queue) => frontier.again(queue));
+      frontier.#resumed = await Promise.all(inProgress);
+      return frontier;
+    } catch (error) {
+      await frontier.close();
+      const isInUse = error instanceof FrontierEnded && error.status === 5;
+      throw isInUse ? new LogInUse(error.stderr) : error;
     }
   }
 

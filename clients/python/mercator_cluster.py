@@ -216,7 +216,7 @@ class _ServedPart:
         self._command += [f"--part={part}/{crawl.parts}", f"--workers={crawl.workers}"]
         self._command += [] if crawl.within is None else [f"--within={crawl.within}"]
         self._command += [] if max_pending is None else [f"--max-pending={max_pending}"]
-        self._channel = Channel([*self._command, f"--log={os.fsdecode(log)}"], log)
+        self._channel = Channel([*self._command, f"--log={os.fsdecode(log)}", "--wait=10"])
 
     def ask(self, requests: bytes, count: int) -> List[bytes]:
         """Send `count` request lines and return their answers. Each line is in the log before."""

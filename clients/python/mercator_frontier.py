@@ -38,7 +38,6 @@ protocol.
 from __future__ import annotations
 
 import enum
-import fcntl
 import itertools
 import os
 import re
@@ -46,7 +45,6 @@ import select
 import subprocess
 import tempfile
 import threading
-import time
 import weakref
 from functools import partial
 from types import TracebackType
@@ -58,7 +56,7 @@ from typing import (
 __all__ = [
     "Accepted", "Channel", "Closed", "Frontier", "FrontierEnded", "FrontierError", "LogInUse",
     "NoSuchQueue", "NothingTaken", "Offer", "Pending", "ProgramMissing", "QueueBusy", "Refusal",
-    "Stats", "UnknownAnswer", "link_word", "request_lines", "wait_for_log", "whole_pieces",
+    "Stats", "UnknownAnswer", "link_word", "request_lines", "whole_pieces",
 ]
 
 # Requests are sent in pieces of at most this many bytes. A piece is sent while the answers to the
@@ -84,6 +82,8 @@ _READ_SIZE = 65_536
 # The seconds that the program may take to exit after its input has ended, or after its crawler was
 # killed.
 _SECONDS_TO_END = 10
+# The exit status of the program if another program uses the log.
+_LOG_IN_USE = 5
 
 # The characters that the URL Standard removes from both ends of a text, and those that it removes
 # within a text; a space is escaped.
@@ -99,10 +99,6 @@ class ProgramMissing(FrontierError):
     """Raised when the program `mercator` cannot be started."""
 
 
-class LogInUse(FrontierError):
-    """Raised when another program uses the log."""
-
-
 class FrontierEnded(FrontierError):
     """Raised when the program has ended, or the frontier was closed."""
 
@@ -115,6 +111,10 @@ class FrontierEnded(FrontierError):
         super().__init__(why)
         self.status = status
         self.told = told
+
+
+class LogInUse(FrontierEnded):
+    """Raised when the program has ended because another program uses the log."""
 
 
 class QueueBusy(FrontierError):
@@ -249,9 +249,10 @@ class Frontier:
         command += [f"--workers={workers}"]
         command += [] if max_pending is None else [f"--max-pending={max_pending}"]
         command += [] if within is None else [f"--within={within}"]
-        command += [] if log is None else [f"--log={os.fsdecode(log)}"]
+        # The program of a crawler that was killed may use the log a moment longer.
+        command += [] if log is None else [f"--log={os.fsdecode(log)}", f"--wait={_SECONDS_TO_END}"]
         command += ["--sync"] if sync else []
-        self._use(Channel(command, log), workers)
+        self._use(Channel(command), workers)
         if log is not None:
             try:
                 self._cut_off.update(self._ask_again())
@@ -492,16 +493,12 @@ class Channel:
     Only one thread may use it at a time.
     """
 
-    def __init__(
-        self, command: Sequence[str], log: Union[str, os.PathLike[str], None] = None
-    ) -> None:
-        """Start the program with this command line, once no other program uses the log.
+    def __init__(self, command: Sequence[str]) -> None:
+        """Start the program with this command line.
 
-        Raise `ProgramMissing` if it cannot be started, and `LogInUse` if the log stays in use.
+        Raise `ProgramMissing` if it cannot be started.
         """
         self._program = command[0]
-        if log is not None:
-            wait_for_log(log)
         # Standard error goes to a file, since a pipe that nobody reads could fill up.
         self._told = tempfile.TemporaryFile()
         try:
@@ -529,11 +526,12 @@ class Channel:
     def exchange(self, requests: bytes, count: int) -> List[bytes]:
         """Send `count` request lines, and return their answers without line ends.
 
-        Raise `FrontierEnded` if the program has ended, and `UnknownAnswer` if it did not send one
-        line for each request. If an exception interrupts the call, the program is ended.
+        Raise `FrontierEnded` if the program has ended, `LogInUse` if it has because another program
+        uses the log, and `UnknownAnswer` if it did not send one line for each request. If an
+        exception interrupts the call, the program is ended.
         """
         if self._end:
-            raise FrontierEnded(str(self._end), self._end.status, self._end.told)
+            raise type(self._end)(str(self._end), self._end.status, self._end.told)
         self._received.clear()
         try:
             self._send_all(requests)
@@ -629,7 +627,8 @@ class Channel:
         self._told.close()
         how = f"by signal {-status}" if status < 0 else f"with status {status}"
         why = why or f"{self._program} ended {how}"
-        self._end = FrontierEnded(f"{why}: {told}" if told else why, status, told)
+        kind = LogInUse if status == _LOG_IN_USE else FrontierEnded
+        self._end = kind(f"{why}: {told}" if told else why, status, told)
         return self._end
 
 
@@ -643,29 +642,6 @@ def _leave_all() -> None:
 
 # The program ends when its input does, so a forked process must not keep the pipe open.
 os.register_at_fork(after_in_child=_leave_all)
-
-
-def wait_for_log(log: Union[str, os.PathLike[str]]) -> None:
-    """Wait until no program uses the log.
-
-    After a crawler was killed, its program keeps the log for a moment.
-    """
-    try:
-        file = os.open(log, os.O_RDONLY)
-    except OSError:
-        return  # a new log, or one that the program reports as unusable
-    end = time.monotonic() + _SECONDS_TO_END
-    try:
-        while True:
-            try:
-                fcntl.flock(file, fcntl.LOCK_SH | fcntl.LOCK_NB)
-                return
-            except BlockingIOError:
-                if time.monotonic() > end:
-                    raise LogInUse(f"{os.fsdecode(log)} is in use by another program") from None
-                time.sleep(0.02)
-    finally:
-        os.close(file)
 
 
 # ---- requests and answers as bytes

@@ -57,9 +57,7 @@ from typing import (
     Any, Awaitable, Callable, Deque, Dict, List, NamedTuple, Optional, Set, Tuple, Union,
 )
 
-from mercator_frontier import (
-    Channel, Frontier, FrontierEnded, FrontierError, wait_for_log, whole_pieces,
-)
+from mercator_frontier import Channel, Frontier, FrontierEnded, FrontierError, whole_pieces
 
 __all__ = ["Fetcher"]
 
@@ -437,7 +435,7 @@ def name_of(address: Address, server: asyncio.AbstractServer) -> str:
 
 async def run(options: argparse.Namespace) -> int:
     command = [options.program or os.environ.get("MERCATOR") or "mercator", "serve"]
-    command += [f"--workers={options.workers}", f"--log={options.log}"]
+    command += [f"--workers={options.workers}", f"--log={options.log}", "--wait=10"]
     command += [] if options.max_pending is None else [f"--max-pending={options.max_pending}"]
     command += [] if options.within is None else [f"--within={options.within}"]
     command += ["--sync"] if options.sync else []
@@ -496,7 +494,6 @@ def main() -> int:
            help="path of mercator (default: $MERCATOR if it is set, else `mercator`)")
     options = parser.parse_args()
     try:
-        wait_for_log(options.log)
         return asyncio.run(run(options))
     except (OSError, FrontierError) as error:
         print(f"mercator_service: {error}", file=sys.stderr)

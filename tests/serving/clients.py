@@ -105,7 +105,9 @@ def log_in_use(trial: Trial) -> None:
         frontier.offer("http://a.test/")
         expect(frontier.take(0) == "http://a.test/", "take")
         error = expect_error(LogInUse, lambda: Frontier(1, log=log, program=trial.program))
-        expect(str(error) == f"{log} is in use by another program", f"the message: {error}")
+        told = f"mercator: log {log}: in use by another program"
+        expect((error.status, error.told) == (5, told), f"the exception: {error}")
+        expect(str(error).endswith(f" ended with status 5: {told}"), f"the message: {error}")
     frontier = Frontier(1, log=log, program=trial.program)
     frontier.close()
     expect_error(FrontierEnded, lambda: frontier.take(0))

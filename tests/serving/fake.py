@@ -2,7 +2,7 @@
 """A frontier in Python that answers like `mercator serve`, to test clients without the program.
 
 Usage: fake.py serve [--workers N] [--max-pending M] [--within SUFFIX] [--part I/K]
-                     [--log FILE [--sync]]
+                     [--log FILE [--sync] [--wait SECONDS]]
 
 It uses the model of URLs in drawn.py. It has no `--compact`, and the first line of its log is not
 that of the program.
@@ -15,6 +15,7 @@ import fcntl
 import os
 import re
 import sys
+import time
 from collections import deque
 from functools import lru_cache
 from pathlib import Path
@@ -184,20 +185,20 @@ def queue_of(host: str, queues: int) -> int:
 class Log:
     """The file to which each request is appended before it is answered."""
 
-    def __init__(self, name: str, settings: Settings, is_synced: bool) -> None:
-        self.is_synced = is_synced
-        try:
-            self.file = os.open(name, os.O_RDWR | os.O_CREAT | os.O_APPEND, 0o666)
-            fcntl.flock(self.file, fcntl.LOCK_EX | fcntl.LOCK_NB)
-        except BlockingIOError:
-            fail(f"log {name}: in use by another program")
-        except OSError:
-            fail(f"cannot open {name}")
+    def __init__(self, name: str, settings: Settings, is_synced: bool, wait: int) -> None:
+        self.name, self.is_synced = name, is_synced
+        end = time.monotonic() + wait
+        while not self.open():
+            if time.monotonic() >= end:
+                fail(f"log {name}: in use by another program", 5)
+            os.close(self.file)
+            time.sleep(0.02)
         with open(name, "rb") as file:
             text = file.read()
         whole = text.rfind(b"\n") + 1
         if whole < len(text):
             os.ftruncate(self.file, whole)
+            self.length = whole
             print(f"mercator: log {name}: incomplete last line removed", file=sys.stderr)
         self.head, *self.lines = text[:whole].split(b"\n")[:-1] or [b""]
         named, _, identity = self.head.decode().rpartition(" identity ")
@@ -208,9 +209,33 @@ class Log:
             fail(f"log {name}: made with other options")
         self.identity = identity
 
+    def open(self) -> bool:
+        """Open and lock the file, and return whether no other program uses it or has replaced it."""
+        try:
+            self.file = os.open(self.name, os.O_RDWR | os.O_CREAT | os.O_APPEND, 0o666)
+        except OSError:
+            fail(f"cannot open {self.name}")
+        try:
+            fcntl.flock(self.file, fcntl.LOCK_EX | fcntl.LOCK_NB)
+        except BlockingIOError:
+            return False
+        self.length = os.fstat(self.file).st_size
+        return self.is_unchanged()
+
+    def is_unchanged(self) -> bool:
+        """Return whether the name leads to the file, and the file has the length that it should have."""
+        try:
+            found = os.stat(self.name)
+        except OSError:
+            return False
+        return os.path.samestat(found, os.fstat(self.file)) and found.st_size == self.length
+
     def append(self, data: bytes) -> None:
         """Append all of the data, or nothing."""
-        before = os.fstat(self.file).st_size
+        if not self.is_unchanged():
+            fail(f"log {self.name}: changed by another program")
+        before = self.length
+        self.length += len(data)
         try:
             if os.write(self.file, data) < len(data):
                 os.ftruncate(self.file, before)
@@ -221,9 +246,9 @@ class Log:
             fail("cannot write the log")
 
 
-def fail(why: str) -> NoReturn:
+def fail(why: str, status: int = 1) -> NoReturn:
     print(f"mercator: {why}", file=sys.stderr)
-    sys.exit(1)
+    sys.exit(status)
 
 
 def serve(frontier: Frontier, log: Optional[Log]) -> None:
@@ -275,6 +300,7 @@ def main() -> None:
     serving.add_argument("--part")
     serving.add_argument("--log")
     serving.add_argument("--sync", action="store_true")
+    serving.add_argument("--wait", type=int, default=0)
     options = parser.parse_args()
     found = re.fullmatch("([0-9]+)/([0-9]+)", "0/1" if options.part is None else options.part)
     part, parts = map(int, found.groups()) if found else (0, 0)
@@ -288,7 +314,7 @@ def main() -> None:
     frontier = Frontier(settings, options.part is not None)
     log = None
     if options.log is not None:
-        log = Log(options.log, settings, options.sync)
+        log = Log(options.log, settings, options.sync, options.wait)
         for line in log.lines:
             frontier.answer(cut(line))
         frontier.identity = log.identity

@@ -102,13 +102,13 @@ def compare_some(lines: Sequence[bytes], wanted: Sequence[str], answers: Sequenc
 
 
 def refused_logs(trial: Trial) -> None:
-    """A log that has other settings, is in use, or is not a log: status 1, no answer, the file unchanged."""
+    """A log that has other settings or is not a log: status 1, no answer, the file unchanged. If it is in use, the status is 5."""
     trial.want_log()
     log = trial.folder / "refused.log"
     words = ("--workers", "3", "--within", "test", "--log", str(log))
     session = Serve(trial.program, words)
     expect(session.ask(b"offer http://a.test/").startswith("accepted"), "the first session")
-    refuses(trial, words, log)
+    refuses(trial, words, log, 5)
     expect(session.end() == (0, ""), "its end")
     for others in (
         ("--workers", "4", "--within", "test"), ("--workers", "3"), (*words[:4], "--max-pending", "9"),
@@ -168,15 +168,15 @@ def resumes(trial: Trial, words: Sequence[str], lines: Sequence[bytes], draw: Ra
     return is_torn
 
 
-def refuses(trial: Trial, words: Sequence[str], log: Path) -> None:
-    """Check that the program fails with one line on standard error, and leaves the log unchanged."""
+def refuses(trial: Trial, words: Sequence[str], log: Path, status: int = 1) -> None:
+    """Check that the program fails with this status and one line on standard error, and leaves the log unchanged."""
     before = log.read_bytes()
     done = subprocess.run(
         [trial.program, "serve", *words], input=b"offer http://b.test/\n", capture_output=True,
         timeout=SECONDS, check=False,
     )
     errors = done.stderr.decode()
-    expect((done.returncode, done.stdout) == (1, b""), f"{words}: {done.returncode}, {done.stdout!r}")
+    expect((done.returncode, done.stdout) == (status, b""), f"{words}: {done.returncode}, {done.stdout!r}")
     expect(errors.startswith("mercator: ") and errors.count("\n") == 1, f"{words}: {errors!r}")
     expect(log.read_bytes() == before, f"{words}: the log was changed")
 

@@ -70,9 +70,11 @@ def run_all(tests: Iterable[Tuple[str, Callable[[], None]]]) -> int:
 class Serve:
     """A process of the program, with pipes as its input and output."""
 
-    def __init__(self, program: str, words: Sequence[str] = (), size: Optional[int] = None) -> None:
+    def __init__(self, program: str, words: Sequence[str] = (), limit: Optional[Callable[[], None]] = None) -> None:
+        """Start the program. The new process first calls `limit`."""
         self.process = subprocess.Popen(
-            [program, "serve", *words], bufsize=0, stdin=subprocess.PIPE, stdout=subprocess.PIPE, stderr=subprocess.PIPE
+            [program, "serve", *words], bufsize=0, stdin=subprocess.PIPE, stdout=subprocess.PIPE, stderr=subprocess.PIPE,
+            preexec_fn=limit,
         )
         assert self.process.stdin and self.process.stdout and self.process.stderr
         self.stdin, self.stdout = self.process.stdin, self.process.stdout
@@ -163,8 +165,8 @@ class Trial:
         help_text = subprocess.run(
             [self.program, "serve", "--help"], capture_output=True, check=False, stdin=subprocess.DEVNULL
         ).stdout
-        self.has_log, self.has_sync, self.has_compact, self.has_part = (
-            option in help_text for option in (b"--log", b"--sync", b"--compact", b"--part")
+        self.has_log, self.has_sync, self.has_compact, self.has_part, self.has_wait = (
+            option in help_text for option in (b"--log", b"--sync", b"--compact", b"--part", b"--wait")
         )
         session = Serve(self.program)
         self.has_link = session.ask(b"again 0") != "bad line"
@@ -178,6 +180,10 @@ class Trial:
     def want_log(self) -> None:
         if not self.has_log:
             raise Skipped("the program has no --log")
+
+    def want_wait(self) -> None:
+        if not self.has_wait:
+            raise Skipped("the program has no --wait")
 
     def want_part(self) -> None:
         if not self.has_part:

@@ -58,6 +58,8 @@ class Client:
         errors = await self.process.stderr.read() if self.process.stderr else b""
         status = await self.process.wait()
         self.end = f"the program ended with status {status}: {errors.decode()[-500:]}"
+        if MISTAKE == "vague_end":
+            self.end = "the program ended"
         for _, answer in self.owed:
             answer.set_exception(Failure(self.end))
         for waiter in self.waiting.values():

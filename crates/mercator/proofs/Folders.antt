@@ -29,6 +29,19 @@ unfinished fault two = absurd (omega (arith, two))
 pub incomplete_check : (options : CheckOptions) (fault : SiteFault) → (is_unfinished fault ≡ true → IsSiteIncomplete options) → status_of_fault (of_site fault) ≡ 2 → IsSiteIncomplete options
 incomplete_check options fault incomplete two = incomplete (unfinished fault two)
 
+-- no folder has the status of a log in use
+not_in_use_by : (error : CrawlError) (failure : CrawlFailure) → status_of_fault (of_crawl_by error failure) ≡ 5 → ⊥
+not_in_use_by crawl.NoMemory failure five = omega (arith, five)
+not_in_use_by error failure five = is_five (is_incomplete failure.error) five
+  where
+    is_five : (b : Bool) → ◌≡◌ {A = ℕ} (if b then 2 else 1) 5 → ⊥
+    is_five true five = omega (arith, five)
+    is_five false five = omega (arith, five)
+
+pub not_in_use : (fault : SiteFault) → status_of_fault (of_site fault) ≡ 5 → ⊥
+not_in_use (unsited.Crawl failure) five = not_in_use_by failure.error failure five
+not_in_use fault five = omega (arith, five)
+
 -- the report of a check is a text that its command may print
 pub can_print : (options : CheckOptions) (ignores : Option (String Global)) (input : Option (List ℕ)) (broken : Bool) (text : List ℕ) → IsChecked options ignores broken text
     → (text : List ℕ) × (IsTold (asks.Check options ignores) input text ⊎ IsBroken (asks.Check options ignores) text)

@@ -1,7 +1,9 @@
 -- What a session tells, by its plan.
-use Rattle.std.proofs.Common.{◌≡◌, ◌⊎◌, inl, inr, ℕ, List, [], ◌++◌, false, Result, Ok, Err, IfOk, IfErr, Option, String, Global, refl, sym, subst, ◌∙◌}
+use Rattle.std.proofs.Common.{◌≡◌, ◌⊎◌, inl, inr, ℕ, List, [], ◌++◌, Bool, true, false, if◌then◌else◌, true≢false, Result, Ok, Err, IfOk, IfErr, Option, String, Global, refl, sym, ap, subst, ◌∙◌, arith}
 use Rattle.std.proofs.KnownBytes.{Appends-nil, Appends-trans}
+use Rattle.std.proofs.lemmas.List.{append-nil}
 use Rattle.std.specs.Str.Lines.{lines}
+use Rattle.crawl_run.specs.Crawls.{is_incomplete}
 use Rattle.crawl_session.specs.Frontiers.{Shows, start}
 use Rattle.crawl_session.specs.Answers.{answer_lines}
 use Rattle.crawl_session.specs.Compacting.{Had}
@@ -14,12 +16,13 @@ use Rattle.crawl_session.specs.declared.serving.ServeError.TheVariants as servin
 use Rattle.crawl_session.proofs.Compacted.{compacts_both}
 use Rattle.mercator.specs.Compaction.{Compacted}
 use Rattle.mercator.specs.Ending.{Begins}
-use Rattle.mercator.specs.Faults.{of_session, status_of_fault}
-use Rattle.mercator.specs.LogFile.{IsBreak, IsLogFault}
-use Rattle.mercator.specs.Plans.{IsWithinLimits, has_notices, is_bad_suffix, queues_of, suffixes_of}
-use Rattle.mercator.specs.Told.{BreaksOff, EndsBy, Fails, FailsLog, Gains, IsDoneWithNote, MayNote, TellsFault, no_identity, part_of, settings_of}
+use Rattle.mercator.specs.Faults.{of_session, status_of_fault, status_of_log}
+use Rattle.mercator.specs.LogFile.{IsBreak, IsLogFault, IsUseFault}
+use Rattle.mercator.specs.Plans.{IsTelling, IsWithinLimits, has_notices, is_bad_suffix, queues_of, suffixes_of}
+use Rattle.mercator.specs.Told.{BreaksOff, EndsBy, Fails, FailsLog, Gains, HasLog, IsDoneWithNote, MayNote, TellsFault, TellsInUse, no_identity, part_of, settings_of, told_lines}
 use Rattle.mercator.specs.declared.commands.fault.Fault.{Fault}
 use Rattle.mercator.specs.declared.commands.fault.Fault.TheVariants as wrong
+use Rattle.mercator.specs.declared.commands.log_file.LogFault.{LogFault}
 use Rattle.mercator.specs.declared.commands.log_file.LogFault.TheVariants as unlogged
 use Rattle.mercator.specs.declared.commands.planned.LogPlan.{LogPlan}
 use Rattle.mercator.specs.declared.commands.planned.Plan.{Plan}
@@ -79,33 +82,51 @@ gains_logged session asked resumed input out_old out_new new (Ok done) shown is 
 gains_logged session asked resumed input out_old out_new new (Err fault) shown is good log served = tt
 
 -- one that broke off
-pub is_break : (why : ServeError) (fault : Fault) → (fault ≡ of_session why) ⊎ (fault ≡ wrong.Log unlogged.CannotWrite) → IsBreak fault
+pub is_break : (why : ServeError) (fault : Fault) → (fault ≡ of_session why) ⊎ ((fault ≡ wrong.Log unlogged.CannotWrite) ⊎ (fault ≡ wrong.Log unlogged.Changed)) → IsBreak fault
 is_break serving.CannotRead fault (inl is) = subst (λ f. IsBreak f) (sym is) tt
 is_break serving.CannotWrite fault (inl is) = subst (λ f. IsBreak f) (sym is) tt
 is_break serving.NoMemory fault (inl is) = subst (λ f. IsBreak f) (sym is) tt
-is_break why fault (inr is) = subst (λ f. IsBreak f) (sym is) tt
+is_break why fault (inr (inl is)) = subst (λ f. IsBreak f) (sym is) tt
+is_break why fault (inr (inr is)) = subst (λ f. IsBreak f) (sym is) tt
 
 breaks_off_log : (asked : LogPlan) (fault : Fault) → is_bad_suffix asked.session.within ≡ false → IsBreak fault → BreaksOff (asks.ServeLog asked) fault
 breaks_off_log asked wrong.CannotRead good is = good
 breaks_off_log asked wrong.CannotWrite good is = good
 breaks_off_log asked wrong.NoMemory good is = good
 breaks_off_log asked (wrong.Log unlogged.CannotWrite) good is = good
+breaks_off_log asked (wrong.Log unlogged.Changed) good is = good
 breaks_off_log asked fault good is = absurd is
 
 pub ends_logged : (asked : LogPlan) (input : Option (List ℕ)) (how : Result (Unit {0}) Fault) (Unwritten : Type 0) → is_bad_suffix asked.session.within ≡ false → IfErr how (λ fault. IsBreak fault) → IfErr how (λ fault. EndsBy (asks.ServeLog asked) input fault Unwritten)
 ends_logged asked input (Ok done) Unwritten good is = tt
 ends_logged asked input (Err fault) Unwritten good is = inr (inr (breaks_off_log asked fault good is))
 
+-- it has status 1
 plain_break : (fault : Fault) → IsBreak fault → status_of_fault fault ≡ 1
 plain_break wrong.CannotRead is = refl
 plain_break wrong.CannotWrite is = refl
 plain_break wrong.NoMemory is = refl
-plain_break (wrong.Log why) is = refl
+plain_break (wrong.Log unlogged.CannotWrite) is = refl
+plain_break (wrong.Log unlogged.Changed) is = refl
 plain_break fault is = absurd is
 
-pub plain_logged : (how : Result (Unit {0}) Fault) → IfErr how (λ fault. IsBreak fault) → IfErr how (λ fault. status_of_fault fault ≡ 1)
-plain_logged (Ok done) is = tt
-plain_logged (Err fault) is = plain_break fault is
+-- so it has no other
+pub never_logged : (how : Result (Unit {0}) Fault) (other : ℕ) (P : Type 0) → (other ≡ 1 → ⊥) → IfErr how (λ fault. IsBreak fault) → IfErr how (λ fault. status_of_fault fault ≡ other → P)
+never_logged (Ok done) other P apart is = tt
+never_logged (Err fault) other P apart is = λ status. absurd (apart (sym status ∙ plain_break fault is))
+
+-- an open log that cannot be used has status 1
+pub plain_use : (fault : Fault) → IsUseFault fault → status_of_fault fault ≡ 1
+plain_use wrong.NoMemory is = refl
+plain_use (wrong.Log unlogged.CannotRead) is = refl
+plain_use (wrong.Log unlogged.CannotWrite) is = refl
+plain_use (wrong.Log unlogged.Changed) is = refl
+plain_use fault is = absurd is
+
+pub use_log : (fault : Fault) → IsUseFault fault → IsLogFault fault
+use_log wrong.NoMemory is = tt
+use_log (wrong.Log why) is = tt
+use_log fault is = absurd is
 
 -- one that did not begin
 pub log_fails : (within : Option (String Global)) (fault : Fault) → is_bad_suffix within ≡ false → IsLogFault fault → FailsLog within fault
@@ -116,18 +137,60 @@ log_fails within fault good is = absurd is
 pub fails_log : (asked : LogPlan) (input : Option (List ℕ)) (fault : Fault) (Unwritten : Type 0) → is_bad_suffix asked.session.within ≡ false → IsLogFault fault → Unwritten → EndsBy (asks.ServeLog asked) input fault Unwritten
 fails_log asked input fault Unwritten good is none = inl (log_fails asked.session.within fault good is, none)
 
--- it has status 1
-pub plain_fails : (within : Option (String Global)) (fault : Fault) → FailsLog within fault → status_of_fault fault ≡ 1
-plain_fails within wrong.BadSuffix fails = refl
-plain_fails within (wrong.Log why) fails = refl
-plain_fails within wrong.NoMemory fails = refl
-plain_fails within fault fails = absurd fails
+-- it has status 1 if the suffix is bad
+pub plain_fails : (within : Option (String Global)) (fault : Fault) → is_bad_suffix within ≡ true → FailsLog within fault → status_of_fault fault ≡ 1
+plain_fails within wrong.BadSuffix bad fails = refl
+plain_fails within (wrong.Log why) bad fails = absurd (true≢false (sym bad ∙ fails))
+plain_fails within wrong.NoMemory bad fails = refl
+plain_fails within fault bad fails = absurd fails
 
--- what is the log's fault has status 1
-pub plain_log : (fault : Fault) → IsLogFault fault → status_of_fault fault ≡ 1
-plain_log wrong.NoMemory is = refl
-plain_log (wrong.Log why) is = refl
-plain_log fault is = absurd is
+-- a log's fault has no status 2
+complete_why : (why : LogFault) → status_of_log why ≡ 2 → ⊥
+complete_why unlogged.InUse two = omega (arith, two)
+complete_why why two = omega (arith, two)
+
+pub complete_fails : (within : Option (String Global)) (fault : Fault) → FailsLog within fault → status_of_fault fault ≡ 2 → ⊥
+complete_fails within wrong.BadSuffix fails two = omega (arith, two)
+complete_fails within (wrong.Log why) fails two = complete_why why two
+complete_fails within wrong.NoMemory fails two = omega (arith, two)
+complete_fails within fault fails two = fails
+
+complete_log : (fault : Fault) → IsLogFault fault → status_of_fault fault ≡ 2 → ⊥
+complete_log wrong.NoMemory is two = omega (arith, two)
+complete_log (wrong.Log why) is two = complete_why why two
+complete_log fault is two = is
+
+-- status 5 is that of a log in use
+in_use_why : (why : LogFault) → status_of_log why ≡ 5 → why ≡ unlogged.InUse
+in_use_why unlogged.InUse five = refl
+in_use_why why five = absurd (omega (arith, five))
+
+in_use_crawl : (b : Bool) → ◌≡◌ {A = ℕ} (if b then 2 else 1) 5 → ⊥
+in_use_crawl true five = omega (arith, five)
+in_use_crawl false five = omega (arith, five)
+
+pub in_use : (fault : Fault) → status_of_fault fault ≡ 5 → fault ≡ wrong.Log unlogged.InUse
+in_use (wrong.Log why) five = ap (λ w. wrong.Log w) (in_use_why why five)
+in_use (wrong.Crawl failure) five = absurd (in_use_crawl (is_incomplete failure.error) five)
+in_use fault five = absurd (omega (arith, five))
+
+-- so a command without a log has another
+told_in_use : (plan : Plan) (input : Option (List ℕ)) → IsTelling plan → Fails plan input (wrong.Log unlogged.InUse) → ⊥
+told_in_use (asks.Crawl workers max queues file seeds within options) input telling fails = fails.1.holds.holds
+told_in_use (asks.Key url workers) input telling fails = fails
+told_in_use (asks.Replay file) input telling fails = fails
+told_in_use plan input telling fails = telling
+
+pub never_in_use : (plan : Plan) (input : Option (List ℕ)) (fault : Fault) (P : Type 0) → IsTelling plan → Fails plan input fault → status_of_fault fault ≡ 5 → P
+never_in_use plan input fault P telling fails five = absurd (told_in_use plan input telling (subst (λ f. Fails plan input f) (in_use fault five) fails))
+
+-- the line of a log in use
+pub tells_in_use : (plan : Plan) (fault : Fault) (old new : Option (List ℕ)) → HasLog plan → status_of_fault fault ≡ 5 → Begins old new (told_lines plan fault) → TellsInUse plan old new
+tells_in_use (asks.ServeLog asked) fault old new has five told =
+    subst (λ t. Begins old new t) (append-nil _) (subst (λ f. Begins old new (told_lines (asks.ServeLog asked) f)) (in_use fault five) told)
+tells_in_use (asks.Compact log file) fault old new has five told =
+    subst (λ t. Begins old new t) (append-nil _) (subst (λ f. Begins old new (told_lines (asks.Compact log file) f)) (in_use fault five) told)
+tells_in_use plan fault old new has five told = absurd has
 
 -- a fault's line is told, after what a session with a log may have told
 pub tells_fault : (plan : Plan) (old middle new : Option (List ℕ)) (line : List ℕ) → (has_notices plan ≡ false → middle ≡ old) → MayNote plan old middle → Begins middle new line → TellsFault plan old new line
@@ -161,6 +224,6 @@ pub fails_compacting : (log : LogPlan) (file : String Global) (r : Result (Unit 
 fails_compacting log file (Ok done) good is = tt
 fails_compacting log file (Err fault) good is = λ input. log_fails log.session.within fault good is
 
-pub plain_compacting : (r : Result (Unit {0}) Fault) → IfErr r IsLogFault → IfErr r (λ fault. status_of_fault fault ≡ 1)
-plain_compacting (Ok done) is = tt
-plain_compacting (Err fault) is = plain_log fault is
+pub complete_compacting : (r : Result (Unit {0}) Fault) → IfErr r IsLogFault → IfErr r (λ fault. status_of_fault fault ≡ 2 → ⊥)
+complete_compacting (Ok done) is = tt
+complete_compacting (Err fault) is = complete_log fault is

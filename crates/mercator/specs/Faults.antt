@@ -12,6 +12,8 @@ use Rattle.crawl_session.specs.declared.serving.ServeError.{ServeError}
 use Rattle.crawl_session.specs.declared.serving.ServeError.TheVariants as serving
 use Rattle.mercator.specs.declared.commands.fault.Fault.{Fault}
 use Rattle.mercator.specs.declared.commands.fault.Fault.TheVariants as wrong
+use Rattle.mercator.specs.declared.commands.log_file.LogFault.{LogFault}
+use Rattle.mercator.specs.declared.commands.log_file.LogFault.TheVariants as unlogged
 use Rattle.mercator.specs.declared.commands.input.Unread.{Unread}
 use Rattle.mercator.specs.declared.commands.input.Unread.TheVariants as unread
 use Rattle.crawl_run.specs.Crawls.{is_incomplete}
@@ -76,9 +78,15 @@ of_site (unsited.Crawl failure) = of_crawl failure
 of_site unsited.NoMemory = wrong.NoMemory
 of_site fault = wrong.Site fault
 
--- the exit status for an error: 2 if a crawl is incomplete, otherwise 1
+-- the exit status for an error of a log: 5 if another program uses it, otherwise 1
+abbrev pub status_of_log : LogFault → ℕ
+status_of_log unlogged.InUse = 5
+status_of_log why = 1
+
+-- the exit status for an error: 2 if a crawl is incomplete, that of a log's error, otherwise 1
 abbrev pub status_of_fault : Fault → ℕ
 status_of_fault (wrong.Crawl failure) = if is_incomplete failure.error then 2 else 1
+status_of_fault (wrong.Log why) = status_of_log why
 status_of_fault fault = 1
 
 -- for the seed with this number

@@ -1,12 +1,22 @@
 -- What a log gains.
-use Rattle.std.specs.Prelude.{ℕ, ◌-◌, Bool, ◌&&◌, ◌||◌, List, [], ◌∷◌, ◌++◌, ◌==◌, codes, if◌then◌else◌, drop, length, min, nat_lt, position, slice_range, take, unwrap_or}
+use Rattle.std.specs.Prelude.{◌≡◌, ℕ, ◌-◌, Bool, true, false, ◌&&◌, ◌||◌, List, [], ◌∷◌, ◌++◌, ◌==◌, codes, if◌then◌else◌, drop, length, min, nat_lt, Option, Some, None, position, slice_range, String, string_bytes, take, unwrap_or}
+use Rattle.std.specs.Option.{option_or}
+use Rattle.std.specs.declared.alloc.Global.{Global}
 use Rattle.std.specs.List.{list_any}
 use Rattle.std.specs.Str.{bytes_eq}
 use Rattle.std.specs.Str.Lines.{lines}
+use Rattle.crawl_replay.specs.Script.{header_of}
+use Rattle.crawl_replay.specs.declared.script.header.Header.{Header}
 use Rattle.crawl_session.specs.Input.{held_limit}
+use Rattle.crawl_session.specs.LogStarts.{read_start}
+use Rattle.crawl_session.specs.Logs.{within_text}
 use Rattle.mercator.specs.declared.commands.fault.Fault.{Fault}
 use Rattle.mercator.specs.declared.commands.fault.Fault.TheVariants as wrong
+use Rattle.mercator.specs.declared.commands.log_file.LogFault.{LogFault}
 use Rattle.mercator.specs.declared.commands.log_file.LogFault.TheVariants as unlogged
+use Rattle.mercator.specs.declared.commands.log_file.Setting.{Setting}
+use Rattle.mercator.specs.declared.commands.log_file.Setting.TheVariants as other
+use Rattle.mercator.specs.declared.commands.planned.SessionPlan.{SessionPlan}
 use Rattle.mercator.specs.declared.commands.window.Window.{Window}
 
 -- the bytes that were read and not handed on
@@ -37,17 +47,71 @@ may_be_sync unfinished = nat_lt 0 unfinished && nat_lt unfinished 6
 abbrev pub may_sync : ℕ → List ℕ → Bool
 may_sync unfinished bytes = may_be_sync unfinished || has_sync (lines bytes)
 
+-- the part of a log, if it is another one than that of the plan
+abbrev pub part_apart : Option (ℕ × ℕ) → Option (ℕ × ℕ) → Option Setting
+part_apart None None = None
+part_apart None (Some own) = Some other.NoPart
+part_apart (Some p) None = Some (other.Part p.0 p.1)
+part_apart (Some p) (Some own) = if (p.0 == own.0) && (p.1 == own.1) then None else Some (other.Part p.0 p.1)
+
+-- the suffixes are that of the plan, or none if it has none
+abbrev pub is_within : List (List ℕ) → Option (String Global) → Bool
+is_within [] None = true
+is_within (suffix ∷ []) (Some own) = bytes_eq suffix (string_bytes own)
+is_within suffixes own = false
+
+-- the suffixes of a log, if they are others
+abbrev pub within_apart : List (List ℕ) → Option (String Global) → Option Setting
+within_apart suffixes own = if is_within suffixes own then None else if length suffixes == 0 then Some other.NoWithin else Some other.Within
+
+-- its number of workers, if it is another one
+abbrev pub workers_apart : ℕ → ℕ → Option Setting
+workers_apart workers own = if workers == own then None else Some (other.Workers workers)
+
+-- its limit of pending URLs, if it is another one
+abbrev pub max_apart : ℕ → ℕ → Option Setting
+max_apart max own = if max == own then None else Some (other.MaxPending max)
+
 -- the error is the log's, or out of memory
 abbrev pub IsLogFault : Fault → Type 0
 IsLogFault (wrong.Log why) = Unit {0}
 IsLogFault wrong.NoMemory = Unit {0}
 IsLogFault fault = ⊥
 
--- a session with a log breaks off by this error: its input cannot be read, an answer or the log cannot be written, or out of
--- memory
+-- the first setting, in the order of the first line, in which a log with these settings differs from a plan
+abbrev pub setting_apart : Option (ℕ × ℕ) → List (List ℕ) → Header → SessionPlan → Option Setting
+setting_apart part suffixes header asked =
+    option_or (option_or (option_or (part_apart part asked.part) (within_apart suffixes asked.within)) (workers_apart header.workers asked.workers)) (max_apart header.max asked.max)
+
+-- the first line of a log has this setting, which is another one than that of a plan
+pub record HasOther (line : List ℕ) (asked : SessionPlan) (setting : Setting) : Type 0 where
+  pub suffixes : List (List ℕ)
+  pub rest : List ℕ
+  pub header : Header
+  pub begun : (read_start line).1.1 ≡ within_text suffixes ++ rest
+  pub numbers : header_of rest ≡ Some header
+  pub other : setting_apart (read_start line).0 suffixes header asked ≡ Some setting
+
+-- why a log with this first line is not the log of a plan
+abbrev pub IsFaultOfLine : List ℕ → SessionPlan → LogFault → Type 0
+IsFaultOfLine line asked (unlogged.OtherSettings setting) = HasOther line asked setting
+IsFaultOfLine line asked unlogged.NotALog = Unit {0}
+IsFaultOfLine line asked fault = ⊥
+
+-- a log that is open cannot be read or written, or memory runs out
+abbrev pub IsUseFault : Fault → Type 0
+IsUseFault (wrong.Log unlogged.CannotRead) = Unit {0}
+IsUseFault (wrong.Log unlogged.CannotWrite) = Unit {0}
+IsUseFault (wrong.Log unlogged.Changed) = Unit {0}
+IsUseFault wrong.NoMemory = Unit {0}
+IsUseFault fault = ⊥
+
+-- a session with a log breaks off by this error: its input cannot be read, an answer or the log cannot be written, another program
+-- changed the log, or out of memory
 abbrev pub IsBreak : Fault → Type 0
 IsBreak wrong.CannotRead = Unit {0}
 IsBreak wrong.CannotWrite = Unit {0}
 IsBreak wrong.NoMemory = Unit {0}
 IsBreak (wrong.Log unlogged.CannotWrite) = Unit {0}
+IsBreak (wrong.Log unlogged.Changed) = Unit {0}
 IsBreak fault = ⊥

@@ -138,8 +138,8 @@ FailsLog within (wrong.Log fault) = is_bad_suffix within ≡ false
 FailsLog within wrong.NoMemory = Unit {0}
 FailsLog within _ = ⊥
 
--- why a session ends before its input does: the input cannot be read, an answer or the log cannot be written, or memory runs out.
--- Memory may also run out while a saved web is written
+-- why a session ends before its input does: the input cannot be read, an answer or the log cannot be written, another program
+-- changed the log, or memory runs out. Memory may also run out while a saved web is written
 abbrev pub BreaksOff : Plan → Fault → Type 0
 BreaksOff (asks.Serve asked) wrong.CannotRead = is_bad_suffix asked.within ≡ false
 BreaksOff (asks.Serve asked) wrong.CannotWrite = is_bad_suffix asked.within ≡ false
@@ -148,6 +148,7 @@ BreaksOff (asks.ServeLog asked) wrong.CannotRead = is_bad_suffix asked.session.w
 BreaksOff (asks.ServeLog asked) wrong.CannotWrite = is_bad_suffix asked.session.within ≡ false
 BreaksOff (asks.ServeLog asked) wrong.NoMemory = is_bad_suffix asked.session.within ≡ false
 BreaksOff (asks.ServeLog asked) (wrong.Log unlogged.CannotWrite) = is_bad_suffix asked.session.within ≡ false
+BreaksOff (asks.ServeLog asked) (wrong.Log unlogged.Changed) = is_bad_suffix asked.session.within ≡ false
 BreaksOff (asks.Site options) wrong.NoMemory = (text : List ℕ) × IsSiteWeb text × IsWebAt (string_bytes options.base) text
 BreaksOff plan fault = ⊥
 
@@ -247,6 +248,18 @@ AskForOneText _ _ = ⊥
 abbrev pub TellsWords : PlanError → Option (List ℕ) → Option (List ℕ) → Type 0
 TellsWords (unplanned.Shown text status) old new = Begins old new (string_bytes text) × IsVisible (string_bytes text)
 TellsWords unplanned.NoMemory old new = ⊥
+
+-- the plan has a log
+abbrev pub HasLog : Plan → Type 0
+HasLog (asks.ServeLog asked) = Unit {0}
+HasLog (asks.Compact log new) = Unit {0}
+HasLog plan = ⊥
+
+-- another program uses the log of the plan: the writer for errors gained the line that says so, up to where it failed
+abbrev pub TellsInUse : Plan → Option (List ℕ) → Option (List ℕ) → Type 0
+TellsInUse (asks.ServeLog asked) old new = Begins old new (fault_line (string_bytes asked.file) (wrong.Log unlogged.InUse))
+TellsInUse (asks.Compact log file) old new = Begins old new (fault_line (string_bytes log.file) (wrong.Log unlogged.InUse))
+TellsInUse plan old new = ⊥
 
 -- arguments led to no plan, and the writer for errors gained the reason: help could not be written, or there was no memory and
 -- nothing is written

@@ -5,7 +5,7 @@ ghost use Rattle.mercator.specs.Ending.{Begins};
 ghost use Rattle.mercator.specs.FaultText.{fault_line};
 ghost use Rattle.mercator.specs.Faults.{status_of_fault};
 ghost use Rattle.mercator.specs.Plans.{IsShown, IsWithinLimits, has_notices, reads_input};
-ghost use Rattle.mercator.specs.Told.{CannotTell, EndsBy, EndsByFault, FailsWithoutPlan, Gains, GainsAs, GainsBroken, IsDoneWithNote, MayLose, MayNote, TellsWords};
+ghost use Rattle.mercator.specs.Told.{CannotTell, EndsBy, EndsByFault, FailsWithoutPlan, Gains, GainsAs, GainsBroken, IsDoneWithNote, HasLog, MayLose, MayNote, TellsInUse, TellsWords};
 ghost use Rattle.mercator.specs.declared.commands.planned.Plan.{Plan};
 ghost use Rattle.mercator.specs.declared.commands.words.PlanError.{PlanError};
 ghost use Rattle.mercator.specs.declared.commands.fault.Fault.TheVariants as wrong;
@@ -20,6 +20,7 @@ mod folder;
 mod folder_words;
 mod input;
 mod log_file;
+mod log_settings;
 mod new_log;
 mod opening;
 mod planned;
@@ -61,7 +62,7 @@ use writing::{begin, end, end_by_parts, tell_ended, tell_fault};
 const BROKEN: u8 = 4;
 
 /// Runs the program on the arguments after its name, and returns its exit status: 0 success, 1 an error, 2 an incomplete crawl,
-/// 3 a bad command line, 4 a check that found something broken.
+/// 3 a bad command line, 4 a check that found something broken, 5 a log that another program uses.
 ///
 /// [`plan`] parses the arguments, and [`run_plan`] runs what they ask for. Help is written to `out`, and an error in the
 /// arguments to `err`. Like [`run_plan`], this call is meant for a process that ends afterwards.
@@ -93,7 +94,7 @@ pub fn run_words<
     out: &mut O,
     err: &mut E,
 ) -> u8
-    ensures statuses { result ≤ 4 }
+    ensures statuses { result ≤ 5 }
 
     // Success: help is written, or the whole output of a plan within the limits, which is that of the arguments.
     ensures done { result ≡ 0 → ((input.new ≡ input.old) × ((text : List ℕ) × Appends (O.contents out.old) (O.contents out.new) text))
@@ -113,6 +114,9 @@ pub fn run_words<
     // Only a crawl can be incomplete, and then nothing is written to `out`.
     ensures incomplete { result ≡ 2 → (out.new ≡ out.old) × ((plan : Plan) × IsWithinLimits plan × EndsByFault plan result (I.remaining input.old) (E.contents err.old) (E.contents err.new) (out.new ≡ out.old)) }
 
+    // A log that another program uses: that is reported, and nothing else happens.
+    ensures in_use { result ≡ 5 → (input.new ≡ input.old) × (out.new ≡ out.old) × ((plan : Plan) × IsWithinLimits plan × TellsInUse plan (E.contents err.old) (E.contents err.new)) }
+
     // A bad command line: the error is reported, and nothing else happens.
     ensures bad_command { result ≡ 3 → (input.new ≡ input.old) × (out.new ≡ out.old) }
     ensures bad_words { result ≡ 3 → (error : PlanError) × TellsWords error (E.contents err.old) (E.contents err.new) }
@@ -126,7 +130,8 @@ pub fn run_words<
     }
 }
 
-/// Runs a plan and returns the exit status: 0 success, 1 an error, 2 an incomplete crawl, 4 a check that found something broken.
+/// Runs a plan and returns the exit status: 0 success, 1 an error, 2 an incomplete crawl, 4 a check that found something broken,
+/// 5 a log that another program uses.
 ///
 /// The whole output of a command is computed before any of it is written to `out`. An error is reported on `err` in a line of
 /// its own; then nothing is written to `out`, unless a write to it failed. A session answers while it reads, and an error
@@ -150,7 +155,7 @@ pub fn run_plan<
     err: &mut E,
 ) -> u8
     requires { IsWithinLimits plan.now }
-    ensures statuses { result ≤ 4 }
+    ensures statuses { result ≤ 5 }
     ensures planned { result ≡ 3 → ⊥ }
 
     // What is written when a command succeeds, for the bytes of its FILE.
@@ -162,7 +167,7 @@ pub fn run_plan<
     ensures noted { result ≡ 0 → MayNote plan.now (E.contents err.old) (E.contents err.new) }
 
     // Otherwise it ends with an error, which is reported in its line: the first one, and one by which this plan fails.
-    ensures fault { 0 < result → result ≤ 2 → EndsByFault plan.now result (I.remaining input.old) (E.contents err.old) (E.contents err.new) (out.new ≡ out.old) }
+    ensures fault { 0 < result → (result ≡ 4 → ⊥) → EndsByFault plan.now result (I.remaining input.old) (E.contents err.old) (E.contents err.new) (out.new ≡ out.old) }
 
     // A command that cannot have an output ends with an error, and nothing is written.
     ensures refused { CannotTell plan.now (I.remaining input.old) → (result ≡ 1) × (out.new ≡ out.old) }
@@ -170,6 +175,9 @@ pub fn run_plan<
     // Only a crawl can be incomplete, and then nothing is written.
     ensures incomplete { result ≡ 2 → MayLose plan.now (I.remaining input.old) }
     ensures unreported { result ≡ 2 → out.new ≡ out.old }
+
+    // Another program uses the log: nothing is read or written but the line that reports it.
+    ensures in_use { result ≡ 5 → TellsInUse plan.now (E.contents err.old) (E.contents err.new) × (input.new ≡ input.old) × (out.new ≡ out.old) }
     ensures unread { reads_input plan.now ≡ false → input.new ≡ input.old }
 {
     match run(platform, alloc, plan, input, out, err) {
@@ -202,6 +210,7 @@ fn run<
     ensures fault { IfErr result (λ fault. EndsBy plan.now (I.remaining input.old) fault (out.new ≡ out.old)) }
     ensures refused { CannotTell plan.now (I.remaining input.old) → IfErr result (λ fault. status_of_fault fault ≡ 1) × IsErr result × (out.new ≡ out.old) }
     ensures incomplete { IfErr result (λ fault. status_of_fault fault ≡ 2 → MayLose plan.now (I.remaining input.old) × (out.new ≡ out.old)) }
+    ensures in_use { IfErr result (λ fault. status_of_fault fault ≡ 5 → HasLog plan.now × (input.new ≡ input.old) × (out.new ≡ out.old) × (err.new ≡ err.old)) }
     ensures unread { reads_input plan.now ≡ false → input.new ≡ input.old }
     ensures silent { has_notices plan.now ≡ false → err.new ≡ err.old }
     ensures noted { MayNote plan.now (E.contents err.old) (E.contents err.new) }

@@ -17,8 +17,11 @@ const VERSION: &str = "0.1 (logic dac8208d650f15bf)";
 
 const STATUSES: &str = "\
 Exit status: 0 success, 1 error, 2 incomplete crawl, 3 bad command line,
-4 broken links found.
+4 broken links found, 5 log in use.
 Example: mercator check examples/site";
+
+/// The largest value of `--wait`: a day.
+const WAIT_LIMIT: u64 = 86_400;
 
 const CRAWL_HELP: &str = "\
 A saved web is a text file of pages and their links, such as 'mercator site' prints. The
@@ -171,10 +174,11 @@ fn push_serve_args<'a>(alloc: Global, args: &mut Vec<Arg<'a>>) -> Result<(), All
     push_numbers(alloc, args)?;
     push_options(alloc, args, SERVE_OPTIONS)?;
     push(args, sync(alloc)?)?;
+    push(args, wait(alloc)?)?;
     push(args, compact(alloc)?)
 }
 
-/// The options of a session that have a value, other than the numbers and `--compact`.
+/// The options of a session that have a value, other than the numbers, `--wait` and `--compact`.
 const SERVE_OPTIONS: &[Valued] = &[
     Valued {
         name: "within",
@@ -195,6 +199,18 @@ const SERVE_OPTIONS: &[Valued] = &[
 
 fn sync<'a>(alloc: Global) -> Result<Arg<'a>, AllocError> {
     flag_of(alloc, "sync", "Sync the log to disk before each answer").requires_arg("log")
+}
+
+fn wait<'a>(alloc: Global) -> Result<Arg<'a>, AllocError> {
+    option(
+        alloc,
+        "wait",
+        "SECONDS",
+        "Wait at most SECONDS for another program to stop using FILE, 0 to 86400",
+    )
+    .value_parser(ValueParser::unsigned(0, WAIT_LIMIT))
+    .default_value("0")
+    .requires_arg("log")
 }
 
 fn compact<'a>(alloc: Global) -> Result<Arg<'a>, AllocError> {

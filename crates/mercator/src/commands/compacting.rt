@@ -36,7 +36,8 @@ pub fn compact_log<R: Files, L: LockFile<R::File>, V>(
     ensures done { IfOk result (λ _. (input out : Option (List ℕ)) → Gains (asks.Compact asked.now new.now) input out out) }
     ensures fault { IfErr result (λ fault. (input : Option (List ℕ)) → Fails (asks.Compact asked.now new.now) input fault) }
     ensures refused { is_bad_suffix asked.now.session.within ≡ true → IsErr result }
-    ensures plain { IfErr result (λ fault. status_of_fault fault ≡ 1) }
+    ensures complete { IfErr result (λ fault. status_of_fault fault ≡ 2 → ⊥) }
+    ensures suffix { is_bad_suffix asked.now.session.within ≡ true → IfErr result (λ fault. status_of_fault fault ≡ 1) }
 {
     let (mut log, mut session) = open_session(platform, alloc, asked, false)?;
     compact_as(platform.rt, alloc, &mut session, &mut log, new.as_str())

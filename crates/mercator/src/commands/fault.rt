@@ -59,14 +59,18 @@ pub enum Fault {
 impl Fault {
     ghost use Rattle.mercator.specs.Faults as spec;
 
-    /// Returns the exit status: 2 if a crawl was made but not certified, or could not start a thread, else 1.
+    /// Returns the exit status: 2 if a crawl was made but not certified, or could not start a thread; 5 if another program uses
+    /// the log; else 1.
     pub fn status(&self) -> u8
         ensures status { result ≡ spec.status_of_fault self.now }
         ensures some { 1 ≤ result }
-        ensures few { result ≤ 2 }
+        ensures few { result ≤ 5 }
+        ensures no_command { result ≡ 3 → ⊥ }
+        ensures no_report { result ≡ 4 → ⊥ }
     {
         match self {
             Fault::Crawl(failure) => { if failure.error.is_incomplete() { 2 } else { 1 } }
+            Fault::Log(why) => why.status(),
             _ => 1,
         }
     }

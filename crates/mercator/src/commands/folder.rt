@@ -55,6 +55,7 @@ pub fn run_check<R: Files<File: Send, Dir: Send> + Threads + Wait + Sync, O: Wri
     ensures done { (input : Option (List ℕ)) → IfOk result (λ broken. GainsAs broken (asks.Check options.now ignores.now) input (O.contents out.old) (O.contents out.new)) }
     ensures fault { (input : Option (List ℕ)) → IfErr result (λ fault. EndsBy (asks.Check options.now ignores.now) input fault (out.new ≡ out.old)) }
     ensures incomplete { IfErr result (λ fault. status_of_fault fault ≡ 2 → IsSiteIncomplete options.now × (out.new ≡ out.old)) }
+    ensures no_log { IfErr result (λ fault. status_of_fault fault ≡ 5 → ⊥) }
 {
     let list = read_ignore_list(rt, alloc, ignores)?;
     let mut notices = Vec::new(alloc);

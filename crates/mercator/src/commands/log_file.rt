@@ -13,43 +13,61 @@ use crate::commands::window::Window;
 use crawl_session::{ServeError, whole_len};
 use memchr::memchr;
 use std::alloc::{AllocError, Global};
-use std::fs::{File, OpenFile, TryLockError};
+use std::fs::{self, File, Files, OpenFile, TryLockError};
 use std::io::{self, ErrorKind, Read, Write};
+use std::os::unix::fs::MetadataExt;
 use std::rt::LibcRuntime;
+use std::thread::sleep;
+use std::time::{Duration, Instant};
 use text_lines::{LINE_LIMIT, first_line};
 
 /// The most bytes of a line that a log needs. They show that the line is too long, whether or not it ends in CR LF.
 const HELD_LIMIT: usize = LINE_LIMIT + 2;
 
+/// How many milliseconds a process waits before it tries a lock again.
+const PAUSE: u64 = 20;
+
 /// Locks files, so that only one process at a time uses a log.
 ///
 /// # Example
 ///
-/// The runtime of a process locks a file with `flock`:
+/// One that tries the lock once, and never waits:
 ///
 /// ```rust
-/// impl LockFile<File> for LibcRuntime {
-///     fn try_lock(&self, file: &File) -> io::Result<bool> {
+/// impl LockFile<File> for LockOnce {
+///     fn lock_within(&self, file: &File, limit: Duration) -> io::Result<Option<Duration>> {
 ///         match file.try_lock() {
-///             Ok(()) => Ok(true),
-///             Err(TryLockError::WouldBlock) => Ok(false),
+///             Ok(()) => Ok(Some(limit)),
+///             Err(TryLockError::WouldBlock) => Ok(None),
 ///             Err(TryLockError::Error(why)) => Err(why),
 ///         }
 ///     }
 /// }
 /// ```
 pub trait LockFile<F> {
-    /// Locks the file until it is dropped. Returns `false` if another process holds the lock.
-    fn try_lock(&self, file: &F) -> io::Result<bool>;
+    /// Locks the file until it is dropped. If another process holds the lock, waits for it, but not longer than `limit`. Returns
+    /// what is left of `limit`, or `None` if the other process still holds the lock.
+    fn lock_within(&self, file: &F, limit: Duration) -> io::Result<Option<Duration>>;
 }
 
+// By `flock`.
 impl LockFile<File> for LibcRuntime {
-    fn try_lock(&self, file: &File) -> io::Result<bool> {
-        match file.try_lock() {
-            Ok(()) => Ok(true),
-            Err(TryLockError::WouldBlock) => Ok(false),
-            Err(TryLockError::Error(why)) => Err(why),
+    fn lock_within(&self, file: &File, limit: Duration) -> io::Result<Option<Duration>> {
+        let start = Instant::now(self)?;
+        for _turn in 0..u64::MAX {
+            let locked = file.try_lock();
+            let left = limit.saturating_sub(start.elapsed(self)?);
+            match locked {
+                Ok(()) => return Ok(Some(left)),
+                Err(TryLockError::WouldBlock) if left.is_zero() => return Ok(None),
+                Err(TryLockError::WouldBlock) => sleep(
+                    self,
+                    left.min(Duration::from_millis(PAUSE)),
+                ),
+                Err(TryLockError::Error(why)) => return Err(why),
+            }
         }
+        Ok(None)
     }
 }
 
@@ -57,7 +75,7 @@ impl LockFile<File> for LibcRuntime {
 pub struct NoLocks;
 
 impl<F> LockFile<F> for NoLocks {
-    fn try_lock(&self, _file: &F) -> io::Result<bool> {
+    fn lock_within(&self, _file: &F, _limit: Duration) -> io::Result<Option<Duration>> {
         Err(io::Error::from(ErrorKind::Unsupported))
     }
 }
@@ -73,14 +91,48 @@ pub enum LogFault {
     CannotRead,
     /// The file does not begin like a log.
     NotALog,
-    /// The file does not begin like a log that was made with these options.
-    OtherSettings,
+    /// The log was made with other options, of which this is the first.
+    OtherSettings(Setting),
     /// A write failed.
     CannotWrite,
+    /// Another process changed, moved or removed the file since it was opened.
+    Changed,
     /// The file for the compacted log exists already, or cannot be created.
     CannotMakeNew,
     /// A write to the file for the compacted log failed.
     CannotWriteNew,
+}
+
+/// A setting of a log that is not that of the command line.
+#[derive(Clone, Copy, Debug, PartialEq, Eq)]
+pub enum Setting {
+    /// `--part`: the log is that of this part, of this many.
+    Part(u32, u32),
+    /// The log has no `--part`.
+    NoPart,
+    /// `--within`: the log has another suffix.
+    Within,
+    /// The log has no `--within`.
+    NoWithin,
+    /// `--workers`: the log has this number.
+    Workers(u32),
+    /// `--max-pending`: the log has this number.
+    MaxPending(u64),
+}
+
+impl LogFault {
+    ghost use Rattle.mercator.specs.Faults as spec;
+
+    /// Returns the exit status: 5 if another process uses the file, else 1.
+    pub fn status(self) -> u8
+        ensures status { result ≡ spec.status_of_log self }
+        ensures either { (result ≡ 1) ⊎ (result ≡ 5) }
+    {
+        match self {
+            LogFault::InUse => 5,
+            _ => 1,
+        }
+    }
 }
 
 impl From<LogFault> for Fault {
@@ -100,11 +152,47 @@ impl From<io::Error> for Fault {
     }
 }
 
+/// The name of a log, and the file that it led to.
+#[derive(Drop)]
+pub struct LogPlace<'p, R> {
+    rt: &'p R,
+    name: String,
+    /// The device of the file and its number there. A file that is not a regular one has none.
+    node: Option<(u64, u64)>,
+}
+
+impl<'p, R: Files> LogPlace<'p, R> {
+    /// The file of a log with this name.
+    pub fn new<F: OpenFile>(rt: &'p R, name: String, file: &F) -> io::Result<LogPlace<'p, R>> {
+        let found = file.metadata()?;
+        let node = if found.is_file() {
+            Some((found.dev(), found.ino()))
+        } else {
+            None
+        };
+        Ok(LogPlace { rt, name, node })
+    }
+
+    /// Returns whether the name still leads to the file, and the file has this length. The length of a file that is not a regular
+    /// one says nothing.
+    fn has(&self, len: u64) -> bool {
+        let Some((dev, ino)) = self.node else {
+            return true;
+        };
+        match fs::metadata(self.rt, self.name.as_str()) {
+            Ok(found) => found.dev() == dev && found.ino() == ino && found.len() == len,
+            Err(_) => false,
+        }
+    }
+}
+
 /// A log, which only grows at its end.
 #[derive(Drop)]
-pub struct Log<F> {
+pub struct Log<'p, F, R> {
     /// The file.
     file: F,
+    /// The name that leads to it.
+    place: LogPlace<'p, R>,
     /// The length of the file.
     len: u64,
     /// How many of these bytes belong to an unfinished line.
@@ -117,19 +205,23 @@ pub struct Log<F> {
     synced: bool,
     /// Whether an append failed.
     failed: bool,
+    /// Whether it failed because another process changed the file.
+    changed: bool,
 }
 
-impl<F: Write + OpenFile> Log<F> {
+impl<'p, F: Write + OpenFile, R: Files> Log<'p, F, R> {
     /// A log of `len` bytes, all of them in whole lines.
-    pub fn new(file: F, len: u64, sync: bool) -> Log<F> {
+    pub fn new(file: F, place: LogPlace<'p, R>, len: u64, sync: bool) -> Log<'p, F, R> {
         Log {
             file,
+            place,
             len,
             unfinished: 0,
             last: b'\n',
             sync,
             synced: false,
             failed: false,
+            changed: false,
         }
     }
 
@@ -166,14 +258,14 @@ impl<F: Write + OpenFile> Log<F> {
         Ok(())
     }
 
-    /// Syncs the log to disk. If that fails, truncates the file to this length.
+    /// Syncs the log to disk. If that fails, removes what follows this length.
     fn sync_from(&mut self, before: u64) -> io::Result<()>
         ensures kept { OnOk result (self.new.file ≡ self.old.file) }
         ensures synced { OnOk result (self.new.synced ≡ true) }
     {
         if self.file.sync_data().is_err() {
             self.failed = true;
-            let _ = self.file.set_len(before);
+            self.cut(before);
             return Err(io::Error::from(ErrorKind::Other));
         }
         self.synced = true;
@@ -197,13 +289,18 @@ impl<F: Write + OpenFile> Log<F> {
     /// Appends both slices.
     ///
     /// # Errors
-    /// If a write fails. The file is then truncated to its old length.
+    /// If another process changed the file, which then stays as it is. If a write fails; what it wrote is then removed.
     pub fn append(&mut self, front: &[u8], rest: &[u8]) -> io::Result<()>
         ensures gained { OnOk result (Appends (F.contents self.old.file) (F.contents self.new.file) (front.now ++ rest.now)) }
     {
+        if !self.place.has(self.len) {
+            self.failed = true;
+            self.changed = true;
+            return Err(io::Error::from(ErrorKind::Other));
+        }
         if self.write(front, rest).is_err() {
             self.failed = true;
-            let _ = self.file.set_len(self.len);
+            self.cut(self.len);
             return Err(io::Error::from(ErrorKind::Other));
         }
         self.grow(front);
@@ -224,6 +321,26 @@ impl<F: Write + OpenFile> Log<F> {
         Ok(())
     }
 
+    /// Removes what follows this length, if that is possible. It never makes the file longer, even if another process shortened it.
+    fn cut(&self, len: u64) {
+        if let Ok(found) = self.file.metadata() {
+            if len < found.len() {
+                let _ = self.file.set_len(len);
+            }
+        }
+    }
+
+    /// Returns the error after an append that failed.
+    pub fn fault(&self) -> LogFault
+        ensures { (result ≡ unlogged.CannotWrite) ⊎ (result ≡ unlogged.Changed) }
+    {
+        if self.changed {
+            LogFault::Changed
+        } else {
+            LogFault::CannotWrite
+        }
+    }
+
     /// Counts bytes that were appended.
     fn grow(&mut self, bytes: &[u8])
         ensures { self.new.file ≡ self.old.file }
@@ -239,7 +356,11 @@ impl<F: Write + OpenFile> Log<F> {
 }
 
 /// Appends the bytes to the log. If `syncs`, the log is synced to disk before a `sync` is answered.
-fn gain<F: Write + OpenFile>(log: &mut Log<F>, bytes: &[u8], syncs: bool) -> io::Result<()>
+fn gain<F: Write + OpenFile, R: Files>(
+    log: &mut Log<'_, F, R>,
+    bytes: &[u8],
+    syncs: bool,
+) -> io::Result<()>
     ensures gained { OnOk result (Appends (F.contents log.old.file) (F.contents log.new.file) (noted log.old.unfinished bytes.now)) }
     ensures synced { OnOk result (syncs ≡ true → may_sync log.old.unfinished bytes.now ≡ true → log.new.synced ≡ true) }
 {
@@ -291,22 +412,22 @@ fn has_sync(bytes: &[u8]) -> bool
 
 /// An input whose bytes are appended to the log before they are handed on.
 #[derive(Drop)]
-pub struct LoggedInput<'a, I, F> {
+pub struct LoggedInput<'a, 'p, I, F, R> {
     input: &'a mut I,
-    log: Log<F>,
+    log: Log<'p, F, R>,
     /// Whether the log is synced to disk before a `sync` is handed on.
     syncs: bool,
     window: Window,
 }
 
-impl<'a, I: Read, F: Write + OpenFile> LoggedInput<'a, I, F> {
+impl<'a, 'p, I: Read, F: Write + OpenFile, R: Files> LoggedInput<'a, 'p, I, F, R> {
     /// The input, from its current position.
     pub fn new(
         alloc: Global,
         input: &'a mut I,
-        log: Log<F>,
+        log: Log<'p, F, R>,
         syncs: bool,
-    ) -> Result<LoggedInput<'a, I, F>, AllocError>
+    ) -> Result<LoggedInput<'a, 'p, I, F, R>, AllocError>
     where
         F: Drop,
         ensures begun { IfOk result (λ logged. logged.input.now ≡ input.entry.now) }
@@ -322,17 +443,17 @@ impl<'a, I: Read, F: Write + OpenFile> LoggedInput<'a, I, F> {
 
     /// Returns the error of a session that ended for this reason.
     pub fn fault_of(&self, why: ServeError) -> Fault
-        ensures { (result ≡ of_session why) ⊎ (result ≡ wrong.Log unlogged.CannotWrite) }
+        ensures { (result ≡ of_session why) ⊎ ((result ≡ wrong.Log unlogged.CannotWrite) ⊎ (result ≡ wrong.Log unlogged.Changed)) }
     {
         if self.log.failed {
-            Fault::Log(LogFault::CannotWrite)
+            Fault::Log(self.log.fault())
         } else {
             Fault::from(why)
         }
     }
 }
 
-impl<'a, I: Read, F: Write + OpenFile> Read for LoggedInput<'a, I, F> {
+impl<'a, 'p, I: Read, F: Write + OpenFile, R: Files> Read for LoggedInput<'a, 'p, I, F, R> {
     ghost remaining = { λ s. prepend_known (items s.window) (I.remaining s.input.now) };
 
     fn read(&mut self, buf: &mut [u8]) -> io::Result<usize>

@@ -7,7 +7,8 @@ ghost use Rattle.mercator.specs.Told.{FailsLog, settings_of};
 
 use crate::commands::fault::Fault;
 use crate::commands::log_file::{LockFile, LogFault};
-use crate::commands::planned::LogPlan;
+use crate::commands::log_settings::fault_of_head;
+use crate::commands::planned::{LogPlan, SessionPlan};
 use crate::commands::platform::Platform;
 use crate::commands::serving::session_of;
 use crate::commands::tell::filter_of;
@@ -15,8 +16,13 @@ use crate::commands::window::READ_SIZE;
 use crawl_replay::Header;
 use crawl_session::{Session, settings_line, start_text, whole_len};
 use std::alloc::{AllocError, Global};
-use std::fs::{self, Files, OpenOptions};
+use std::fs::{self, Files, OpenFile, OpenOptions};
 use std::io::{self, Read, Seek, SeekFrom};
+use std::os::unix::fs::MetadataExt;
+use std::time::Duration;
+
+/// How often a log may be replaced by another file until it is locked.
+const OPENING_LIMIT: u32 = 9;
 
 /// The number of digits of an identity.
 const DIGITS: usize = 32;
@@ -68,7 +74,7 @@ pub fn open_session<R: Files, L: LockFile<R::File>, V>(
 /// Opens the file of the log, which must begin as the plan says.
 ///
 /// # Errors
-/// `CannotOpen`, `InUse`, `NotALog`, `OtherSettings` if it begins otherwise, `CannotRead`, `NoMemory`.
+/// `CannotOpen`, `InUse`; `NotALog` or `OtherSettings` if it begins otherwise; `CannotRead`, `NoMemory`.
 fn open_log<R: Files, L: LockFile<R::File>, V>(
     platform: &Platform<'_, R, L, V>,
     alloc: Global,
@@ -77,14 +83,15 @@ fn open_log<R: Files, L: LockFile<R::File>, V>(
 ) -> Result<OpenedLog<R::File>, Fault>
     ensures { IfErr result IsLogFault }
 {
-    let mut file = open_file(platform, asked.file.as_str(), makes)?;
-    check_start(&mut file)?;
-    let identity = match asked.session.part {
-        Some(part) => identity_of(platform.rt, alloc, part, &mut file)?,
-        None => String::new(alloc),
+    let mut file = open_file(platform, asked, makes)?;
+    check_start(alloc, &mut file)?;
+    let Some(identity) = identity_of(platform.rt, alloc, asked.session.part, &mut file)? else {
+        return Err(Fault::Log(unlike(alloc, &mut file, &asked.session)?));
     };
     let first = first_line_of(alloc, asked, identity.as_str())?;
-    let (whole, len) = measure(alloc, &mut file, first.as_bytes())?;
+    let Some((whole, len)) = measure(alloc, &mut file, first.as_bytes())? else {
+        return Err(Fault::Log(unlike(alloc, &mut file, &asked.session)?));
+    };
     Ok(OpenedLog {
         file,
         first,
@@ -94,44 +101,76 @@ fn open_log<R: Files, L: LockFile<R::File>, V>(
     })
 }
 
-/// Opens and locks the file.
+/// Opens and locks the file that has the name of the log when it is locked. If another file has the name then, that is opened,
+/// within the same time.
+///
+/// # Errors
+/// `CannotOpen`; `InUse`, also if the name leads to another file each time.
 fn open_file<R: Files, L: LockFile<R::File>, V>(
     platform: &Platform<'_, R, L, V>,
-    name: &str,
+    asked: &LogPlan,
     makes: bool,
 ) -> Result<R::File, LogFault> {
-    let opened = OpenOptions::new()
-        .read(true)
-        .append(makes)
-        .create(makes)
-        .open(platform.rt, name);
-    let Ok(file) = opened else {
-        return Err(LogFault::CannotOpen);
-    };
-    match platform.locks.try_lock(&file) {
-        Ok(true) => Ok(file),
-        Ok(false) => Err(LogFault::InUse),
-        Err(_) => Err(LogFault::CannotOpen),
+    let name = asked.file.as_str();
+    let mut limit = Duration::from_secs(asked.wait);
+    for _opening in 0..OPENING_LIMIT {
+        let opened = OpenOptions::new()
+            .read(true)
+            .append(makes)
+            .create(makes)
+            .open(platform.rt, name);
+        let Ok(file) = opened else {
+            return Err(LogFault::CannotOpen);
+        };
+        match platform.locks.lock_within(&file, limit) {
+            Ok(Some(left)) => limit = left,
+            Ok(None) => return Err(LogFault::InUse),
+            Err(_) => return Err(LogFault::CannotOpen),
+        }
+        if has_name(platform.rt, &file, name) {
+            return Ok(file);
+        }
     }
+    Err(LogFault::InUse)
+}
+
+/// Returns whether the name leads to this file.
+fn has_name<R: Files>(rt: &R, file: &R::File, name: &str) -> bool {
+    let (Ok(own), Ok(named)) = (file.metadata(), fs::metadata(rt, name)) else {
+        return false;
+    };
+    own.dev() == named.dev() && own.ino() == named.ino()
 }
 
 /// Checks that the file begins like a log, whatever its options, or is shorter.
 ///
 /// # Errors
-/// `NotALog`, `CannotRead`.
-fn check_start<F: Read + Seek>(file: &mut F) -> Result<(), Fault>
+/// `NotALog`, `CannotRead`, `NoMemory`.
+fn check_start<F: Read + Seek>(alloc: Global, file: &mut F) -> Result<(), Fault>
     ensures { IfErr result IsLogFault }
 {
-    let mut start = [0u8; START_LEN];
-    let len = file.seek(SeekFrom::End(0))?;
-    let known = len.min(START_LEN as u64) as usize;
-    file.seek(SeekFrom::Start(0))?;
-    file.read_exact(&mut start[..known])?;
-    if begins_a_log(&start[..known]) {
+    let (start, _len) = read_head(alloc, file, START_LEN)?;
+    if begins_a_log(&start) {
         Ok(())
     } else {
         Err(Fault::Log(LogFault::NotALog))
     }
+}
+
+/// Returns the beginning of the file, of at most `limit` bytes, and the length of the file.
+fn read_head<F: Read + Seek>(
+    alloc: Global,
+    file: &mut F,
+    limit: usize,
+) -> Result<(Vec<u8>, u64), Fault>
+    ensures { IfErr result IsLogFault }
+{
+    let len = file.seek(SeekFrom::End(0))?;
+    let count = len.min(limit as u64) as usize;
+    let mut head = vec![in alloc; 0u8; count]?;
+    file.seek(SeekFrom::Start(0))?;
+    file.read_exact(&mut head)?;
+    Ok((head, len))
 }
 
 /// Returns whether one of [`STARTS`] begins with these bytes, or these bytes with it.
@@ -146,22 +185,26 @@ fn begins_a_log(bytes: &[u8]) -> bool {
     false
 }
 
-/// Returns the identity of the log of a part: the digits in its first line, completed by random ones.
+/// Returns the identity of the log of a part: the digits in its first line, completed by random ones. Returns `None` if other
+/// characters are there, and no digits if the log is not one of a part.
 fn identity_of<R: Files, F: Read + Seek>(
     rt: &R,
     alloc: Global,
-    part: (u32, u32),
+    part: Option<(u32, u32)>,
     file: &mut F,
-) -> Result<String, Fault>
+) -> Result<Option<String>, Fault>
     ensures { IfErr result IsLogFault }
 {
+    let Some(part) = part else {
+        return Ok(Some(String::new(alloc)));
+    };
     let mut digits = drawn_digits(rt)?;
     let begin = identity_start(alloc, part)?.len() as u64;
     let len = file.seek(SeekFrom::End(0))?;
     let there = len.saturating_sub(begin).min(DIGITS as u64) as usize;
     file.seek(SeekFrom::Start(begin))?;
     file.read_exact(&mut digits[..there])?;
-    text_of_digits(alloc, &digits)
+    Ok(text_of_digits(alloc, &digits)?)
 }
 
 /// Returns the text before the identity.
@@ -194,17 +237,16 @@ fn digit(byte: u8) -> u8 {
     }
 }
 
-fn text_of_digits(alloc: Global, digits: &[u8]) -> Result<String, Fault>
-    ensures { IfErr result IsLogFault }
-{
+/// Returns the text of these digits, or `None` if one is not hexadecimal.
+fn text_of_digits(alloc: Global, digits: &[u8]) -> Result<Option<String>, AllocError> {
     let mut text = String::new(alloc);
     for digit in digits {
         match digit {
             b'0'..=b'9' | b'a'..=b'f' => text.push(char::from(*digit))?,
-            _ => return Err(Fault::Log(LogFault::OtherSettings)),
+            _ => return Ok(None),
         }
     }
-    Ok(text)
+    Ok(Some(text))
 }
 
 /// Returns the first line of the log, with its LF.
@@ -228,26 +270,42 @@ fn first_line_of(alloc: Global, asked: &LogPlan, identity: &str) -> Result<Strin
 }
 
 /// Returns where the whole lines of the log end, and where the file ends. If the first line is not whole, the log has no whole
-/// line.
+/// line. Returns `None` if the log begins otherwise.
 ///
 /// # Errors
-/// `OtherSettings` if the log begins otherwise, `CannotRead`, `NoMemory`.
-fn measure<F: Read + Seek>(alloc: Global, file: &mut F, first: &[u8]) -> Result<(u64, u64), Fault>
+/// `CannotRead`, `NoMemory`.
+fn measure<F: Read + Seek>(
+    alloc: Global,
+    file: &mut F,
+    first: &[u8],
+) -> Result<Option<(u64, u64)>, Fault>
     ensures { IfErr result IsLogFault }
 {
-    let len = file.seek(SeekFrom::End(0))?;
-    let known = (first.len() as u64).min(len) as usize;
-    let mut head = vec![in alloc; 0u8; known]?;
-    file.seek(SeekFrom::Start(0))?;
-    file.read_exact(&mut head)?;
-    if head.as_slice() != &first[..known] {
-        return Err(Fault::Log(LogFault::OtherSettings));
+    let (head, len) = read_head(alloc, file, first.len())?;
+    if !first.starts_with(&head) {
+        return Ok(None);
     }
-    if known < first.len() {
-        return Ok((0, len));
+    if head.len() < first.len() {
+        return Ok(Some((0, len)));
     }
     let mut buffer = vec![in alloc; 0u8; READ_SIZE]?;
-    Ok((whole_end(file, known as u64, len, &mut buffer)?, len))
+    let whole = whole_end(file, head.len() as u64, len, &mut buffer)?;
+    Ok(Some((whole, len)))
+}
+
+/// Returns why a log that begins otherwise than the plan says is not the log of the plan.
+///
+/// # Errors
+/// `CannotRead`, `NoMemory`.
+fn unlike<F: Read + Seek>(
+    alloc: Global,
+    file: &mut F,
+    asked: &SessionPlan,
+) -> Result<LogFault, Fault>
+    ensures { IfErr result IsLogFault }
+{
+    let (head, _len) = read_head(alloc, file, READ_SIZE)?;
+    Ok(fault_of_head(alloc, &head, asked)?)
 }
 
 /// Returns the end of the last whole line after `from`; `from` if there is none.

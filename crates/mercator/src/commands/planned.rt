@@ -113,6 +113,8 @@ pub struct LogPlan {
     pub file: String,
     /// Whether the log is synced to disk before each answer.
     pub sync: bool,
+    /// The most seconds to wait for another program that uses the log.
+    pub wait: u64,
 }
 
 impl Plan {

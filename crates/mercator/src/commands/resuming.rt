@@ -6,13 +6,13 @@ ghost use Rattle.crawl_session.specs.Logs.{Reruns};
 ghost use Rattle.mercator.specs.Ending.{Begins};
 ghost use Rattle.mercator.specs.FaultText.{torn_line};
 ghost use Rattle.mercator.specs.Faults.{status_of_fault};
-ghost use Rattle.mercator.specs.LogFile.{IsBreak, IsLogFault};
+ghost use Rattle.mercator.specs.LogFile.{IsBreak, IsUseFault};
 ghost use Rattle.mercator.specs.Plans.{IsSessionPlan, is_bad_suffix};
 ghost use Rattle.mercator.specs.Told.{EndsBy, Gains};
 ghost use Rattle.mercator.specs.declared.commands.planned.Plan.TheVariants as asks;
 
 use crate::commands::fault::Fault;
-use crate::commands::log_file::{LockFile, Log, LogFault, LoggedInput};
+use crate::commands::log_file::{LockFile, Log, LogFault, LogPlace, LoggedInput};
 use crate::commands::opening::{OpenedLog, open_session};
 use crate::commands::planned::LogPlan;
 use crate::commands::platform::Platform;
@@ -41,22 +41,24 @@ pub fn serve_log<R: Files, L: LockFile<R::File>, V, I: Read, O: Write, E: Write>
     ensures done { IfOk result (λ _. Gains (asks.ServeLog asked.now) (I.remaining input.old) (O.contents out.old) (O.contents out.new)) }
     ensures fault { IfErr result (λ fault. EndsBy (asks.ServeLog asked.now) (I.remaining input.old) fault (out.new ≡ out.old)) }
     ensures refused { is_bad_suffix asked.now.session.within ≡ true → IsErr result × (out.new ≡ out.old) }
-    ensures plain { IfErr result (λ fault. status_of_fault fault ≡ 1) }
+    ensures complete { IfErr result (λ fault. status_of_fault fault ≡ 2 → ⊥) }
+    ensures suffix { is_bad_suffix asked.now.session.within ≡ true → IfErr result (λ fault. status_of_fault fault ≡ 1) }
+    ensures in_use { IfErr result (λ fault. status_of_fault fault ≡ 5 → (input.new ≡ input.old) × (out.new ≡ out.old) × (err.new ≡ err.old)) }
     ensures unread { is_bad_suffix asked.now.session.within ≡ true → input.new ≡ input.old }
     ensures noted { Begins (E.contents err.old) (E.contents err.new) (torn_line (string_bytes asked.now.file)) }
 {
     let (opened, mut session) = open_session(platform, alloc, asked, true)?;
-    let log = resume(alloc, asked, opened, &mut session, err)?;
+    let log = resume(platform.rt, alloc, asked, opened, &mut session, err)?;
     let syncs = asked.session.part.is_some();
     serve_logged(alloc, &mut session, log, syncs, input, out)
 }
 
 /// Answers the requests of the input to its end. Each line is appended to the log before, which may be synced to disk for a
 /// `sync`.
-fn serve_logged<F: Write + OpenFile + Drop, I: Read, O: Write>(
+fn serve_logged<F: Write + OpenFile + Drop, R: Files, I: Read, O: Write>(
     alloc: Global,
     session: &mut Session,
-    log: Log<F>,
+    log: Log<'_, F, R>,
     syncs: bool,
     input: &mut I,
     out: &mut O,
@@ -72,16 +74,17 @@ fn serve_logged<F: Write + OpenFile + Drop, I: Read, O: Write>(
 }
 
 /// Runs the requests of the log, and returns the log, ready to be appended to.
-fn resume<F: Read + Seek + Write + OpenFile + Drop, E: Write>(
+fn resume<'p, R: Files, F: Read + Seek + Write + OpenFile + Drop, E: Write>(
+    rt: &'p R,
     alloc: Global,
     asked: &LogPlan,
     opened: OpenedLog<F>,
     session: &mut Session,
     err: &mut E,
-) -> Result<Log<F>, Fault>
+) -> Result<Log<'p, F, R>, Fault>
     ensures resumed { OnOk result ((bytes : List ℕ) × Reruns session.old (lines bytes) session.new) }
     ensures noted { Begins (E.contents err.old) (E.contents err.new) (torn_line (string_bytes asked.now.file)) }
-    ensures fault { IfErr result IsLogFault }
+    ensures fault { IfErr result IsUseFault }
 {
     let OpenedLog {
         mut file,
@@ -93,9 +96,10 @@ fn resume<F: Read + Seek + Write + OpenFile + Drop, E: Write>(
     let first = first.as_bytes();
     cut(alloc, &file, (whole, len), asked.file.as_str(), err)?;
     rerun_file(alloc, session, &mut file, whole, first.len())?;
-    let mut log = Log::new(file, whole, asked.sync);
+    let place = LogPlace::new(rt, asked.file.clone()?, &file)?;
+    let mut log = Log::new(file, place, whole, asked.sync);
     if whole == 0 && log.append(first, &[]).is_err() {
-        return Err(Fault::Log(LogFault::CannotWrite));
+        return Err(Fault::Log(log.fault()));
     }
     Ok(log)
 }
@@ -109,7 +113,7 @@ fn cut<F: OpenFile, E: Write>(
     err: &mut E,
 ) -> Result<(), Fault>
     ensures noted { Begins (E.contents err.old) (E.contents err.new) (torn_line name.now) }
-    ensures fault { IfErr result IsLogFault }
+    ensures fault { IfErr result IsUseFault }
 {
     let (whole, len) = ends;
     if len <= whole {
@@ -141,7 +145,7 @@ fn rerun_file<F: Read + Seek>(
     first: usize,
 ) -> Result<(), Fault>
     ensures resumed { OnOk result ((bytes : List ℕ) × Reruns session.old (lines bytes) session.new) }
-    ensures fault { IfErr result IsLogFault }
+    ensures fault { IfErr result IsUseFault }
 {
     if whole == 0 {
         return Ok(());

@@ -238,10 +238,14 @@ fn serve_of(alloc: Global, found: &ArgMatches<'_>) -> Result<Plan, PlanError>
     let Some(file) = value_of(alloc, found, "log")? else {
         return Ok(Plan::Serve(session));
     };
+    let Some(wait) = found.get_one::<u64>("wait") else {
+        return Err(misread(alloc));
+    };
     let log = LogPlan {
         session,
         file,
         sync: found.get_flag("sync"),
+        wait,
     };
     match value_of(alloc, found, "compact")? {
         None => Ok(Plan::ServeLog(log)),

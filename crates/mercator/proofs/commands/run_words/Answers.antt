@@ -14,11 +14,16 @@ returns-in-Ok-clause-silent g c =
     (c.with_colour-plan.ensures c.in-Ok.ensures.limits) (c.run_plan.ensures.done zero) (λ plain. c.run_plan.ensures.silent plain zero) (c.run_plan.ensures.noted zero)
 
 pub returns-in-Ok-clause-fault : goal.returns-in-Ok-clause-fault
-returns-in-Ok-clause-fault g c = λ one. inr (c.with_colour-plan.result, c.with_colour-plan.ensures c.in-Ok.ensures.limits, c.run_plan.ensures.fault (omega (arith, one)) (omega (arith, one)))
+returns-in-Ok-clause-fault g c = λ one. inr (c.with_colour-plan.result, c.with_colour-plan.ensures c.in-Ok.ensures.limits, c.run_plan.ensures.fault (omega (arith, one)) (λ four. omega (arith, one, four)))
 
 pub returns-in-Ok-clause-incomplete : goal.returns-in-Ok-clause-incomplete
 returns-in-Ok-clause-incomplete g c =
-    λ two. (c.run_plan.ensures.unreported two, (c.with_colour-plan.result, c.with_colour-plan.ensures c.in-Ok.ensures.limits, c.run_plan.ensures.fault (omega (arith, two)) (omega (arith, two))))
+    λ two. (c.run_plan.ensures.unreported two, (c.with_colour-plan.result, c.with_colour-plan.ensures c.in-Ok.ensures.limits, c.run_plan.ensures.fault (omega (arith, two)) (λ four. omega (arith, two, four))))
+
+pub returns-in-Ok-clause-in_use : goal.returns-in-Ok-clause-in_use
+returns-in-Ok-clause-in_use g c = λ five.
+    let told = c.run_plan.ensures.in_use five in
+    (told.1, told.2, (c.with_colour-plan.result, c.with_colour-plan.ensures c.in-Ok.ensures.limits, told.0))
 
 pub returns-in-Err-clause-bad_words : goal.returns-in-Err-clause-bad_words
 returns-in-Err-clause-bad_words g c = λ three. (c.in-Err.error, c.show.ensures.bad_words three)

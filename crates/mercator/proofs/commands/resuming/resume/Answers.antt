@@ -14,3 +14,9 @@ returns-then-is_err-clause-noted g c = subst (λ f. Begins (g.E.Write.contents c
 
 pub returns-clause-noted : goal.returns-clause-noted
 returns-clause-noted g c = subst (λ f. Begins (g.E.Write.contents c.args.err.now) (g.E.Write.contents c.cut.new.err) (torn_line f)) c.as_str.ensures.value c.cut.ensures.noted
+
+pub returns-in_err-clone-clause-noted : goal.returns-in_err-clone-clause-noted
+returns-in_err-clone-clause-noted g c = subst (λ f. Begins (g.E.Write.contents c.args.err.now) (g.E.Write.contents c.cut.new.err) (torn_line f)) c.as_str.ensures.value c.cut.ensures.noted
+
+pub returns-in_err-place-clause-noted : goal.returns-in_err-place-clause-noted
+returns-in_err-place-clause-noted g c = subst (λ f. Begins (g.E.Write.contents c.args.err.now) (g.E.Write.contents c.cut.new.err) (torn_line f)) c.as_str.ensures.value c.cut.ensures.noted

@@ -1,6 +1,6 @@
-use Rattle.std.proofs.Common.{refl, sym, ◌∙◌, inl, true≢false}
+use Rattle.std.proofs.Common.{refl, sym, ◌∙◌, inl, true≢false, arith}
 use Rattle.std.proofs.lemmas.Result.{err_from_is_err_and}
-use Rattle.mercator.proofs.Serves.{ends_logged, fails_log, gains_logged, plain_fails, plain_log, plain_logged}
+use Rattle.mercator.proofs.Serves.{complete_fails, ends_logged, fails_log, gains_logged, never_logged, plain_fails, plain_use, use_log}
 use Rattle.mercator.proofs.commands.resuming.serve_log.Goals as goal
 
 pub returns-in_err-opened-clause-fault : goal.returns-in_err-opened-clause-fault
@@ -9,23 +9,40 @@ returns-in_err-opened-clause-fault g c =
     let same = err_from_is_err_and r.result r.ensures.1 in
     rw (same.1, same.2) (inl (c.in_err-opened.ensures.fault, refl))
 
-pub returns-in_err-opened-clause-plain : goal.returns-in_err-opened-clause-plain
-returns-in_err-opened-clause-plain g c =
+pub returns-in_err-opened-clause-complete : goal.returns-in_err-opened-clause-complete
+returns-in_err-opened-clause-complete g c =
     let r = c.from_residual in
     let same = err_from_is_err_and r.result r.ensures.1 in
-    rw (same.1, same.2) (plain_fails c.args.asked.now.session.within c.in_err-opened.field-0.0 c.in_err-opened.ensures.fault)
+    rw (same.1, same.2) (complete_fails c.args.asked.now.session.within c.in_err-opened.field-0.0 c.in_err-opened.ensures.fault)
+
+pub returns-in_err-opened-clause-suffix : goal.returns-in_err-opened-clause-suffix
+returns-in_err-opened-clause-suffix g c =
+    let r = c.from_residual in
+    let same = err_from_is_err_and r.result r.ensures.1 in
+    rw (same.1, same.2) (λ bad. plain_fails c.args.asked.now.session.within c.in_err-opened.field-0.0 bad c.in_err-opened.ensures.fault)
 
 pub returns-in_err-log-clause-fault : goal.returns-in_err-log-clause-fault
 returns-in_err-log-clause-fault g c =
     let r = c.from_residual-in_err-log in
     let same = err_from_is_err_and r.result r.ensures.1 in
-    rw (same.1, same.2) (fails_log c.args.asked.now (g.I.Read.remaining c.args.input.now) c.in_err-log.field-0.0 _ c.in_ok-opened.ensures.suffix c.in_err-log.ensures.fault refl)
+    rw (same.1, same.2) (fails_log c.args.asked.now (g.I.Read.remaining c.args.input.now) c.in_err-log.field-0.0 _ c.in_ok-opened.ensures.suffix (use_log _ c.in_err-log.ensures.fault) refl)
 
-pub returns-in_err-log-clause-plain : goal.returns-in_err-log-clause-plain
-returns-in_err-log-clause-plain g c =
+pub returns-in_err-log-clause-complete : goal.returns-in_err-log-clause-complete
+returns-in_err-log-clause-complete g c =
     let r = c.from_residual-in_err-log in
     let same = err_from_is_err_and r.result r.ensures.1 in
-    rw (same.1, same.2) (plain_log c.in_err-log.field-0.0 c.in_err-log.ensures.fault)
+    let plain = plain_use c.in_err-log.field-0.0 c.in_err-log.ensures.fault in
+    rw (same.1, same.2) (λ two. omega (arith, two, plain))
+
+pub returns-in_err-log-clause-suffix : goal.returns-in_err-log-clause-suffix
+returns-in_err-log-clause-suffix g c = λ bad. absurd (true≢false (sym bad ∙ c.in_ok-opened.ensures.suffix))
+
+pub returns-in_err-log-clause-in_use : goal.returns-in_err-log-clause-in_use
+returns-in_err-log-clause-in_use g c =
+    let r = c.from_residual-in_err-log in
+    let same = err_from_is_err_and r.result r.ensures.1 in
+    let plain = plain_use c.in_err-log.field-0.0 c.in_err-log.ensures.fault in
+    rw (same.1, same.2) (λ five. absurd (omega (arith, five, plain)))
 
 pub returns-clause-done : goal.returns-clause-done
 returns-clause-done g c =
@@ -36,8 +53,14 @@ returns-clause-done g c =
 pub returns-clause-fault : goal.returns-clause-fault
 returns-clause-fault g c = ends_logged c.args.asked.now (g.I.Read.remaining c.args.input.now) c.serve_logged.result _ c.in_ok-opened.ensures.suffix c.serve_logged.ensures.fault
 
-pub returns-clause-plain : goal.returns-clause-plain
-returns-clause-plain g c = plain_logged c.serve_logged.result c.serve_logged.ensures.fault
+pub returns-clause-complete : goal.returns-clause-complete
+returns-clause-complete g c = never_logged c.serve_logged.result 2 ⊥ (λ same. omega (arith, same)) c.serve_logged.ensures.fault
+
+pub returns-clause-suffix : goal.returns-clause-suffix
+returns-clause-suffix g c = λ bad. absurd (true≢false (sym bad ∙ c.in_ok-opened.ensures.suffix))
+
+pub returns-clause-in_use : goal.returns-clause-in_use
+returns-clause-in_use g c = never_logged c.serve_logged.result 5 _ (λ same. omega (arith, same)) c.serve_logged.ensures.fault
 
 pub returns-clause-refused : goal.returns-clause-refused
 returns-clause-refused g c = λ bad. absurd (true≢false (sym bad ∙ c.in_ok-opened.ensures.suffix))
