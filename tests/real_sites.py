@@ -32,7 +32,7 @@ from pathlib import Path
 from random import Random
 from typing import Any, Dict, Iterator, List, NamedTuple, Optional, Tuple
 
-from check import arguments, rules
+from check import arguments, site_options
 from checking import generators, loading, samples
 from checking.model import Model, Moved, Response, Row, Settings
 from checking.samples import Finding
@@ -145,7 +145,7 @@ def report_of(model: Model) -> List[str]:
 
 def crawl_differences(program: str, site: Site, model: Model) -> List[str]:
     """How the crawls of a site's saved web differ from the model's search."""
-    web = run([program, "site", *rules(settings_of(site)), site.folder, site.base])
+    web = run([program, "site", *site_options(settings_of(site)), site.folder, site.base])
     if web.returncode:
         return [f"site: exit status {web.returncode}, {web.stderr.decode(errors='replace')}"]
     expected, found = report_of(model), []
