@@ -1,5 +1,5 @@
 //! A crawl on a frontier that has a name (a brand in its type).
-ghost use Rattle.std.specs.Prelude.{◌≡◌, ◌⊎◌, ◌≤◌, true, false, ℕ, List, [], ◌∷◌, ◌++◌, IfOk, IfErr, vec_len};
+ghost use Rattle.std.specs.Prelude.{◌≡◌, ◌⊎◌, ◌≤◌, true, false, ℕ, List, [], ◌∷◌, ◌++◌, IfOk, IfErr};
 ghost use Rattle.crawl_certificate.specs.AccountEntries.{entries_of};
 ghost use Rattle.crawl_certificate.specs.Certificate.{ArePages, IsCrawl, NothingLost, result_urls};
 ghost use Rattle.crawl_frontier.specs.Parts.{SeederId};
@@ -17,7 +17,7 @@ use crate::certificate::crawled_of;
 use crate::error::CrawlError;
 use crate::failure::CrawlFailure;
 use crate::run_output::{RunOutput, gather_ends, output_of};
-use crate::settings::{CrawlSettings, Mode};
+use crate::settings::CrawlSettings;
 use crate::whole_crawl::Crawled;
 use crawl_frontier::{Frontier, Name, Seeder, Setup, Worker};
 use crawl_keys::CanonUrl;
@@ -77,7 +77,7 @@ fn run_from<K: Name + Send + Sync, F: SessionFetch + Sync, R: Threads + Wait + S
     // A seed that was refused may still be found by a link, and the certificate looks for it.
     let refused = offer_seeds(rt, &frontier, &mut seeder, seeds);
     let sender = seeder.end(&frontier);
-    let ends = run(rt, alloc, &frontier, workers, fetcher, settings.mode)?;
+    let ends = run(rt, alloc, &frontier, workers, fetcher, settings)?;
     let left = gather_ends(alloc, ends, refused)?;
     output_of(alloc, frontier, left, sender)
 }
@@ -119,21 +119,22 @@ fn offer_seed<K: Name, R: Wait>(
     }
 }
 
-/// Runs all workers to their ends. A single worker runs on the calling thread in either mode.
+/// Runs all workers to their ends.
 fn run<K: Name + Send + Sync, F: SessionFetch + Sync, R: Threads + Wait + Sync>(
     rt: &R,
     alloc: Global,
     frontier: &Frontier<K>,
     workers: Vec<Worker<K>>,
     fetcher: &F,
-    mode: Mode,
+    settings: &CrawlSettings<'_>,
 ) -> Result<Vec<WorkerEnd<K>>, RunError>
     ensures ran { IfOk result (λ ends. AllRan K.workers (allows K.filter) (F.meaning fetcher.now) workers.items ends.items) }
-    ensures mode { IfErr result (λ error. (error ≡ unrun.NoMemory) ⊎ (mode ≡ modes.Threads)) }
-    ensures alone { vec_len workers ≤ 1 → IfErr result (λ error. error ≡ unrun.NoMemory) }
+    ensures mode { IfErr result (λ error. (error ≡ unrun.NoMemory) ⊎ (settings.now.mode ≡ modes.Threads)) }
+    ensures alone { settings.now.workers ≤ 1 → IfErr result (λ error. error ≡ unrun.NoMemory) }
 {
-    match mode {
-        Mode::Threads if workers.len() > 1 => run_threads(rt, alloc, frontier, workers, fetcher),
-        _ => run_turns(rt, alloc, frontier, workers, fetcher),
+    if settings.has_threads() {
+        run_threads(rt, alloc, frontier, workers, fetcher)
+    } else {
+        run_turns(rt, alloc, frontier, workers, fetcher)
     }
 }

@@ -10,7 +10,7 @@ use std::alloc::{AllocError, Global};
 use std::thread::Threads;
 
 /// Returns the report of a crawl of a saved web, with the sections that the options ask for, in consecutive chunks. Threads
-/// print it if the crawl had several workers.
+/// print it if the workers of the crawl had threads.
 ///
 /// # Errors
 /// Only if there is not enough memory.
@@ -32,8 +32,7 @@ pub fn crawl_text<R: Threads + Sync>(
         unreached: &unseen,
         parts: options.parts,
     };
-    let has_threads = crawled.counts.len() > 1;
-    print_in_parts(rt, alloc, &report, options.json, has_threads)
+    print_in_parts(rt, alloc, &report, options.json, found.in_threads)
 }
 
 /// Returns the text as its only chunk.

@@ -131,6 +131,8 @@ pub struct WebFound {
     /// The URLs of the pages of the saved web, if the report lists those that no result has.
     pub urls: Vec<CanonUrl>,
     pub crawled: Crawled,
+    /// Whether the workers of the crawl had threads.
+    pub in_threads: bool,
 }
 
 /// Reads the files of a crawl and crawls.
@@ -200,10 +202,12 @@ fn crawl_inputs<R: Threads + Wait + Sync, L, V: Observe + Sync>(
     };
     let (web, crawled) = crawl_saved_web(platform, alloc, &bytes, &list, asked.seeds, &settings)?;
     let urls = asked_pages(alloc, asked.parts, &web)?;
+    let in_threads = settings.has_threads();
     Ok(WebFound {
         filter,
         urls,
         crawled,
+        in_threads,
     })
 }
 

@@ -15,7 +15,7 @@ use crate::commands::fault::Fault;
 use crate::commands::platform::Platform;
 use crawl_keys::{CanonUrl, canonical};
 use crawl_pages::SessionFetch;
-use crawl_run::{CrawlFailure, CrawlSettings, Crawled, Mode, Observe, Watched, crawl_with};
+use crawl_run::{CrawlFailure, CrawlSettings, Crawled, Observe, Watched, crawl_with};
 use crawl_sources::read_seeds;
 use saved_web::{SavedWeb, WebError, WebInThreads};
 use std::alloc::Global;
@@ -42,7 +42,7 @@ pub(in crate::commands) fn crawl_saved_web<'a, R: Threads + Wait + Sync, L, V: O
     ensures refused { IfErr result (IsUnbegun settings.now.workers settings.now.max_pending bytes.now listed.now (map string_bytes seeds.now) settings.now.filter.now) }
 {
     let rt = platform.rt;
-    let in_threads = has_threads(settings);
+    let in_threads = settings.has_threads();
     let (web, urls) = read_site(rt, alloc, in_threads, bytes, listed, seeds)?;
     if urls.is_empty() {
         return Err(Fault::NoSeed);
@@ -117,11 +117,6 @@ fn web_of<'a, R: Threads + Sync>(
     } else {
         SavedWeb::read(alloc, bytes)
     }
-}
-
-/// Returns whether several workers crawl in threads. If so, threads also read the saved web and find its links.
-pub(in crate::commands) fn has_threads(settings: &CrawlSettings<'_>) -> bool {
-    settings.workers > 1 && matches!(settings.mode, Mode::Threads)
 }
 
 /// Returns the canonical URLs of the seeds.
