@@ -16,13 +16,14 @@ ghost use Rattle.crawl_run.specs.declared.settings.Mode.TheVariants as modes;
 use crate::certificate::crawled_of;
 use crate::error::CrawlError;
 use crate::failure::CrawlFailure;
-use crate::run_output::{RunOutput, gather_ends, output_of};
+use crate::run_output::{RunOutput, output_of};
 use crate::settings::CrawlSettings;
 use crate::whole_crawl::Crawled;
 use crawl_frontier::{Frontier, Name, Seeder, Setup, Worker};
 use crawl_keys::CanonUrl;
 use crawl_pages::SessionFetch;
-use crawl_workers::{Losses, RunError, WorkerEnd, run_threads, run_turns};
+use crawl_workers::{RunError, WorkerEnd, run_threads, run_turns};
+use link_offers::Losses;
 use std::alloc::Global;
 use std::sync::Wait;
 use std::thread::Threads;
@@ -78,8 +79,7 @@ fn run_from<K: Name + Send + Sync, F: SessionFetch + Sync, R: Threads + Wait + S
     let refused = offer_seeds(rt, &frontier, &mut seeder, seeds);
     let sender = seeder.end(&frontier);
     let ends = run(rt, alloc, &frontier, workers, fetcher, settings)?;
-    let left = gather_ends(alloc, ends, refused)?;
-    output_of(alloc, frontier, left, sender)
+    output_of(alloc, frontier, ends, sender, refused)
 }
 
 /// Offers the seeds in order, and returns the losses by cause.
