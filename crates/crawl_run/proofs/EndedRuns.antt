@@ -204,11 +204,9 @@ found_of (Ok ran) meaning found pages is = subst (ArePages meaning) (sym is) pag
 found_of (Err e) meaning found pages is = tt
 
 pub nothing_lost_of : {K : _} {E : Type 0} (result : Result left.RunOutput E) (gate : GateId) (workers : ℕ) (allowed : List ℕ → Bool) (meaning : List ℕ → Page) (seeds : List (List ℕ)) (starts : List WorkerId) (ends : List (WorkerEnd K)) (sender : SenderId) (before : Losses)
-    (closed : List WorkerId) (found : List PageResult) (losses : Losses)
-    → 0 < workers → AllFresh gate workers 0 starts → AllRan workers allowed meaning starts ends → closed ≡ all_closed ends → found ≡ all_found ends → losses ≡ losses_with before ends → (all_losses before ≡ 0 → AllLogged workers allowed sender.book.log seeds)
-    → IfOk result (λ ran. ran.account.workers ≡ workers) → IfOk result (λ ran. Accounts workers closed (sender ∷ []) ran.account.queues) → IfOk result (λ ran. ran.results.items ≡ found) → IfOk result (λ ran. ran.losses ≡ losses)
+    → 0 < workers → AllFresh gate workers 0 starts → AllRan workers allowed meaning starts ends → (all_losses before ≡ 0 → AllLogged workers allowed sender.book.log seeds)
+    → IfOk result (λ ran. ran.account.workers ≡ workers) → IfOk result (λ ran. Accounts workers (all_closed ends) (sender ∷ []) ran.account.queues) → IfOk result (λ ran. ran.results.items ≡ all_found ends) → IfOk result (λ ran. ran.losses ≡ losses_with before ends)
     → IfOk result (λ ran. all_losses ran.losses ≡ 0 → NothingLost allowed seeds (entries_of ran.account) ran.results.items)
-nothing_lost_of {K} (Ok ran) gate workers allowed meaning seeds starts ends sender before closed found losses some fresh did closed_is found_is losses_are logged many own results lost =
-    let account : Accounts workers (all_closed ends) (sender ∷ []) ran.account.queues = subst (λ (c : List WorkerId). Accounts workers c (sender ∷ []) ran.account.queues) closed_is own in
-    λ none. nothing_lost gate workers allowed meaning seeds starts ends sender before ran.losses ran.account ran.results.items some many fresh did account (results ∙ found_is) (lost ∙ losses_are) logged none
-nothing_lost_of {K} (Err e) gate workers allowed meaning seeds starts ends sender before closed found losses some fresh did closed_is found_is losses_are logged many own results lost = tt
+nothing_lost_of {K} (Ok ran) gate workers allowed meaning seeds starts ends sender before some fresh did logged many own results lost =
+    nothing_lost gate workers allowed meaning seeds starts ends sender before ran.losses ran.account ran.results.items some many fresh did own results lost logged
+nothing_lost_of {K} (Err e) gate workers allowed meaning seeds starts ends sender before some fresh did logged many own results lost = tt

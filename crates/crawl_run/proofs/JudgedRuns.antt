@@ -169,11 +169,10 @@ same_ran {K} workers allowed meaning starts ends ran = absurd ran
 -- ---- what a run answers
 
 pub run_of : {K : _} {E : Type 0} (result : Result left.RunOutput E) (gate : GateId) (workers : ℕ) (allowed : List ℕ → Bool) (meaning : List ℕ → Page) (seeds : List (List ℕ)) (starts : List WorkerId) (ends : List (WorkerEnd K)) (seeder seeded : SeederId) (sender : SenderId) (before : Losses)
-    (closed : List WorkerId) (found : List PageResult) (losses : Losses)
-    → AllFresh gate workers 0 starts → AllRan workers allowed meaning starts ends → closed ≡ all_closed ends → found ≡ all_found ends → losses ≡ losses_with before ends → seeder.book ≡ fresh_book workers workers → AreOffered workers allowed seeder seeded seeds before → sender.book ≡ seeded.book
-    → IfOk result (λ ran. ran.account.workers ≡ workers) → IfOk result (λ ran. Accounts workers closed (sender ∷ []) ran.account.queues) → IfOk result (λ ran. ran.results.items ≡ found) → IfOk result (λ ran. ran.losses ≡ losses)
+    → AllFresh gate workers 0 starts → AllRan workers allowed meaning starts ends → seeder.book ≡ fresh_book workers workers → AreOffered workers allowed seeder seeded seeds before → sender.book ≡ seeded.book
+    → IfOk result (λ ran. ran.account.workers ≡ workers) → IfOk result (λ ran. Accounts workers (all_closed ends) (sender ∷ []) ran.account.queues) → IfOk result (λ ran. ran.results.items ≡ all_found ends) → IfOk result (λ ran. ran.losses ≡ losses_with before ends)
     → IfOk result (λ ran. IsRun workers allowed meaning seeds (entries_of ran.account) ran.results.items ran.losses)
-run_of {K} (Ok ran) gate workers allowed meaning seeds starts ends seeder seeded sender before closed found losses fresh did closed_is found_is losses_are first offered last many own results lost = record {
+run_of {K} (Ok ran) gate workers allowed meaning seeds starts ends seeder seeded sender before fresh did first offered last many own results lost = record {
   gate = gate;
   starts = starts;
   ends = all_renamed ends;
@@ -187,14 +186,14 @@ run_of {K} (Ok ran) gate workers allowed meaning seeds starts ends seeder seeded
   first = first;
   offered = offered.each;
   last = last;
-  account = subst (λ (c : List WorkerId). Accounts workers c (sender ∷ []) ran.account.queues) (closed_is ∙ same_closed ends) own;
+  account = subst (λ (c : List WorkerId). Accounts workers c (sender ∷ []) ran.account.queues) (same_closed ends) own;
   accepted = ap entries_in (take_all ran.account.workers ran.account.queues (omega (arith, own.len, many)));
-  found = results ∙ found_is ∙ same_found ends;
+  found = results ∙ same_found ends;
   lost =
-      lost ∙ losses_are ∙ ap (λ (l : Losses). losses_with l ends) offered.lost ∙ with_ends (map lost_seed offered.answers) ends
+      lost ∙ ap (λ (l : Losses). losses_with l ends) offered.lost ∙ with_ends (map lost_seed offered.answers) ends
       ∙ ap (λ (ls : List Losses). together (map lost_seed offered.answers ++ ls)) (same_lost ends);
 }
-run_of {K} (Err e) gate workers allowed meaning seeds starts ends seeder seeded sender before closed found losses fresh did closed_is found_is losses_are first offered last many own results lost = tt
+run_of {K} (Err e) gate workers allowed meaning seeds starts ends seeder seeded sender before fresh did first offered last many own results lost = tt
 
 -- ---- what is told of it
 

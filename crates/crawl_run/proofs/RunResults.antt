@@ -1,7 +1,7 @@
 -- From the ends of a run to its results, and from an account to its counts.
 use Rattle.std.proofs.Common.{◌≡◌, ◌⊎◌, inl, inr, true≢false, ℕ, ◌+◌, Bool, List, [], ◌∷◌, ◌++◌, length, slice_get, Option, Some, None, sym, ap, subst, ◌∙◌, arith, length-append}
 use Rattle.std.proofs.lemmas.Bool.{cases_lt}
-use Rattle.std.proofs.lemmas.List.Elements.{All-nil, All-append, All-head, All-tail, All-cons}
+use Rattle.std.proofs.lemmas.List.Elements.{All-nil, All-append}
 use Rattle.crawl_certificate.specs.Certificate.{ArePages, CountsOf}
 use Rattle.crawl_certificate.specs.CertFaults.{first_fault}
 use Rattle.crawl_certificate.specs.declared.error.CertError.{CertError}
@@ -17,23 +17,17 @@ use Rattle.crawl_pages.specs.declared.page.Page.{Page}
 use Rattle.crawl_pages.specs.declared.page.PageResult.{PageResult}
 use Rattle.crawl_workers.specs.Runs.{AllRan}
 use Rattle.crawl_workers.specs.declared.worker_end.WorkerEnd.{WorkerEnd}
-use Rattle.crawl_run.specs.Crawls.{AllPages, AreCounts, ComesIn, CountedBelow, IsJudged, IsJudgedAt, IsOfRun, IsUncertified, of_cert}
+use Rattle.crawl_run.specs.Crawls.{AreCounts, ComesIn, CountedBelow, IsJudged, IsJudgedAt, IsOfRun, IsUncertified, of_cert}
+use Rattle.crawl_run.specs.LosslessRuns.{all_found}
 use Rattle.crawl_run.specs.declared.settings.Mode.{Mode}
 use Rattle.crawl_run.specs.declared.error.CrawlError.{CrawlError}
 use Rattle.crawl_run.specs.declared.error.CrawlError.TheVariants as wrong
 
-pub all_pages : {K : _} (workers : ℕ) (allowed : List ℕ → Bool) (meaning : List ℕ → Page) (starts : List WorkerId) (ends : List (WorkerEnd K)) → AllRan workers allowed meaning starts ends → AllPages meaning ends
-all_pages {K} workers allowed meaning [] [] ran = All-nil (λ (e : WorkerEnd K). ArePages meaning e.results.items)
-all_pages {K} workers allowed meaning (s ∷ ss) (e ∷ es) ran = All-cons (λ (x : WorkerEnd K). ArePages meaning x.results.items) e es ran.0.0.pages (all_pages workers allowed meaning ss es ran.1)
+-- every result of every worker has the page that its URL means
+pub all_pages : {K : _} (workers : ℕ) (allowed : List ℕ → Bool) (meaning : List ℕ → Page) (starts : List WorkerId) (ends : List (WorkerEnd K)) → AllRan workers allowed meaning starts ends → ArePages meaning (all_found ends)
+all_pages {K} workers allowed meaning [] [] ran = All-nil (λ (r : PageResult). r.page ≡ meaning r.url)
+all_pages {K} workers allowed meaning (s ∷ ss) (e ∷ es) ran = All-append (λ (r : PageResult). r.page ≡ meaning r.url) e.results.items (all_found es) ran.0.0.pages (all_pages workers allowed meaning ss es ran.1)
 all_pages {K} workers allowed meaning starts ends ran = absurd ran
-
--- one worker's results go to the others'
-pub pages_on : {K : _} (meaning : List ℕ → Page) (e : WorkerEnd K) (rest all : List (WorkerEnd K)) (results : List PageResult) → all ≡ e ∷ rest → AllPages meaning all → ArePages meaning results → AllPages meaning rest × ArePages meaning (results ++ e.results.items)
-pages_on {K} meaning e rest all results is pages are =
-    let each : AllPages meaning (e ∷ rest) = subst (AllPages meaning) is pages in (
-      All-tail (λ (x : WorkerEnd K). ArePages meaning x.results.items) e rest each,
-      All-append (λ (r : PageResult). r.page ≡ meaning r.url) results e.results.items are (All-head (λ (x : WorkerEnd K). ArePages meaning x.results.items) e rest each),
-    )
 
 -- ---- counts
 

@@ -1,6 +1,5 @@
 -- What a crawl returns in addition to its pages.
 use Rattle.std.specs.Prelude.{◌≡◌, ℕ, ◌<◌, ◌==◌, Bool, true, false, List, length, count_by, slice_get, Option, Some, None}
-use Rattle.std.specs.List.{All}
 use Rattle.crawl_certificate.specs.Certificate.{ArePages}
 use Rattle.crawl_certificate.specs.CertFaults.{first_fault}
 use Rattle.crawl_certificate.specs.declared.error.CertError.{CertError}
@@ -22,7 +21,6 @@ use Rattle.link_offers.specs.Losses.{no_losses}
 use Rattle.crawl_workers.specs.declared.error.RunError.{RunError}
 use Rattle.crawl_workers.specs.declared.error.RunError.TheVariants as run
 use Rattle.link_offers.specs.declared.losses.Losses.{Losses}
-use Rattle.crawl_workers.specs.declared.worker_end.WorkerEnd.{WorkerEnd}
 use Rattle.crawl_run.specs.declared.settings.Mode.{Mode}
 use Rattle.crawl_run.specs.declared.settings.Mode.TheVariants.{Threads}
 use Rattle.crawl_run.specs.declared.error.CrawlError.{CrawlError}
@@ -38,10 +36,6 @@ pub record AreCounts (workers : ℕ) (urls : List (List ℕ)) (counts : List ℕ
 pub record CountedBelow (some : ℕ) (account : AccountId) (counts : List ℕ) : Type 0 where
   pub len : length counts ≡ some
   pub each : (queue : ℕ) → queue < some → (entries : List Entry) × ((slice_get account.queues queue ≡ Some entries) × (slice_get counts queue ≡ Some (length entries)))
-
--- every result of every worker has the page that its URL means
-abbrev pub AllPages : {K : _} → (List ℕ → Page) → List (WorkerEnd K) → Type 0
-AllPages meaning ends = All (λ (e : WorkerEnd _). ArePages meaning e.results.items) ends
 
 -- the error of a crawl that another error leads to: out of memory is one error, wherever it occurs
 abbrev pub of_frontier : FrontierError → CrawlError

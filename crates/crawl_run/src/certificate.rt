@@ -12,10 +12,9 @@ ghost use Rattle.crawl_run.specs.declared.settings.Mode.{Mode};
 
 use crate::failure::CrawlFailure;
 use crate::run_output::{RunOutput, counts_of};
-use crate::settings::{CrawlSettings, Mode};
+use crate::settings::CrawlSettings;
 use crate::whole_crawl::Crawled;
 use crawl_certificate::{CertifySettings, certify_with};
-use crawl_frontier::Account;
 use crawl_keys::CanonUrl;
 use std::alloc::Global;
 use std::thread::Threads;
@@ -46,7 +45,7 @@ pub fn crawled_of<R: Threads + Sync>(
         losses,
     } = ran;
     let how = CertifySettings {
-        threads: threads_of(settings, &account),
+        threads: threads_of(settings),
         is_lossless: losses.is_none(),
     };
     match certify_with(rt, how, settings.filter, seeds, &account, results) {
@@ -63,10 +62,6 @@ pub fn crawled_of<R: Threads + Sync>(
 }
 
 /// Returns how many threads share the certificate. If no worker had a thread, none is started for it.
-fn threads_of(settings: &CrawlSettings<'_>, account: &Account) -> usize {
-    if matches!(settings.mode, Mode::Threads) && account.workers() > 1 {
-        THREADS
-    } else {
-        1
-    }
+fn threads_of(settings: &CrawlSettings<'_>) -> usize {
+    if settings.has_threads() { THREADS } else { 1 }
 }

@@ -6,7 +6,7 @@ ghost use Rattle.crawl_run.specs.declared.error.CrawlError.TheVariants as wrong;
 use crate::error::CrawlError;
 use crawl_certificate::Culprit;
 use crawl_keys::CanonUrl;
-use crawl_workers::Losses;
+use link_offers::Losses;
 use std::alloc::AllocError;
 
 /// Why a crawl has no certified result, and at which URL.

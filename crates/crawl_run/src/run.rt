@@ -1,5 +1,5 @@
 //! A crawl on a frontier that has a name (a brand in its type).
-ghost use Rattle.std.specs.Prelude.{◌≡◌, ◌⊎◌, ◌≤◌, true, false, ℕ, List, [], ◌∷◌, ◌++◌, IfOk, IfErr, vec_len};
+ghost use Rattle.std.specs.Prelude.{◌≡◌, ◌⊎◌, ◌≤◌, true, false, ℕ, List, [], ◌∷◌, ◌++◌, IfOk, IfErr};
 ghost use Rattle.crawl_certificate.specs.AccountEntries.{entries_of};
 ghost use Rattle.crawl_certificate.specs.Certificate.{ArePages, IsCrawl, NothingLost, result_urls};
 ghost use Rattle.crawl_frontier.specs.Parts.{SeederId};
@@ -16,13 +16,14 @@ ghost use Rattle.crawl_run.specs.declared.settings.Mode.TheVariants as modes;
 use crate::certificate::crawled_of;
 use crate::error::CrawlError;
 use crate::failure::CrawlFailure;
-use crate::run_output::{RunOutput, gather_ends, output_of};
-use crate::settings::{CrawlSettings, Mode};
+use crate::run_output::{RunOutput, output_of};
+use crate::settings::CrawlSettings;
 use crate::whole_crawl::Crawled;
 use crawl_frontier::{Frontier, Name, Seeder, Setup, Worker};
 use crawl_keys::CanonUrl;
 use crawl_pages::SessionFetch;
-use crawl_workers::{Losses, RunError, WorkerEnd, run_threads, run_turns};
+use crawl_workers::{RunError, WorkerEnd, run_threads, run_turns};
+use link_offers::Losses;
 use std::alloc::Global;
 use std::sync::Wait;
 use std::thread::Threads;
@@ -77,9 +78,8 @@ fn run_from<K: Name + Send + Sync, F: SessionFetch + Sync, R: Threads + Wait + S
     // A seed that was refused may still be found by a link, and the certificate looks for it.
     let refused = offer_seeds(rt, &frontier, &mut seeder, seeds);
     let sender = seeder.end(&frontier);
-    let ends = run(rt, alloc, &frontier, workers, fetcher, settings.mode)?;
-    let left = gather_ends(alloc, ends, refused)?;
-    output_of(alloc, frontier, left, sender)
+    let ends = run(rt, alloc, &frontier, workers, fetcher, settings)?;
+    output_of(alloc, frontier, ends, sender, refused)
 }
 
 /// Offers the seeds in order, and returns the losses by cause.
@@ -119,21 +119,22 @@ fn offer_seed<K: Name, R: Wait>(
     }
 }
 
-/// Runs all workers to their ends. A single worker runs on the calling thread in either mode.
+/// Runs all workers to their ends.
 fn run<K: Name + Send + Sync, F: SessionFetch + Sync, R: Threads + Wait + Sync>(
     rt: &R,
     alloc: Global,
     frontier: &Frontier<K>,
     workers: Vec<Worker<K>>,
     fetcher: &F,
-    mode: Mode,
+    settings: &CrawlSettings<'_>,
 ) -> Result<Vec<WorkerEnd<K>>, RunError>
     ensures ran { IfOk result (λ ends. AllRan K.workers (allows K.filter) (F.meaning fetcher.now) workers.items ends.items) }
-    ensures mode { IfErr result (λ error. (error ≡ unrun.NoMemory) ⊎ (mode ≡ modes.Threads)) }
-    ensures alone { vec_len workers ≤ 1 → IfErr result (λ error. error ≡ unrun.NoMemory) }
+    ensures mode { IfErr result (λ error. (error ≡ unrun.NoMemory) ⊎ (settings.now.mode ≡ modes.Threads)) }
+    ensures alone { settings.now.workers ≤ 1 → IfErr result (λ error. error ≡ unrun.NoMemory) }
 {
-    match mode {
-        Mode::Threads if workers.len() > 1 => run_threads(rt, alloc, frontier, workers, fetcher),
-        _ => run_turns(rt, alloc, frontier, workers, fetcher),
+    if settings.has_threads() {
+        run_threads(rt, alloc, frontier, workers, fetcher)
+    } else {
+        run_turns(rt, alloc, frontier, workers, fetcher)
     }
 }

@@ -1,4 +1,6 @@
 //! How a crawl runs.
+ghost use Rattle.std.specs.Prelude.{◌≡◌, ◌<◌, ◌↔◌, IsTrue};
+ghost use Rattle.crawl_run.specs.declared.settings.Mode.TheVariants as modes;
 
 use crawl_keys::Filter;
 
@@ -35,4 +37,13 @@ pub struct CrawlSettings<'f> {
     pub mode: Mode,
     /// Which hosts are crawled.
     pub filter: &'f Filter,
+}
+
+impl<'f> CrawlSettings<'f> {
+    /// Whether each worker runs in its own thread. If so, threads also do the other work of the crawl.
+    pub fn has_threads(&self) -> bool
+        ensures { IsTrue result ↔ ((1 < self.now.workers) × (self.now.mode ≡ modes.Threads)) }
+    {
+        self.workers > 1 && matches!(self.mode, Mode::Threads)
+    }
 }

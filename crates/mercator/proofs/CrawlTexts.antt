@@ -1,5 +1,5 @@
 -- The text of what a crawl found, by the report that was printed.
-use Rattle.std.proofs.Common.{◌≡◌, ℕ, Bool, List, [], Result, Ok, Err, Vec, Global, Bor, IfOk, sym, subst, ◌∙◌, if◌then◌else◌}
+use Rattle.std.proofs.Common.{◌≡◌, ℕ, Bool, List, [], Result, Ok, Err, Vec, Global, Bor, IfOk, sym, ap, subst, ◌∙◌, if◌then◌else◌}
 use Rattle.std.specs.Cmp.Lexicographic.{slice_cmp}
 use Rattle.std.specs.List.{flat_map}
 use Rattle.std.specs.List.Sorted.{IsPermutation, IsSortedByKey}
@@ -12,12 +12,12 @@ use Rattle.crawl_sources.specs.Tallies.{pointed}
 use Rattle.crawl_report.specs.Unreached.{unreached_of}
 use Rattle.crawl_pages.specs.declared.page.PageResult.{PageResult}
 use Rattle.mercator.specs.WebCrawl.{AreUnreached, IsTextOf}
-use Rattle.mercator.specs.declared.commands.planned.CrawlOptions.{CrawlOptions}
+use Rattle.mercator.specs.declared.commands.planned.CrawlPlan.{CrawlPlan}
 
-pub unreached_told : (asked suffixes : List (List ℕ)) (pages given : List PageResult) (urls : List (List ℕ)) (found shown : List (Bor (List ℕ))) → given ≡ pages → urls ≡ asked → shown ≡ found
-    → IsPermutation (unreached_of (allows suffixes) given urls) (pointed found) → IsSortedByKey (λ url. url) (slice_cmp nat_cmp) (pointed found) → AreUnreached asked suffixes pages (pointed shown)
-unreached_told asked suffixes pages given urls found shown same_pages same_urls same_shown moved ascends =
-    let both : unreached_of (allows suffixes) given urls ≡ unreached_of (allows suffixes) pages asked = λ i. unreached_of (allows suffixes) (same_pages i) (same_urls i) in
+pub unreached_told : (urls suffixes : List (List ℕ)) (pages given : List PageResult) (found shown : List (Bor (List ℕ))) → given ≡ pages → shown ≡ found
+    → IsPermutation (unreached_of (allows suffixes) given urls) (pointed found) → IsSortedByKey (λ url. url) (slice_cmp nat_cmp) (pointed found) → AreUnreached urls suffixes pages (pointed shown)
+unreached_told urls suffixes pages given found shown same_pages same_shown moved ascends =
+    let both : unreached_of (allows suffixes) given urls ≡ unreached_of (allows suffixes) pages urls = ap (λ of. unreached_of (allows suffixes) of urls) same_pages in
     record {
       same =
           subst (λ us. IsPermutation us (pointed shown)) both
@@ -25,11 +25,11 @@ unreached_told asked suffixes pages given urls found shown same_pages same_urls 
       ascends = subst (λ xs. IsSortedByKey (λ url. url) (slice_cmp nat_cmp) (pointed xs)) (sym same_shown) ascends;
     }
 
-pub text_told : {E : Type 0} (result : Result (Vec (Vec ℕ Global) Global) E) (queues : Bool) (options : CrawlOptions) (asked suffixes : List (List ℕ)) (pages given : List PageResult) (counts shown : List ℕ) (urls : List (List ℕ)) → given ≡ pages → shown ≡ (if queues then counts else [])
-    → AreUnreached asked suffixes pages urls → IfOk result (λ parts. joined parts.items ≡ flat_map (printed_line options.json) (rows_with options.parts given shown urls)) → IfOk result (λ parts. IsTextOf queues options asked suffixes pages counts (joined parts.items))
-text_told (Ok parts) queues options asked suffixes pages given counts shown urls same_pages same_counts unseen printed = record {
+pub text_told : {E : Type 0} (result : Result (Vec (Vec ℕ Global) Global) E) (plan : CrawlPlan) (known suffixes : List (List ℕ)) (pages given : List PageResult) (counts shown : List ℕ) (urls : List (List ℕ)) → given ≡ pages → shown ≡ (if plan.queues then counts else [])
+    → AreUnreached known suffixes pages urls → IfOk result (λ parts. joined parts.items ≡ flat_map (printed_line plan.json) (rows_with plan.parts given shown urls)) → IfOk result (λ parts. IsTextOf plan known suffixes pages counts (joined parts.items))
+text_told (Ok parts) plan known suffixes pages given counts shown urls same_pages same_counts unseen printed = record {
   unreached = urls;
   unseen = unseen;
-  written = printed ∙ (λ i. flat_map (printed_line options.json) (rows_with options.parts (same_pages i) (same_counts i) urls));
+  written = printed ∙ (λ i. flat_map (printed_line plan.json) (rows_with plan.parts (same_pages i) (same_counts i) urls));
 }
-text_told (Err e) queues options asked suffixes pages given counts shown urls same_pages same_counts unseen printed = tt
+text_told (Err e) plan known suffixes pages given counts shown urls same_pages same_counts unseen printed = tt

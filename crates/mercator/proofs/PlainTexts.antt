@@ -19,7 +19,7 @@ use Rattle.saved_web.specs.SavedWeb.{page_urls}
 use Rattle.crawl_report.specs.declared.report.Parts.{Parts}
 use Rattle.crawl_pages.specs.declared.page.PageResult.{PageResult}
 use Rattle.mercator.specs.WebCrawl.{AreUnreached, asked_pages, IsCrawlText, IsPlain, IsPlainText, printed_with}
-use Rattle.mercator.specs.declared.commands.planned.CrawlOptions.{CrawlOptions}
+use Rattle.mercator.specs.declared.commands.planned.CrawlPlan.{CrawlPlan}
 
 -- results that ascend are in order
 in_order : (pages : List PageResult) → IsAscending (result_urls pages) → IsSortedByKey (λ r. r.url) (slice_cmp nat_cmp) pages
@@ -41,19 +41,19 @@ none_asked : (parts : Parts) (bytes : List ℕ) (suffixes : List (List ℕ)) (pa
 none_asked parts bytes suffixes pages urls none unseen =
     none_left urls (length_permutation [] urls (subst (λ a. IsPermutation (unreached_of (allows suffixes) pages (if a then page_urls (lines bytes) else [])) urls) none unseen.same))
 
-plain_print : (with_queues with_sources : Bool) (options : CrawlOptions) (pages : List PageResult) (counts : List ℕ) (urls : List (List ℕ)) → IsPlain with_sources options → urls ≡ [] → printed_with with_queues options pages counts urls ≡ text_with with_queues with_sources pages counts
-plain_print with_queues with_sources options pages counts urls plain none =
-    λ i. flat_map (printed_line (plain.json i)) (rows_with (plain.parts i) pages (if with_queues then counts else []) (none i))
+plain_print : (with_sources : Bool) (plan : CrawlPlan) (pages : List PageResult) (counts : List ℕ) (urls : List (List ℕ)) → IsPlain with_sources plan → urls ≡ [] → printed_with plan pages counts urls ≡ text_with plan.queues with_sources pages counts
+plain_print with_sources plan pages counts urls plain none =
+    λ i. flat_map (printed_line (plain.json i)) (rows_with (plain.parts i) pages (if plan.queues then counts else []) (none i))
 
-pub plain_text : (workers : ℕ) (with_queues with_sources : Bool) (options : CrawlOptions) (bytes listed : List ℕ) (seeds suffixes : List (List ℕ)) (text : List ℕ) → IsPlain with_sources options → IsCrawlText workers with_queues options bytes listed seeds suffixes text
-    → IsPlainText workers with_queues with_sources bytes listed seeds suffixes text
-plain_text workers with_queues with_sources options bytes listed seeds suffixes text plain own = record {
+pub plain_text : (workers : ℕ) (with_sources : Bool) (plan : CrawlPlan) (bytes listed : List ℕ) (seeds suffixes : List (List ℕ)) (text : List ℕ) → IsPlain with_sources plan → IsCrawlText workers plan bytes listed seeds suffixes text
+    → IsPlainText workers plan.queues with_sources bytes listed seeds suffixes text
+plain_text workers with_sources plan bytes listed seeds suffixes text plain own = record {
   pages = own.pages;
   crawl = own.crawl;
   counts = own.counts;
   counted = own.counted;
   written =
       own.told.written
-      ∙ plain_print with_queues with_sources options own.pages own.counts own.told.unreached plain (none_asked options.parts bytes suffixes own.pages own.told.unreached (ap (λ (p : Parts). p.unreached) plain.parts) own.told.unseen)
-      ∙ text_same with_queues with_sources own.pages own.counts (in_order own.pages own.crawl.found.ascends);
+      ∙ plain_print with_sources plan own.pages own.counts own.told.unreached plain (none_asked plan.parts bytes suffixes own.pages own.told.unreached (ap (λ (p : Parts). p.unreached) plain.parts) own.told.unseen)
+      ∙ text_same plan.queues with_sources own.pages own.counts (in_order own.pages own.crawl.found.ascends);
 }

@@ -44,8 +44,8 @@ IsSessionPlan asked = AreLimits asked.workers asked.max × ((queues_of asked ≤
 -- its numbers are within the limits of a frontier; a crawl has a seed or a file of seeds, and not both of its files are the
 -- standard input
 abbrev pub IsWithinLimits : Plan → Type 0
-IsWithinLimits (asks.Crawl workers max queues file seeds within options) =
-    AreLimits workers max × (IsSome options.listed ⊎ (1 ≤ length seeds.items)) × ((is_input (string_bytes file) && lists_input options.listed) ≡ false)
+IsWithinLimits (asks.Crawl crawl) =
+    AreLimits crawl.workers crawl.max × (IsSome crawl.listed ⊎ (1 ≤ length crawl.seeds.items)) × ((is_input (string_bytes crawl.file) && lists_input crawl.listed) ≡ false)
 IsWithinLimits (asks.Site options) = Unit {0}
 IsWithinLimits (asks.Check options ignores) = (1 ≤ options.workers) × (options.workers ≤ worker_limit)
 IsWithinLimits (asks.Key url workers) = (1 ≤ workers) × (workers ≤ worker_limit)
@@ -79,7 +79,7 @@ known_ignores (Some file) = None
 
 -- the FILE of a plan; a key and a compaction have none, and a session reads the standard input
 abbrev pub file_of : Plan → List ℕ
-file_of (asks.Crawl workers max queues file seeds within options) = string_bytes file
+file_of (asks.Crawl crawl) = string_bytes crawl.file
 file_of (asks.Site options) = string_bytes options.folder
 file_of (asks.Check options ignores) = string_bytes options.site.folder
 file_of (asks.Key url workers) = []
@@ -96,7 +96,7 @@ listed_or (Some listed) file = string_bytes listed
 -- the file that an error of a plan is about: the file of seeds or the ignore list if that cannot be read, the log if that cannot be
 -- used, else FILE
 abbrev pub told_file : Plan → Fault → List ℕ
-told_file (asks.Crawl workers max queues file seeds within options) fault.CannotReadSeeds = listed_or options.listed (string_bytes file)
+told_file (asks.Crawl crawl) fault.CannotReadSeeds = listed_or crawl.listed (string_bytes crawl.file)
 told_file (asks.Check options ignores) fault.CannotReadIgnores = listed_or ignores (string_bytes options.site.folder)
 told_file (asks.ServeLog asked) (fault.Log why) = string_bytes asked.file
 told_file (asks.Compact log new) (fault.Log why) = string_bytes log.file
@@ -114,7 +114,7 @@ is_bad_suffix (Some suffix) = not (is_good (string_bytes suffix))
 
 -- the command reads the standard input: it is a session, or one of its files is the standard input; and the suffix is not bad
 abbrev pub reads_input : Plan → Bool
-reads_input (asks.Crawl workers max queues file seeds within options) = not (is_bad_suffix within) && (is_input (string_bytes file) || lists_input options.listed)
+reads_input (asks.Crawl crawl) = not (is_bad_suffix crawl.within) && (is_input (string_bytes crawl.file) || lists_input crawl.listed)
 reads_input (asks.Site options) = false
 reads_input (asks.Check options ignores) = false
 reads_input (asks.Key url workers) = false
@@ -122,16 +122,6 @@ reads_input (asks.Replay file) = is_input (string_bytes file)
 reads_input (asks.Serve asked) = not (is_bad_suffix asked.within)
 reads_input (asks.ServeLog asked) = not (is_bad_suffix asked.session.within)
 reads_input (asks.Compact log new) = false
-
--- the command prints only its output, which it computes before any of it is written; a session answers while it reads, a compaction
--- has no output, and the commands for a folder also print notices
-abbrev pub IsTelling : Plan → Type 0
-IsTelling (asks.Serve asked) = ⊥
-IsTelling (asks.ServeLog asked) = ⊥
-IsTelling (asks.Compact log new) = ⊥
-IsTelling (asks.Site options) = ⊥
-IsTelling (asks.Check options ignores) = ⊥
-IsTelling plan = Unit {0}
 
 -- the command may print notices if it succeeds: a session with a log, or a command for a folder
 abbrev pub has_notices : Plan → Bool
@@ -142,5 +132,5 @@ has_notices plan = false
 
 -- the command reports the first affected URL of an incomplete crawl
 abbrev pub explains : Plan → Bool
-explains (asks.Crawl workers max queues file seeds within options) = options.explain
+explains (asks.Crawl crawl) = crawl.explain
 explains plan = false

@@ -23,7 +23,7 @@ use Rattle.mercator_site.specs.declared.options.CheckOptions.{CheckOptions}
 use Rattle.saved_site.specs.Below.{IsWebAt}
 use Rattle.saved_site.specs.Meaning.{IsSiteWeb}
 use Rattle.mercator.specs.WebCrawl.{IsBegun, IsCrawlText, IsUnbegun}
-use Rattle.mercator.specs.declared.commands.planned.CrawlOptions.{CrawlOptions}
+use Rattle.mercator.specs.declared.commands.planned.CrawlPlan.{CrawlPlan}
 use Rattle.mercator.specs.declared.commands.planned.Plan.{Plan}
 use Rattle.mercator.specs.declared.commands.planned.SessionPlan.{SessionPlan}
 use Rattle.mercator.specs.declared.commands.planned.Plan.TheVariants as asks
@@ -41,14 +41,14 @@ pub record OfFile (known : Option (List ℕ)) (P : List ℕ → Type 0) : Type 0
   pub holds : P bytes
 
 -- P holds for some bytes that the two files of a crawl can have: those of the saved web, and those of the file of seeds
-abbrev pub OfFiles : List ℕ → Option (String Global) → Option (List ℕ) → (List ℕ → List ℕ → Type 0) → Type 0
-OfFiles file listed input P = OfFile (known_bytes file input) (λ bytes. OfFile (known_seeds listed input) (λ seeds. P bytes seeds))
+abbrev pub OfFiles : CrawlPlan → Option (List ℕ) → (List ℕ → List ℕ → Type 0) → Type 0
+OfFiles crawl input P = OfFile (known_bytes (string_bytes crawl.file) input) (λ bytes. OfFile (known_seeds crawl.listed input) (λ seeds. P bytes seeds))
 
 -- these can be the bytes of the two files
-pub record AreFiles (file : List ℕ) (listed : Option (String Global)) (input : Option (List ℕ)) (bytes seeds : List ℕ) : Type 0 where
-  pub read : IfSome (known_bytes file input) (λ known. bytes ≡ known)
+pub record AreFiles (crawl : CrawlPlan) (input : Option (List ℕ)) (bytes seeds : List ℕ) : Type 0 where
+  pub read : IfSome (known_bytes (string_bytes crawl.file) input) (λ known. bytes ≡ known)
   pub few : length bytes ≤ most_input_bytes
-  pub read_seeds : IfSome (known_seeds listed input) (λ known. seeds ≡ known)
+  pub read_seeds : IfSome (known_seeds crawl.listed input) (λ known. seeds ≡ known)
   pub few_seeds : length seeds ≤ most_input_bytes
 
 -- the part with this many queues whose log has this identity
@@ -85,9 +85,9 @@ IsChecked options ignores broken text = OfFile (known_ignores ignores) (λ list.
 
 -- the text is the output of the plan; for a check, of one that found nothing broken
 abbrev pub IsTold : Plan → Option (List ℕ) → List ℕ → Type 0
-IsTold (asks.Crawl workers max queues file seeds within options) input text =
-    (is_bad_suffix within ≡ false)
-    × OfFiles (string_bytes file) options.listed input (λ bytes list. IsBegun bytes list (map string_bytes seeds.items) × IsCrawlText workers queues options bytes list (map string_bytes seeds.items) (suffixes_of within) text)
+IsTold (asks.Crawl crawl) input text =
+    (is_bad_suffix crawl.within ≡ false)
+    × OfFiles crawl input (λ bytes list. IsBegun bytes list (map string_bytes crawl.seeds.items) × IsCrawlText crawl.workers crawl bytes list (map string_bytes crawl.seeds.items) (suffixes_of crawl.within) text)
 IsTold (asks.Site options) input text = IsSiteWeb text × IsWebAt (string_bytes options.base) text
 IsTold (asks.Check options ignores) input text = IsChecked options ignores false text
 IsTold (asks.Key url workers) input text = IsKeyLine (string_bytes url) workers text
@@ -110,13 +110,13 @@ FailsReplay file input _ = ⊥
 
 -- why a crawl fails, in this order: the suffix is bad; the FILE cannot be read; the file of seeds cannot be read; the saved web or
 -- a seed is refused, there is no seed, or the crawl is incomplete. Memory may run out at any time
-abbrev pub FailsCrawl : ℕ → ℕ → Option (String Global) → List ℕ → Option (String Global) → List (List ℕ) → Option (List ℕ) → Fault → Type 0
-FailsCrawl workers max within file listed seeds input wrong.BadSuffix = is_bad_suffix within ≡ true
-FailsCrawl workers max within file listed seeds input wrong.CannotRead = is_bad_suffix within ≡ false
-FailsCrawl workers max within file listed seeds input wrong.CannotReadSeeds = (is_bad_suffix within ≡ false) × IsSome listed
-FailsCrawl workers max within file listed seeds input wrong.NoMemory = Unit {0}
-FailsCrawl workers max within file listed seeds input fault =
-    (is_bad_suffix within ≡ false) × OfFiles file listed input (λ bytes list. IsUnbegun workers max bytes list seeds (suffixes_of within) fault)
+abbrev pub FailsCrawl : CrawlPlan → Option (List ℕ) → Fault → Type 0
+FailsCrawl crawl input wrong.BadSuffix = is_bad_suffix crawl.within ≡ true
+FailsCrawl crawl input wrong.CannotRead = is_bad_suffix crawl.within ≡ false
+FailsCrawl crawl input wrong.CannotReadSeeds = (is_bad_suffix crawl.within ≡ false) × IsSome crawl.listed
+FailsCrawl crawl input wrong.NoMemory = Unit {0}
+FailsCrawl crawl input fault =
+    (is_bad_suffix crawl.within ≡ false) × OfFiles crawl input (λ bytes list. IsUnbegun crawl.workers crawl.max bytes list (map string_bytes crawl.seeds.items) (suffixes_of crawl.within) fault)
 
 -- why a key is not printed: the text has no canonical URL, with this error; or memory runs out
 abbrev pub FailsKey : List ℕ → Fault → Type 0
@@ -154,7 +154,7 @@ BreaksOff plan fault = ⊥
 
 -- the plan's command fails with this error before it writes
 abbrev pub Fails : Plan → Option (List ℕ) → Fault → Type 0
-Fails (asks.Crawl workers max queues file seeds within options) input fault = FailsCrawl workers max within (string_bytes file) options.listed (map string_bytes seeds.items) input fault
+Fails (asks.Crawl crawl) input fault = FailsCrawl crawl input fault
 Fails (asks.Site options) input fault = status_of_fault fault ≡ 1
 Fails (asks.Check options ignores) input fault = status_of_fault fault ≡ 2 → IsSiteIncomplete options
 Fails (asks.Key url workers) input fault = FailsKey (string_bytes url) fault
@@ -166,8 +166,7 @@ Fails (asks.Compact log new) input fault = FailsLog log.session.within fault
 -- the command cannot have an output: the suffix is bad; the FILE is known and no script; the URL has no canonical URL; or, for all
 -- bytes that the files of a crawl can have, there is no saved web, a seed has no canonical URL, or there is no seed
 abbrev pub CannotTell : Plan → Option (List ℕ) → Type 0
-CannotTell (asks.Crawl workers max queues file seeds within options) input =
-    (is_bad_suffix within ≡ true) ⊎ (OfFiles (string_bytes file) options.listed input (λ bytes list. IsBegun bytes list (map string_bytes seeds.items)) → ⊥)
+CannotTell (asks.Crawl crawl) input = (is_bad_suffix crawl.within ≡ true) ⊎ (OfFiles crawl input (λ bytes list. IsBegun bytes list (map string_bytes crawl.seeds.items)) → ⊥)
 CannotTell (asks.Site options) input = ⊥
 CannotTell (asks.Check options ignores) input = ⊥
 CannotTell (asks.Key url workers) input = IsErr (canonical (string_bytes url))
@@ -178,8 +177,7 @@ CannotTell (asks.Compact log new) input = is_bad_suffix log.session.within ≡ t
 
 -- only a crawl can be incomplete: one of a saved web, from at least one seed, whose seeds have canonical URLs; or that of a check
 abbrev pub MayLose : Plan → Option (List ℕ) → Type 0
-MayLose (asks.Crawl workers max queues file seeds within options) input =
-    (is_bad_suffix within ≡ false) × OfFiles (string_bytes file) options.listed input (λ bytes list. IsBegun bytes list (map string_bytes seeds.items))
+MayLose (asks.Crawl crawl) input = (is_bad_suffix crawl.within ≡ false) × OfFiles crawl input (λ bytes list. IsBegun bytes list (map string_bytes crawl.seeds.items))
 MayLose (asks.Check options ignores) input = IsSiteIncomplete options
 MayLose _ input = ⊥
 
@@ -231,17 +229,17 @@ pub record EndsByFault (plan : Plan) (ended : ℕ) (input err_old err_new : Opti
   pub why : EndsBy plan input fault Unwritten
 
 -- both crawls print the same sections, in the same form
-pub record AskForOneReport (options others : CrawlOptions) : Type 0 where
-  pub parts : options.parts ≡ others.parts
-  pub json : options.json ≡ others.json
+pub record AskForOneReport (crawl other : CrawlPlan) : Type 0 where
+  pub parts : crawl.parts ≡ other.parts
+  pub json : crawl.json ≡ other.json
 
 -- both plans crawl the standard input, from the same seeds of the command line and within the same suffix, and print the same
 -- sections. If they print the counts of queues, they have the same number of workers
 abbrev pub AskForOneText : Plan → Plan → Type 0
-AskForOneText (asks.Crawl workers max queues file seeds within options) (asks.Crawl others other_max other_queues other_file other_seeds other_within other_options) =
-    (is_input (string_bytes file) ≡ true) × (is_input (string_bytes other_file) ≡ true) × (options.listed ≡ None) × (other_options.listed ≡ None)
-    × (map string_bytes seeds.items ≡ map string_bytes other_seeds.items) × (suffixes_of within ≡ suffixes_of other_within)
-    × AskForOneReport options other_options × (queues ≡ other_queues) × (queues ≡ true → workers ≡ others)
+AskForOneText (asks.Crawl crawl) (asks.Crawl other) =
+    (is_input (string_bytes crawl.file) ≡ true) × (is_input (string_bytes other.file) ≡ true) × (crawl.listed ≡ None) × (other.listed ≡ None)
+    × (map string_bytes crawl.seeds.items ≡ map string_bytes other.seeds.items) × (suffixes_of crawl.within ≡ suffixes_of other.within)
+    × AskForOneReport crawl other × (crawl.queues ≡ other.queues) × (crawl.queues ≡ true → crawl.workers ≡ other.workers)
 AskForOneText _ _ = ⊥
 
 -- what is wrong with arguments is reported: the writer for errors gained a beginning of the text, which cannot control a terminal

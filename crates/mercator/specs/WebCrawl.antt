@@ -18,7 +18,7 @@ use Rattle.crawl_keys.specs.declared.error.KeyError.{KeyError}
 use Rattle.saved_web.specs.WebFaults.{IsSound, IsWebFault}
 use Rattle.mercator.specs.declared.commands.fault.Fault.{Fault}
 use Rattle.mercator.specs.declared.commands.fault.Fault.TheVariants as wrong
-use Rattle.mercator.specs.declared.commands.planned.CrawlOptions.{CrawlOptions}
+use Rattle.mercator.specs.declared.commands.planned.CrawlPlan.{CrawlPlan}
 use Rattle.crawl_certificate.specs.Certificate.{IsCrawl, result_urls}
 use Rattle.crawl_keys.specs.HostFilter.{allows}
 use Rattle.crawl_run.specs.Crawls.{AreCounts, ComesIn, CrawlFails, IsJudgedAt}
@@ -126,31 +126,31 @@ pub record IsCrawlReport (bytes : List ℕ) (texts suffixes : List (List ℕ)) (
 abbrev pub asked_pages : Parts → List (List ℕ) → List (List ℕ)
 asked_pages parts lines = if parts.unreached then page_urls lines else []
 
--- these are the target pages that no result has, of hosts that the filter with these suffixes allows, in ascending order
-pub record AreUnreached (asked suffixes : List (List ℕ)) (pages : List PageResult) (urls : List (List ℕ)) : Type 0 where
-  pub same : IsPermutation (unreached_of (allows suffixes) pages asked) urls
+-- of these URLs, those that no result has, of hosts that the filter with these suffixes allows, in ascending order
+pub record AreUnreached (known suffixes : List (List ℕ)) (pages : List PageResult) (urls : List (List ℕ)) : Type 0 where
+  pub same : IsPermutation (unreached_of (allows suffixes) pages known) urls
   pub ascends : IsSortedByKey (λ url. url) (slice_cmp nat_cmp) urls
 
--- the text of pages, counts and unreached pages, with the sections that are requested
-abbrev pub printed_with : Bool → CrawlOptions → List PageResult → List ℕ → List (List ℕ) → List ℕ
-printed_with with_queues options pages counts unreached =
-    flat_map (printed_line options.json) (rows_with options.parts pages (if with_queues then counts else []) unreached)
+-- the text of pages, counts and unreached pages, with the sections that the plan asks for
+abbrev pub printed_with : CrawlPlan → List PageResult → List ℕ → List (List ℕ) → List ℕ
+printed_with plan pages counts unreached =
+    flat_map (printed_line plan.json) (rows_with plan.parts pages (if plan.queues then counts else []) unreached)
 
--- the text is that of pages and counts of a crawl; among these URLs are the pages that no result has
-pub record IsTextOf (with_queues : Bool) (options : CrawlOptions) (asked suffixes : List (List ℕ)) (pages : List PageResult) (counts text : List ℕ) : Type 0 where
+-- the text has the pages and counts of a crawl; among the URLs `known` are the pages that no result has
+pub record IsTextOf (plan : CrawlPlan) (known suffixes : List (List ℕ)) (pages : List PageResult) (counts text : List ℕ) : Type 0 where
   pub unreached : List (List ℕ)
-  pub unseen : AreUnreached asked suffixes pages unreached
-  pub written : text ≡ printed_with with_queues options pages counts unreached
+  pub unseen : AreUnreached known suffixes pages unreached
+  pub written : text ≡ printed_with plan pages counts unreached
 
 -- the text is that of such a crawl
-pub record IsCrawlText (workers : ℕ) (with_queues : Bool) (options : CrawlOptions) (bytes listed : List ℕ) (texts suffixes : List (List ℕ)) (text : List ℕ) : Type 0 where
+pub record IsCrawlText (workers : ℕ) (plan : CrawlPlan) (bytes listed : List ℕ) (texts suffixes : List (List ℕ)) (text : List ℕ) : Type 0 where
   pub pages : List PageResult
   pub crawl : IsSiteCrawl bytes listed texts suffixes pages
   pub counts : List ℕ
   pub counted : AreCounts workers (result_urls pages) counts
-  pub told : IsTextOf with_queues options (asked_pages options.parts (lines bytes)) suffixes pages counts text
+  pub told : IsTextOf plan (asked_pages plan.parts (lines bytes)) suffixes pages counts text
 
--- ---- the text of a crawl that asks for no more than subqueues and sources
+-- ---- the text of a crawl that asks for no more than the lines of queues and of sources
 
 -- the text is that of such a crawl
 pub record IsPlainText (workers : ℕ) (with_queues with_sources : Bool) (bytes listed : List ℕ) (texts suffixes : List (List ℕ)) (text : List ℕ) : Type 0 where
@@ -161,6 +161,6 @@ pub record IsPlainText (workers : ℕ) (with_queues with_sources : Bool) (bytes 
   pub written : text ≡ told_text with_queues with_sources pages counts
 
 -- no more is requested
-pub record IsPlain (with_sources : Bool) (options : CrawlOptions) : Type 0 where
-  pub parts : options.parts ≡ plain_parts with_sources
-  pub json : options.json ≡ false
+pub record IsPlain (with_sources : Bool) (plan : CrawlPlan) : Type 0 where
+  pub parts : plan.parts ≡ plain_parts with_sources
+  pub json : plan.json ≡ false

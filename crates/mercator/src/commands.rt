@@ -4,8 +4,9 @@ ghost use Rattle.std.specs.Io.KnownBytes.{Appends};
 ghost use Rattle.mercator.specs.Ending.{Begins};
 ghost use Rattle.mercator.specs.FaultText.{fault_line};
 ghost use Rattle.mercator.specs.Faults.{status_of_fault};
-ghost use Rattle.mercator.specs.Plans.{IsShown, IsWithinLimits, has_notices, reads_input};
-ghost use Rattle.mercator.specs.Told.{CannotTell, EndsBy, EndsByFault, FailsWithoutPlan, Gains, GainsAs, GainsBroken, IsDoneWithNote, HasLog, MayLose, MayNote, TellsInUse, TellsWords};
+ghost use Rattle.crawl_replay.specs.Replay.{IsReplay};
+ghost use Rattle.mercator.specs.Plans.{IsShown, IsWithinLimits, has_notices, is_input, known_bytes, reads_input};
+ghost use Rattle.mercator.specs.Told.{CannotTell, EndsBy, EndsByFault, FailsReplay, FailsWithoutPlan, Gains, GainsAs, GainsBroken, HasLog, IsDoneWithNote, MayLose, MayNote, OfFile, TellsInUse, TellsWords};
 ghost use Rattle.mercator.specs.declared.commands.planned.Plan.{Plan};
 ghost use Rattle.mercator.specs.declared.commands.words.PlanError.{PlanError};
 ghost use Rattle.mercator.specs.declared.commands.fault.Fault.TheVariants as wrong;
@@ -29,14 +30,15 @@ mod report_words;
 mod resuming;
 mod serving;
 mod source;
-mod tell;
 mod web_crawl;
 mod web_report;
 mod window;
 mod words;
 mod writing;
 
+use crate::key::key_line;
 use compacting::compact_log;
+use crawl_replay::replay_text;
 use crawl_run::Observe;
 pub use fault::Fault;
 use folder::{run_check, run_site};
@@ -47,12 +49,13 @@ pub use planned::Plan;
 pub use platform::Platform;
 use resuming::serve_log;
 use serving::serve_plan;
+use source::read_file;
 use std::alloc::Global;
 use std::fs::Files;
 use std::io::{Read, Write};
 use std::sync::Wait;
 use std::thread::Threads;
-use tell::tell;
+use web_crawl::report_of_plan;
 pub use web_report::{Report, report_of_saved_web};
 pub use words::{PlanError, plan};
 pub use writing::fault_line;
@@ -216,6 +219,21 @@ fn run<
     ensures noted { MayNote plan.now (E.contents err.old) (E.contents err.new) }
 {
     match plan {
+        Plan::Crawl(crawl) => {
+            let parts = report_of_plan(platform, alloc, crawl, input)?;
+            end_by_parts(out, &parts)?;
+            Ok(false)
+        }
+        Plan::Key { url, workers } => {
+            let line = key_line(alloc, url, *workers)?;
+            end(out, &line)?;
+            Ok(false)
+        }
+        Plan::Replay { file } => {
+            let text = replies(platform.rt, alloc, file, input)?;
+            end(out, &text)?;
+            Ok(false)
+        }
         Plan::Check { options, ignores } => {
             run_check(platform.rt, alloc, options, ignores, out, err)
         }
@@ -235,12 +253,22 @@ fn run<
             compact_log(platform, alloc, log, new)?;
             Ok(false)
         }
-        _ => {
-            let parts = tell(platform, alloc, plan, input)?;
-            end_by_parts(out, &parts)?;
-            Ok(false)
-        }
     }
+}
+
+/// Returns the replies to the script in FILE.
+fn replies<R: Files, I: Read>(
+    rt: &R,
+    alloc: Global,
+    file: &str,
+    input: &mut I,
+) -> Result<Vec<u8>, Fault>
+    ensures text { IfOk result (λ text. OfFile (known_bytes file.now (I.remaining input.old)) (λ bytes. IsReplay bytes text.items)) }
+    ensures fault { IfErr result (FailsReplay file.now (I.remaining input.old)) }
+    ensures unread { is_input file.now ≡ false → input.new ≡ input.old }
+{
+    let bytes = read_file(rt, alloc, file, input)?;
+    Ok(replay_text(alloc, &bytes)?)
 }
 
 /// Shows why there is no plan: help on `out`, or an error in the arguments on `err`.

@@ -4,7 +4,7 @@ ghost use Rattle.std.specs.Prelude.{◌≡◌, ℕ, List, Some, Bool};
 ghost use Rattle.crawl_pages.specs.declared.page.PageResult.{PageResult};
 ghost use Rattle.mercator.specs.Told.{AskForOneText, Gains};
 ghost use Rattle.mercator.specs.WebCrawl.{IsCrawlReport, IsCrawlText, IsPlain, IsPlainText, IsSiteCrawl};
-ghost use Rattle.mercator.specs.declared.commands.planned.CrawlOptions.{CrawlOptions};
+ghost use Rattle.mercator.specs.declared.commands.planned.CrawlPlan.{CrawlPlan};
 ghost use Rattle.mercator.specs.declared.commands.planned.Plan.{Plan};
 
 // Laws of the crates below.
@@ -29,6 +29,6 @@ pub fn same_bytes_for_any_workers()
 /// If a crawl asks for no more than the lines of queues and of sources, its text is the report of its pages, followed by
 /// these lines.
 pub fn plain_crawls_tell_the_report()
-    ensures { (workers : ℕ) (with_queues with_sources : Bool) (options : CrawlOptions) (bytes listed : List ℕ) (seeds suffixes : List (List ℕ)) (text : List ℕ)
-        → IsPlain with_sources options → IsCrawlText workers with_queues options bytes listed seeds suffixes text → IsPlainText workers with_queues with_sources bytes listed seeds suffixes text }
+    ensures { (workers : ℕ) (with_sources : Bool) (plan : CrawlPlan) (bytes listed : List ℕ) (seeds suffixes : List (List ℕ)) (text : List ℕ)
+        → IsPlain with_sources plan → IsCrawlText workers plan bytes listed seeds suffixes text → IsPlainText workers plan.queues with_sources bytes listed seeds suffixes text }
 {}

@@ -3,46 +3,38 @@ ghost use Rattle.std.specs.Prelude.{◌≡◌, [], IfOk, if◌then◌else◌};
 ghost use Rattle.crawl_report.specs.Printing.{joined};
 ghost use Rattle.mercator.specs.WebCrawl.{IsTextOf};
 
-use crate::commands::planned::CrawlOptions;
-use crate::commands::tell::WebFound;
+use crate::commands::planned::CrawlPlan;
+use crawl_keys::CanonUrl;
 use crawl_report::{NoMemory, Report, print_in_parts, unreached};
-use std::alloc::{AllocError, Global};
+use crawl_run::{CrawlSettings, Crawled};
+use std::alloc::Global;
 use std::thread::Threads;
 
-/// Returns the report of a crawl of a saved web, with the sections that the options ask for, in consecutive chunks. Threads
-/// print it if the crawl had several workers.
+/// Returns the report of a crawl with these settings, with the sections that the plan asks for, in consecutive chunks. `urls` are
+/// those of the pages of the saved web, if the report lists those that no result has. Threads print it if the workers of the crawl
+/// had threads.
 ///
 /// # Errors
 /// Only if there is not enough memory.
 pub fn crawl_text<R: Threads + Sync>(
     rt: &R,
     alloc: Global,
-    found: &WebFound,
-    queues: bool,
-    options: &CrawlOptions,
+    crawl: &CrawlPlan,
+    settings: &CrawlSettings<'_>,
+    crawled: &Crawled,
+    urls: &[CanonUrl],
 ) -> Result<Vec<Vec<u8>>, NoMemory>
-    ensures { IfOk result (λ parts. IsTextOf queues options.now found.now.urls.items found.now.filter found.now.crawled.result found.now.crawled.counts.items (joined parts.items)) }
+    ensures { IfOk result (λ parts. IsTextOf crawl.now urls.now settings.now.filter.now crawled.now.result crawled.now.counts.items (joined parts.items)) }
 {
-    let crawled = &found.crawled;
     let pages = crawled.result.pages();
-    let unseen = unreached(alloc, &found.filter, pages, &found.urls)?;
+    let unseen = unreached(alloc, settings.filter, pages, urls)?;
     let report = Report {
         pages,
-        queues: asked_counts(queues, &crawled.counts),
+        queues: asked_counts(crawl.queues, &crawled.counts),
         unreached: &unseen,
-        parts: options.parts,
+        parts: crawl.parts,
     };
-    let has_threads = crawled.counts.len() > 1;
-    print_in_parts(rt, alloc, &report, options.json, has_threads)
-}
-
-/// Returns the text as its only chunk.
-pub fn alone(alloc: Global, text: Vec<u8>) -> Result<Vec<Vec<u8>>, AllocError>
-    ensures { IfOk result (λ parts. joined parts.items ≡ text.items) }
-{
-    let mut parts = Vec::new(alloc);
-    parts.push(text)?;
-    Ok(parts)
+    print_in_parts(rt, alloc, &report, crawl.json, settings.has_threads())
 }
 
 /// Returns the counts of the queues if they are asked for.

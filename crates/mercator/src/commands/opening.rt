@@ -11,7 +11,7 @@ use crate::commands::log_settings::fault_of_head;
 use crate::commands::planned::{LogPlan, SessionPlan};
 use crate::commands::platform::Platform;
 use crate::commands::serving::session_of;
-use crate::commands::tell::filter_of;
+use crate::commands::web_crawl::filter_of;
 use crate::commands::window::READ_SIZE;
 use crawl_replay::Header;
 use crawl_session::{Session, settings_line, start_text, whole_len};

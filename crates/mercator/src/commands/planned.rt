@@ -26,22 +26,7 @@ use mercator_site::{CheckForm, CheckOptions, ReportOptions, SiteOptions};
 #[derive(Drop)]
 pub enum Plan {
     /// `crawl`: print the report of a crawl of a saved web.
-    Crawl {
-        /// The number of workers, each with its own queue: 1 to 512.
-        workers: u32,
-        /// The most URLs that are waiting or in progress at a time: 1 to 2^40.
-        max: u64,
-        /// Whether the number of URLs of each queue follows the report.
-        queues: bool,
-        /// The file of the saved web; `-` is the input.
-        file: String,
-        /// The seeds on the command line, which come after those of a file of seeds.
-        seeds: Vec<String>,
-        /// The suffix of the hosts to crawl; without one, all hosts.
-        within: Option<String>,
-        /// The other options.
-        options: CrawlOptions,
-    },
+    Crawl(CrawlPlan),
     /// `site`: print a folder as a saved web.
     Site(SiteOptions),
     /// `check`: print the report of the broken links of a folder.
@@ -76,9 +61,21 @@ pub enum Plan {
     },
 }
 
-/// The other options of a crawl.
+/// The options of a crawl.
 #[derive(Drop)]
-pub struct CrawlOptions {
+pub struct CrawlPlan {
+    /// The number of workers, each with its own queue: 1 to 512.
+    pub workers: u32,
+    /// The most URLs that are waiting or in progress at a time: 1 to 2^40.
+    pub max: u64,
+    /// Whether the number of URLs of each queue follows the report.
+    pub queues: bool,
+    /// The file of the saved web; `-` is the input.
+    pub file: String,
+    /// The seeds on the command line, which come after those of a file of seeds.
+    pub seeds: Vec<String>,
+    /// The suffix of the hosts to crawl; without one, all hosts.
+    pub within: Option<String>,
     /// The file of seeds, if there is one; `-` is the input.
     pub listed: Option<String>,
     /// Which sections the report has. Unreached pages are listed only for the hosts to crawl.
@@ -123,7 +120,8 @@ impl Plan {
         ensures { result.now ≡ file_of self.now }
     {
         match self {
-            Plan::Crawl { file, .. } | Plan::Replay { file } => file.as_str(),
+            Plan::Crawl(crawl) => crawl.file.as_str(),
+            Plan::Replay { file } => file.as_str(),
             Plan::Site(options) => options.folder.as_str(),
             Plan::Check { options, .. } => options.site.folder.as_str(),
             Plan::Key { .. } => "",
@@ -158,7 +156,7 @@ impl Plan {
         ensures { result ≡ explains self.now }
     {
         match self {
-            Plan::Crawl { options, .. } => options.explain,
+            Plan::Crawl(crawl) => crawl.explain,
             _ => false,
         }
     }
@@ -169,8 +167,8 @@ impl Plan {
         ensures { result.now ≡ told_file self.now fault.now }
     {
         match (self, fault) {
-            (Plan::Crawl { file, options, .. }, Fault::CannotReadSeeds) => {
-                listed_or(&options.listed, file.as_str())
+            (Plan::Crawl(crawl), Fault::CannotReadSeeds) => {
+                listed_or(&crawl.listed, crawl.file.as_str())
             }
             (Plan::Check { options, ignores }, Fault::CannotReadIgnores) => {
                 listed_or(ignores, options.site.folder.as_str())

@@ -27,15 +27,3 @@ pub struct Platform<'p, R, L, V> {
     /// Whether a report as text has colour.
     pub has_colour: bool,
 }
-
-impl<'p, R, L, V> Platform<'p, R, L, V> {
-    /// Returns the same platform, without its observer unless it is asked for.
-    pub(in crate::commands) fn watching(&self, asked: bool) -> Platform<'p, R, L, V> {
-        Platform {
-            rt: self.rt,
-            locks: self.locks,
-            observer: if asked { self.observer } else { None },
-            has_colour: self.has_colour,
-        }
-    }
-}

@@ -11,7 +11,7 @@ ghost use Rattle.mercator.specs.declared.commands.planned.Plan.TheVariants as as
 
 use crate::commands::fault::Fault;
 use crate::commands::planned::SessionPlan;
-use crate::commands::tell::filter_of;
+use crate::commands::web_crawl::filter_of;
 use crawl_core::{CoreError, Text};
 use crawl_keys::Filter;
 use crawl_session::{Part, ServeError, Session, serve};

@@ -1,12 +1,57 @@
-//! Reads the FILE of a command.
-ghost use Rattle.std.specs.Prelude.{◌≡◌, ◌≤◌, vec_len, false, IfOk, IfSome};
+//! Reads the files of a command.
+ghost use Rattle.std.specs.Prelude.{◌≡◌, ◌≤◌, ◌⊎◌, ◌&&◌, ◌||◌, string_bytes, vec_len, false, IfOk, IfErr, IfSome, IsSome};
 ghost use Rattle.mercator.specs.Limits.{most_input_bytes};
-ghost use Rattle.mercator.specs.Plans.{is_input, known_bytes};
+ghost use Rattle.mercator.specs.Plans.{is_bad_suffix, is_input, known_bytes, known_seeds, lists_input};
+ghost use Rattle.mercator.specs.Told.{AreFiles, FailsCrawl};
+ghost use Rattle.mercator.specs.declared.commands.fault.Fault.TheVariants as wrong;
 
+use crate::commands::fault::Fault;
 use crate::commands::input::{Unread, input_limits, read_input};
+use crate::commands::planned::CrawlPlan;
 use std::alloc::Global;
 use std::fs::{self, Files};
 use std::io::Read;
+
+/// Reads the two files of a crawl: the saved web, then the file of seeds.
+///
+/// # Errors
+/// `CannotRead`, `CannotReadSeeds`, `NoMemory`.
+pub fn read_files<R: Files, I: Read>(
+    rt: &R,
+    alloc: Global,
+    crawl: &CrawlPlan,
+    input: &mut I,
+) -> Result<(Vec<u8>, Vec<u8>), Fault>
+    requires one_input { (is_input (string_bytes crawl.now.file) && lists_input crawl.now.listed) ≡ false }
+    ensures files { IfOk result (λ files. AreFiles crawl.now (I.remaining input.old) files.0.items files.1.items) }
+    ensures fault { is_bad_suffix crawl.now.within ≡ false → IfErr result (FailsCrawl crawl.now (I.remaining input.old)) }
+    ensures unread { (is_input (string_bytes crawl.now.file) || lists_input crawl.now.listed) ≡ false → input.new ≡ input.old }
+{
+    let bytes = read_file(rt, alloc, crawl.file.as_str(), input)?;
+    let list = read_list(rt, alloc, &crawl.listed, input)?;
+    Ok((bytes, list))
+}
+
+/// Reads the file of seeds. Without one, returns no bytes.
+fn read_list<R: Files, I: Read>(
+    rt: &R,
+    alloc: Global,
+    listed: &Option<String>,
+    input: &mut I,
+) -> Result<Vec<u8>, Fault>
+    ensures whole { IfOk result (λ bytes. IfSome (known_seeds listed.now (I.remaining input.old)) (λ known. bytes.items ≡ known)) }
+    ensures within { IfOk result (λ bytes. vec_len bytes ≤ most_input_bytes) }
+    ensures fault { IfErr result (λ fault. (fault ≡ wrong.NoMemory) ⊎ ((fault ≡ wrong.CannotReadSeeds) × IsSome listed.now)) }
+    ensures unread { lists_input listed.now ≡ false → input.new ≡ input.old }
+{
+    let Some(file) = listed else {
+        return Ok(Vec::new(alloc));
+    };
+    match read_file(rt, alloc, file, input) {
+        Ok(bytes) => Ok(bytes),
+        Err(why) => Err(Fault::of_unread_seeds(why)),
+    }
+}
 
 /// Reads the whole FILE: the input if it is `-`, else the file with this name.
 ///

@@ -1,56 +1,123 @@
-//! A crawl of a saved web, from its bytes to its pages.
-ghost use Rattle.std.specs.Prelude.{◌≡◌, ℕ, List, map, string_bytes, IfOk, IfErr};
+//! A crawl of a saved web, from its files to its report.
+ghost use Rattle.std.specs.Prelude.{◌≡◌, ◌&&◌, ℕ, List, [], if◌then◌else◌, map, string_bytes, false, IfOk, IfErr};
 ghost use Rattle.std.specs.Str.Lines.{lines};
 ghost use Rattle.crawl_certificate.specs.Certificate.{IsCrawl, result_urls};
-ghost use Rattle.crawl_keys.specs.HostFilter.{allows};
+ghost use Rattle.crawl_keys.specs.HostFilter.{allows, filter_of};
+ghost use Rattle.crawl_keys.specs.Outcome.{Gives};
+ghost use Rattle.crawl_report.specs.Printing.{joined};
 ghost use Rattle.crawl_run.specs.Crawls.{AreCounts, CrawlFails, IsJudgedAt};
 ghost use Rattle.crawl_run.specs.JudgedRuns.{CountsLosses};
 ghost use Rattle.crawl_run.specs.Losses.{IsLost};
 ghost use Rattle.saved_web.specs.KnownPages.{page_at, urls_of};
 ghost use Rattle.saved_web.specs.SavedWeb.{page_of, page_urls};
 ghost use Rattle.saved_web.specs.WebFaults.{IsSound, IsWebRefusal};
-ghost use Rattle.mercator.specs.WebCrawl.{AreAllSeeds, AreSeeds, IsBegun, IsFound, IsSeedFault, IsUnbegun, IsUnread};
+ghost use Rattle.mercator.specs.Plans.{is_input, lists_input, reads_input, suffixes_of};
+ghost use Rattle.mercator.specs.Told.{Fails, IsTold};
+ghost use Rattle.mercator.specs.WebCrawl.{AreAllSeeds, AreSeeds, IsBegun, IsFound, IsSeedFault, IsUnbegun, IsUnread, asked_pages};
+ghost use Rattle.mercator.specs.declared.commands.planned.Plan.TheVariants as asks;
 
+use crate::commands::crawl_text::crawl_text;
 use crate::commands::fault::Fault;
+use crate::commands::planned::CrawlPlan;
 use crate::commands::platform::Platform;
-use crawl_keys::{CanonUrl, canonical};
+use crate::commands::source::read_files;
+use crawl_keys::{CanonUrl, Filter, FilterError, canonical};
 use crawl_pages::SessionFetch;
+use crawl_report::{NoMemory, Parts};
 use crawl_run::{CrawlFailure, CrawlSettings, Crawled, Mode, Observe, Watched, crawl_with};
 use crawl_sources::read_seeds;
 use saved_web::{SavedWeb, WebError, WebInThreads};
 use std::alloc::Global;
+use std::fs::Files;
+use std::io::Read;
+use std::mem::forget;
 use std::sync::Wait;
 use std::thread::Threads;
 
-/// Crawls the saved web with these bytes, from the seeds of the file with the bytes `listed`, followed by `seeds`: from at least
-/// one. Returns the saved web and what was found, and reports to the observer of the platform.
+/// Crawls, and returns the report in consecutive chunks. The suffix is checked first. Then the saved web and the file of seeds are
+/// read whole.
+///
+/// # Errors
+/// `BadSuffix`, `CannotRead`, `CannotReadSeeds`; those of [`crawl_files`]; `NoMemory`.
+pub(in crate::commands) fn report_of_plan<
+    R: Files + Threads + Wait + Sync,
+    L,
+    V: Observe + Sync,
+    I: Read,
+>(
+    platform: &Platform<'_, R, L, V>,
+    alloc: Global,
+    crawl: &CrawlPlan,
+    input: &mut I,
+) -> Result<Vec<Vec<u8>>, Fault>
+    requires one_input { (is_input (string_bytes crawl.now.file) && lists_input crawl.now.listed) ≡ false }
+    ensures text { IfOk result (λ parts. IsTold (asks.Crawl crawl.now) (I.remaining input.old) (joined parts.items)) }
+    ensures fault { IfErr result (Fails (asks.Crawl crawl.now) (I.remaining input.old)) }
+    ensures unread { reads_input (asks.Crawl crawl.now) ≡ false → input.new ≡ input.old }
+{
+    let filter = filter_of(alloc, &crawl.within)?;
+    let files = read_files(platform.rt, alloc, crawl, input)?;
+    let settings = CrawlSettings {
+        workers: crawl.workers,
+        max_pending: crawl.max,
+        mode: Mode::Threads,
+        filter: &filter,
+    };
+    let (crawled, urls) = crawl_files(platform, alloc, crawl, &settings, files)?;
+    let parts = crawl_text(platform.rt, alloc, crawl, &settings, &crawled, &urls)?;
+    // The process ends soon, which frees them faster.
+    forget(crawled);
+    forget(urls);
+    Ok(parts)
+}
+
+/// Returns the filter of a crawl.
+pub(in crate::commands) fn filter_of(
+    alloc: Global,
+    within: &Option<String>,
+) -> Result<Filter, FilterError>
+    ensures { Gives FilterError.NoMemory (λ filter. filter) result (filter_of (suffixes_of within.now)) }
+{
+    match within {
+        Some(suffix) => Filter::new(alloc, &[suffix.as_str()]),
+        None => Filter::new(alloc, &[]),
+    }
+}
+
+/// Crawls the saved web with the bytes of the first file, from the seeds of the second, followed by those of the plan: from at
+/// least one. Returns what was found, and the URLs of the pages of the saved web if the report lists those that no result has.
 ///
 /// # Errors
 /// `Web`, `Seeds`, `Seed` for the first seed that has no canonical URL, `NoSeed`; `Crawl` if a number is out of range, or if the
 /// crawl is incomplete; `NoMemory`.
-pub(in crate::commands) fn crawl_saved_web<'a, R: Threads + Wait + Sync, L, V: Observe + Sync>(
+fn crawl_files<R: Threads + Wait + Sync, L, V: Observe + Sync>(
     platform: &Platform<'_, R, L, V>,
     alloc: Global,
-    bytes: &'a [u8],
-    listed: &[u8],
-    seeds: &[String],
+    crawl: &CrawlPlan,
     settings: &CrawlSettings<'_>,
-) -> Result<(SavedWeb<'a>, Crawled), Fault>
-    ensures found { IfOk result (λ r. IsFound settings.now.workers bytes.now listed.now (map string_bytes seeds.now) settings.now.filter.now r.1) }
-    ensures begun { IfOk result (λ _. IsBegun bytes.now listed.now (map string_bytes seeds.now)) }
-    ensures urls { IfOk result (λ r. urls_of r.0 ≡ page_urls (lines bytes.now)) }
-    ensures refused { IfErr result (IsUnbegun settings.now.workers settings.now.max_pending bytes.now listed.now (map string_bytes seeds.now) settings.now.filter.now) }
+    files: (Vec<u8>, Vec<u8>),
+) -> Result<(Crawled, Vec<CanonUrl>), Fault>
+    ensures found { IfOk result (λ r. IsFound settings.now.workers files.0.items files.1.items (map string_bytes crawl.now.seeds.items) settings.now.filter.now r.0) }
+    ensures begun { IfOk result (λ _. IsBegun files.0.items files.1.items (map string_bytes crawl.now.seeds.items)) }
+    ensures urls { IfOk result (λ r. r.1.items ≡ asked_pages crawl.now.parts (lines files.0.items)) }
+    ensures refused { IfErr result (IsUnbegun settings.now.workers settings.now.max_pending files.0.items files.1.items (map string_bytes crawl.now.seeds.items) settings.now.filter.now) }
 {
-    let rt = platform.rt;
-    let in_threads = has_threads(settings);
-    let (web, urls) = read_site(rt, alloc, in_threads, bytes, listed, seeds)?;
-    if urls.is_empty() {
+    let (bytes, list) = files;
+    let in_threads = settings.has_threads();
+    let (web, seeds) = read_site(platform.rt, alloc, in_threads, &bytes, &list, &crawl.seeds)?;
+    if seeds.is_empty() {
         return Err(Fault::NoSeed);
     }
-    let source = WebInThreads::new(rt, alloc, &web, in_threads);
-    let found = crawl_source(rt, alloc, &source, platform.observer, settings, &urls)?;
+    let observer = if crawl.progress {
+        platform.observer
+    } else {
+        None
+    };
+    let source = WebInThreads::new(platform.rt, alloc, &web, in_threads);
+    let crawled = crawl_source(platform.rt, alloc, &source, observer, settings, &seeds)?;
     drop(source);
-    Ok((web, found))
+    let urls = asked_pages(alloc, crawl.parts, &web)?;
+    Ok((crawled, urls))
 }
 
 /// Crawls the source. Reports to the observer, if there is one.
@@ -75,6 +142,17 @@ fn crawl_source<F: SessionFetch + Sync, V: Observe + Sync, R: Threads + Wait + S
             crawl_with(rt, alloc, &watched, settings, seeds)
         }
         None => crawl_with(rt, alloc, source, settings, seeds),
+    }
+}
+
+/// Returns the URLs of the pages of the saved web if the report lists those that no result has.
+fn asked_pages(alloc: Global, parts: Parts, web: &SavedWeb<'_>) -> Result<Vec<CanonUrl>, NoMemory>
+    ensures { IfOk result (λ urls. urls.items ≡ (if parts.unreached then urls_of web.now else [])) }
+{
+    if parts.unreached {
+        web.page_urls(alloc)
+    } else {
+        Ok(Vec::new(alloc))
     }
 }
 
@@ -117,11 +195,6 @@ fn web_of<'a, R: Threads + Sync>(
     } else {
         SavedWeb::read(alloc, bytes)
     }
-}
-
-/// Returns whether several workers crawl in threads. If so, threads also read the saved web and find its links.
-pub(in crate::commands) fn has_threads(settings: &CrawlSettings<'_>) -> bool {
-    settings.workers > 1 && matches!(settings.mode, Mode::Threads)
 }
 
 /// Returns the canonical URLs of the seeds.

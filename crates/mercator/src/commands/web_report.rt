@@ -8,7 +8,7 @@ ghost use Rattle.crawl_run.specs.Crawls.{AreCounts};
 ghost use Rattle.mercator.specs.WebCrawl.{ComesOf, IsCrawlReport, IsRefused, IsSiteCrawl};
 
 use crate::commands::fault::Fault;
-use crate::commands::web_crawl::{has_threads, read_site};
+use crate::commands::web_crawl::read_site;
 use crawl_report::report_text;
 use crawl_run::{CrawlSettings, crawl_with};
 use saved_web::WebInThreads;
@@ -68,7 +68,7 @@ pub fn report_of_saved_web<R: Threads + Wait + Sync>(
     ensures numbers { IfOk result (λ _. IsWorkers settings.now.workers × IsMaximum settings.now.max_pending) }
     ensures mode { IfErr result (ComesOf settings.now.mode) }
 {
-    let in_threads = has_threads(settings);
+    let in_threads = settings.has_threads();
     let (web, urls) = read_site(rt, alloc, in_threads, bytes, &[], seeds)?;
     let source = WebInThreads::new(rt, alloc, &web, in_threads);
     let found = crawl_with(rt, alloc, &source, settings, &urls)?;

@@ -8,7 +8,7 @@ ghost use Rattle.mercator.specs.declared.commands.words.PlanError.TheVariants as
 use crate::commands::arguments::{value_of, values_of};
 use crate::commands::command_line::{self, command_line};
 use crate::commands::folder_words::{check_options, site_options};
-use crate::commands::planned::{CrawlOptions, LogPlan, Plan, SessionPlan};
+use crate::commands::planned::{CrawlPlan, LogPlan, Plan, SessionPlan};
 use crate::commands::report_words::parts_of;
 use clap::ArgMatches;
 use clap::error::ErrorKind;
@@ -181,28 +181,19 @@ fn crawl_of(alloc: Global, found: &ArgMatches<'_>) -> Result<Plan, PlanError>
     if file == "-" && is_input(&listed) {
         return Err(two_inputs(alloc)?);
     }
-    Ok(Plan::Crawl {
+    Ok(Plan::Crawl(CrawlPlan {
         workers,
         max,
         queues: found.get_flag("queues"),
         file: String::from_str(alloc, file)?,
         seeds,
         within: value_of(alloc, found, "within")?,
-        options: options_of(found, listed),
-    })
-}
-
-/// Returns the other options of a crawl, with this file of seeds.
-fn options_of(found: &ArgMatches<'_>, listed: Option<String>) -> CrawlOptions
-    ensures { result.listed ≡ listed }
-{
-    CrawlOptions {
         listed,
         parts: parts_of(found),
         json: found.get_flag("json"),
         explain: found.get_flag("explain"),
         progress: found.get_flag("progress"),
-    }
+    }))
 }
 
 fn key_of(alloc: Global, found: &ArgMatches<'_>) -> Result<Plan, PlanError>

@@ -11,7 +11,7 @@ use crate::commands::fault::Fault;
 use crate::commands::fault_text::FaultText;
 use crate::commands::planned::Plan;
 use crawl_keys::CanonUrl;
-use crawl_workers::Losses;
+use link_offers::Losses;
 use saved_site::WebText;
 use shown_text::shown;
 use std::alloc::{AllocError, Global};

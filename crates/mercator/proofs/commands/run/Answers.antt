@@ -1,9 +1,40 @@
-use Rattle.std.proofs.Common.{◌≡◌, inl, IfErr, refl, sym, subst}
+use Rattle.std.proofs.Common.{◌≡◌, inl, inr, IfErr, refl, sym, subst}
 use Rattle.std.proofs.lemmas.Result.{err_from_is_err_and}
-use Rattle.mercator.specs.Told.{EndsBy}
+use Rattle.crawl_report.specs.Printing.{joined}
+use Rattle.mercator.specs.Told.{CannotTell, EndsBy, IsTold}
 use Rattle.mercator.specs.declared.commands.fault.Fault.{Fault}
 use Rattle.mercator.specs.declared.commands.planned.Plan.{Plan}
+use Rattle.mercator.proofs.PlanTexts.{no_refusal}
 use Rattle.mercator.proofs.commands.run.Goals as goal
+
+pub returns-in_err-end_by_parts-in-Crawl-clause-fault : goal.returns-in_err-end_by_parts-in-Crawl-clause-fault
+returns-in_err-end_by_parts-in-Crawl-clause-fault g c =
+    let input = g.I.Read.remaining c.args.input.now in
+    let r = c.from_residual-in_err-end_by_parts-in-Crawl in
+    let same = err_from_is_err_and r.result r.ensures.1 in
+    let text = joined c.in_ok-parts-in-Crawl.parts.items in
+    rw (same.1, same.2) (inr (inl (c.in_err-end_by_parts-in-Crawl.ensures, (text, inl (subst (λ (p : Plan). IsTold p input text) (sym c.in-Crawl.is) c.in_ok-parts-in-Crawl.ensures.text)))))
+
+pub returns-in_err-end-in-Key-clause-fault : goal.returns-in_err-end-in-Key-clause-fault
+returns-in_err-end-in-Key-clause-fault g c =
+    let input = g.I.Read.remaining c.args.input.now in
+    let r = c.from_residual-in_err-end-in-Key in
+    let same = err_from_is_err_and r.result r.ensures.1 in
+    let text = c.in_ok-line-in-Key.line.items in
+    rw (same.1, same.2) (inr (inl (c.in_err-end-in-Key.ensures, (text, inl (subst (λ (p : Plan). IsTold p input text) (sym c.in-Key.is) (rw c.deref-in-Key.ensures at c.in_ok-line-in-Key.ensures.line))))))
+
+pub returns-in_err-end-in-Replay-clause-fault : goal.returns-in_err-end-in-Replay-clause-fault
+returns-in_err-end-in-Replay-clause-fault g c =
+    let input = g.I.Read.remaining c.args.input.now in
+    let r = c.from_residual-in_err-end-in-Replay in
+    let same = err_from_is_err_and r.result r.ensures.1 in
+    let text = c.in_ok-text-in-Replay.text.items in
+    rw (same.1, same.2) (inr (inl (c.in_err-end-in-Replay.ensures, (text, inl (subst (λ (p : Plan). IsTold p input text) (sym c.in-Replay.is) (rw c.deref-in-Replay.ensures at c.in_ok-text-in-Replay.ensures.text))))))
+
+pub returns-in_ok-end-in-Replay-clause-refused : goal.returns-in_ok-end-in-Replay-clause-refused
+returns-in_ok-end-in-Replay-clause-refused g c = λ cannot.
+    let input = g.I.Read.remaining c.args.input.now in
+    absurd (no_refusal _ c.in_ok-text-in-Replay.text.items (rw c.deref-in-Replay.ensures at c.in_ok-text-in-Replay.ensures.text) (subst (λ (p : Plan). CannotTell p input) c.in-Replay.is cannot))
 
 pub returns-in-Check-clause-fault : goal.returns-in-Check-clause-fault
 returns-in-Check-clause-fault g c =
@@ -13,7 +44,7 @@ returns-in-Check-clause-fault g c =
 pub returns-in_err-run_site-in-Site-clause-fault : goal.returns-in_err-run_site-in-Site-clause-fault
 returns-in_err-run_site-in-Site-clause-fault g c =
     let input = g.I.Read.remaining c.args.input.now in
-    let r = c.from_residual in
+    let r = c.from_residual-in_err-run_site-in-Site in
     let same = err_from_is_err_and r.result r.ensures.1 in
     let fault = c.in_err-run_site-in-Site.field-0.0 in
     rw (same.1, same.2) (subst (λ (p : Plan). EndsBy p input fault (c.run_site.new.out ≡ c.args.out.now)) (sym c.in-Site.is) (c.in_err-run_site-in-Site.ensures.fault input))

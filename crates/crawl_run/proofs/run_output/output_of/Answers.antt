@@ -1,7 +1,6 @@
 use Rattle.std.specs.Vec.Iter.{into_iter_items}
-use Rattle.crawl_run.proofs.RunResults.{pages_on}
 use Rattle.crawl_run.proofs.EndedRuns.{closed_on, found_on, losses_on}
-use Rattle.crawl_run.proofs.run_output.gather_ends.Goals as goal
+use Rattle.crawl_run.proofs.run_output.output_of.Goals as goal
 
 pub loop-end-preserved : goal.loop-end-preserved
 loop-end-preserved g c =
@@ -10,9 +9,6 @@ loop-end-preserved g c =
     let before = into_iter_items c.loop-end.end-iterator in
     let is = c.in-Some.ensures.steps.0 in
     record {
-      pages = λ meaning all.
-          let own = inv.pages meaning all in
-          rw c.in_ok-results.ensures (pages_on meaning c.in-Some.end rest before c.loop-end.results.items is own.0 own.1);
       closed = rw c.in_ok-push.ensures.items (closed_on c.in-Some.end rest before c.loop-end.closed.items _ is inv.closed);
       found = rw c.in_ok-results.ensures (found_on c.in-Some.end rest before c.loop-end.results.items _ is inv.found);
       losses = rw c.plus-losses.ensures (losses_on c.in-Some.end rest before c.loop-end.losses _ is inv.losses);
