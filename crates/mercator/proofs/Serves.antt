@@ -18,7 +18,7 @@ use Rattle.mercator.specs.Compaction.{Compacted}
 use Rattle.mercator.specs.Ending.{Begins}
 use Rattle.mercator.specs.Faults.{of_session, status_of_fault, status_of_log}
 use Rattle.mercator.specs.LogFile.{IsBreak, IsLogFault, IsUseFault}
-use Rattle.mercator.specs.Plans.{IsTelling, IsWithinLimits, has_notices, is_bad_suffix, queues_of, suffixes_of}
+use Rattle.mercator.specs.Plans.{IsWithinLimits, has_notices, is_bad_suffix, queues_of, suffixes_of}
 use Rattle.mercator.specs.Told.{BreaksOff, EndsBy, Fails, FailsLog, Gains, HasLog, IsDoneWithNote, MayNote, TellsFault, TellsInUse, no_identity, part_of, settings_of, told_lines}
 use Rattle.mercator.specs.declared.commands.fault.Fault.{Fault}
 use Rattle.mercator.specs.declared.commands.fault.Fault.TheVariants as wrong
@@ -173,16 +173,6 @@ pub in_use : (fault : Fault) → status_of_fault fault ≡ 5 → fault ≡ wrong
 in_use (wrong.Log why) five = ap (λ w. wrong.Log w) (in_use_why why five)
 in_use (wrong.Crawl failure) five = absurd (in_use_crawl (is_incomplete failure.error) five)
 in_use fault five = absurd (omega (arith, five))
-
--- so a command without a log has another
-told_in_use : (plan : Plan) (input : Option (List ℕ)) → IsTelling plan → Fails plan input (wrong.Log unlogged.InUse) → ⊥
-told_in_use (asks.Crawl workers max queues file seeds within options) input telling fails = fails.1.holds.holds
-told_in_use (asks.Key url workers) input telling fails = fails
-told_in_use (asks.Replay file) input telling fails = fails
-told_in_use plan input telling fails = telling
-
-pub never_in_use : (plan : Plan) (input : Option (List ℕ)) (fault : Fault) (P : Type 0) → IsTelling plan → Fails plan input fault → status_of_fault fault ≡ 5 → P
-never_in_use plan input fault P telling fails five = absurd (told_in_use plan input telling (subst (λ f. Fails plan input f) (in_use fault five) fails))
 
 -- the line of a log in use
 pub tells_in_use : (plan : Plan) (fault : Fault) (old new : Option (List ℕ)) → HasLog plan → status_of_fault fault ≡ 5 → Begins old new (told_lines plan fault) → TellsInUse plan old new
