@@ -111,8 +111,8 @@ def changed_while_running(trial: Trial) -> None:
         for limit in (None, limit_writes):
             for words in (WORDS, (*WORDS, "--sync")):
                 changed(trial, log, (*words, "--log", str(log)), change, limit, name)
-                for path in folder.iterdir():
-                    path.rmdir() if path.is_dir() else path.unlink()
+                shutil.rmtree(folder)
+                folder.mkdir()
     kept(trial, log, other)
 
 
