@@ -37,7 +37,7 @@ pub stopped : (test : ℕ → Bool) (bytes : List ℕ) → Stopped test (behind 
 stopped test [] = tt
 stopped test (c ∷ rest) = stopped_at test (test c) c rest (behind test rest) refl (stopped test rest)
 
--- two states that do the same where a run has stopped
+-- two states that do the same at each byte that ends a run
 pub same_stopped : (s t : State) (test : ℕ → Bool) → ((c : ℕ) (all : List Attribute) → test c ≡ false → step s (class_of c) c all ≡ step t (class_of c) c all) →
     (all : List Attribute) (bytes : List ℕ) → Stopped test bytes → run s all bytes ≡ run t all bytes
 same_stopped s t test same all bytes ends = grind (arith, same_at)

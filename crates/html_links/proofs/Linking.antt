@@ -1,4 +1,4 @@
--- The words of a `rel` over runs of bytes.
+-- The keywords of a `rel` over runs of bytes.
 use Rattle.std.proofs.lemmas.Bool.Decides.{nat_tests}
 use Rattle.std.proofs.lemmas.Grind.{common_steps}
 use Rattle.std.proofs.Common.{◌≡◌, ℕ, Bool, true, false, not, cond, List, [], ◌∷◌, ◌++◌, refl, ap, sym, ◌∙◌, append_assoc, append-nil, ◌<◌, ◌≤◌, length, arith}
@@ -8,7 +8,7 @@ use Rattle.html_links.specs.Candidates.{is_unspaced}
 use Rattle.html_links.proofs.Jumps.{stopped, shorter}
 use Rattle.html_links.specs.Links.{is_link_type, types_behind}
 
--- the words of a `rel`
+-- the keywords of a `rel`
 
 type_at : (b : Bool) (word : List ℕ) (c : ℕ) (rest some more : List ℕ) → (not b ≡ true → types_behind word (c ∷ rest) ≡ types_behind (word ++ c ∷ []) rest) →
     types_behind (word ++ c ∷ []) rest ≡ types_behind ((word ++ c ∷ []) ++ some) more →

@@ -1,4 +1,4 @@
--- The values of a tag's wanted attributes, one attribute after another.
+-- The values of those attributes of a tag that are read, one attribute after another.
 use native.Mathlib.Omega.{arith}
 use Rattle.std.proofs.Common.{◌≡◌, ◌∙◌, ◌==◌, sym, ap, refl, ℕ, Bool, cond, List, [], ◌∷◌, ◌++◌, reverse, map, Option, None, Some, MatchOption, IfSome}
 use Rattle.std.specs.Prelude.{codes}

@@ -1,4 +1,4 @@
--- Attributes whose names are not wanted.
+-- Attributes whose names are not among those that are read.
 use native.Mathlib.Omega.{arith}
 use Rattle.std.proofs.Common.{◌≡◌, refl, true, false, ℕ, List, map, Option, None, Some}
 use Rattle.std.specs.Prelude.{codes}
@@ -19,7 +19,7 @@ unnamed : (value : Option (List ℕ)) (text name found : List ℕ) → may_be LE
     or_named value text (record { name = map lower name; value = found }) ≡ value
 unnamed value text name found other among = grind (arith, other_name, lower_may, or_none)
 
--- the names that are wanted are among those of the table
+-- the table has the lengths of the names that are read
 known : (e : Element) → (may_be LENGTHS (wanted_of e).first ≡ true) × (may_be LENGTHS (wanted_of e).second ≡ true) × (may_be LENGTHS (wanted_of e).third ≡ true)
 known e = grind arith
 

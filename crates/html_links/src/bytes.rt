@@ -40,6 +40,7 @@ pub(crate) fn class_of(byte: u8) -> Class
     }
 }
 
+/// Whether the byte is ASCII whitespace: a tab, line feed, form feed, carriage return or space.
 #[inline(always)]
 pub(crate) fn is_space(byte: u8) -> bool
     ensures { result ≡ is_space byte }
@@ -47,6 +48,7 @@ pub(crate) fn is_space(byte: u8) -> bool
     byte <= LAST_SPACE && matches!(class_of(byte), Class::Space)
 }
 
+/// Whether the byte continues the name of an attribute. White space, `/`, `>` and `=` end the name.
 #[inline(always)]
 fn in_name(byte: u8) -> bool
     ensures { result ≡ in_name byte }
@@ -58,6 +60,7 @@ fn in_name(byte: u8) -> bool
         )
 }
 
+/// Whether the byte continues a value without quotes. White space and `>` end the value.
 #[inline(always)]
 fn in_unquoted(byte: u8) -> bool
     ensures { result ≡ in_unquoted byte }
@@ -65,24 +68,28 @@ fn in_unquoted(byte: u8) -> bool
     byte > LAST_MARK || !matches!(class_of(byte), Class::Space | Class::Greater)
 }
 
+/// The number of white space bytes at the front.
 fn space_len(bytes: &[u8]) -> usize
     ensures { result ≡ length (take_while is_space bytes.now) }
 {
     bytes.iter().take_while(|byte| is_space(**byte)).count()
 }
 
+/// The number of bytes at the front that continue the name of an attribute.
 fn name_len(bytes: &[u8]) -> usize
     ensures { result ≡ length (take_while in_name bytes.now) }
 {
     bytes.iter().take_while(|byte| in_name(**byte)).count()
 }
 
+/// The number of bytes at the front that continue a value without quotes.
 fn unquoted_len(bytes: &[u8]) -> usize
     ensures { result ≡ length (take_while in_unquoted bytes.now) }
 {
     bytes.iter().take_while(|byte| in_unquoted(**byte)).count()
 }
 
+/// The first byte and the bytes after it. `None` if there are no bytes.
 pub(crate) fn parts(bytes: &[u8]) -> Option<(u8, &[u8])>
     ensures { MatchOption result (bytes.now ≡ []) (λ x. bytes.now ≡ x.0 ∷ x.1.now) }
 {
@@ -102,6 +109,7 @@ pub(crate) fn behind_byte(byte: u8, bytes: &[u8]) -> Option<&[u8]>
     if first == byte { Some(more) } else { None }
 }
 
+/// The bytes after the white space at the front, if there is any.
 pub(crate) fn skip_space(bytes: &[u8]) -> &[u8]
     ensures skipped { result.now ≡ behind is_space bytes.now }
     ensures stopped { Stopped is_space result.now }
@@ -109,6 +117,7 @@ pub(crate) fn skip_space(bytes: &[u8]) -> &[u8]
     &bytes[space_len(bytes)..]
 }
 
+/// The name of the attribute that begins here, and the bytes after it. An `=` is part of the name only as its first byte.
 pub(crate) fn split_name(bytes: &[u8]) -> (&[u8], &[u8])
     requires { BeginsName bytes.now }
     ensures name { result.0.now ≡ name_front bytes.now }
@@ -117,6 +126,7 @@ pub(crate) fn split_name(bytes: &[u8]) -> (&[u8], &[u8])
     bytes.split_at(1 + name_len(&bytes[1..]))
 }
 
+/// A value without quotes, which may be empty, and the bytes from the white space or `>` that ends it.
 pub(crate) fn split_unquoted(bytes: &[u8]) -> (&[u8], &[u8])
     ensures value { result.0.now ≡ front in_unquoted bytes.now }
     ensures rest { result.1.now ≡ behind in_unquoted bytes.now }

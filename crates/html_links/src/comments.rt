@@ -30,6 +30,7 @@ fn comment_left(bytes: &[u8]) -> Option<usize>
     }
 }
 
+/// The bytes after a comment, from those after its `<!--`. A `>` or `->` there ends it. `None` if the comment does not end.
 fn behind_comment(bytes: &[u8]) -> Option<&[u8]>
     ensures { bytes_at result ≡ comment_rest bytes.now }
 {
@@ -45,6 +46,7 @@ fn behind_comment(bytes: &[u8]) -> Option<&[u8]>
     }
 }
 
+/// The bytes after a comment, from those left of it in the Standard's comment state. `None` if the comment does not end.
 fn in_comment(bytes: &[u8]) -> Option<&[u8]>
     ensures { bytes_at result ≡ run Comment bytes.now }
 {
@@ -81,12 +83,14 @@ fn after_dash(bytes: &[u8]) -> Result<&[u8], &[u8]>
     }
 }
 
+/// The number of `-` at the front.
 fn dash_len(bytes: &[u8]) -> usize
     ensures { result ≡ length (take_while (λ c. c == 45) bytes.now) }
 {
     bytes.iter().take_while(|byte| **byte == b'-').count()
 }
 
+/// The bytes from the first one that is not a `-`.
 fn skip_dashes(bytes: &[u8]) -> &[u8]
     ensures skipped { result.now ≡ behind (λ c. c == 45) bytes.now }
     ensures stopped { Stopped (λ c. c == 45) result.now }

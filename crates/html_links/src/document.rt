@@ -50,6 +50,7 @@ pub(crate) enum Markup<'a> {
     Unfinished,
 }
 
+/// What a byte opens after a `<`, in the Standard's tag open state. After a `</`, only a letter opens a tag.
 #[inline(always)]
 fn opening_of(byte: u8) -> Opening
     ensures { result ≡ opening_of byte }
@@ -63,6 +64,7 @@ fn opening_of(byte: u8) -> Opening
     }
 }
 
+/// Whether the byte continues the name of a tag. White space, `/` and `>` end the name.
 #[inline(always)]
 fn in_tag_name(byte: u8) -> bool
     ensures { result ≡ in_tag_name byte }
@@ -70,12 +72,14 @@ fn in_tag_name(byte: u8) -> bool
     byte > LAST_MARK || !matches!(class_of(byte), Class::Space | Class::Slash | Class::Greater)
 }
 
+/// The number of bytes at the front that continue the name of a tag.
 fn tag_name_len(bytes: &[u8]) -> usize
     ensures { result ≡ length (take_while in_tag_name bytes.now) }
 {
     bytes.iter().take_while(|byte| in_tag_name(**byte)).count()
 }
 
+/// The name of a tag, and the bytes after it. There must be a first byte, and it is part of the name whatever it is.
 #[inline(always)]
 fn split_tag_name(bytes: &[u8]) -> (&[u8], &[u8])
     requires { 0 < length bytes.now }
@@ -113,6 +117,7 @@ fn after_declaration(bytes: &[u8]) -> Option<&[u8]>
     }
 }
 
+/// What follows a `</`: an end tag if the first byte is a letter, and otherwise what is read as a comment, to the first `>`.
 #[inline(always)]
 fn after_end_open(bytes: &[u8]) -> Markup<'_>
     ensures reads { MarkupEnds result bytes.now }
@@ -130,6 +135,7 @@ fn after_end_open(bytes: &[u8]) -> Markup<'_>
     }
 }
 
+/// `Other` with the bytes after a comment or a doctype, or `Unfinished` if it does not end.
 #[inline(always)]
 fn other(rest: Option<&[u8]>) -> Markup<'_>
     ensures { result ≡ other_markup rest.entry }
@@ -172,6 +178,7 @@ pub(crate) fn after_tag(bytes: &[u8]) -> Option<&[u8]>
     }
 }
 
+/// The bytes after a tag, from those after its name, whatever attributes it has. `None` if the tag does not end.
 #[inline(never)]
 fn after_pieces(bytes: &[u8]) -> Option<&[u8]>
     ensures { bytes_at result ≡ rest_of (tag_of bytes.now) }
@@ -193,6 +200,7 @@ static TEXTS: [u16; 32] = [
     0x0, 0x30, 0x90, 0x0, 0x0, 0x0, 0x4, 0x0, 0x0, 0x0, 0x0, 0x0, 0x0, 0x0,
 ];
 
+/// Whether the content of the element with this name, in any case, is raw text, in the Standard's RCDATA or RAWTEXT state.
 fn is_raw(name: &[u8]) -> bool
     ensures { result ≡ is_raw (map lower name.now) }
 {
@@ -205,6 +213,7 @@ fn is_raw(name: &[u8]) -> bool
         || same_name(name, b"noframes")
 }
 
+/// What the content of an element is, by its name in any case. Its parents are not examined, not even `svg` and `math`.
 fn content_of(name: &[u8]) -> Content
     ensures { result ≡ content_of (map lower name.now) }
 {

@@ -43,12 +43,15 @@ static LENGTHS: [u16; 32] = [
     0x0, 0x0, 0x30, 0x92, 0x4, 0x10, 0x0, 0x4, 0x0, 0x0, 0x0, 0x0, 0x0, 0x0, 0x0,
 ];
 
+/// Whether the element with this name, in any case, has links in `href` and `xlink:href`: `a`, and `image` and `use` of SVG.
 fn is_anchor(name: &[u8]) -> bool
     ensures { result ≡ is_anchor (map lower name.now) }
 {
     same_name(name, b"a") || same_name(name, b"image") || same_name(name, b"use")
 }
 
+/// Whether the element with this name, in any case, has a link in `background`: `body`, and a table, its sections, rows and
+/// cells.
 fn is_background(name: &[u8]) -> bool
     ensures { result ≡ is_background (map lower name.now) }
 {
@@ -62,6 +65,7 @@ fn is_background(name: &[u8]) -> bool
         || same_name(name, b"tfoot")
 }
 
+/// Whether the element with this name, in any case, has a link in `src`, and in no other attribute.
 fn is_embedded(name: &[u8]) -> bool
     ensures { result ≡ is_embedded (map lower name.now) }
 {
@@ -71,6 +75,7 @@ fn is_embedded(name: &[u8]) -> bool
         || same_name(name, b"track")
 }
 
+/// Whether the element with this name, in any case, is a `frame` or `iframe`, which have links in `src` and `longdesc`.
 fn is_frame(name: &[u8]) -> bool
     ensures { result ≡ is_frame (map lower name.now) }
 {
@@ -150,6 +155,7 @@ pub(crate) fn wanted_of(element: Element) -> Wanted
     }
 }
 
+/// The names of the first, second and third attribute that are read. An empty name is that of no attribute.
 fn names(first: &'static [u8], second: &'static [u8], third: &'static [u8]) -> Wanted
     ensures { wanted_at result ≡ wants first.now second.now third.now }
 {

@@ -31,6 +31,7 @@ pub(crate) struct Values<'a> {
 }
 
 impl<'a> Values<'a> {
+    /// The values before any tag is read: all of them are absent.
     pub(crate) fn none() -> Values<'a>
         ensures { values_at result ≡ no_values }
     {
@@ -58,6 +59,7 @@ impl<'a> Values<'a> {
             && is_absent(self.id)
     }
 
+    /// Makes all values absent before a tag is read. The numbers of bytes after them stay, since they count only with a value.
     #[inline(always)]
     pub(crate) fn clear(&mut self)
         ensures { values_at self.new ≡ no_values }
@@ -77,6 +79,7 @@ static LENGTHS: [u16; 32] = [
     0x0, 0x4, 0x2034, 0x8, 0x0, 0x10, 0x0, 0x200, 0x0, 0x0, 0x0, 0x0, 0x0, 0x0, 0x0,
 ];
 
+/// Whether no attribute with the name was found. An attribute without a value is present, and its value is empty.
 #[inline(always)]
 fn is_absent(value: Option<&[u8]>) -> bool
     ensures { result ≡ is_absent (bytes_at value.entry) }
@@ -111,6 +114,7 @@ fn take_value<'a>(value: &mut Option<&'a [u8]>, found: &'a [u8]) -> bool
     takes
 }
 
+/// Whether the name is `href` in lower case. A name in another case is compared later, with all names that are read.
 #[inline(always)]
 fn is_href(name: &[u8]) -> bool
     ensures { result ≡ true → name.now ≡ codes "href" }

@@ -18,6 +18,7 @@ fn list_of(name: &[u8]) -> usize
     }
 }
 
+/// The number at this index, or 0 if there is none.
 fn number_in(numbers: &[u16], index: usize) -> usize
     ensures { result ≡ number_in numbers.now index }
 {
@@ -27,6 +28,7 @@ fn number_in(numbers: &[u16], index: usize) -> usize
     }
 }
 
+/// The bytes from index `start` to before index `end`. No bytes if `start` is above `end`, or `end` above the length.
 fn part_of(bytes: &[u8], start: usize, end: usize) -> &[u8]
     ensures { result.now ≡ part_of bytes.now start end }
 {
@@ -37,12 +39,14 @@ fn part_of(bytes: &[u8], start: usize, end: usize) -> &[u8]
     }
 }
 
+/// The byte index in `ROWS` at which this list begins. For 256, it is the end of the last list, and for a greater number 0.
 fn start_at(index: usize) -> usize
     ensures { result ≡ start_at index }
 {
     number_in(&STARTS, index)
 }
 
+/// The rows of this list, each with a space after it. There are 256 lists.
 fn list_at(index: usize) -> &'static [u8]
     requires { index < 256 }
     ensures { result.now ≡ list_at index }

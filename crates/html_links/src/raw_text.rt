@@ -9,18 +9,21 @@ ghost use Rattle.html_links.specs.RawText.{Text, run, ends_at, same_name};
 
 use crate::bytes::{Class, behind_byte, class_of, parts, split_quoted};
 
+/// Whether the byte is an ASCII letter.
 pub(crate) fn is_letter(byte: u8) -> bool
     ensures { result ≡ is_letter byte }
 {
     matches!(byte, b'A'..=b'Z' | b'a'..=b'z')
 }
 
+/// The number of ASCII letters at the front.
 fn letters_len(bytes: &[u8]) -> usize
     ensures { result ≡ length (take_while is_letter bytes.now) }
 {
     bytes.iter().take_while(|byte| is_letter(**byte)).count()
 }
 
+/// The ASCII letters at the front, and the bytes after them.
 fn split_letters(bytes: &[u8]) -> (&[u8], &[u8])
     ensures letters { result.0.now ≡ front is_letter bytes.now }
     ensures rest { result.1.now ≡ behind is_letter bytes.now }
@@ -28,6 +31,7 @@ fn split_letters(bytes: &[u8]) -> (&[u8], &[u8])
     bytes.split_at(letters_len(bytes))
 }
 
+/// Whether the name of an end tag ends before these bytes: the first is white space, `/` or `>`. False if there are none.
 fn ends_name(bytes: &[u8]) -> bool
     ensures { result ≡ ends_at bytes.now }
 {
@@ -49,6 +53,7 @@ pub(crate) fn same_name(found: &[u8], name: &[u8]) -> bool
     found == name || found.eq_ignore_ascii_case(name)
 }
 
+/// Whether `found`, with `rest` after it, is the name in an end tag of the element: the Standard's appropriate end tag token.
 fn is_end(found: &[u8], rest: &[u8], name: &[u8]) -> bool
     ensures { result ≡ (ends_at rest.now && same_name found.now name.now) }
 {

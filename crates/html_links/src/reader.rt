@@ -88,6 +88,7 @@ pub fn read_page<L: PlacedLinks, I: Links>(
     Ok(base)
 }
 
+/// Passes on the ids of a tag with this name: its `id`, and then its `name` if the tag is an `a`.
 #[inline(always)]
 fn push_ids<I: Links>(
     name: &[u8],
@@ -101,6 +102,7 @@ fn push_ids<I: Links>(
     push_anchor(name, values, decoded, ids)
 }
 
+/// Passes on the value of the `name` attribute if the tag is an `a`, in any case.
 #[inline(always)]
 fn push_anchor<I: Links>(
     name: &[u8],
@@ -265,12 +267,14 @@ fn second_form(
     }
 }
 
+/// The form if the condition is true, and otherwise `Nothing`.
 fn form_if(is: bool, form: Form) -> Form
     ensures { result ≡ form_if is form }
 {
     if is { form } else { Form::Nothing }
 }
 
+/// How the `content` of a `meta` names documents: as a refresh by its `http-equiv`, or as a link by its `property` or `name`.
 fn meta_form(values: &Values<'_>, decoded: &mut Vec<u8>) -> Result<Form, AllocError>
     ensures { IfOk result (λ form. form ≡ meta_form (values_at values.now)) }
 {
@@ -328,12 +332,14 @@ fn names_url(name: Option<&[u8]>, decoded: &mut Vec<u8>) -> Result<bool, AllocEr
     Ok(is_open_graph(name) || is_card(name))
 }
 
+/// Whether the two texts are equal. Letters in different cases are different.
 fn is_text(found: &[u8], text: &[u8]) -> bool
     ensures { result ≡ bytes_eq found.now text.now }
 {
     found == text
 }
 
+/// Whether the name is that of an Open Graph property whose value is a URL. It must be in lower case.
 fn is_open_graph(name: &[u8]) -> bool
     ensures { result ≡ is_open_graph name.now }
 {
@@ -349,6 +355,7 @@ fn is_open_graph(name: &[u8]) -> bool
         || is_text(name, b"og:audio:secure_url")
 }
 
+/// Whether the name is that of a property of X's cards whose value is a URL. It must be in lower case.
 fn is_card(name: &[u8]) -> bool
     ensures { result ≡ is_card name.now }
 {
@@ -370,6 +377,7 @@ fn names_data(name: Option<&[u8]>, decoded: &mut Vec<u8>) -> Result<bool, AllocE
     Ok(is_data(decoded.as_slice()))
 }
 
+/// Whether the name, in any case, is that of a plugin's parameter whose value is the URL of its data.
 fn is_data(name: &[u8]) -> bool
     ensures { result ≡ is_data name.now }
 {
@@ -407,6 +415,7 @@ pub(crate) fn push_value<L: Links>(
     push_some(form, value, decoded, links)
 }
 
+/// Passes on the links of a value as written, with its character references decoded. It may overwrite `decoded`.
 #[inline(never)]
 fn push_some<L: Links>(
     form: Form,
@@ -424,6 +433,7 @@ fn push_some<L: Links>(
     push_text(form, decoded.as_slice(), links)
 }
 
+/// Passes on the links of a text in which character references are already decoded.
 fn push_text<L: Links>(form: Form, text: &[u8], links: &mut L) -> Result<(), AllocError>
     ensures { OnOk result (L.texts links.new ≡ L.texts links.old ++ text_links form text.now) }
 {

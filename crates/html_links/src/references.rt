@@ -91,6 +91,7 @@ pub(crate) fn decode(value: &[u8], out: &mut Vec<u8>) -> Result<(), AllocError>
     }
 }
 
+/// Appends the text of what was decoded. The bytes that are no reference are appended as written, with their `&`.
 fn push_decoded(found: Decoded<'_>, out: &mut Vec<u8>) -> Result<(), AllocError>
     ensures { OnOk result (out.new.items ≡ out.old.items ++ decoded_text found.entry) }
 {
@@ -104,6 +105,7 @@ fn push_decoded(found: Decoded<'_>, out: &mut Vec<u8>) -> Result<(), AllocError>
     }
 }
 
+/// Appends the character in UTF-8.
 fn push_character(character: char, out: &mut Vec<u8>) -> Result<(), AllocError>
     ensures { OnOk result (out.new.items ≡ out.old.items ++ encode_utf8 character) }
 {
@@ -162,6 +164,7 @@ fn numbered(bytes: &[u8]) -> (Decoded<'_>, &[u8])
     }
 }
 
+/// The value of a byte as a digit to a base from 2 to 36. Letters may be in either case. `None` if it is no such digit.
 fn digit_in(radix: u32, byte: u8) -> Option<u32>
     requires low { 2 ≤ radix }
     requires high { radix ≤ 36 }
@@ -170,6 +173,7 @@ fn digit_in(radix: u32, byte: u8) -> Option<u32>
     (byte as char).to_digit(radix)
 }
 
+/// The number with one more digit. A number above all characters stays as it is, so that it never overflows.
 fn number_after(radix: u32, number: u64, digit: u32) -> u64
     requires { radix ≤ 36 }
     ensures { result ≡ number_after radix number digit }
@@ -232,6 +236,7 @@ pub(crate) static WINDOWS: [char; 32] = [
     '\u{2dc}', '\u{2122}', '\u{161}', '\u{203a}', '\u{153}', '\u{9d}', '\u{17e}', '\u{178}',
 ];
 
+/// The character of a numeric reference: U+FFFD for 0, a surrogate or too great a number, one of `WINDOWS` for 0x80 to 0x9f.
 fn character_of(number: u64) -> char
     ensures { result ≡ character_of number }
 {
@@ -246,18 +251,21 @@ fn character_of(number: u64) -> char
     }
 }
 
+/// Whether the byte continues the name of a character reference: it is an ASCII letter or digit.
 fn in_name(byte: u8) -> bool
     ensures { result ≡ is_ascii_alphanumeric byte }
 {
     byte.is_ascii_alphanumeric()
 }
 
+/// The number of ASCII letters and digits at the front.
 fn name_len(bytes: &[u8]) -> usize
     ensures { result ≡ length (take_while is_ascii_alphanumeric bytes.now) }
 {
     bytes.iter().take_while(|byte| in_name(**byte)).count()
 }
 
+/// The ASCII letters and digits at the front, and the bytes after them.
 fn split_name(bytes: &[u8]) -> (&[u8], &[u8])
     ensures name { result.0.now ≡ front is_ascii_alphanumeric bytes.now }
     ensures rest { result.1.now ≡ behind is_ascii_alphanumeric bytes.now }
@@ -303,6 +311,7 @@ fn open_name<'a>(name: &'a [u8], rest: &'a [u8]) -> (Decoded<'a>, &'a [u8])
     }
 }
 
+/// The text of a name. If it has none, the name is no reference, and is kept with the `&` before it.
 fn or_itself<'a>(name: &'a [u8], text: Option<&'static [u8]>) -> Decoded<'a>
     ensures { decoded_text result ≡ or_itself name.now (bytes_at text.entry) }
 {

@@ -17,6 +17,7 @@ pub(crate) fn target_of(content: &[u8]) -> Option<&[u8]>
     }
 }
 
+/// The target, or `None` if it is empty: the refresh is then to the document itself, which is no link.
 fn some_bytes(text: &[u8]) -> Option<&[u8]>
     ensures { bytes_at result ≡ some_bytes text.now }
 {
@@ -26,30 +27,35 @@ fn some_bytes(text: &[u8]) -> Option<&[u8]>
     }
 }
 
+/// Whether the byte may be in the time of a refresh: it is a digit or a full stop.
 fn in_time(byte: u8) -> bool
     ensures { result ≡ in_time byte }
 {
     matches!(byte, b'0'..=b'9' | b'.')
 }
 
+/// Whether the byte is one that separates the time of a refresh from its target: `;` or `,`.
 fn is_separator(byte: u8) -> bool
     ensures { result ≡ is_separator byte }
 {
     byte == b';' || byte == b','
 }
 
+/// The number of digits and full stops at the front.
 fn time_len(bytes: &[u8]) -> usize
     ensures { result ≡ length (take_while in_time bytes.now) }
 {
     bytes.iter().take_while(|byte| in_time(**byte)).count()
 }
 
+/// The bytes after the digits and full stops at the front.
 fn skip_time(bytes: &[u8]) -> &[u8]
     ensures { result.now ≡ behind in_time bytes.now }
 {
     &bytes[time_len(bytes)..]
 }
 
+/// The bytes after one `;` or `,` at the front and the white space after it. If neither is there, all bytes.
 fn behind_mark(bytes: &[u8]) -> &[u8]
     ensures { result.now ≡ behind_mark bytes.now }
 {
@@ -63,6 +69,7 @@ fn behind_mark(bytes: &[u8]) -> &[u8]
     }
 }
 
+/// The bytes after what separates the time from the target: white space, `;` or `,`. `None` if nothing separates them.
 fn behind_end(bytes: &[u8]) -> Option<&[u8]>
     ensures { bytes_at result ≡ behind_end bytes.now }
 {
@@ -76,6 +83,7 @@ fn behind_end(bytes: &[u8]) -> Option<&[u8]>
     }
 }
 
+/// The bytes after the time and what separates it from the target. `None` if the bytes do not begin with these.
 fn behind_number(bytes: &[u8]) -> Option<&[u8]>
     ensures { bytes_at result ≡ behind_number bytes.now }
 {
@@ -96,6 +104,7 @@ fn behind_time(content: &[u8]) -> Option<&[u8]>
     behind_number(skip_space(content))
 }
 
+/// The bytes after this character at the front, in any case, or `None` if it is not there. A letter must be in lower case.
 pub(crate) fn behind_letter(letter: u8, bytes: &[u8]) -> Option<&[u8]>
     ensures { bytes_at result ≡ behind_letter letter bytes.now }
 {
@@ -109,6 +118,7 @@ pub(crate) fn behind_letter(letter: u8, bytes: &[u8]) -> Option<&[u8]>
     }
 }
 
+/// The bytes after an `=` at the front and the white space after it. `None` if there is no `=`.
 fn behind_equals(bytes: &[u8]) -> Option<&[u8]>
     ensures { bytes_at result ≡ behind_equals bytes.now }
 {
@@ -141,6 +151,7 @@ fn behind_url(text: &[u8]) -> &[u8]
     }
 }
 
+/// Whether the byte is a `"` or a `'`.
 pub(crate) fn is_quote(byte: u8) -> bool
     ensures { result ≡ is_quote byte }
 {

@@ -49,6 +49,7 @@ enum Scan<'a> {
     Unfinished,
 }
 
+/// `count` if the byte is this letter, in any case, and otherwise 7. `letter` must be in lower case.
 fn letters_if(letter: u8, count: u8, byte: u8) -> u8
     ensures { result ≡ letters_if letter count byte }
 {
@@ -59,6 +60,7 @@ fn letters_if(letter: u8, count: u8, byte: u8) -> u8
     }
 }
 
+/// The number of letters of `script` in a name after one more letter, or 7 if the name no longer begins like `script`.
 fn letter_after(count: u8, byte: u8) -> u8
     ensures { result ≡ letter_after count byte }
 {
@@ -73,12 +75,14 @@ fn letter_after(count: u8, byte: u8) -> u8
     }
 }
 
+/// Whether the byte ends the name of a tag in a script: white space, `/` or `>`.
 fn ends_name(byte: u8) -> bool
     ensures { result ≡ ends_name (class_of byte) }
 {
     matches!(class_of(byte), Class::Space | Class::Slash | Class::Greater)
 }
 
+/// The step at a byte in the Standard's script data state.
 fn text_step(byte: u8) -> Next
     ensures { result ≡ text_step byte }
 {
@@ -89,6 +93,7 @@ fn text_step(byte: u8) -> Next
     }
 }
 
+/// The step at a byte in the Standard's script data escaped state.
 fn escaped_step(byte: u8) -> Next
     ensures { result ≡ escaped_step byte }
 {
@@ -99,6 +104,7 @@ fn escaped_step(byte: u8) -> Next
     }
 }
 
+/// The step at a byte in the Standard's script data double escaped state.
 fn double_step(byte: u8) -> Next
     ensures { result ≡ double_step byte }
 {
@@ -109,6 +115,7 @@ fn double_step(byte: u8) -> Next
     }
 }
 
+/// The end of the script if the name is `script` and the byte ends it, and otherwise `other`. `count` is that of the name.
 fn end_step(count: u8, byte: u8, other: Next) -> Next
     ensures { result ≡ end_step count byte other }
 {
@@ -118,6 +125,7 @@ fn end_step(count: u8, byte: u8, other: Next) -> Next
     if ends_name(byte) { Next::Ends } else { other }
 }
 
+/// If the byte ends the name, the state `changed` if the name is `script`, and `same` if not. If it does not, `other`.
 fn change_step(count: u8, byte: u8, changed: State, same: State, other: Next) -> Next
     ensures { result ≡ change_step count byte (Go changed) (Go same) other }
 {
@@ -131,6 +139,7 @@ fn change_step(count: u8, byte: u8, changed: State, same: State, other: Next) ->
     }
 }
 
+/// The state `dashed` if the byte is a `-`, and otherwise `other`.
 fn dash_step(byte: u8, dashed: State, other: Next) -> Next
     ensures { result ≡ (if byte == 45 then Go dashed else other) }
 {
@@ -141,6 +150,7 @@ fn dash_step(byte: u8, dashed: State, other: Next) -> Next
     }
 }
 
+/// The state `slashed` if the byte is a `/`, and otherwise `other`.
 fn slash_step(byte: u8, slashed: State, other: Next) -> Next
     ensures { result ≡ (if byte == 47 then Go slashed else other) }
 {
@@ -151,6 +161,7 @@ fn slash_step(byte: u8, slashed: State, other: Next) -> Next
     }
 }
 
+/// The script data state if the byte is a `>`, which ends the escaped text, and otherwise `other`.
 fn greater_step(byte: u8, other: Next) -> Next
     ensures { result ≡ (if byte == 62 then Go Text else other) }
 {
@@ -161,6 +172,7 @@ fn greater_step(byte: u8, other: Next) -> Next
     }
 }
 
+/// The script data escape start state if the byte is a `!`, and otherwise `other`.
 fn bang_step(byte: u8, other: Next) -> Next
     ensures { result ≡ (if byte == 33 then Go EscapeStart else other) }
 {
@@ -171,6 +183,7 @@ fn bang_step(byte: u8, other: Next) -> Next
     }
 }
 
+/// The state `lettered` if the byte is an ASCII letter, and otherwise `other`.
 fn letter_step(byte: u8, lettered: State, other: Next) -> Next
     ensures { result ≡ (if is_letter byte then Go lettered else other) }
 {
@@ -181,12 +194,14 @@ fn letter_step(byte: u8, lettered: State, other: Next) -> Next
     }
 }
 
+/// The step at a byte in the Standard's script data less-than sign state.
 fn less_than(byte: u8) -> Next
     ensures { result ≡ step LessThan byte }
 {
     slash_step(byte, State::EndTagOpen, bang_step(byte, text_step(byte)))
 }
 
+/// The step at a byte in the Standard's script data end tag open state.
 fn end_tag_open(byte: u8) -> Next
     ensures { result ≡ step EndTagOpen byte }
 {
@@ -197,6 +212,7 @@ fn end_tag_open(byte: u8) -> Next
     )
 }
 
+/// The step at a byte in the Standard's script data end tag name state. `count` is that of the name so far.
 fn end_tag_name(count: u8, byte: u8) -> Next
     ensures { result ≡ step (EndTagName count) byte }
 {
@@ -207,6 +223,7 @@ fn end_tag_name(count: u8, byte: u8) -> Next
     )
 }
 
+/// The step at a byte in the Standard's script data escaped dash dash state.
 fn escaped_dash_dash(byte: u8) -> Next
     ensures { result ≡ step EscapedDashDash byte }
 {
@@ -217,6 +234,7 @@ fn escaped_dash_dash(byte: u8) -> Next
     )
 }
 
+/// The step at a byte in the Standard's script data escaped less-than sign state.
 fn escaped_less_than(byte: u8) -> Next
     ensures { result ≡ step EscapedLessThan byte }
 {
@@ -231,6 +249,7 @@ fn escaped_less_than(byte: u8) -> Next
     )
 }
 
+/// The step at a byte in the Standard's script data escaped end tag open state.
 fn escaped_end_tag_open(byte: u8) -> Next
     ensures { result ≡ step EscapedEndTagOpen byte }
 {
@@ -241,6 +260,7 @@ fn escaped_end_tag_open(byte: u8) -> Next
     )
 }
 
+/// The step at a byte in the Standard's script data escaped end tag name state. `count` is that of the name so far.
 fn escaped_end_tag_name(count: u8, byte: u8) -> Next
     ensures { result ≡ step (EscapedEndTagName count) byte }
 {
@@ -251,6 +271,7 @@ fn escaped_end_tag_name(count: u8, byte: u8) -> Next
     )
 }
 
+/// The step at a byte in the Standard's script data double escape start state. `count` is that of the name so far.
 fn double_escape_start(count: u8, byte: u8) -> Next
     ensures { result ≡ step (DoubleEscapeStart count) byte }
 {
@@ -267,6 +288,7 @@ fn double_escape_start(count: u8, byte: u8) -> Next
     )
 }
 
+/// The step at a byte in the Standard's script data double escaped dash dash state.
 fn double_escaped_dash_dash(byte: u8) -> Next
     ensures { result ≡ step DoubleEscapedDashDash byte }
 {
@@ -277,6 +299,7 @@ fn double_escaped_dash_dash(byte: u8) -> Next
     )
 }
 
+/// The step at a byte in the Standard's script data double escape end state. `count` is that of the name so far.
 fn double_escape_end(count: u8, byte: u8) -> Next
     ensures { result ≡ step (DoubleEscapeEnd count) byte }
 {
@@ -293,6 +316,7 @@ fn double_escape_end(count: u8, byte: u8) -> Next
     )
 }
 
+/// The Standard's step from a state at a byte, together with the steps that reconsume the byte.
 fn step(state: State, byte: u8) -> Next
     ensures { result ≡ step state byte }
 {
@@ -337,6 +361,7 @@ fn open_text(bytes: &[u8]) -> Scan<'_>
     }
 }
 
+/// The step at the first byte. If the script ends at this byte, which is after the end tag's name, the byte is kept.
 fn scan_byte(state: State, bytes: &[u8]) -> Scan<'_>
     ensures scans { Scans result state bytes.now }
     ensures leaves { LeavesScan result bytes.now }
@@ -350,6 +375,7 @@ fn scan_byte(state: State, bytes: &[u8]) -> Scan<'_>
     }
 }
 
+/// One step of a script. In the script data state, it is over all bytes up to and including the next `<`.
 fn next_scan(state: State, bytes: &[u8]) -> Scan<'_>
     ensures scans { Scans result state bytes.now }
     ensures leaves { LeavesScan result bytes.now }

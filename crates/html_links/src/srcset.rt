@@ -8,18 +8,21 @@ use crate::Links;
 use crate::bytes::{is_space, parts};
 use std::alloc::AllocError;
 
+/// Whether the byte may be between two candidates: white space or a comma.
 fn is_between(byte: u8) -> bool
     ensures { result ≡ is_between byte }
 {
     is_space(byte) || byte == b','
 }
 
+/// The number of white space bytes and commas at the front.
 fn between_len(bytes: &[u8]) -> usize
     ensures { result ≡ length (take_while is_between bytes.now) }
 {
     bytes.iter().take_while(|byte| is_between(**byte)).count()
 }
 
+/// The bytes from the start of the next candidate. They are empty if no candidate follows.
 fn skip_between(bytes: &[u8]) -> &[u8]
     ensures skipped { result.now ≡ behind is_between bytes.now }
     ensures stopped { Stopped is_between result.now }
@@ -27,12 +30,14 @@ fn skip_between(bytes: &[u8]) -> &[u8]
     &bytes[between_len(bytes)..]
 }
 
+/// Whether the byte may be part of a candidate's URL or of a keyword: it is not white space.
 fn is_unspaced(byte: u8) -> bool
     ensures { result ≡ is_unspaced byte }
 {
     !is_space(byte)
 }
 
+/// The number of bytes before the first white space, or of all bytes if there is none.
 fn unspaced_len(bytes: &[u8]) -> usize
     ensures { result ≡ length (take_while is_unspaced bytes.now) }
 {
@@ -57,6 +62,7 @@ fn before_comma(url: &[u8]) -> Option<&[u8]>
     if *last == b',' { Some(front) } else { None }
 }
 
+/// The URL of a candidate without the commas at its end.
 fn without_commas(url: &[u8]) -> &[u8]
     ensures { result.now ≡ without_commas url.now }
 {

@@ -26,6 +26,7 @@ pub fn style_links<L: Links>(alloc: Global, text: &[u8], links: &mut L) -> Resul
     push_urls(bare.as_slice(), links)
 }
 
+/// Whether the text has a `/*`, also in quotes. If it has none, it is already without comments.
 fn has_comment(text: &[u8]) -> bool
     ensures { result ≡ false → without_comments text.now ≡ text.now }
 {
@@ -79,6 +80,7 @@ fn behind_comment(text: &[u8]) -> &[u8]
     }
 }
 
+/// Passes on the URLs of a style sheet from which the comments were removed, in order.
 fn push_urls<L: Links>(text: &[u8], links: &mut L) -> Result<(), AllocError>
     ensures { OnOk result (L.texts links.new ≡ L.texts links.old ++ urls_of text.now) }
 {
@@ -120,6 +122,7 @@ fn found_at(bytes: &[u8]) -> Option<(&[u8], &[u8])>
     }
 }
 
+/// The bytes after a `url(` at the front, in any case. `None` if it is not there.
 fn behind_url(bytes: &[u8]) -> Option<&[u8]>
     ensures { bytes_at result ≡ behind_url bytes.now }
 {
@@ -135,6 +138,7 @@ fn behind_url(bytes: &[u8]) -> Option<&[u8]>
     behind_letter(b'(', l)
 }
 
+/// The bytes after an `@import` at the front, in any case. `None` if it is not there.
 fn behind_import(bytes: &[u8]) -> Option<&[u8]>
     ensures { bytes_at result ≡ behind_import bytes.now }
 {
@@ -159,6 +163,7 @@ fn behind_import(bytes: &[u8]) -> Option<&[u8]>
     behind_letter(b't', r)
 }
 
+/// The URL after a `url(`, with or without quotes, and the bytes after it. A `)` need not follow.
 fn in_brackets(bytes: &[u8]) -> Option<(&[u8], &[u8])>
     ensures { found_bytes result ≡ in_brackets bytes.now }
 {
@@ -169,6 +174,7 @@ fn in_brackets(bytes: &[u8]) -> Option<(&[u8], &[u8])>
     }
 }
 
+/// The URL in quotes after an `@import`, and the bytes after it. `None` if there is no white space before the quote.
 fn spaced(bytes: &[u8]) -> Option<(&[u8], &[u8])>
     ensures { found_bytes result ≡ spaced bytes.now }
 {
@@ -214,6 +220,7 @@ fn is_wide_space(byte: u8) -> bool
     matches!(byte, b'\t'..=b'\r' | b' ')
 }
 
+/// The number of white space bytes at the front, including vertical tabs.
 fn wide_len(bytes: &[u8]) -> usize
     ensures { result ≡ length (take_while is_wide_space bytes.now) }
 {
@@ -223,24 +230,28 @@ fn wide_len(bytes: &[u8]) -> usize
         .count()
 }
 
+/// The bytes after the white space at the front, including vertical tabs.
 fn skip_wide_space(bytes: &[u8]) -> &[u8]
     ensures { result.now ≡ behind is_wide_space bytes.now }
 {
     &bytes[wide_len(bytes)..]
 }
 
+/// Whether the byte continues a URL without quotes. White space, quotes and parentheses end the URL.
 fn in_plain(byte: u8) -> bool
     ensures { result ≡ in_plain byte }
 {
     !(is_wide_space(byte) || is_quote(byte) || byte == b'(' || byte == b')')
 }
 
+/// The number of bytes at the front that continue a URL without quotes.
 fn plain_len(bytes: &[u8]) -> usize
     ensures { result ≡ length (take_while in_plain bytes.now) }
 {
     bytes.iter().take_while(|byte| in_plain(**byte)).count()
 }
 
+/// The URL without quotes at the front, which may be empty, and the bytes after it.
 fn split_plain(bytes: &[u8]) -> (&[u8], &[u8])
     ensures url { result.0.now ≡ front in_plain bytes.now }
     ensures rest { result.1.now ≡ behind in_plain bytes.now }
