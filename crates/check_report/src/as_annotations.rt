@@ -28,6 +28,7 @@ pub fn put_annotation(out: &mut Vec<u8>, folder: &str, row: Row<'_>) -> Result<(
     }
 }
 
+/// Appends an `::error` command without a location if the target has no locations; otherwise nothing.
 fn put_broken(out: &mut Vec<u8>, broken: &Broken) -> Result<(), NoMemory>
     ensures { OnOk result (out.new.items ≡ out.old.items ++ broken_annotation broken.now) }
 {
@@ -38,6 +39,7 @@ fn put_broken(out: &mut Vec<u8>, broken: &Broken) -> Result<(), NoMemory>
     put_message(out, broken)
 }
 
+/// Appends an `::error` command for a broken link, ended by LF.
 fn put_place(
     out: &mut Vec<u8>,
     folder: &str,
@@ -51,6 +53,7 @@ fn put_place(
     put_message(out, broken)
 }
 
+/// Appends `::error` with the file, line and column of a link, up to the `::` before the message.
 fn put_at(out: &mut Vec<u8>, folder: &str, place: &Place) -> Result<(), NoMemory>
     ensures { OnOk result (out.new.items ≡ out.old.items ++ at_place folder.now place.now) }
 {
@@ -89,6 +92,7 @@ fn slash_after(folder: &str) -> &str
     }
 }
 
+/// Appends the target, what is missing, and the page that is suggested, and ends the line.
 fn put_message(out: &mut Vec<u8>, broken: &Broken) -> Result<(), NoMemory>
     ensures { OnOk result (out.new.items ≡ out.old.items ++ message_line broken.now) }
 {

@@ -24,6 +24,7 @@ pub fn with_json(out: Vec<u8>, row: Row<'_>) -> Result<Vec<u8>, NoMemory>
     }
 }
 
+/// Whether the row is printed as an object. The start and the end of a section and the end of the report are not.
 fn is_object(row: Row<'_>) -> bool
     ensures { result ≡ is_object (line_of row.entry) }
 {
@@ -40,6 +41,7 @@ fn is_object(row: Row<'_>) -> bool
     }
 }
 
+/// Appends the members of the row as an object without spaces, and LF.
 fn with_object(out: Vec<u8>, row: Row<'_>) -> Result<Vec<u8>, NoMemory>
     ensures { IfOk result (λ more. more.items ≡ out.items ++ object_line (members_of (line_of row.entry))) }
 {
@@ -52,7 +54,7 @@ fn with_object(out: Vec<u8>, row: Row<'_>) -> Result<Vec<u8>, NoMemory>
     Ok(out)
 }
 
-// The object has been started and is not ended here.
+/// Writes the members of the row. The caller starts and ends the object.
 fn put_row(out: &mut Writer, row: Row<'_>) -> Result<(), NoMemory>
     requires { out.old.tokens ≡ begin_object ∷ [] }
     ensures tokens { OnOk result (out.new.tokens ++ end_object ∷ [] ≡ json_tokens (object (members_of (line_of row.entry)))) }
@@ -75,6 +77,7 @@ fn put_row(out: &mut Writer, row: Row<'_>) -> Result<(), NoMemory>
     }
 }
 
+/// Writes the members for the totals: the name of the site, and the counts. An optional count that is absent is omitted.
 fn put_total(out: &mut Writer, base: &str, totals: Totals, counts: Counts) -> Result<(), NoMemory>
     requires { out.old.tokens ≡ begin_object ∷ [] }
     ensures tokens { OnOk result (out.new.tokens ++ end_object ∷ [] ≡ json_tokens (object (members_of (line.total base.now totals counts)))) }
@@ -89,7 +92,7 @@ fn put_total(out: &mut Writer, base: &str, totals: Totals, counts: Counts) -> Re
     put_optional_counts(out, totals, counts)
 }
 
-// The optional counts, and then the counts of broken links.
+/// Writes the optional counts, and then the counts of broken links.
 fn put_optional_counts(out: &mut Writer, totals: Totals, counts: Counts) -> Result<(), NoMemory>
     ensures tokens { OnOk result (out.new.tokens ++ end_object ∷ [] ≡ out.old.tokens ++ members_tokens (optional_counts totals counts)) }
     ensures before { out.new.before ≡ out.old.before }
@@ -99,6 +102,7 @@ fn put_optional_counts(out: &mut Writer, totals: Totals, counts: Counts) -> Resu
     put_broken_counts(out, totals)
 }
 
+/// Writes the numbers of broken links, missing pages and missing anchors.
 fn put_broken_counts(out: &mut Writer, totals: Totals) -> Result<(), NoMemory>
     ensures tokens { OnOk result (out.new.tokens ≡ out.old.tokens ++ key (codes "broken") ∷ number (decimal totals.broken_links) ∷ key (codes "missing_pages") ∷ number (decimal totals.broken_urls) ∷ key (codes "missing_anchors") ∷ number (decimal totals.broken_anchors) ∷ []) }
     ensures before { out.new.before ≡ out.old.before }
@@ -108,6 +112,7 @@ fn put_broken_counts(out: &mut Writer, totals: Totals) -> Result<(), NoMemory>
     put_count(out, "missing_anchors", totals.broken_anchors)
 }
 
+/// Writes the members for a missing page or anchor. `same_name` is null if no page is suggested.
 fn put_broken(out: &mut Writer, broken: &Broken) -> Result<(), NoMemory>
     requires { out.old.tokens ≡ begin_object ∷ [] }
     ensures tokens { OnOk result (out.new.tokens ++ end_object ∷ [] ≡ json_tokens (object (members_of (line.broken broken.now)))) }
@@ -118,6 +123,7 @@ fn put_broken(out: &mut Writer, broken: &Broken) -> Result<(), NoMemory>
     put_text_or_null(out, "same_name", &broken.same_name)
 }
 
+/// Writes the members for a broken link: the target, what is missing, the file, the line and the column.
 fn put_place(out: &mut Writer, broken: &Broken, place: &Place) -> Result<(), NoMemory>
     requires { out.old.tokens ≡ begin_object ∷ [] }
     ensures tokens { OnOk result (out.new.tokens ++ end_object ∷ [] ≡ json_tokens (object (members_of (line.place broken.now place.now)))) }
@@ -129,6 +135,7 @@ fn put_place(out: &mut Writer, broken: &Broken, place: &Place) -> Result<(), NoM
     put_count(out, "column", place.column)
 }
 
+/// Writes the members for the number of locations that are not listed.
 fn put_more(out: &mut Writer, places: u64) -> Result<(), NoMemory>
     requires { out.old.tokens ≡ begin_object ∷ [] }
     ensures tokens { OnOk result (out.new.tokens ++ end_object ∷ [] ≡ json_tokens (object (members_of (line.more places)))) }
@@ -138,6 +145,7 @@ fn put_more(out: &mut Writer, places: u64) -> Result<(), NoMemory>
     put_count(out, "places", places)
 }
 
+/// Writes the members for a file and the number of broken links in it.
 fn put_worst(out: &mut Writer, count: &FileCount) -> Result<(), NoMemory>
     requires { out.old.tokens ≡ begin_object ∷ [] }
     ensures tokens { OnOk result (out.new.tokens ++ end_object ∷ [] ≡ json_tokens (object (members_of (line.worst count.now)))) }
@@ -148,6 +156,7 @@ fn put_worst(out: &mut Writer, count: &FileCount) -> Result<(), NoMemory>
     put_count(out, "links", count.links)
 }
 
+/// Writes the members for a redirect. `to` is null if its target is not known; `pages` counts the pages that link to it.
 fn put_redirect(out: &mut Writer, page: &Redirect) -> Result<(), NoMemory>
     requires { out.old.tokens ≡ begin_object ∷ [] }
     ensures tokens { OnOk result (out.new.tokens ++ end_object ∷ [] ≡ json_tokens (object (members_of (line.redirect page.now)))) }
@@ -159,6 +168,7 @@ fn put_redirect(out: &mut Writer, page: &Redirect) -> Result<(), NoMemory>
     put_count(out, "pages", page.pages)
 }
 
+/// Writes the members for an external URL and the number of links to it.
 fn put_external(out: &mut Writer, url: &External) -> Result<(), NoMemory>
     requires { out.old.tokens ≡ begin_object ∷ [] }
     ensures tokens { OnOk result (out.new.tokens ++ end_object ∷ [] ≡ json_tokens (object (members_of (line.external url.now)))) }
@@ -169,6 +179,7 @@ fn put_external(out: &mut Writer, url: &External) -> Result<(), NoMemory>
     put_count(out, "links", url.links)
 }
 
+/// Writes the members for an unreached file or an unused entry of the ignore list.
 fn put_name(out: &mut Writer, part: Part, text: &str) -> Result<(), NoMemory>
     requires { out.old.tokens ≡ begin_object ∷ [] }
     ensures tokens { OnOk result (out.new.tokens ++ end_object ∷ [] ≡ json_tokens (object (members_of (line.name part text.now)))) }
@@ -178,6 +189,7 @@ fn put_name(out: &mut Writer, part: Part, text: &str) -> Result<(), NoMemory>
     put_text(out, "name", text)
 }
 
+/// The value of `kind` for the rows in a section.
 fn row_kind(part: Part) -> &'static str
     ensures { result.now ≡ row_kind part }
 {
@@ -191,7 +203,7 @@ fn row_kind(part: Part) -> &'static str
     }
 }
 
-// The kind of the row, the target, and what is missing.
+/// Writes the kind of the row, the target, and what is missing.
 fn put_target(out: &mut Writer, kind: &str, broken: &Broken) -> Result<(), NoMemory>
     ensures tokens { OnOk result (out.new.tokens ≡ out.old.tokens ++ key (codes "kind") ∷ string kind.now ∷ key (codes "target") ∷ string (string_bytes broken.now.target) ∷ key (codes "missing") ∷ string (missing broken.now.kind) ∷ []) }
     ensures before { out.new.before ≡ out.old.before }
@@ -201,6 +213,7 @@ fn put_target(out: &mut Writer, kind: &str, broken: &Broken) -> Result<(), NoMem
     put_text(out, "missing", missing(broken.kind))
 }
 
+/// The value of `missing`.
 fn missing(kind: Kind) -> &'static str
     ensures { result.now ≡ missing kind }
 {
@@ -210,6 +223,7 @@ fn missing(kind: Kind) -> &'static str
     }
 }
 
+/// Writes a member whose value is a string.
 fn put_text(out: &mut Writer, name: &str, text: &str) -> Result<(), NoMemory>
     ensures tokens { OnOk result (out.new.tokens ≡ out.old.tokens ++ key name.now ∷ string text.now ∷ []) }
     ensures before { out.new.before ≡ out.old.before }
@@ -218,6 +232,7 @@ fn put_text(out: &mut Writer, name: &str, text: &str) -> Result<(), NoMemory>
     out.string(text)
 }
 
+/// Writes a member whose value is a string, or null if there is no text.
 fn put_text_or_null(out: &mut Writer, name: &str, text: &Option<String>) -> Result<(), NoMemory>
     ensures tokens { OnOk result (out.new.tokens ≡ out.old.tokens ++ key name.now ∷ json_tokens (text_or_null (option_map string_bytes text.now))) }
     ensures before { out.new.before ≡ out.old.before }
@@ -229,6 +244,7 @@ fn put_text_or_null(out: &mut Writer, name: &str, text: &Option<String>) -> Resu
     }
 }
 
+/// Writes a member whose value is a number.
 fn put_count(out: &mut Writer, name: &str, count: u64) -> Result<(), NoMemory>
     ensures tokens { OnOk result (out.new.tokens ≡ out.old.tokens ++ key name.now ∷ number (decimal count) ∷ []) }
     ensures before { out.new.before ≡ out.old.before }
@@ -237,6 +253,7 @@ fn put_count(out: &mut Writer, name: &str, count: u64) -> Result<(), NoMemory>
     out.u64(count)
 }
 
+/// Writes a member whose value is a number, or nothing if there is no count.
 fn put_count_if(out: &mut Writer, name: &str, count: Option<usize>) -> Result<(), NoMemory>
     ensures tokens { OnOk result (out.new.tokens ≡ out.old.tokens ++ count_tokens name.now count) }
     ensures before { out.new.before ≡ out.old.before }

@@ -12,6 +12,7 @@ use crate::row::{Counts, Part, Row};
 use crate::value::{Broken, External, FileCount, Place, Redirect, Totals};
 use parts::{HEAD, SCRIPT, STYLE, TAIL, TOOLS};
 
+/// Appends the HTML of a row. The row of the totals starts the page, and the last row ends it.
 pub fn put_page(out: &mut Vec<u8>, row: Row<'_>) -> Result<(), NoMemory>
     ensures { OnOk result (out.new.items ≡ out.old.items ++ page_line (line_of row.entry)) }
 {
@@ -36,36 +37,42 @@ pub fn put_page(out: &mut Vec<u8>, row: Row<'_>) -> Result<(), NoMemory>
 
 // ---- fixed texts
 
+/// The page up to the text of its title.
 fn head_part() -> &'static str
     ensures { result.now ≡ head_part }
 {
     HEAD
 }
 
+/// The text from the end of the title to the script, with the style sheet.
 fn style_part() -> &'static str
     ensures { result.now ≡ style_part }
 {
     STYLE
 }
 
+/// The script, and the text from there to the name of the site.
 fn script_part() -> &'static str
     ensures { result.now ≡ script_part }
 {
     SCRIPT
 }
 
+/// The end of the list of counts, and the form for search and order.
 fn tools_part() -> &'static str
     ensures { result.now ≡ tools_part }
 {
     TOOLS
 }
 
+/// The end of the page, after the last section.
 fn tail_part() -> &'static str
     ensures { result.now ≡ tail_part }
 {
     TAIL
 }
 
+/// The start of a section, with its heading, up to its rows.
 fn section_start(part: Part) -> &'static str
     ensures { result.now ≡ section_start part }
 {
@@ -87,6 +94,7 @@ fn section_start(part: Part) -> &'static str
 
 // ---- totals
 
+/// Appends the page up to its first section: the title, the heading, the counts, and the form for search and order.
 fn put_total(out: &mut Vec<u8>, base: &str, totals: Totals, counts: Counts) -> Result<(), NoMemory>
     ensures { OnOk result (out.new.items ≡ out.old.items ++ page_total base.now totals counts) }
 {
@@ -96,6 +104,7 @@ fn put_total(out: &mut Vec<u8>, base: &str, totals: Totals, counts: Counts) -> R
     put(out, tools_part())
 }
 
+/// Appends the page up to its script. The title has the count and the name of the site.
 fn put_start(out: &mut Vec<u8>, base: &str, totals: Totals) -> Result<(), NoMemory>
     ensures { OnOk result (out.new.items ≡ out.old.items ++ page_start base.now totals) }
 {
@@ -107,6 +116,7 @@ fn put_start(out: &mut Vec<u8>, base: &str, totals: Totals) -> Result<(), NoMemo
     put(out, style_part())
 }
 
+/// Appends the script, the name of the site and the heading, up to the list of counts.
 fn put_heading(out: &mut Vec<u8>, base: &str, totals: Totals) -> Result<(), NoMemory>
     ensures { OnOk result (out.new.items ≡ out.old.items ++ page_heading base.now totals) }
 {
@@ -141,12 +151,14 @@ fn title_noun(totals: Totals) -> &'static str
     }
 }
 
+/// Whether the title counts broken links. Otherwise it counts missing pages, to which no link leads.
 fn counts_links(totals: Totals) -> bool
     ensures { result ≡ counts_links totals }
 {
     totals.broken_links > 0 || totals.broken_urls == 0
 }
 
+/// The noun after this number of broken links, with a space before it.
 fn links_noun(count: u64) -> &'static str
     ensures { result.now ≡ links_noun count }
 {
@@ -157,6 +169,7 @@ fn links_noun(count: u64) -> &'static str
     }
 }
 
+/// The noun after this number of missing pages, with a space before it.
 fn missing_noun(count: u64) -> &'static str
     ensures { result.now ≡ missing_noun count }
 {
@@ -167,6 +180,7 @@ fn missing_noun(count: u64) -> &'static str
     }
 }
 
+/// The start tags of the heading. Its class is `bad` if something is missing, otherwise `good`.
 fn verdict_start(totals: Totals) -> &'static str
     ensures { result.now ≡ verdict_start totals }
 {
@@ -177,6 +191,7 @@ fn verdict_start(totals: Totals) -> &'static str
     }
 }
 
+/// Appends the items of the list of counts.
 fn put_count_items(out: &mut Vec<u8>, totals: Totals, counts: Counts) -> Result<(), NoMemory>
     ensures { OnOk result (out.new.items ≡ out.old.items ++ count_items totals counts) }
 {
@@ -185,6 +200,7 @@ fn put_count_items(out: &mut Vec<u8>, totals: Totals, counts: Counts) -> Result<
     put_optional_items(out, counts)
 }
 
+/// Appends the numbers of pages, links, redirects and aliases, each as an item.
 fn put_site_items(out: &mut Vec<u8>, totals: Totals) -> Result<(), NoMemory>
     ensures { OnOk result (out.new.items ≡ out.old.items ++ site_items totals) }
 {
@@ -194,6 +210,7 @@ fn put_site_items(out: &mut Vec<u8>, totals: Totals) -> Result<(), NoMemory>
     put_item(out, "<li>other URLs of pages <b>", totals.aliases)
 }
 
+/// Appends the numbers of missing pages and missing anchors, each as an item.
 fn put_broken_items(out: &mut Vec<u8>, totals: Totals) -> Result<(), NoMemory>
     ensures { OnOk result (out.new.items ≡ out.old.items ++ broken_items totals) }
 {
@@ -201,6 +218,7 @@ fn put_broken_items(out: &mut Vec<u8>, totals: Totals) -> Result<(), NoMemory>
     put_item(out, "<li>missing anchors <b>", totals.broken_anchors)
 }
 
+/// Appends the numbers of unreached files and of external URLs, each as an item if the report has it.
 fn put_optional_items(out: &mut Vec<u8>, counts: Counts) -> Result<(), NoMemory>
     ensures { OnOk result (out.new.items ≡ out.old.items ++ optional_items counts) }
 {
@@ -208,6 +226,7 @@ fn put_optional_items(out: &mut Vec<u8>, counts: Counts) -> Result<(), NoMemory>
     put_item_if(out, "<li>external URLs <b>", counts.external)
 }
 
+/// Appends an item if there is a count. `word` is the HTML before the count.
 fn put_item_if(out: &mut Vec<u8>, word: &str, count: Option<usize>) -> Result<(), NoMemory>
     ensures { OnOk result (out.new.items ≡ out.old.items ++ item_if word.now count) }
 {
@@ -217,6 +236,7 @@ fn put_item_if(out: &mut Vec<u8>, word: &str, count: Option<usize>) -> Result<()
     }
 }
 
+/// Appends an item. `word` is the HTML before the count, with the start tags.
 fn put_item(out: &mut Vec<u8>, word: &str, count: u64) -> Result<(), NoMemory>
     ensures { OnOk result (out.new.items ≡ out.old.items ++ total_item word.now count) }
 {
@@ -226,12 +246,14 @@ fn put_item(out: &mut Vec<u8>, word: &str, count: u64) -> Result<(), NoMemory>
 
 // ---- rows
 
+/// Appends a text, escaped for an HTML element.
 fn put_html(out: &mut Vec<u8>, text: &str) -> Result<(), NoMemory>
     ensures { OnOk result (out.new.items ≡ out.old.items ++ html text.now) }
 {
     put_escaped(out, Escape::Html, text)
 }
 
+/// Appends the line of a missing page or anchor: the target, a tab, what is missing, and the page that is suggested.
 fn put_broken(out: &mut Vec<u8>, broken: &Broken) -> Result<(), NoMemory>
     ensures { OnOk result (out.new.items ≡ out.old.items ++ broken_row broken.now) }
 {
@@ -242,6 +264,7 @@ fn put_broken(out: &mut Vec<u8>, broken: &Broken) -> Result<(), NoMemory>
     put(out, "\n")
 }
 
+/// Appends the line of a location: a tab, and then the file, the line and the column.
 fn put_place(out: &mut Vec<u8>, place: &Place) -> Result<(), NoMemory>
     ensures { OnOk result (out.new.items ≡ out.old.items ++ place_row place.now) }
 {
@@ -252,6 +275,7 @@ fn put_place(out: &mut Vec<u8>, place: &Place) -> Result<(), NoMemory>
     put(out, "\n")
 }
 
+/// Appends the line for the number of locations that are not listed.
 fn put_more(out: &mut Vec<u8>, count: u64) -> Result<(), NoMemory>
     ensures { OnOk result (out.new.items ≡ out.old.items ++ more_row count) }
 {
@@ -259,6 +283,7 @@ fn put_more(out: &mut Vec<u8>, count: u64) -> Result<(), NoMemory>
     put(out, " more\n")
 }
 
+/// Appends the line of a file: its name, a tab, and the number of broken links in it.
 fn put_worst(out: &mut Vec<u8>, count: &FileCount) -> Result<(), NoMemory>
     ensures { OnOk result (out.new.items ≡ out.old.items ++ worst_row count.now) }
 {
@@ -267,6 +292,7 @@ fn put_worst(out: &mut Vec<u8>, count: &FileCount) -> Result<(), NoMemory>
     put(out, "\n")
 }
 
+/// Appends the line of a redirect. Tabs separate its URL, its target, and the number of pages that link to it.
 fn put_redirect(out: &mut Vec<u8>, page: &Redirect) -> Result<(), NoMemory>
     ensures { OnOk result (out.new.items ≡ out.old.items ++ redirect_row page.now) }
 {
@@ -278,6 +304,7 @@ fn put_redirect(out: &mut Vec<u8>, page: &Redirect) -> Result<(), NoMemory>
     put(out, "\n")
 }
 
+/// Appends the line of an external URL: the URL, a tab, and the number of links to it.
 fn put_external(out: &mut Vec<u8>, url: &External) -> Result<(), NoMemory>
     ensures { OnOk result (out.new.items ≡ out.old.items ++ external_row url.now) }
 {
@@ -286,6 +313,7 @@ fn put_external(out: &mut Vec<u8>, url: &External) -> Result<(), NoMemory>
     put(out, "\n")
 }
 
+/// Appends the line of an unreached file or of an unused entry of the ignore list.
 fn put_name(out: &mut Vec<u8>, text: &str) -> Result<(), NoMemory>
     ensures { OnOk result (out.new.items ≡ out.old.items ++ html text.now ++ codes "\n") }
 {

@@ -18,6 +18,7 @@ const GREEN: &str = "\x1b[32m";
 
 const PLAIN: &str = "\x1b[0m";
 
+/// Appends the lines of a row. The end of a section and the end of the report have none.
 pub fn put_text(out: &mut Vec<u8>, row: Row<'_>, colour: bool) -> Result<(), NoMemory>
     ensures { OnOk result (out.new.items ≡ out.old.items ++ text_line colour (line_of row.entry)) }
 {
@@ -35,6 +36,7 @@ pub fn put_text(out: &mut Vec<u8>, row: Row<'_>, colour: bool) -> Result<(), NoM
     }
 }
 
+/// Appends the two lines of the totals: the counts of the site, and the counts of what is broken.
 fn put_total(
     out: &mut Vec<u8>,
     totals: Totals,
@@ -49,6 +51,7 @@ fn put_total(
     put(out, "\n")
 }
 
+/// Appends the first line of the totals, without its LF. An optional count that is absent is omitted.
 fn put_site_total(out: &mut Vec<u8>, totals: Totals, counts: Counts) -> Result<(), NoMemory>
     ensures { OnOk result (out.new.items ≡ out.old.items ++ site_total totals counts) }
 {
@@ -60,6 +63,7 @@ fn put_site_total(out: &mut Vec<u8>, totals: Totals, counts: Counts) -> Result<(
     put_counted_if(out, ", external URLs ", counts.external)
 }
 
+/// Appends the second line of the totals, without its LF. If the report has colour, the number of broken links is red or green.
 fn put_broken_total(out: &mut Vec<u8>, totals: Totals, colour: bool) -> Result<(), NoMemory>
     ensures { OnOk result (out.new.items ≡ out.old.items ++ broken_total colour totals) }
 {
@@ -84,6 +88,7 @@ pub fn is_broken(totals: Totals) -> bool
     totals.broken_links > 0 || totals.broken_urls > 0 || totals.broken_anchors > 0
 }
 
+/// Appends an empty line and the title of the section, which is bold if the report has colour.
 fn put_begin(out: &mut Vec<u8>, part: Part, colour: bool) -> Result<(), NoMemory>
     ensures { OnOk result (out.new.items ≡ out.old.items ++ begin_text colour part) }
 {
@@ -93,6 +98,7 @@ fn put_begin(out: &mut Vec<u8>, part: Part, colour: bool) -> Result<(), NoMemory
     put_code(out, colour, PLAIN)
 }
 
+/// The title of a section, with its LF. The section of broken links has no title.
 fn title(part: Part) -> &'static str
     ensures { result.now ≡ title part }
 {
@@ -106,6 +112,7 @@ fn title(part: Part) -> &'static str
     }
 }
 
+/// Appends the line of a target without locations. A target with locations is in the line of each.
 fn put_broken(out: &mut Vec<u8>, broken: &Broken, colour: bool) -> Result<(), NoMemory>
     ensures { OnOk result (out.new.items ≡ out.old.items ++ broken_text colour broken.now) }
 {
@@ -116,6 +123,7 @@ fn put_broken(out: &mut Vec<u8>, broken: &Broken, colour: bool) -> Result<(), No
     }
 }
 
+/// Appends the line of a broken link: the location, which is bold if the report has colour, and the target.
 fn put_place(
     out: &mut Vec<u8>,
     broken: &Broken,
@@ -130,6 +138,7 @@ fn put_place(
     put_target(out, broken, colour)
 }
 
+/// Appends the file, the line and the column, as compilers print a location.
 fn put_place_start(out: &mut Vec<u8>, place: &Place) -> Result<(), NoMemory>
     ensures { OnOk result (out.new.items ≡ out.old.items ++ place_start place.now) }
 {
@@ -139,6 +148,7 @@ fn put_place_start(out: &mut Vec<u8>, place: &Place) -> Result<(), NoMemory>
     put(out, ": ")
 }
 
+/// Appends the target, what is missing, and the page that is suggested, and ends the line.
 fn put_target(out: &mut Vec<u8>, broken: &Broken, colour: bool) -> Result<(), NoMemory>
     ensures { OnOk result (out.new.items ≡ out.old.items ++ target_text colour broken.now) }
 {
@@ -149,6 +159,7 @@ fn put_target(out: &mut Vec<u8>, broken: &Broken, colour: bool) -> Result<(), No
     put(out, "\n")
 }
 
+/// Appends what is missing, in red if the report has colour.
 fn put_wrong(out: &mut Vec<u8>, kind: Kind, colour: bool) -> Result<(), NoMemory>
     ensures { OnOk result (out.new.items ≡ out.old.items ++ wrong_text colour kind) }
 {
@@ -157,6 +168,7 @@ fn put_wrong(out: &mut Vec<u8>, kind: Kind, colour: bool) -> Result<(), NoMemory
     put_code(out, colour, PLAIN)
 }
 
+/// The text about what is missing.
 fn message(kind: Kind) -> &'static str
     ensures { result.now ≡ message kind }
 {
@@ -174,6 +186,7 @@ pub fn put_wrong_of(out: &mut Vec<u8>, how: Escape, broken: &Broken) -> Result<(
     put_same_name(out, how, &broken.same_name)
 }
 
+/// Appends the page that is suggested, in parentheses, or nothing if there is none.
 fn put_same_name(out: &mut Vec<u8>, how: Escape, page: &Option<String>) -> Result<(), NoMemory>
     ensures { OnOk result (out.new.items ≡ out.old.items ++ same_name_text how (option_map string_bytes page.now)) }
 {
@@ -187,6 +200,7 @@ fn put_same_name(out: &mut Vec<u8>, how: Escape, page: &Option<String>) -> Resul
     }
 }
 
+/// Appends the line for the number of locations that are not listed.
 fn put_more(out: &mut Vec<u8>, count: u64) -> Result<(), NoMemory>
     ensures { OnOk result (out.new.items ≡ out.old.items ++ more_text count) }
 {
@@ -194,6 +208,7 @@ fn put_more(out: &mut Vec<u8>, count: u64) -> Result<(), NoMemory>
     put(out, " more\n")
 }
 
+/// Appends the line of a file: the number of broken links in it, and its name.
 fn put_worst(out: &mut Vec<u8>, count: &FileCount) -> Result<(), NoMemory>
     ensures { OnOk result (out.new.items ≡ out.old.items ++ worst_text count.now) }
 {
@@ -203,6 +218,7 @@ fn put_worst(out: &mut Vec<u8>, count: &FileCount) -> Result<(), NoMemory>
     put(out, "\n")
 }
 
+/// Appends the line of a redirect: its URL, its target, and the number of pages that link to it.
 fn put_redirect(out: &mut Vec<u8>, redirect: &Redirect) -> Result<(), NoMemory>
     ensures { OnOk result (out.new.items ≡ out.old.items ++ redirect_text redirect.now) }
 {
@@ -212,6 +228,7 @@ fn put_redirect(out: &mut Vec<u8>, redirect: &Redirect) -> Result<(), NoMemory>
     put(out, ")\n")
 }
 
+/// Appends the URL of a redirect and its target, without ending the line.
 fn put_moves(out: &mut Vec<u8>, redirect: &Redirect) -> Result<(), NoMemory>
     ensures { OnOk result (out.new.items ≡ out.old.items ++ moves_text redirect.now) }
 {
@@ -243,12 +260,14 @@ pub fn put_linked_from(out: &mut Vec<u8>, pages: u64) -> Result<(), NoMemory>
     put(out, pages_noun(pages))
 }
 
+/// The noun after this number of pages, with a space before it.
 fn pages_noun(count: u64) -> &'static str
     ensures { result.now ≡ pages_noun count }
 {
     if count == 1 { " page" } else { " pages" }
 }
 
+/// Appends the line of an external URL: the number of links to it, and the URL.
 fn put_external(out: &mut Vec<u8>, url: &External) -> Result<(), NoMemory>
     ensures { OnOk result (out.new.items ≡ out.old.items ++ external_text url.now) }
 {
@@ -258,6 +277,7 @@ fn put_external(out: &mut Vec<u8>, url: &External) -> Result<(), NoMemory>
     put(out, "\n")
 }
 
+/// Appends the line of an unreached file or of an unused entry of the ignore list.
 fn put_name(out: &mut Vec<u8>, text: &str) -> Result<(), NoMemory>
     ensures { OnOk result (out.new.items ≡ out.old.items ++ name_text text.now) }
 {

@@ -40,6 +40,7 @@ fn ordinary_len(text: &str) -> usize
     bytes.iter().take_while(|byte| is_ordinary(**byte)).count()
 }
 
+/// Whether the byte is none of LF, CR and `" % & ' , : < >`, which some position requires to be escaped.
 fn is_ordinary(byte: u8) -> bool
     ensures { result ≡ is_ordinary byte }
 {
@@ -65,6 +66,7 @@ fn put_first<'a>(out: &mut Vec<u8>, how: Escape, text: &'a str) -> Result<&'a st
     }
 }
 
+/// Appends a character, escaped for its position.
 fn put_char(out: &mut Vec<u8>, how: Escape, c: char) -> Result<(), NoMemory>
     ensures { OnOk result (out.new.items ≡ out.old.items ++ escaped_char how c) }
 {
@@ -76,6 +78,7 @@ fn put_char(out: &mut Vec<u8>, how: Escape, c: char) -> Result<(), NoMemory>
     }
 }
 
+/// Appends a character of a message: `%`, CR and LF are percent-encoded.
 fn put_data_char(out: &mut Vec<u8>, c: char) -> Result<(), NoMemory>
     ensures { OnOk result (out.new.items ≡ out.old.items ++ data_char c) }
 {
@@ -91,6 +94,7 @@ fn put_data_char(out: &mut Vec<u8>, c: char) -> Result<(), NoMemory>
     put_shown_char(out, c)
 }
 
+/// Appends a character of a property: `:`, `,`, `%`, CR and LF are percent-encoded.
 fn put_property_char(out: &mut Vec<u8>, c: char) -> Result<(), NoMemory>
     ensures { OnOk result (out.new.items ≡ out.old.items ++ property_char c) }
 {
@@ -103,6 +107,7 @@ fn put_property_char(out: &mut Vec<u8>, c: char) -> Result<(), NoMemory>
     put_data_char(out, c)
 }
 
+/// Appends a character of an element: `&`, `<`, `>`, `"` and `'` become character references.
 fn put_html_char(out: &mut Vec<u8>, c: char) -> Result<(), NoMemory>
     ensures { OnOk result (out.new.items ≡ out.old.items ++ html_char c) }
 {

@@ -88,6 +88,7 @@ pub fn print_page(
     print(alloc, findings, contents, true, Form::Page)
 }
 
+/// Prints the report in this form: the totals, and then each section that has rows. If `all`, it lists all locations.
 fn print(
     alloc: Global,
     findings: &Findings<'_>,
@@ -109,6 +110,7 @@ fn print(
     Ok(all)
 }
 
+/// The first row of a report: the name of the site, the totals, and the optional counts.
 fn total_of<'r>(findings: &Findings<'r>, contents: Contents<'_>) -> Row<'r>
     ensures { line_of result ≡ line.total findings.now.base.now findings.now.totals (counts_of contents.entry findings.now) }
 {
@@ -157,6 +159,7 @@ fn if_listed<T>(listed: bool, rows: &[T]) -> &[T]
     if listed { rows } else { &[] }
 }
 
+/// The external links that the report lists; none if it does not list them.
 fn external_of(contents: Contents<'_>) -> &[External]
     ensures { result.now ≡ external_of contents.entry }
 {
@@ -198,6 +201,7 @@ fn with_edge(out: Vec<u8>, form: Form<'_>, row: Row<'_>, rows: usize) -> Result<
     }
 }
 
+/// Appends the section of the missing pages and anchors, if there are any.
 fn with_broken(
     out: Vec<u8>,
     form: Form<'_>,
@@ -212,6 +216,7 @@ fn with_broken(
     with_edge(listed, form, Row::Finish(Part::Broken), rows)
 }
 
+/// Appends the rows of each missing page or anchor.
 fn with_targets(
     mut out: Vec<u8>,
     form: Form<'_>,
@@ -226,6 +231,7 @@ fn with_targets(
     Ok(out)
 }
 
+/// Appends a missing page or anchor, its locations, and the number of locations that are not listed.
 fn with_target(
     out: Vec<u8>,
     form: Form<'_>,
@@ -251,6 +257,7 @@ fn shown_places(places: &[Place], all: bool) -> &[Place]
     }
 }
 
+/// Appends a row for each of these locations of links to the target.
 fn with_places(
     mut out: Vec<u8>,
     form: Form<'_>,
@@ -265,6 +272,7 @@ fn with_places(
     Ok(out)
 }
 
+/// Appends the number of locations that are not listed, if there are any. `places` is the number of all locations.
 fn with_left_out(
     out: Vec<u8>,
     form: Form<'_>,
@@ -280,6 +288,7 @@ fn with_left_out(
     }
 }
 
+/// Appends the section of the files with the most broken links, if there are any.
 fn with_worst(out: Vec<u8>, form: Form<'_>, counts: &[FileCount]) -> Result<Vec<u8>, NoMemory>
     ensures { IfOk result (λ more. Adds form.entry out.items more.items (worst_part counts.now)) }
 {
@@ -289,6 +298,7 @@ fn with_worst(out: Vec<u8>, form: Form<'_>, counts: &[FileCount]) -> Result<Vec<
     with_edge(listed, form, Row::Finish(Part::Worst), rows)
 }
 
+/// Appends a row for each of these files.
 fn with_counts(mut out: Vec<u8>, form: Form<'_>, counts: &[FileCount]) -> Result<Vec<u8>, NoMemory>
     ensures { IfOk result (λ more. Adds form.entry out.items more.items (map line.worst counts.now)) }
 {
@@ -298,6 +308,7 @@ fn with_counts(mut out: Vec<u8>, form: Form<'_>, counts: &[FileCount]) -> Result
     Ok(out)
 }
 
+/// Appends the section of the redirects that pages link to, if there are any.
 fn with_redirects(out: Vec<u8>, form: Form<'_>, pages: &[Redirect]) -> Result<Vec<u8>, NoMemory>
     ensures { IfOk result (λ more. Adds form.entry out.items more.items (redirect_part pages.now)) }
 {
@@ -307,6 +318,7 @@ fn with_redirects(out: Vec<u8>, form: Form<'_>, pages: &[Redirect]) -> Result<Ve
     with_edge(listed, form, Row::Finish(Part::Redirects), rows)
 }
 
+/// Appends a row for each of these redirects.
 fn with_moved(mut out: Vec<u8>, form: Form<'_>, pages: &[Redirect]) -> Result<Vec<u8>, NoMemory>
     ensures { IfOk result (λ more. Adds form.entry out.items more.items (map line.redirect pages.now)) }
 {
@@ -316,6 +328,7 @@ fn with_moved(mut out: Vec<u8>, form: Form<'_>, pages: &[Redirect]) -> Result<Ve
     Ok(out)
 }
 
+/// Appends the section of the external URLs, if there are any.
 fn with_external(out: Vec<u8>, form: Form<'_>, urls: &[External]) -> Result<Vec<u8>, NoMemory>
     ensures { IfOk result (λ more. Adds form.entry out.items more.items (external_part urls.now)) }
 {
@@ -325,6 +338,7 @@ fn with_external(out: Vec<u8>, form: Form<'_>, urls: &[External]) -> Result<Vec<
     with_edge(listed, form, Row::Finish(Part::External), rows)
 }
 
+/// Appends a row for each of these external URLs.
 fn with_urls(mut out: Vec<u8>, form: Form<'_>, urls: &[External]) -> Result<Vec<u8>, NoMemory>
     ensures { IfOk result (λ more. Adds form.entry out.items more.items (map line.external urls.now)) }
 {
@@ -334,6 +348,7 @@ fn with_urls(mut out: Vec<u8>, form: Form<'_>, urls: &[External]) -> Result<Vec<
     Ok(out)
 }
 
+/// Appends a section of names, if there are any: the unreached files, or the unused entries of the ignore list.
 fn with_names(
     out: Vec<u8>,
     form: Form<'_>,
@@ -348,6 +363,7 @@ fn with_names(
     with_edge(listed, form, Row::Finish(of_part), rows)
 }
 
+/// Appends a row for each of these names.
 fn with_texts(
     mut out: Vec<u8>,
     form: Form<'_>,

@@ -15,6 +15,7 @@ pub fn put(out: &mut Vec<u8>, text: &str) -> Result<(), NoMemory>
     out.extend_from_slice(text.as_bytes())
 }
 
+/// Appends a count in decimal digits.
 pub fn put_count(out: &mut Vec<u8>, count: u64) -> Result<(), NoMemory>
     ensures { OnOk result (out.new.items ≡ out.old.items ++ decimal count) }
 {

@@ -9,6 +9,7 @@ use crawl_pages::NoMemory;
 use itoa::Buffer;
 use json::Writer;
 
+/// Writes the members `kind` and `url`.
 pub fn put_url(out: &mut Writer, kind: &str, url: &str) -> Result<(), NoMemory>
     ensures tokens { OnOk result (out.new.tokens ≡ (out.old.tokens ++ key (codes "kind") ∷ string kind.now ∷ []) ++ key (codes "url") ∷ string url.now ∷ []) }
     ensures before { out.new.before ≡ out.old.before }
@@ -17,6 +18,7 @@ pub fn put_url(out: &mut Writer, kind: &str, url: &str) -> Result<(), NoMemory>
     put_text(out, "url", url)
 }
 
+/// Writes a member whose value is a string.
 pub fn put_text(out: &mut Writer, name: &str, text: &str) -> Result<(), NoMemory>
     ensures tokens { OnOk result (out.new.tokens ≡ out.old.tokens ++ key name.now ∷ string text.now ∷ []) }
     ensures before { out.new.before ≡ out.old.before }
@@ -25,6 +27,7 @@ pub fn put_text(out: &mut Writer, name: &str, text: &str) -> Result<(), NoMemory
     out.string(text)
 }
 
+/// Writes a member whose value is a string, or null if there is no text.
 pub fn put_text_or_null(out: &mut Writer, name: &str, text: Option<&str>) -> Result<(), NoMemory>
     ensures tokens { OnOk result (out.new.tokens ≡ out.old.tokens ++ key name.now ∷ json_tokens (text_or_null (option_map (λ t. t.now) text.entry))) }
     ensures before { out.new.before ≡ out.old.before }
@@ -36,6 +39,7 @@ pub fn put_text_or_null(out: &mut Writer, name: &str, text: Option<&str>) -> Res
     }
 }
 
+/// Writes a member whose value is a number.
 pub fn put_count(out: &mut Writer, name: &str, count: u128) -> Result<(), NoMemory>
     ensures tokens { OnOk result (out.new.tokens ≡ out.old.tokens ++ key name.now ∷ number (decimal count) ∷ []) }
     ensures before { out.new.before ≡ out.old.before }

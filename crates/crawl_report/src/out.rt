@@ -58,6 +58,7 @@ impl Out {
         }
     }
 
+    /// The printed lines, each ended by LF.
     pub fn into_bytes(self) -> Vec<u8>
         ensures { result.items ≡ bytes_of self }
     {

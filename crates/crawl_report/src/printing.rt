@@ -89,6 +89,7 @@ fn room_for(pages: &[PageResult]) -> usize {
     room
 }
 
+/// Returns the row of a result. The links of a page include those that are skipped.
 pub(crate) fn row_of(one: &PageResult) -> Row<'_>
     ensures { line_of result ≡ page_line one.now.url one.now.page }
 {
@@ -105,6 +106,7 @@ pub(crate) fn row_of(one: &PageResult) -> Row<'_>
     }
 }
 
+/// Returns the row of the total: the number of results, and how many are found, missing and moved.
 pub(crate) fn total_of(pages: &[PageResult]) -> Row<'static>
     ensures { line_of result ≡ total_of pages.now }
 {
@@ -116,24 +118,28 @@ pub(crate) fn total_of(pages: &[PageResult]) -> Row<'static>
     }
 }
 
+/// Returns the number of results that found a page.
 fn count_found(pages: &[PageResult]) -> usize
     ensures { result ≡ count_by (λ r. is_found r.page) pages.now }
 {
     pages.iter().filter(|one| one.page.is_found()).count()
 }
 
+/// Returns the number of results whose page is missing.
 fn count_missing(pages: &[PageResult]) -> usize
     ensures { result ≡ count_by (λ r. is_missing r.page) pages.now }
 {
     pages.iter().filter(|one| one.page.is_missing()).count()
 }
 
+/// Returns the number of results whose page has moved.
 fn count_moved(pages: &[PageResult]) -> usize
     ensures { result ≡ count_by (λ r. is_moved r.page) pages.now }
 {
     pages.iter().filter(|one| one.page.is_moved()).count()
 }
 
+/// Returns what is printed, followed by a line for each queue. The queues are numbered from 0.
 pub(crate) fn with_queues(mut out: Out, counts: &[u64]) -> Result<Out, NoMemory>
     ensures { IfOk result (λ more. Adds out more (queue_lines counts.now)) }
 {
@@ -143,6 +149,7 @@ pub(crate) fn with_queues(mut out: Out, counts: &[u64]) -> Result<Out, NoMemory>
     Ok(out)
 }
 
+/// Returns the row of a queue: its number, from 0, and how many URLs it had.
 fn queue_row(queue: usize, count: &u64) -> Row<'static>
     ensures { line_of result ≡ line.queue queue count.now }
 {

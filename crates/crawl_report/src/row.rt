@@ -73,6 +73,7 @@ pub fn push_line(text: &mut String, row: Row<'_>) -> Result<(), NoMemory>
     text.push('\n')
 }
 
+/// Appends the row's line without its LF.
 fn push_text(text: &mut String, row: Row<'_>) -> Result<(), NoMemory>
     ensures { OnOk result (string_bytes text.new ≡ string_bytes text.old ++ line_text (line_of row.entry)) }
 {
@@ -119,6 +120,7 @@ fn push_page(text: &mut String, url: &str, links: u128, skipped: u64) -> Result<
     text.push_str(url)
 }
 
+/// Appends a count in decimal digits.
 fn push_count(text: &mut String, count: u128) -> Result<(), NoMemory>
     ensures { OnOk result (string_bytes text.new ≡ string_bytes text.old ++ decimal count) }
 {
@@ -126,6 +128,7 @@ fn push_count(text: &mut String, count: u128) -> Result<(), NoMemory>
     text.push_str(buffer.format(count))
 }
 
+/// Appends ` moved` and the number of pages that moved, or nothing if there are none.
 fn push_moved(text: &mut String, count: usize) -> Result<(), NoMemory>
     ensures { OnOk result (string_bytes text.new ≡ string_bytes text.old ++ moved_part count) }
 {
@@ -148,7 +151,7 @@ pub fn with_json(text: Vec<u8>, row: Row<'_>) -> Result<Vec<u8>, NoMemory>
     Ok(text)
 }
 
-// The object is begun, and not ended.
+/// Writes the members of the row. The caller starts and ends the object.
 fn put_row(out: &mut Writer, row: Row<'_>) -> Result<(), NoMemory>
     requires { out.old.tokens ≡ begin_object ∷ [] }
     ensures tokens { OnOk result (out.new.tokens ++ end_object ∷ [] ≡ json_tokens (json_of (line_of row.entry))) }
@@ -176,6 +179,7 @@ fn put_row(out: &mut Writer, row: Row<'_>) -> Result<(), NoMemory>
     }
 }
 
+/// Writes the members for a found page. `links` includes the links that are skipped.
 fn put_page(out: &mut Writer, url: &str, links: u128, skipped: u64) -> Result<(), NoMemory>
     requires { out.old.tokens ≡ begin_object ∷ [] }
     ensures tokens { OnOk result (out.new.tokens ++ end_object ∷ [] ≡ json_tokens (json_of (line.page url.now links skipped))) }
@@ -186,6 +190,7 @@ fn put_page(out: &mut Writer, url: &str, links: u128, skipped: u64) -> Result<()
     put_count(out, "skipped", u128::from(skipped))
 }
 
+/// Writes the members for the total: the number of results, and how many are found, missing and moved.
 fn put_total(
     out: &mut Writer,
     results: usize,
@@ -204,6 +209,7 @@ fn put_total(
     put_count(out, "moved", moved as u128)
 }
 
+/// Writes the members for a queue: its number, from 0, and how many URLs it had.
 fn put_queue(out: &mut Writer, queue: usize, urls: u64) -> Result<(), NoMemory>
     requires { out.old.tokens ≡ begin_object ∷ [] }
     ensures tokens { OnOk result (out.new.tokens ++ end_object ∷ [] ≡ json_tokens (json_of (line.queue queue urls))) }
@@ -214,6 +220,7 @@ fn put_queue(out: &mut Writer, queue: usize, urls: u64) -> Result<(), NoMemory>
     put_count(out, "urls", u128::from(urls))
 }
 
+/// Writes the members for the sources of a URL: how many pages link to it, and the first of them, or null if none does.
 fn put_from(out: &mut Writer, pages: u64, first: Option<&str>, url: &str) -> Result<(), NoMemory>
     requires { out.old.tokens ≡ begin_object ∷ [] }
     ensures tokens { OnOk result (out.new.tokens ++ end_object ∷ [] ≡ json_tokens (json_of (line.from pages (option_map (λ p. p.now) first.entry) url.now))) }
@@ -225,6 +232,7 @@ fn put_from(out: &mut Writer, pages: u64, first: Option<&str>, url: &str) -> Res
     put_text(out, "url", url)
 }
 
+/// Writes the members for a page that links to a URL whose sources are printed.
 fn put_link(out: &mut Writer, page: &str, url: &str) -> Result<(), NoMemory>
     requires { out.old.tokens ≡ begin_object ∷ [] }
     ensures tokens { OnOk result (out.new.tokens ++ end_object ∷ [] ≡ json_tokens (json_of (line.link page.now url.now))) }
@@ -235,6 +243,7 @@ fn put_link(out: &mut Writer, page: &str, url: &str) -> Result<(), NoMemory>
     put_text(out, "url", url)
 }
 
+/// Writes the members for a page that moved. `to` is null if the page has no target.
 fn put_to(out: &mut Writer, target: Option<&str>, url: &str) -> Result<(), NoMemory>
     requires { out.old.tokens ≡ begin_object ∷ [] }
     ensures tokens { OnOk result (out.new.tokens ++ end_object ∷ [] ≡ json_tokens (json_of (line.to (option_map (λ p. p.now) target.entry) url.now))) }

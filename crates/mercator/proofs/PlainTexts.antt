@@ -1,4 +1,4 @@
--- What a crawl tells that asks for no more than subqueues and sources.
+-- The report of a crawl that has no other optional sections than queues and sources.
 use Rattle.std.proofs.Common.{◌≡◌, ℕ, ◌+◌, ◌<◌, Bool, false, List, [], ◌∷◌, length, get_or, refl, sym, ap, subst, ◌∙◌, arith, if◌then◌else◌}
 use Rattle.std.proofs.lemmas.List.{get_or-map, length-map}
 use Rattle.std.proofs.lemmas.List.Sorted.{length_permutation}
@@ -36,7 +36,7 @@ none_left : (urls : List (List ℕ)) → length urls ≡ 0 → urls ≡ []
 none_left [] none = refl
 none_left (url ∷ urls) none = absurd (omega (arith, none))
 
--- no unreached pages where none are asked for
+-- no unreached pages if the report does not list them
 none_asked : (parts : Parts) (bytes : List ℕ) (suffixes : List (List ℕ)) (pages : List PageResult) (urls : List (List ℕ)) → parts.unreached ≡ false → AreUnreached (asked_pages parts (lines bytes)) suffixes pages urls → urls ≡ []
 none_asked parts bytes suffixes pages urls none unseen =
     none_left urls (length_permutation [] urls (subst (λ a. IsPermutation (unreached_of (allows suffixes) pages (if a then page_urls (lines bytes) else [])) urls) none unseen.same))

@@ -25,7 +25,7 @@ bad_at text texts index one seeds refusal within is named refused = record {
   refused = refused;
 }
 
--- its fault, want of memory aside
+-- its error, unless memory ran out
 pub seed_fault : {S : Type 0} (text : S → List ℕ) (texts : List S) (index : ℕ) (one : S) (seeds : List (List ℕ)) (refusal : KeyError) → index < length texts → one ≡ get_or texts index one → AreSeeds (map text (take index texts)) seeds → (canonical (text one) ≡ Err refusal) ⊎ (refusal ≡ key.NoMemory) → IsSeedFault (map text texts) (of_seed (index + 1) refusal)
 seed_fault text texts index one seeds key.NoMemory within is named why = tt
 seed_fault text texts index one seeds key.NotUrl within is named (inl refused) = bad_at text texts index one seeds key.NotUrl within is named refused

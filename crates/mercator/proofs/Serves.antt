@@ -1,4 +1,4 @@
--- What a session tells, by its plan.
+-- What a session prints, by its plan.
 use Rattle.std.proofs.Common.{◌≡◌, ◌⊎◌, inl, inr, ℕ, List, [], ◌++◌, Bool, true, false, if◌then◌else◌, true≢false, Result, Ok, Err, IfOk, IfErr, Option, String, Global, refl, sym, ap, subst, ◌∙◌, arith}
 use Rattle.std.proofs.KnownBytes.{Appends-nil, Appends-trans}
 use Rattle.std.proofs.lemmas.List.{append-nil}
@@ -51,7 +51,7 @@ pub breaks_off : (asked : SessionPlan) (input : Option (List ℕ)) (why : ServeE
 breaks_off asked input serving.CannotRead Unwritten good = inr (inr good)
 breaks_off asked input why Unwritten good = inr (inr good)
 
--- a session that went on from a log, and was served to the end of its input
+-- a session that resumed from a log, and was served to the end of its input
 gains_on : (session : SessionView) (asked : LogPlan) (identity : List ℕ) (resumed : SessionView) (input out_old out_new : Option (List ℕ)) (new : SessionView) → Shows session.core (start (queues_of asked.session) asked.session.max) → session.settings ≡ settings_of asked.session identity
     → is_bad_suffix asked.session.within ≡ false → (bytes : List ℕ) × Reruns session (lines bytes) resumed → ServesInput resumed input out_old out_new new → Gains (asks.ServeLog asked) input out_old out_new
 gains_on session asked identity resumed input out_old out_new new shown is good log served =
@@ -144,7 +144,7 @@ plain_fails within (wrong.Log why) bad fails = absurd (true≢false (sym bad ∙
 plain_fails within wrong.NoMemory bad fails = refl
 plain_fails within fault bad fails = absurd fails
 
--- a log's fault has no status 2
+-- an error of a log does not have status 2
 complete_why : (why : LogFault) → status_of_log why ≡ 2 → ⊥
 complete_why unlogged.InUse two = omega (arith, two)
 complete_why why two = omega (arith, two)
@@ -182,14 +182,14 @@ tells_in_use (asks.Compact log file) fault old new has five told =
     subst (λ t. Begins old new t) (append-nil _) (subst (λ f. Begins old new (told_lines (asks.Compact log file) f)) (in_use fault five) told)
 tells_in_use plan fault old new has five told = absurd has
 
--- a fault's line is told, after what a session with a log may have told
+-- the line of an error is printed after what a session with a log may have printed
 pub tells_fault : (plan : Plan) (old middle new : Option (List ℕ)) (line : List ℕ) → (has_notices plan ≡ false → middle ≡ old) → MayNote plan old middle → Begins middle new line → TellsFault plan old new line
 tells_fault (asks.ServeLog asked) old middle new line silent noted told = (middle, noted, told)
 tells_fault (asks.Site options) old middle new line silent noted told = (middle, told)
 tells_fault (asks.Check options ignores) old middle new line silent noted told = (middle, told)
 tells_fault plan old middle new line silent noted told = subst (λ o. Begins o new line) (silent refl) told
 
--- words are done that are a plan's
+-- `err` after a success: what holds for a plan holds for the arguments that it comes from
 pub done_words : {E : Type 0} (plan : Plan) (contents : E → Option (List ℕ)) (input out_old out_new : Option (List ℕ)) (old new : E) → IsWithinLimits plan → Gains plan input out_old out_new → (has_notices plan ≡ false → new ≡ old) → MayNote plan (contents old) (contents new)
     → (new ≡ old) ⊎ ((plan : Plan) × IsWithinLimits plan × IsDoneWithNote plan input out_old out_new (contents old) (contents new))
 done_words (asks.ServeLog asked) contents input out_old out_new old new limits gains silent noted = inr (asks.ServeLog asked, limits, record { noting = refl; gains = gains; noted = noted })

@@ -103,7 +103,7 @@ pub unread_refused : (workers max : ℕ) (bytes : List ℕ) (texts suffixes : Li
 unread_refused workers max bytes texts suffixes (wrong.Crawl failure) is = absurd is
 unread_refused workers max bytes texts suffixes fault is = is
 
--- the fault of a crawl in a mode
+-- the error of a crawl in a mode
 comes_by : (mode : Mode) (failure : CrawlFailure) (error : CrawlError) → failure.error ≡ error → ComesIn mode failure.error → ComesOf mode (of_crawl_by error failure)
 comes_by mode failure crawl.NoMemory is comes = tt
 comes_by mode failure error is comes = comes

@@ -7,6 +7,6 @@ use Rattle.mercator.specs.declared.commands.input.InputLimits.{InputLimits}
 abbrev pub input_limits : InputLimits
 input_limits = record { bytes = most_input_bytes; reads = most_input_reads }
 
--- bytes that are past a limit: more than it allows; or so many that the reads may be used up, each of which takes at least one byte
+-- more bytes than the limit, or at least one byte for each allowed read, so that the reads may be used up before the end is found
 abbrev pub IsBeyond : InputLimits → List ℕ → Type 0
 IsBeyond limits bytes = (limits.bytes < length bytes) ⊎ (limits.reads ≤ length bytes)

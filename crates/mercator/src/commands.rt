@@ -291,6 +291,7 @@ fn show<O: Write, E: Write>(alloc: Global, error: PlanError, out: &mut O, err: &
     }
 }
 
+/// Writes the help or the version to `out` and returns the exit status. If that fails, reports the error on `err` and returns 1.
 fn show_help<O: Write, E: Write>(alloc: Global, text: String, out: &mut O, err: &mut E) -> u8
     ensures statuses { result ≤ 1 }
     ensures shown { result ≡ 0 → Appends (O.contents out.old) (O.contents out.new) (string_bytes text) }

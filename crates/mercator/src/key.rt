@@ -26,6 +26,7 @@ pub fn key_line(alloc: Global, text: &str, subqueues: u32) -> Result<Vec<u8>, Ke
     Ok(line.into_bytes())
 }
 
+/// Returns the line for a canonical URL.
 fn line_of(alloc: Global, url: &CanonUrl, subqueues: u32) -> Result<String, AllocError>
     requires some_subqueue { 1 ≤ subqueues }
     requires few_subqueues { subqueues ≤ subqueues_limit }
@@ -34,6 +35,7 @@ fn line_of(alloc: Global, url: &CanonUrl, subqueues: u32) -> Result<String, Allo
     parts_line(alloc, url.as_str(), url.host_key(), url.subqueue(subqueues))
 }
 
+/// Returns the line for the text of a URL, its host key and the number of its queue, from 0.
 fn parts_line(alloc: Global, text: &str, host: &str, subqueue: u32) -> Result<String, AllocError>
     ensures { IfOk result (λ line. string_bytes line ≡ parts_line text.now host.now subqueue) }
 {

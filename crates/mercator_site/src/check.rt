@@ -179,6 +179,7 @@ fn others_listed(
     Ok(Some(external_links(alloc, top, pages)?))
 }
 
+/// The external links as a slice, if they are listed.
 fn slice_of(others: &Option<Vec<External>>) -> Option<&[External]>
     ensures { option_map (λ urls. map row_of urls.now) result ≡ option_map (λ urls. map row_of urls.items) others.now }
 {

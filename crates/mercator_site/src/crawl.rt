@@ -53,6 +53,7 @@ pub(crate) fn top_url(alloc: Global, top: &str) -> Result<CanonUrl, SiteFault>
     }
 }
 
+/// The filter for this host and its subdomains. Fails with `BadHost` if a filter does not accept the host.
 fn host_filter(alloc: Global, host: &str) -> Result<Filter, SiteFault>
     ensures within { IfOk result (λ filter. filter ≡ host.now ∷ []) }
     ensures plain { IfErr result (λ fault. is_unfinished fault ≡ false) }

@@ -41,6 +41,7 @@ fn outside_links<'r>(
     Ok(urls)
 }
 
+/// Appends the links to URLs outside the top, in their order.
 fn push_outside<'r>(
     top: &CanonUrl,
     links: &'r [CanonUrl],
@@ -86,6 +87,7 @@ fn runs_from(alloc: Global, first: &CanonUrl, more: &[&CanonUrl]) -> Result<Vec<
     Ok(all)
 }
 
+/// Appends a row: a URL, and the number of links to it.
 fn push_row(
     alloc: Global,
     url: &CanonUrl,

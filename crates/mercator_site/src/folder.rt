@@ -59,6 +59,7 @@ fn push_index_files(alloc: Global, names: &mut Vec<String>) -> Result<(), AllocE
     Ok(())
 }
 
+/// The rules of a check: with the positions of links, and with anchors if they are checked.
 fn check_rules(alloc: Global, options: &CheckOptions) -> Result<Rules, AllocError> {
     let mut rules = rules_of(alloc, &options.site)?;
     rules.anchors = options.anchors;

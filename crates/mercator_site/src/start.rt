@@ -27,6 +27,7 @@ pub(crate) fn starts(
     }
 }
 
+/// The top's URL as the only seed.
 fn top_alone(alloc: Global, top: &CanonUrl) -> Result<Vec<CanonUrl>, SiteFault>
     ensures resolved { IfOk result (λ seeds. map (resolve top.now) ([] ∷ []) ≡ map Ok seeds.items) }
     ensures own { IfOk result (λ seeds. AreOwn top.now seeds.items) }
@@ -37,6 +38,7 @@ fn top_alone(alloc: Global, top: &CanonUrl) -> Result<Vec<CanonUrl>, SiteFault>
     Ok(seeds)
 }
 
+/// The URLs of the links, in their order. Fails with `BadSeed` if one is not a URL below the top.
 fn seeds_of(alloc: Global, top: &CanonUrl, links: &[String]) -> Result<Vec<CanonUrl>, SiteFault>
     ensures resolved { IfOk result (λ seeds. map (resolve top.now) (map string_bytes links.now) ≡ map Ok seeds.items) }
     ensures own { IfOk result (λ seeds. AreOwn top.now seeds.items) }

@@ -20,6 +20,7 @@ pub fn with_moved(out: Out, pages: &[PageResult], moved: bool) -> Result<Out, No
     }
 }
 
+/// Prints a line for each page that moved, with the URL to which it moved, if it has one.
 fn with_targets(mut out: Out, pages: &[PageResult]) -> Result<Out, NoMemory>
     ensures { IfOk result (λ more. Adds out more (moved_lines true pages.now)) }
 {
@@ -34,6 +35,7 @@ fn with_targets(mut out: Out, pages: &[PageResult]) -> Result<Out, NoMemory>
     Ok(out)
 }
 
+/// Returns the text of the URL, if there is one.
 fn text_of(url: &Option<CanonUrl>) -> Option<&str>
     ensures { option_map (λ t. t.now) result ≡ url.now }
 {

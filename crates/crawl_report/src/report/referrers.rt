@@ -33,6 +33,8 @@ pub fn with_sources(
     }
 }
 
+/// Prints how many pages link to each missing URL, and the first of them; if `all`, also each of them. If `moved`, also prints
+/// this for the moved URLs.
 fn with_all(
     alloc: Global,
     out: Out,
@@ -57,6 +59,7 @@ fn told(alloc: Global, pages: &[PageResult], moved: bool) -> Result<Vec<&PageRes
         .collect(alloc)
 }
 
+/// Whether the sources of this result are printed: if it is missing and, with `moved`, also if it has moved.
 fn is_told(one: &PageResult, moved: bool) -> bool
     ensures { result ≡ is_told moved one.now }
 {
@@ -81,6 +84,7 @@ fn with_told<'a>(
     Ok(out)
 }
 
+/// Prints the number of pages that link to the URL and the first of them, then each page that the tally keeps.
 fn with_tally(out: Out, tally: &Tally<'_>, url: &str) -> Result<Out, NoMemory>
     ensures { IfOk result (λ more. Adds out more (line.from tally.now.count tally.now.page url.now ∷ map (λ page. line.link page url.now) tally.now.all)) }
 {
@@ -92,6 +96,7 @@ fn with_tally(out: Out, tally: &Tally<'_>, url: &str) -> Result<Out, NoMemory>
     with_links(out, tally.all(), url)
 }
 
+/// Prints a line for each of these pages, which link to the URL.
 fn with_links(mut out: Out, pages: &[&str], url: &str) -> Result<Out, NoMemory>
     ensures { IfOk result (λ more. Adds out more (map (λ page. line.link page url.now) (pointed pages.now))) }
 {
@@ -101,6 +106,7 @@ fn with_links(mut out: Out, pages: &[&str], url: &str) -> Result<Out, NoMemory>
     Ok(out)
 }
 
+/// Returns the row of a page that links to the URL.
 fn link_row<'r>(page: &&'r str, url: &'r str) -> Row<'r>
     ensures { line_of result ≡ line.link page.now.now url.now }
 {

@@ -65,6 +65,7 @@ pub fn command_line<'a>(alloc: Global) -> Result<Command<'a>, AllocError> {
         .subcommands(commands)
 }
 
+/// Appends the commands, in the order of the help.
 fn push_commands<'a>(alloc: Global, commands: &mut Vec<Command<'a>>) -> Result<(), AllocError> {
     push_command(commands, check_command(alloc))?;
     push_command(commands, site_command(alloc))?;
@@ -74,6 +75,7 @@ fn push_commands<'a>(alloc: Global, commands: &mut Vec<Command<'a>>) -> Result<(
     push_command(commands, replay_command(alloc))
 }
 
+/// Appends a command, or returns the error that occurred when it was made.
 fn push_command<'a>(
     commands: &mut Vec<Command<'a>>,
     made: Result<Command<'a>, AllocError>,
@@ -82,6 +84,7 @@ fn push_command<'a>(
     Ok(())
 }
 
+/// `crawl`: prints the report of a crawl of a saved web.
 fn crawl_command<'a>(alloc: Global) -> Result<Command<'a>, AllocError> {
     let mut args = Vec::new(alloc);
     push_crawl_args(alloc, &mut args)?;
@@ -89,6 +92,7 @@ fn crawl_command<'a>(alloc: Global) -> Result<Command<'a>, AllocError> {
     command_with(alloc, "crawl", about, CRAWL_HELP, args)
 }
 
+/// Appends the options and arguments of `crawl`.
 fn push_crawl_args<'a>(alloc: Global, args: &mut Vec<Arg<'a>>) -> Result<(), AllocError> {
     push_numbers(alloc, args)?;
     push_flags(alloc, args, QUEUE_FLAGS)?;
@@ -142,6 +146,7 @@ const CRAWL_OPTIONS: &[Valued] = &[
     },
 ];
 
+/// `key`: prints the canonical form of a URL, its host key and the number of its queue.
 fn key_command<'a>(alloc: Global) -> Result<Command<'a>, AllocError> {
     let mut args = Vec::new(alloc);
     push_key_args(alloc, &mut args)?;
@@ -149,6 +154,7 @@ fn key_command<'a>(alloc: Global) -> Result<Command<'a>, AllocError> {
     command_with(alloc, "key", about, KEY_HELP, args)
 }
 
+/// Appends the argument and the option of `key`.
 fn push_key_args<'a>(alloc: Global, args: &mut Vec<Arg<'a>>) -> Result<(), AllocError> {
     let url = word(alloc, "url", "URL", "URL to print, http or https");
     push(args, url.required(true))?;
@@ -156,6 +162,7 @@ fn push_key_args<'a>(alloc: Global, args: &mut Vec<Arg<'a>>) -> Result<(), Alloc
     push(args, workers(alloc, "4", help))
 }
 
+/// `replay`: prints the replies to a script.
 fn replay_command<'a>(alloc: Global) -> Result<Command<'a>, AllocError> {
     Command::new(alloc, "replay")
         .about("Run a script of frontier steps and print the replies")
@@ -163,6 +170,7 @@ fn replay_command<'a>(alloc: Global) -> Result<Command<'a>, AllocError> {
         .arg(file(alloc, "Script to run; - is standard input"))
 }
 
+/// `serve`: answers the requests of the input.
 fn serve_command<'a>(alloc: Global) -> Result<Command<'a>, AllocError> {
     let mut args = Vec::new(alloc);
     push_serve_args(alloc, &mut args)?;
@@ -170,6 +178,7 @@ fn serve_command<'a>(alloc: Global) -> Result<Command<'a>, AllocError> {
     command_with(alloc, "serve", about, SERVE_HELP, args)
 }
 
+/// Appends the options of `serve`, which has no other arguments.
 fn push_serve_args<'a>(alloc: Global, args: &mut Vec<Arg<'a>>) -> Result<(), AllocError> {
     push_numbers(alloc, args)?;
     push_options(alloc, args, SERVE_OPTIONS)?;
@@ -197,10 +206,12 @@ const SERVE_OPTIONS: &[Valued] = &[
     },
 ];
 
+/// The option `--sync`, which requires `--log`.
 fn sync<'a>(alloc: Global) -> Result<Arg<'a>, AllocError> {
     flag_of(alloc, "sync", "Sync the log to disk before each answer").requires_arg("log")
 }
 
+/// The option `--wait`, in seconds: 0 to 86,400, by default 0. It requires `--log`.
 fn wait<'a>(alloc: Global) -> Result<Arg<'a>, AllocError> {
     option(
         alloc,
@@ -213,6 +224,7 @@ fn wait<'a>(alloc: Global) -> Result<Arg<'a>, AllocError> {
     .requires_arg("log")
 }
 
+/// The option `--compact`, with the name of the new file. It requires `--log`.
 fn compact<'a>(alloc: Global) -> Result<Arg<'a>, AllocError> {
     option(
         alloc,
@@ -223,6 +235,7 @@ fn compact<'a>(alloc: Global) -> Result<Arg<'a>, AllocError> {
     .requires_arg("log")
 }
 
+/// The option `--max-pending`: 1 to 2^40 URLs, by default 2^20.
 fn max_pending<'a>(alloc: Global) -> Arg<'a> {
     option(
         alloc,
@@ -234,10 +247,12 @@ fn max_pending<'a>(alloc: Global) -> Arg<'a> {
     .default_value("1048576")
 }
 
+/// The argument FILE, which is required.
 fn file<'a>(alloc: Global, help: &'a str) -> Arg<'a> {
     word(alloc, "file", "FILE", help).required(true)
 }
 
+/// The arguments SEED. At least one is required if `--seeds` is not given.
 fn seeds<'a>(alloc: Global) -> Result<Arg<'a>, AllocError> {
     word(
         alloc,

@@ -120,6 +120,7 @@ fn compact_lines<F: Read + Seek, O: Write>(
     compact_by(alloc, session, file, ends, out, &mut buffer)
 }
 
+/// Like [`compact_lines`], with this buffer. Fails with `CannotRead` if a line is longer than the buffer.
 fn compact_by<F: Read + Seek, O: Write>(
     alloc: Global,
     session: &mut Session,
@@ -181,6 +182,7 @@ fn compact_bytes<O: Write>(
     write_new(out, &kept)
 }
 
+/// Appends the bytes to the file of the compacted log. Fails with `CannotWriteNew`.
 fn write_new<O: Write>(out: &mut O, bytes: &[u8]) -> Result<(), Fault>
     ensures gained { OnOk result (Appends (O.contents out.old) (O.contents out.new) bytes.now) }
     ensures fault { IfErr result IsLogFault }

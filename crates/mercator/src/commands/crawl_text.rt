@@ -37,7 +37,7 @@ pub fn crawl_text<R: Threads + Sync>(
     print_in_parts(rt, alloc, &report, crawl.json, settings.has_threads())
 }
 
-/// Returns the counts of the queues if they are asked for.
+/// Returns the counts of the queues if the report has them, and otherwise none.
 fn asked_counts(asked: bool, counts: &[u64]) -> &[u64]
     ensures { result.now ≡ (if asked then counts.now else []) }
 {

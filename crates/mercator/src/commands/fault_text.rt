@@ -125,6 +125,7 @@ fn alone(words: &'static str) -> Words
     Words { line: None, words }
 }
 
+/// What is wrong with a saved web.
 fn web_words(fault: WebError) -> Words
     ensures { words_text result.line result.words.now ≡ web_text fault }
 {
@@ -141,6 +142,7 @@ fn web_words(fault: WebError) -> Words
     }
 }
 
+/// What is wrong with a file of seeds.
 fn seeds_words(fault: SeedsFault) -> Words
     ensures { words_text result.line result.words.now ≡ seeds_text fault }
 {
@@ -153,6 +155,7 @@ fn seeds_words(fault: SeedsFault) -> Words
     }
 }
 
+/// What is wrong with a script.
 fn script_words(fault: ScriptError) -> Words
     ensures { words_text result.line result.words.now ≡ script_text fault }
 {
@@ -166,6 +169,7 @@ fn script_words(fault: ScriptError) -> Words
     }
 }
 
+/// Why the result of a crawl is not certified.
 fn cert_words(fault: CertError) -> Words
     ensures { words_text result.line result.words.now ≡ cert_text fault }
 {

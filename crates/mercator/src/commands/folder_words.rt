@@ -30,6 +30,7 @@ pub fn site_command<'a>(alloc: Global) -> Result<Command<'a>, AllocError> {
     command_with(alloc, "site", about, SITE_HELP, args)
 }
 
+/// Appends the options and arguments of `site`, which requires BASE.
 fn push_site_args<'a>(alloc: Global, args: &mut Vec<Arg<'a>>) -> Result<(), AllocError> {
     push_folder_options(alloc, args)?;
     push(args, folder(alloc, "Folder to read"))?;
@@ -55,6 +56,7 @@ fn forms<'a>(alloc: Global) -> Result<ArgGroup<'a>, AllocError> {
         .arg("html")
 }
 
+/// Appends the options and arguments of `check`, for which BASE is optional.
 fn push_check_args<'a>(alloc: Global, args: &mut Vec<Arg<'a>>) -> Result<(), AllocError> {
     let help = "Number of workers, 1 to 512";
     push(args, workers(alloc, "1", help))?;
@@ -155,6 +157,7 @@ const FOLDER_FLAGS: &[Flag] = &[
     },
 ];
 
+/// The option `--seed`, which may be repeated.
 fn seed<'a>(alloc: Global) -> Arg<'a> {
     option(
         alloc,
@@ -165,10 +168,12 @@ fn seed<'a>(alloc: Global) -> Arg<'a> {
     .action(ArgAction::Append)
 }
 
+/// The argument FOLDER, which is required.
 fn folder<'a>(alloc: Global, help: &'a str) -> Arg<'a> {
     word(alloc, "folder", "FOLDER", help).required(true)
 }
 
+/// The argument BASE, which is optional unless the caller requires it.
 fn base<'a>(alloc: Global, help: &'a str) -> Arg<'a> {
     word(alloc, "base", "BASE", help)
 }

@@ -93,6 +93,7 @@ pub fn read_input<I: Read>(
     read_by(alloc, input, limits, &mut buffer)
 }
 
+/// Like [`read_input`], with this buffer, which must not be empty.
 fn read_by<I: Read>(
     alloc: Global,
     input: &mut I,

@@ -308,6 +308,7 @@ impl<'p, F: Write + OpenFile, R: Files> Log<'p, F, R> {
         Ok(())
     }
 
+    /// Writes both slices, and syncs the log to disk if each append is synced. An error may leave some of the bytes in the file.
     fn write(&mut self, front: &[u8], rest: &[u8]) -> io::Result<()>
         ensures gained { OnOk result (Appends (F.contents self.old.file) (F.contents self.new.file) (front.now ++ rest.now)) }
     {

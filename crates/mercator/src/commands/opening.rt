@@ -42,9 +42,9 @@ pub struct OpenedLog<F> {
     pub first: String,
     /// The identity in the first line, if the log is that of a part.
     pub identity: String,
-    /// Where the whole lines of the file end; 0 if the first line is not whole.
+    /// The length of the whole lines of the file; 0 if the first line is not whole.
     pub whole: u64,
-    /// Where the file ends.
+    /// The length of the file.
     pub len: u64,
 }
 
@@ -269,8 +269,8 @@ fn first_line_of(alloc: Global, asked: &LogPlan, identity: &str) -> Result<Strin
     Ok(line)
 }
 
-/// Returns where the whole lines of the log end, and where the file ends. If the first line is not whole, the log has no whole
-/// line. Returns `None` if the log begins otherwise.
+/// Returns the length of the whole lines of the log, and the length of the file. If the first line is not whole, the log has no
+/// whole line. Returns `None` if the log begins otherwise.
 ///
 /// # Errors
 /// `CannotRead`, `NoMemory`.

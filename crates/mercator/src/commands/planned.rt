@@ -52,7 +52,7 @@ pub enum Plan {
     Serve(SessionPlan),
     /// `serve --log`: resume from a log, append the requests of the input to it, and answer them.
     ServeLog(LogPlan),
-    /// `serve --log --compact`: write a compacted copy of the log to a new file, and answer nothing.
+    /// `serve --log --compact`: write a compacted copy of the log to a new file, without serving.
     Compact {
         /// The log, and the session that it belongs to.
         log: LogPlan,

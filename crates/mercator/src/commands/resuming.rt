@@ -27,7 +27,7 @@ use std::io::{self, Read, Seek, SeekFrom, Write};
 /// answered.
 ///
 /// # Errors
-/// `BadSuffix`. `Log`, which leaves the log as it was. `CannotRead` and `CannotWrite`; the answers before them stay written.
+/// `BadSuffix`. `Log`, which leaves the log as it was. `CannotRead` and `CannotWrite`; what was written before them stays.
 /// `NoMemory`.
 pub fn serve_log<R: Files, L: LockFile<R::File>, V, I: Read, O: Write, E: Write>(
     platform: &Platform<'_, R, L, V>,
@@ -127,6 +127,7 @@ fn cut<F: OpenFile, E: Write>(
     Ok(())
 }
 
+/// Returns the line that reports the removal of an incomplete last line. Hidden characters of the log's name are escaped.
 fn torn_line(alloc: Global, name: &str) -> Result<String, AllocError>
     ensures { IfOk result (λ line. string_bytes line ≡ torn_line name.now) }
 {
@@ -136,7 +137,7 @@ fn torn_line(alloc: Global, name: &str) -> Result<String, AllocError>
     Ok(line)
 }
 
-/// Runs the lines after the first one, and drops their answers. There are none if the log has no whole line.
+/// Runs the requests in the lines after the first one, and drops their answers. There are none if the log has no whole line.
 fn rerun_file<F: Read + Seek>(
     alloc: Global,
     session: &mut Session,

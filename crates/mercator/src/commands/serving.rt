@@ -36,7 +36,7 @@ impl From<ServeError> for Fault {
 /// Answers the requests of the input to its end.
 ///
 /// # Errors
-/// `BadSuffix`. `CannotRead` and `CannotWrite`; the answers before them stay written. `NoMemory`.
+/// `BadSuffix`. `CannotRead` and `CannotWrite`; what was written before them stays. `NoMemory`.
 pub fn serve_plan<I: Read, O: Write>(
     alloc: Global,
     asked: &SessionPlan,
@@ -83,6 +83,7 @@ pub fn session_of(
     }
 }
 
+/// Creates the session of a plan without a part.
 fn alone_of(alloc: Global, asked: &SessionPlan, filter: Filter) -> Result<Session, Fault>
     requires { AreLimits asked.now.workers asked.now.max }
     ensures start { IfOk result (λ session. Shows session.core (start asked.now.workers asked.now.max)) }
@@ -100,6 +101,7 @@ fn alone_of(alloc: Global, asked: &SessionPlan, filter: Filter) -> Result<Sessio
     }
 }
 
+/// Creates the session of this part, one of `parts`. Its frontier has the queues of all parts.
 fn part_session(
     alloc: Global,
     part: Part,

@@ -147,6 +147,7 @@ fn misread(alloc: Global) -> PlanError
     }
 }
 
+/// Returns the plan for the command that `clap` parsed.
 fn plan_of(alloc: Global, matches: &ArgMatches<'_>) -> Result<Plan, PlanError>
     ensures limits { IfOk result IsWithinLimits }
     ensures shown { IfErr result IsShown }
@@ -162,6 +163,7 @@ fn plan_of(alloc: Global, matches: &ArgMatches<'_>) -> Result<Plan, PlanError>
     }
 }
 
+/// Returns the plan of `crawl`. It must have a seed or a file of seeds. At most one of its files may be the input.
 fn crawl_of(alloc: Global, found: &ArgMatches<'_>) -> Result<Plan, PlanError>
     ensures limits { IfOk result IsWithinLimits }
     ensures shown { IfErr result IsShown }
@@ -196,6 +198,7 @@ fn crawl_of(alloc: Global, found: &ArgMatches<'_>) -> Result<Plan, PlanError>
     }))
 }
 
+/// Returns the plan of `key`. The URL is not parsed yet.
 fn key_of(alloc: Global, found: &ArgMatches<'_>) -> Result<Plan, PlanError>
     ensures limits { IfOk result IsWithinLimits }
     ensures shown { IfErr result IsShown }
@@ -209,6 +212,7 @@ fn key_of(alloc: Global, found: &ArgMatches<'_>) -> Result<Plan, PlanError>
     })
 }
 
+/// Returns the plan of `replay`. The file is not read yet.
 fn replay_of(alloc: Global, found: &ArgMatches<'_>) -> Result<Plan, PlanError>
     ensures limits { IfOk result IsWithinLimits }
     ensures shown { IfErr result IsShown }
@@ -221,6 +225,7 @@ fn replay_of(alloc: Global, found: &ArgMatches<'_>) -> Result<Plan, PlanError>
     })
 }
 
+/// Returns the plan of `serve`: a session, with a log if `--log` is given, or a compaction if `--compact` is given too.
 fn serve_of(alloc: Global, found: &ArgMatches<'_>) -> Result<Plan, PlanError>
     ensures limits { IfOk result IsWithinLimits }
     ensures shown { IfErr result IsShown }
@@ -244,6 +249,7 @@ fn serve_of(alloc: Global, found: &ArgMatches<'_>) -> Result<Plan, PlanError>
     }
 }
 
+/// Returns the plan of `site`. The folder and BASE are not checked yet.
 fn site_of(alloc: Global, found: &ArgMatches<'_>) -> Result<Plan, PlanError>
     ensures limits { IfOk result IsWithinLimits }
     ensures shown { IfErr result IsShown }
@@ -254,6 +260,7 @@ fn site_of(alloc: Global, found: &ArgMatches<'_>) -> Result<Plan, PlanError>
     }
 }
 
+/// Returns the plan of `check`. Its report has no colour yet.
 fn check_of(alloc: Global, found: &ArgMatches<'_>) -> Result<Plan, PlanError>
     ensures limits { IfOk result IsWithinLimits }
     ensures shown { IfErr result IsShown }
@@ -267,6 +274,7 @@ fn check_of(alloc: Global, found: &ArgMatches<'_>) -> Result<Plan, PlanError>
     })
 }
 
+/// Returns the options of a session, with or without a log.
 fn session_of(alloc: Global, found: &ArgMatches<'_>) -> Result<SessionPlan, PlanError>
     ensures limits { IfOk result IsSessionPlan }
     ensures shown { IfErr result IsShown }

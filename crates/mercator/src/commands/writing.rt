@@ -81,6 +81,7 @@ pub fn tell_ended<E: Write>(alloc: Global, err: &mut E, plan: &Plan, fault: &Fau
     }
 }
 
+/// Returns the line of the error and, if the plan is a crawl with `--explain`, the lines about the failed crawl.
 fn told_lines(alloc: Global, plan: &Plan, fault: &Fault) -> Result<String, AllocError>
     ensures { IfOk result (λ lines. string_bytes lines ≡ told_lines plan.now fault.now) }
 {
@@ -106,6 +107,7 @@ fn push_more(alloc: Global, lines: &mut String, file: &str, fault: &Fault) -> Re
     push_losses(lines, failure.losses)
 }
 
+/// Appends the line with the error and the first affected URL.
 fn push_culprit(
     alloc: Global,
     lines: &mut String,
@@ -125,6 +127,7 @@ fn push_culprit(
     Ok(())
 }
 
+/// Appends the line with the numbers of lost URLs and links by cause.
 fn push_losses(lines: &mut String, losses: Losses) -> Result<(), AllocError>
     ensures { IfOk result (λ _. string_bytes lines.new ≡ string_bytes lines.old ++ losses_line losses) }
 {

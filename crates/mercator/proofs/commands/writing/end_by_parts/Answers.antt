@@ -8,7 +8,7 @@ use Rattle.mercator.specs.Ending.{EndsByText}
 use Rattle.mercator.specs.declared.commands.fault.Fault.{Fault}
 use Rattle.mercator.proofs.commands.writing.end_by_parts.Goals as goal
 
--- as many parts as were looked at, and one more
+-- the parts before this one, and this one
 joined_more : (parts : List (Vec ℕ Global)) (k : ℕ) (d part : Vec ℕ Global) (text : List ℕ) → k < length parts → part ≡ get_or parts k d → text ≡ joined (take k parts) → text ++ part.items ≡ joined (take (k + 1) parts)
 joined_more parts k d part text below at so_far =
     (λ i. so_far i ++ (at i).items)
