@@ -1,4 +1,4 @@
--- A run without a fault has the pages of exactly the URLs that can be reached.
+-- A run without errors has the pages of exactly the URLs that can be reached.
 use Rattle.std.proofs.Common.{◌≡◌, ◌↔◌, inl, inr, ℕ, zero, suc, ◌+◌, ◌==◌, Bool, true, false, ◌&&◌, not, IsTrue, List, [], ◌∷◌, ◌++◌, map, None, refl, sym, ap, subst, ◌∙◌, arith, length-append}
 use Rattle.std.proofs.lemmas.Grind.{common_steps}
 use Rattle.std.proofs.lemmas.Bool.Decides.{nat_tests}
@@ -14,7 +14,7 @@ use Rattle.crawl_certificate.specs.ResultPages.{page_in}
 use Rattle.crawl_certificate.specs.Reachable.{GoesOn, IsWalk, Reachable, WalkOf}
 use Rattle.crawl_certificate.proofs.Lists.{no_element, here, there, first_or_later, some_has, any_from, none_has, same_text, text_itself}
 
--- none of the five holds
+-- the run has none of the five errors
 pub record NoFault (allowed : List ℕ → Bool) (seeds : List (List ℕ)) (entries : List Entry) (results : List PageResult) : Type 0 where
   pub seeds_accepted : seed_missing allowed seeds entries ≡ false
   pub fetched : not_fetched entries results ≡ false
@@ -56,7 +56,7 @@ from_map f (x ∷ xs) y has = elim (first_or_later (f x) y (map f xs) has) [
   | inr later ↦ let found = from_map f xs y later in (found.0, there x found.0 xs found.1, found.2)
 ]
 
--- where no URL has two results, the page at a result's URL is the result's
+-- if no URL has two results, the page that is found for the URL of a result is the page of that result
 pub page_at_result : (results : List PageResult) (r : PageResult) → twice results ≡ false → Contains results r → page_in results r.url ≡ r.page
 page_at_result [] r once has = absurd (no_element r has)
 page_at_result (x ∷ xs) r once has =

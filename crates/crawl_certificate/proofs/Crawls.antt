@@ -1,4 +1,4 @@
--- What a certificate says, from its faults and its order.
+-- What a certificate says, derived from its errors and from the order of its pages.
 use Rattle.std.proofs.Common.{◌≡◌, ℕ, Bool, true, List, None, sym, subst, ◌∙◌, arith}
 use Rattle.std.specs.Cmp.Lexicographic.{slice_cmp}
 use Rattle.std.specs.Ordering.{nat_cmp}

@@ -1,4 +1,4 @@
--- From the least URL of each fault to the culprit.
+-- From the least URL of each error to the culprit.
 use Rattle.std.proofs.Common.{◌≡◌, inl, inr, ℕ, ◌==◌, Bool, ◌||◌, ◌&&◌, not, List, Option, Some, None, is_some, Result, Ok, Err, sym, ap, subst, ◌∙◌, arith}
 use Rattle.std.specs.Bool.{if◌then◌else◌}
 use Rattle.std.specs.List.{list_any}
@@ -18,7 +18,7 @@ use Rattle.crawl_certificate.specs.Lookups.{Urls, is_in}
 use Rattle.crawl_certificate.proofs.LeastUrls.{by_test, least_of_both, lesser_none, some_lesser, at_urls, some_of_urls, some_of_elements, some_of_lists}
 use Rattle.crawl_certificate.proofs.Twice.{some_twice}
 
--- ---- the least URL of each fault
+-- ---- the least URL of each error
 
 pub fetched_known : (entries : List Entry) (results : List PageResult) (told : Option (List ℕ)) → IsLeast (λ url. list_any (λ e. bytes_eq e.url url && not (has_result results e.url)) entries) told → IsLeast (λ url. is_accepted entries url && not (has_result results url)) told
 fetched_known entries results told is = by_test _ _ told (at_urls (λ (e : Entry). e.url) (λ url. not (has_result results url)) entries) is
@@ -28,9 +28,9 @@ pub founded_known : (allowed : List ℕ → Bool) (seeds : List (List ℕ)) (ent
 founded_known allowed seeds entries results known says told is =
     subst (λ t. IsLeast t told) (λ i url. list_any (λ (e : Entry). bytes_eq e.url url && not (allowed e.url && (if e.hops == 0 then says e.url i else is_linked entries results e))) entries) is
 
--- ---- the first of them
+-- ---- the first of the errors
 
--- one that is there is the culprit
+-- the first error, with its least URL, is the culprit
 module _ (at : CertError → List ℕ → Bool) (cause : CertError) (url : List ℕ) (least : IsLeast (at cause) (Some url)) where
   pub names_it : (first : Option (CertError × List ℕ)) → first ≡ Some (cause, url) → (culprit : Culprit) → (u : List ℕ) → first ≡ Some (culprit.cause, u) → culprit.url ≡ Some u → IsCulprit (Some cause) at culprit
   names_it first here' culprit u there' named =
@@ -51,7 +51,7 @@ module _ (at : CertError → List ℕ → Bool) (cause : CertError) (url : List 
 named : (at : CertError → List ℕ → Bool) (a b c d e : Option (List ℕ)) (again : Bool) → IsLeast (at fault.SeedMissing) a → IsLeast (at fault.NotFetched) b → IsLeast (at fault.LinkMissing) c → IsLeast (at fault.Unfounded) d → (d ≡ None → IsLeast (at fault.Twice) e × (is_some e ≡ again)) → (result : Result (Unit {0}) Culprit) → NamesFirst (first_named a b c d e) result → Names result (first_of (is_some a) (is_some b) (is_some c) (is_some d) again) at
 named at a b c d e again p q r s t result told = grind arith
 
--- what a pass over the results found, and what was found of seeds and entries
+-- the culprit, from what a pass over the results found, and from what was found about seeds and entries
 pub culprit_named : (allowed : List ℕ → Bool) (seeds : List (List ℕ)) (entries : List Entry) (results : List PageResult) (marks : Marks) → AreMarks allowed entries results marks → (seed fetched groundless : Option (List ℕ))
     → IsLeast (λ url. stands_in seeds url && is_lost allowed entries url) seed
     → IsLeast (λ url. list_any (λ e. bytes_eq e.url url && not (has_result results e.url)) entries) fetched

@@ -1,4 +1,4 @@
--- The index of a URL among the entries of all subqueues is by its index in its own.
+-- The index of a URL among the entries of all queues, computed from its index in its own queue.
 use Rattle.std.proofs.Common.{◌≡◌, inl, inr, ℕ, zero, suc, ◌+◌, ◌<◌, Bool, true, List, [], ◌∷◌, ◌++◌, length, take, get_or, slice_get, Option, Some, None, is_some, refl, sym, ap, subst, ◌∙◌, arith, length-append}
 use Rattle.std.proofs.lemmas.Grind.{common_steps}
 use Rattle.std.proofs.lemmas.Bool.Decides.{nat_tests}
@@ -41,13 +41,13 @@ later_step : (b : Bool) (o whole rest : Option ℕ) (n : ℕ) → (if b then Som
     → (if b then Some 0 else option_map suc whole) ≡ option_map (λ i. suc n + i) rest
 later_step b o whole rest n none more = grind arith
 
--- where the first does not have it
+-- if the first list does not have the text, its index is that in the second list, plus the length of the first
 behind : (front back : List (List ℕ)) (key : List ℕ) → index_of front key ≡ None → index_of (front ++ back) key ≡ option_map (λ i. length front + i) (index_of back key)
 behind [] back key none = add_none (index_of back key)
 behind (text ∷ front) back key none =
     later_step (bytes_eq text key) (index_of front key) (index_of (front ++ back) key) (index_of back key) (length front) none (behind front back key)
 
--- where the second does not
+-- if the second list does not have the text, its index is that in the first list
 ahead : (front back : List (List ℕ)) (key : List ℕ) → index_of back key ≡ None → index_of (front ++ back) key ≡ index_of front key
 ahead [] back key none = none
 ahead (text ∷ front) back key none = ap (λ (o : Option ℕ). if bytes_eq text key then Some 0 else option_map suc o) (ahead front back key none)
@@ -126,7 +126,7 @@ firsts_push n queues firsts first own count is at are = λ queue below. elim (ca
 laid_apart : (account : AccountId) (all : List Entry) (firsts : List ℕ) → AreLaidOut account all firsts → DifferByUrl all
 laid_apart account all firsts are = subst DifferByUrl (sym are.whole) (account_differs account are.queues)
 
--- entries of one URL are at one index
+-- entries with the same URL have the same index
 same_index : (entries : List Entry) → DifferByUrl entries → (i k : ℕ) (x e : Entry) → slice_get entries i ≡ Some x → slice_get entries k ≡ Some e → x.url ≡ e.url → i ≡ k
 same_index entries apart i k x e at_i at_k same = grind (arith, cases_lt, slice_get_within, get_or_from_slice_get)
 
@@ -141,7 +141,7 @@ finds_of entries apart url (Some k) found = let there = entry_there entries url 
 has_entry : (entries : List Entry) (url : List ℕ) → is_some (index_of (entry_urls entries) url) ≡ is_accepted entries url
 has_entry entries url = has_index (entry_urls entries) url ∙ any_map (λ text. bytes_eq text url) (λ (e : Entry). e.url) entries
 
--- what is answered, by the index in the URL's own queue
+-- the index that is found for the URL: it is that of the URL's entry, and there is one exactly if the URL is accepted
 pub record IsAnswer (all : List Entry) (url : List ℕ) (o : Option ℕ) : Type 0 where
   pub found : Finds all url o
   pub accepted : is_some o ≡ is_accepted all url
@@ -162,7 +162,7 @@ module _ (account : AccountId) (all : List Entry) (firsts : List ℕ) (are : Are
       let is : before account all firsts are url queue own below ≡ first = sym (at ∙ get_or_from_slice_get firsts queue (before account all firsts are url queue own below) first there.2) in
       answer all (laid_apart account all firsts are) url (Some (first + i)) (in_account account all firsts are url queue own below (Some i) told ∙ ap (λ n. Some (n + i)) is)
 
--- what is at a guess
+-- if the entry at a guessed index has the URL, the guess is right
 pub answers_guess : (account : AccountId) (all : List Entry) (firsts : List ℕ) → AreLaidOut account all firsts → (url : List ℕ) (k : ℕ) → stands_at all k url ≡ true → IsAnswer all url (Some k)
 answers_guess account all firsts are url k stands = of_this (slice_get all k) refl stands
   where

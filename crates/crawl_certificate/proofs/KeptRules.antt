@@ -1,4 +1,4 @@
--- The lists of an account are subqueues: by their rule no URL stands there twice, and each belongs there.
+-- The lists of an account are queues: by the rule that they keep, no list has a URL twice, and each URL belongs to its list.
 use Rattle.std.proofs.Common.{◌≡◌, ℕ, zero, suc, ◌+◌, ◌<◌, false, List, [], ◌∷◌, ◌++◌, take, refl, arith}
 use Rattle.std.proofs.lemmas.Bool.Decides.{nat_tests}
 use Rattle.std.specs.List.{AllByRecursion, IsDistinct}
@@ -17,7 +17,7 @@ use Rattle.crawl_certificate.specs.Queues.{AreQueues}
 use Rattle.crawl_certificate.proofs.Order.{Distinct}
 use Rattle.crawl_certificate.proofs.Queues.{differ_from, queues_differ, queue_counts}
 
--- a URL that is not in the whole is not in its front
+-- a URL that is not in the whole list is not in its front
 not_in_front : (url : List ℕ) (xs ys : List Entry) → has_url url (xs ++ ys) ≡ false → has_url url xs ≡ false
 not_in_front url [] ys none = refl
 not_in_front url (x ∷ xs) ys none = grind (arith, nat_tests, not_in_front url xs, or_parts, or_from)
@@ -26,7 +26,7 @@ not_the_last : (url : List ℕ) (xs : List Entry) (e : Entry) → has_url url (x
 not_the_last url [] e none = let parts = or_parts (bytes_eq e.url url) false none in parts.0
 not_the_last url (x ∷ xs) e none = grind (arith, nat_tests, not_the_last url xs, or_parts)
 
--- an entry that stands before these, as `knows` says, has another URL than each of them
+-- an entry that is in `before`, as `knows` states, has another URL than each of these entries
 earlier_differs : (workers place : ℕ) (before es : List Entry) (x : Entry) → ((url : List ℕ) → has_url url before ≡ false → bytes_eq x.url url ≡ false) → KeepsRule workers place before es → AllByRecursion (λ url. bytes_eq x.url url ≡ false) (entry_urls es)
 earlier_differs workers place before [] x knows keeps = tt
 earlier_differs workers place before (e ∷ es) x knows keeps = (
@@ -52,14 +52,14 @@ kept_queues workers queues keeps = record {
   apart = λ queue es at. differ_from es (kept_distinct workers queue [] es (keeps queue es at));
 }
 
--- what stands among the first n stands there in the whole list too
+-- what is among the first n elements is at the same index of the whole list
 pub at_front : {X : Type 0} (n : ℕ) (xs : List X) (k : ℕ) (x : X) → At (take n xs) k x → (k < n) × At xs k x
 at_front zero xs k x at = absurd (cc)
 at_front (suc n) [] k x at = absurd (cc)
 at_front (suc n) (y ∷ ys) zero x at = (omega arith, at)
 at_front (suc n) (y ∷ ys) (suc k) x at = let rest = at_front n ys k x at in (omega (arith, rest.0), rest.1)
 
--- the lists of the first n subqueues keep their rule
+-- the lists of the first n queues keep their rule
 abbrev pub KeptBelow : ℕ → AccountId → Type 0
 KeptBelow n account = (queue : ℕ) (es : List Entry) → queue < n → At account.queues queue es → KeepsRule account.workers queue [] es
 
@@ -69,7 +69,7 @@ none_kept account = λ queue es below at. absurd (omega (arith, below))
 pub one_more_kept : (n : ℕ) (account : AccountId) (own : List Entry) → KeptBelow n account → At account.queues n own → KeepsRule account.workers n [] own → KeptBelow (n + 1) account
 one_more_kept n account own kept here keeps = grind arith
 
--- so where those of all subqueues do, they are the subqueues of their URLs, and no two entries have one URL
+-- if the lists of all queues keep their rule, each has only URLs that belong to its queue, and none of them twice
 pub account_queues : (account : AccountId) → KeptBelow account.workers account → AreQueues (λ url. subqueue_of url account.workers) (take account.workers account.queues)
 account_queues account kept =
     kept_queues account.workers (take account.workers account.queues)
@@ -86,7 +86,7 @@ at_whole (suc n) [] k x below at = absurd (cc)
 at_whole (suc n) (y ∷ ys) zero x below at = at
 at_whole (suc n) (y ∷ ys) (suc k) x below at = at_whole n ys k x (omega (arith, below)) at
 
--- of URLs that are those of the entries, as many belong to a subqueue as it has entries
+-- if these URLs are those of the entries, the number of a queue's entries is the number of URLs that belong to it
 pub account_counts : (account : AccountId) (urls : List (List ℕ)) → AreQueues (λ url. subqueue_of url account.workers) (take account.workers account.queues) → IsPermutation (entry_urls (entries_of account)) urls → CountsOf account urls
 account_counts account urls are same = λ queue es below at.
     queue_counts (λ url. subqueue_of url account.workers) (take account.workers account.queues) urls are same queue es

@@ -1,4 +1,4 @@
--- The least text that passes a test, and how two such are put together.
+-- The least text that passes a test, and how two of these are combined.
 use Rattle.std.proofs.Common.{◌≡◌, inl, inr, ℕ, ◌+◌, ◌<◌, ◌≤◌, Bool, true, false, ◌||◌, ◌&&◌, List, [], ◌∷◌, ◌++◌, length, take, get_or, Option, Some, None, is_some, refl, sym, ap, subst, ◌∙◌, arith}
 use Rattle.std.proofs.lemmas.Grind.{common_steps}
 use Rattle.std.proofs.lemmas.Bool.Decides.{nat_tests}
@@ -31,7 +31,7 @@ ranks = ranks_by nat_list_cmp_total (λ t. t)
 not_below_itself : (t : List ℕ) → is_below t t ≡ false
 not_below_itself t = elim (cases_Bool (is_below t t)) [ inl h ↦ ranks.one_way t t h | inr h ↦ h ]
 
--- two texts of which neither is below the other are one
+-- two texts are equal if neither is below the other
 pub neither_below : (a b : List ℕ) → is_below a b ≡ false → is_below b a ≡ false → a ≡ b
 neither_below a b p q = by (slice_cmp nat_cmp a b) refl
   where
@@ -48,20 +48,20 @@ same_bool a b there' back = grind arith
 or_and : (a b c : Bool) → ((a && c) || (b && c)) ≡ ((a || b) && c)
 or_and a b c = grind arith
 
--- the same test in other words
+-- tests that agree on all texts have the same least text
 pub by_test : (p q : List ℕ → Bool) (told : Option (List ℕ)) → ((text : List ℕ) → p text ≡ q text) → IsLeast p told → IsLeast q told
 by_test p q told same is = subst (λ t. IsLeast t told) (λ i text. same text i) is
 
--- ---- one, and two
+-- ---- one text, and two tests
 
--- a text alone, if it passes the test
+-- the least text that equals this one and passes the test is the text itself, if it passes
 pub only_one : (text : List ℕ) (test : List ℕ → Bool) → IsLeast (λ t. bytes_eq text t && test t) (url_if (test text) text)
 only_one text test = grind (arith, and_from, text_itself, and_parts, same_text, not_below_itself, false_from_ne_true, both_ways)
 
 two_least : (p q : List ℕ → Bool) (a b : List ℕ) → IsLeast p (Some a) → IsLeast q (Some b) → (below : Bool) → is_below b a ≡ below → IsLeast (λ t. p t || q t) (Some (if below then b else a))
 two_least p q a b of_a of_b below is = grind (arith, or_right, or_cases, ranks, or_left)
 
--- the least of what passes one of two tests is the lesser of the two least
+-- the least text that passes either of two tests is the lesser of the least texts of the two
 pub least_of_both : (p q : List ℕ → Bool) (a b : Option (List ℕ)) → IsLeast p a → IsLeast q b → IsLeast (λ t. p t || q t) (lesser a b)
 least_of_both p q a b of_a of_b = grind (arith, or_from, or_left, or_cases, both_ways, or_right, two_least)
 
@@ -73,11 +73,11 @@ some_lesser a b = grind arith
 
 -- ---- lists
 
--- one more element, each of which is at fault with some texts
+-- the least text for which some element is wrong, after one more element
 pub least_push : {X : Type 0} (at : X → List ℕ → Bool) (xs : List X) (x : X) (told one : Option (List ℕ)) → IsLeast (λ t. list_any (λ y. at y t) xs) told → IsLeast (at x) one → IsLeast (λ t. list_any (λ y. at y t) (xs ++ x ∷ [])) (lesser told one)
 least_push at xs x told one before now = grind (arith, by_test, any_push, least_of_both)
 
--- the same, of texts that pass a test besides
+-- likewise after one more list, for texts that also pass a test
 pub least_append : {X : Type 0} (at : X → List ℕ → Bool) (bad : List ℕ → Bool) (xs ys : List X) (told one : Option (List ℕ)) → IsLeast (λ t. list_any (λ y. at y t) xs && bad t) told → IsLeast (λ t. list_any (λ y. at y t) ys && bad t) one → IsLeast (λ t. list_any (λ y. at y t) (xs ++ ys) && bad t) (lesser told one)
 least_append at bad xs ys told one before now = grind (arith, by_test, or_and, list_any-append, least_of_both)
 
@@ -85,18 +85,18 @@ pub least_more : {X : Type 0} (at : X → List ℕ → Bool) (bad : List ℕ →
 least_more at bad xs x told one before now =
     least_append at bad xs (x ∷ []) told one before (by_test _ _ one (λ t. ap (λ b. b && bad t) (sym (or_false (at x t)))) now)
 
--- the URLs of elements that pass a test are those that pass it themselves
+-- a text is the URL of an element whose URL passes the test exactly if it is the URL of an element and passes the test
 pub at_urls : {X : Type 0} (url : X → List ℕ) (test : List ℕ → Bool) (xs : List X) (text : List ℕ) → list_any (λ x. bytes_eq (url x) text && test (url x)) xs ≡ (list_any (λ x. bytes_eq (url x) text) xs && test text)
 at_urls url test [] text = refl
 at_urls url test (x ∷ xs) text = grind (arith, nat_tests, at_urls url test xs, cases_Bool, or_and, same_text)
 
--- ---- whether there is one
+-- ---- whether there is a least text
 
--- there is one exactly where something is the case that goes with it
+-- there is a least text exactly if `holds` is true, which it is exactly if some text passes the test
 pub some_least : (holds : Bool) (test : List ℕ → Bool) (told : Option (List ℕ)) → IsLeast test told → (holds ≡ true → (t : List ℕ) × (test t ≡ true)) → ((t : List ℕ) → test t ≡ true → holds ≡ true) → is_some told ≡ holds
 some_least holds test told is found back = grind arith
 
--- elements whose own URL is at fault
+-- elements whose own URL is wrong
 pub urls_at : {X : Type 0} (url : X → List ℕ) (bad : List ℕ → Bool) (xs : List X) (t : List ℕ) → (list_any (λ x. bytes_eq (url x) t) xs && bad t) ≡ true → list_any (λ x. bad (url x)) xs ≡ true
 urls_at url bad xs t passes =
     let parts = and_parts (list_any (λ x. bytes_eq (url x) t) xs) (bad t) passes in
@@ -106,7 +106,7 @@ urls_at url bad xs t passes =
 pub some_of_urls : {X : Type 0} (url : X → List ℕ) (bad : List ℕ → Bool) (xs : List X) (told : Option (List ℕ)) → IsLeast (λ t. list_any (λ x. bytes_eq (url x) t) xs && bad t) told → is_some told ≡ list_any (λ x. bad (url x)) xs
 some_of_urls url bad xs told is = grind (arith, nat_tests, common_steps, some_least, some_has, and_from, any_from, text_itself, urls_at)
 
--- elements that are at fault themselves
+-- elements that are wrong themselves
 pub elements_at : {X : Type 0} (url : X → List ℕ) (bad : X → Bool) (xs : List X) (t : List ℕ) → list_any (λ x. bytes_eq (url x) t && bad x) xs ≡ true → list_any bad xs ≡ true
 elements_at url bad xs t passes = grind (arith, nat_tests, common_steps, some_has, any_from, and_parts)
 
@@ -118,7 +118,7 @@ some_of_elements url bad xs told is =
     (url x.0, any_from (λ y. bytes_eq (url y) (url x.0) && bad y) xs x.0 x.1 (and_from _ _ (text_itself (url x.0)) x.2)))
     (elements_at url bad xs)
 
--- elements each of which has texts, some of which are at fault
+-- elements that have texts, some of which are wrong
 pub lists_at : {X : Type 0} (texts : X → List (List ℕ)) (bad : List ℕ → Bool) (xs : List X) (t : List ℕ) → (list_any (λ x. list_any (λ own. bytes_eq own t) (texts x)) xs && bad t) ≡ true → list_any (λ x. list_any bad (texts x)) xs ≡ true
 lists_at texts bad xs t passes =
     let parts = and_parts (list_any (λ x. list_any (λ own. bytes_eq own t) (texts x)) xs) (bad t) passes in

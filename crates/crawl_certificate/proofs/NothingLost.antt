@@ -1,4 +1,4 @@
--- A run that lost nothing has none of the first three faults.
+-- A run that lost nothing has none of the first three errors.
 use Rattle.std.proofs.Common.{◌≡◌, ℕ, Bool, true, false, not, List, subst, arith}
 use Rattle.std.specs.List.{Contains}
 use Rattle.std.proofs.lemmas.Bool.{and_right, not_from_true, and_left, cases_Bool}

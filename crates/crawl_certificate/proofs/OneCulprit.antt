@@ -1,4 +1,4 @@
--- What follows of culprits from their definition.
+-- What follows from the definition of culprits.
 use Rattle.std.proofs.Common.{◌≡◌, ℕ, Bool, not, List, Option, arith}
 use Rattle.std.proofs.lemmas.Bool.{both_ways, false_from_ne_true, or_parts, or_from}
 use Rattle.crawl_queues.specs.declared.entry.Entry.{Entry}
@@ -11,11 +11,11 @@ use Rattle.crawl_certificate.specs.Culprits.{is_lost, HasNoneAt, IsCulprit}
 use Rattle.crawl_certificate.proofs.LeastUrls.{neither_below, urls_at, elements_at, lists_at}
 use Rattle.crawl_certificate.proofs.Twice.{url_is_twice}
 
--- a fault has one culprit
+-- an error has only one culprit
 pub one_culprit : (first : Option CertError) (at : CertError → List ℕ → Bool) (culprit other : Culprit) → IsCulprit first at culprit → IsCulprit first at other → culprit ≡ other
 one_culprit first at culprit other k m = grind (arith, neither_below)
 
--- where a run has not a fault, no URL is at fault
+-- if a run does not have an error, no URL shows that error
 pub none_at : (allowed : List ℕ → Bool) (seeds : List (List ℕ)) (entries : List Entry) (results : List PageResult) → HasNoneAt allowed seeds entries results
 none_at allowed seeds entries results = record {
   seeds = λ none url. false_from_ne_true _ (λ yes. both_ways _ none (urls_at (λ (s : List ℕ). s) (is_lost allowed entries) seeds url yes));

@@ -32,7 +32,7 @@ pub any_map : {X Y : Type 0} (p : X → Bool) (f : Y → X) (ys : List Y) → li
 any_map p f [] = refl
 any_map p f (y ∷ ys) = ap (λ b. p (f y) || b) (any_map p f ys)
 
--- an element stands somewhere
+-- each element of a list is at some index
 pub place_among : {X : Type 0} (xs : List X) (x : X) → Contains xs x → (k : ℕ) × (slice_get xs k ≡ Some x)
 place_among [] x has = absurd (no_element x has)
 place_among (y ∷ ys) x has = elim (first_or_later y x ys has) [
@@ -52,7 +52,7 @@ pub get_last : {X : Type 0} (xs : List X) (y : X) → slice_get (xs ++ y ∷ [])
 get_last [] y = refl
 get_last (z ∷ zs) y = get_last zs y
 
--- what a reference at a place points to
+-- what the reference at an index points to
 pub get_pointed : {X : Type 0} (xs : List (Bor X)) (k : ℕ) (d : Bor X) → get_or (pointed xs) k d.now ≡ (get_or xs k d).now
 get_pointed xs k d = grind (arith, nat_tests, common_steps)
 
@@ -72,7 +72,7 @@ none_marked (x ∷ xs) = ap (λ bs. false ∷ bs) (none_marked xs)
 
 -- ---- sets of URLs
 
--- a set of URLs after one was put in
+-- a set of URLs after one was inserted
 pub set_put : (old new : Urls) (key : List ℕ) → sorted.Updates by_hash old new key true → (url : List ℕ) → is_in new url ≡ (is_in old url || bytes_eq key url)
 set_put old new key updates url =
     updates.0 url ∙ ap (λ b. cond b true (is_in old url)) (sym (by_hash_ties key url)) ∙ or_by_cond (bytes_eq key url) (is_in old url)
@@ -104,7 +104,7 @@ pub maps_agree : {X Y : Type 0} (f g : X → Y) (xs : List X) → ((k : ℕ) (x 
 maps_agree f g [] h = refl
 maps_agree f g (x ∷ xs) h = ap (λ y. y ∷ map f xs) (h zero x refl) ∙ ap (λ ys. g x ∷ ys) (maps_agree f g xs (λ k z at. h (suc k) z at))
 
--- a map with one value written
+-- a mapped list after one value was written
 pub set_agrees : {X Y : Type 0} (f g : X → Y) (xs : List X) (k : ℕ) (v : Y) → ((x : X) → slice_get xs k ≡ Some x → v ≡ g x) → ((i : ℕ) (x : X) → slice_get xs i ≡ Some x → (i ≡ k → ⊥) → f x ≡ g x) → set (map f xs) k v ≡ map g xs
 set_agrees f g [] k v at others = refl
 set_agrees f g (x ∷ xs) zero v at others = ap (λ y. y ∷ map f xs) (at x refl) ∙ ap (λ ys. g x ∷ ys) (maps_agree f g xs (λ i z here'. others (suc i) z here' (λ e. omega (arith, e))))
@@ -121,7 +121,7 @@ or_none_last a b c h = grind arith
 or_both : (a b c : Bool) → b ≡ true → c ≡ true → true ≡ (a || (b && c))
 or_both a b c p q = grind arith
 
--- what is known of the entries after the one with this URL was marked, if it passes the test
+-- the marks of the entries after the one with this URL was marked, if it passes the test
 pub marked : (entries : List Entry) (url : List ℕ) (k : ℕ) → Finds entries url (Some k) → (known test : Entry → Bool) (e : Entry) → slice_get entries k ≡ Some e → test e ≡ true → set (map known entries) k true ≡ map (λ e. known e || (bytes_eq url e.url && test e)) entries
 marked entries url k found known test e at passes = grind (arith, set_agrees, or_both, found_eq, same_at, or_none, other_eq)
 
@@ -168,11 +168,11 @@ behind_none entries url none e =
     let same_url : url ≡ some.0.url = sym (same_text some.0.url url fits.0) in
     both_ways _ (none there.0 some.0 there.1) (subst (λ u. bytes_eq url u ≡ true) same_url (text_itself url)))
 
--- marks by the hops of the entry of a result
+-- the marks that the links of a result give, by the hops of the result's entry
 pub behind_marks : (entries : List Entry) (r : PageResult) (k : ℕ) → Finds entries r.url (Some k) → (before : Entry) → slice_get entries k ≡ Some before → (known : Entry → Bool) → map (λ e. known e || (stands_in (links_of r.page) e.url && e.hops == before.hops + 1)) entries ≡ map (λ e. known e || (stands_in (links_of r.page) e.url && is_behind entries r.url e)) entries
 behind_marks entries r k found before at known = grind (arith, maps_agree, behind_found)
 
--- a result whose URL is not accepted gives none
+-- a result whose URL is not accepted gives no marks
 pub behind_no_marks : (entries : List Entry) (r : PageResult) → Finds entries r.url None → (known : Entry → Bool) → map known entries ≡ map (λ e. known e || (stands_in (links_of r.page) e.url && is_behind entries r.url e)) entries
 behind_no_marks entries r none known = grind (arith, maps_agree, or_none_last, behind_none)
 

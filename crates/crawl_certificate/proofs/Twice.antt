@@ -25,7 +25,7 @@ count_more p x xs = sum_by-cons (λ y. cond (p y) 1 0) x xs
 one_count : (b : Bool) → ltb 0 (cond b 1 0) ≡ b
 one_count b = grind arith
 
--- two numbers together
+-- the sum of two numbers
 some_of : (a b : ℕ) → ltb 0 (a + b) ≡ (ltb 0 a || ltb 0 b)
 some_of a b = grind arith
 
@@ -38,7 +38,7 @@ any_counts p (x ∷ xs) = grind (arith, nat_tests, any_counts p xs, one_count, s
 
 -- ---- results
 
--- two results of two lists
+-- two results of two lists have a URL exactly if two results of one list have it, or one result of each list has it
 pub twice_of_both : (xs ys : List PageResult) (url : List ℕ) → is_twice (xs ++ ys) url ≡ ((is_twice xs url || is_twice ys url) || (has_result xs url && has_result ys url))
 twice_of_both xs ys url = grind (arith, ltb, count_append, two_of, any_counts)
 
@@ -53,7 +53,7 @@ pub twice_push : (xs : List PageResult) (r : PageResult) (url : List ℕ) → is
 twice_push xs r url =
     twice_of_both xs (r ∷ []) url ∙ tidy (is_twice xs url) (is_twice (r ∷ []) url) (has_result xs url) (bytes_eq r.url url) (one_result r url)
 
--- one more result, if no URL of a result is a stray
+-- one more result, if no result has a stray URL
 pub least_twice : (xs : List PageResult) (r : PageResult) (stray of_one told again : Option (List ℕ)) → (stray ≡ None → IsLeast (is_twice xs) told) → (of_one ≡ None → again ≡ url_if (has_result xs r.url) r.url) → lesser stray of_one ≡ None → IsLeast (is_twice (xs ++ r ∷ [])) (lesser told again)
 least_twice xs r stray of_one told again before now none =
     let parts = lesser_none stray of_one none in
@@ -62,7 +62,7 @@ least_twice xs r stray of_one told again before now none =
 
 -- ---- two lists
 
--- where no URL of a result is a stray, those that two lists share are URLs of entries
+-- if no result of the first list has a stray URL, a URL that two lists share is the URL of an entry
 shared_url : (entries : List Entry) (xs ys : List PageResult) → ((u : List ℕ) → is_a_stray entries xs u ≡ false) → (url : List ℕ) → list_any (λ e. bytes_eq e.url url && (has_result xs e.url && has_result ys e.url)) entries ≡ (has_result xs url && has_result ys url)
 shared_url entries xs ys none url =
     let both : List ℕ → Bool = λ u. has_result xs u && has_result ys u in
@@ -74,7 +74,7 @@ shared_url entries xs ys none url =
     accepted : has_result xs url ≡ true → list_any (λ (e : Entry). bytes_eq e.url url) entries ≡ true
     accepted has = true_from_ne_false (is_accepted entries url) (λ no. both_ways _ (none url) (and_from _ _ has (ap not no)))
 
--- the least URL that two results have, of two lists
+-- the least URL that two results of two lists have
 pub least_twice_of_both : (entries : List Entry) (xs ys : List PageResult) (first second both : Option (List ℕ)) → IsLeast (is_a_stray entries xs) None → IsLeast (is_twice xs) first → IsLeast (is_twice ys) second → IsLeast (λ u. list_any (λ e. bytes_eq e.url u && (has_result xs e.url && has_result ys e.url)) entries) both → IsLeast (is_twice (xs ++ ys)) (lesser (lesser first second) both)
 least_twice_of_both entries xs ys first second both none p q shared =
     by_test _ _ (lesser (lesser first second) both) (λ u. sym (twice_of_both xs ys u))
@@ -82,9 +82,9 @@ least_twice_of_both entries xs ys first second both none p q shared =
     (least_of_both (is_twice xs) (is_twice ys) first second p q)
     (by_test _ _ both (shared_url entries xs ys none) shared))
 
--- ---- whether there is one
+-- ---- whether there is such a URL
 
--- a result whose URL a later one has too, or two later ones
+-- two results have a URL exactly if the first and a later one have it, or two later ones have it
 more_twice : (r : PageResult) (rest : List PageResult) (url : List ℕ) → is_twice (r ∷ rest) url ≡ (is_twice rest url || (bytes_eq r.url url && has_result rest url))
 more_twice r rest url =
     let p : PageResult → Bool = λ x. bytes_eq x.url url in

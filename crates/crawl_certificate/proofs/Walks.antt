@@ -1,4 +1,4 @@
--- Marks that only what is linked has, and a run that lost nothing.
+-- Marks that only linked entries have, and a run that lost nothing.
 use Rattle.std.proofs.Common.{◌≡◌, inl, inr, ℕ, zero, suc, ◌+◌, ◌<◌, ◌^◌, ◌==◌, Bool, true, false, not, ◌||◌, ◌&&◌, List, [], ◌∷◌, ◌++◌, length, map, get_or, slice_get, Option, Some, None, IfSome, IsSomeAnd, Vec, Global, refl, sym, ap, subst, ◌∙◌, arith, length-append, if◌then◌else◌}
 use Rattle.std.specs.Borrow.{Bor}
 use Rattle.std.specs.List.{AllByRecursion, Contains, IsDistinct, list_any}
@@ -38,7 +38,7 @@ linked_from entries results i j r before at there same e link far =
     (any_from (λ (b : Entry). bytes_eq b.url r.url && e.hops == b.hops + 1) entries before (among_at entries j before there)
     (and_from _ _ (subst (λ u. bytes_eq before.url u ≡ true) same (text_itself before.url)) (eq-eqb e.hops (before.hops + 1) far))))
 
--- ---- no fault
+-- ---- no error
 
 neither : (a b : Bool) → a ≡ false → b ≡ false → (a || b) ≡ false
 neither a b p q = grind arith
@@ -75,19 +75,19 @@ faultless allowed seeds entries results kept apart same each =
 
 -- ---- steps of the walk
 
--- a link at a place stands among the links
+-- the link at an index is among the links
 pub stands_at_place : (links : List (List ℕ)) (i : ℕ) (link url : List ℕ) → i < length links → link ≡ get_or links i link → url ≡ link → stands_in links url ≡ true
 stands_at_place links i link url within is same = any_from (λ own. bytes_eq own url) links link (i, within, sym is) (subst (λ u. bytes_eq link u ≡ true) (sym same) (text_itself link))
 
--- what is read at a place
+-- the element that is read at an index
 pub read_at : {X : Type 0} (xs : List X) (i : ℕ) (x : X) → i < length xs → x ≡ get_or xs i x → slice_get xs i ≡ Some x
 read_at xs i x within is = slice_get_read xs (length xs) i x refl within is
 
--- an entry that is at an index
+-- the test `stands_at` passes at the index of an entry with the URL
 pub stands_here : (entries : List Entry) (k : ℕ) (e : Entry) (url : List ℕ) → slice_get entries k ≡ Some e → e.url ≡ url → stands_at entries k url ≡ true
 stands_here entries k e url at same = subst (λ o. at_this o url ≡ true) (sym at) (subst (λ u. bytes_eq e.url u ≡ true) same (text_itself e.url))
 
--- one result more
+-- one more result
 pub own_more : (entries : List Entry) (first : ℕ) (results : List PageResult) (i : ℕ) (r : PageResult) → ((k : ℕ) (x : PageResult) → k < i → slice_get results k ≡ Some x → stands_at entries (first + k) x.url ≡ true)
     → slice_get results i ≡ Some r → stands_at entries (first + i) r.url ≡ true → (k : ℕ) (x : PageResult) → k < i + 1 → slice_get results k ≡ Some x → stands_at entries (first + k) x.url ≡ true
 own_more entries first results i r so_far at stands k x below there = elim (cases_lt k i) [
@@ -101,7 +101,7 @@ own_more entries first results i r so_far at stands k x below there = elim (case
 stays : (a z s m : Bool) → (a && (if z then s else false)) ≡ true → (a && (if z then s else m)) ≡ true
 stays a z s m h = grind arith
 
--- one entry more that is founded
+-- one more entry that is founded
 pub founded_more : (allowed : List ℕ → Bool) (seeds : Urls) (holds : Entry → Bool) (entries : List (Bor Entry)) (marks : List Bool) (i : ℕ) (e : Bor Entry) (mark : Bool)
     → i < length entries → e ≡ get_or entries i e → slice_get marks i ≡ Some mark → MarksOnly holds (pointed entries) marks
     → (allowed e.now.url && (if e.now.hops == 0 then is_in seeds e.now.url else mark)) ≡ true → (allowed e.now.url && (if e.now.hops == 0 then is_in seeds e.now.url else holds e.now)) ≡ true
@@ -113,7 +113,7 @@ founded_more allowed seeds holds entries marks i e mark within is at only passes
     by_mark true then' h = subst (λ b. (allowed e.now.url && (if e.now.hops == 0 then is_in seeds e.now.url else b)) ≡ true) (sym (then' refl)) h
     by_mark false then' h = stays (allowed e.now.url) (e.now.hops == 0) (is_in seeds e.now.url) (holds e.now) h
 
--- all URLs, if there are as many entries as results
+-- entries and results of equal number have the same URLs if each result has the URL of the entry at its index
 urls_by_index : (entries : List Entry) (results : List PageResult) → length entries ≡ length results → ((k : ℕ) (r : PageResult) → slice_get results k ≡ Some r → stands_at entries k r.url ≡ true) → entry_urls entries ≡ result_urls results
 urls_by_index [] [] long own = refl
 urls_by_index [] (r ∷ rs) long own = absurd (omega (arith, long))
@@ -127,7 +127,7 @@ pub all_urls : (entries : List Entry) (results : List PageResult) → length ent
 all_urls entries results long own =
     urls_by_index entries results long (λ k r at. let same : 0 + k ≡ k = omega arith in subst (λ n. stands_at entries n r.url ≡ true) same (own k r at))
 
--- an entry that is at an index with the URL
+-- if the test `stands_at` passes at an index, an entry with the URL is there
 pub stands_there : (entries : List Entry) (k : ℕ) (url : List ℕ) → stands_at entries k url ≡ true → (e : Entry) × (slice_get entries k ≡ Some e) × (e.url ≡ url)
 stands_there entries k url h = by_case (slice_get entries k) refl h
   where
@@ -135,7 +135,7 @@ stands_there entries k url h = by_case (slice_get entries k) refl h
     by_case None is there = absurd (cc)
     by_case (Some e) is there = (e, is, same_text e.url url there)
 
--- ---- two walks put together
+-- ---- two walks combined
 
 in_one_only : (test : Entry → Bool) (entries : List Entry) (marks more : List Bool) → MarksOnly test entries marks → MarksOnly test entries more → MarksOnly test entries (in_one marks more)
 in_one_only test entries marks [] only more_only k e at mark = only k e at mark
@@ -197,7 +197,7 @@ parts_together entries here' there' e f first front behind at xs ys whole joined
     walks_together entries first behind xs ys one other (λ fits. past (subst (λ rs. first + length rs < 2 ^ 64) joined fits)) own later in
     subst (λ ms. IsWalk entries first whole ms) (sym both) (subst (λ rs. IsWalk entries first rs (in_one one other)) joined sum)
 
--- what holds of the marks of two walks, where both came to their end
+-- a property of the combined marks of two walks that follows from properties of the marks of each
 pub both_told : (P Q R : List Bool → Type 0) → ((one other all : List Bool) → P one → Q other → all ≡ in_one one other → R all) → (first second told : Option (Vec Bool Global))
     → IfSome first (λ v. P v.items) → IfSome second (λ v. Q v.items) → IfSome told (λ all. IsSomeAnd first (λ one. IsSomeAnd second (λ other. all.items ≡ in_one one.items other.items))) → IfSome told (λ v. R v.items)
 both_told P Q R sum first second None p q t = tt

@@ -34,7 +34,7 @@ ArePages meaning results = All (λ r. r.page ≡ meaning r.url) results
 abbrev pub AreReachable : (List ℕ → Page) → (List ℕ → Bool) → List (List ℕ) → List (List ℕ) → Type 0
 AreReachable page allowed seeds urls = (url : List ℕ) → Contains urls url ↔ Reachable page allowed seeds url
 
--- each of the account's subqueues has as many entries as URLs belong to it
+-- the number of entries in each of the account's queues is the number of URLs that belong to the queue
 abbrev pub CountsOf : AccountId → List (List ℕ) → Type 0
 CountsOf account urls =
     (queue : ℕ) (entries : List Entry) → queue < account.workers → slice_get account.queues queue ≡ Some entries
@@ -55,7 +55,7 @@ unless_fault (Some fault) = Err fault
 abbrev pub Tells : {T : Type 0} → Result T CertError → Option CertError → Type 0
 Tells result fault = Gives NoMemory (λ _. tt) result (unless_fault fault)
 
--- those of the URLs that are allowed are among these
+-- each allowed URL of the second list is also in the first list
 abbrev pub AllowedAreIn : (List ℕ → Bool) → List (List ℕ) → List (List ℕ) → Type 0
 AllowedAreIn allowed those urls = All (λ url. IsTrue (allowed url) → Contains those url) urls
 

@@ -186,7 +186,7 @@ takes_where_admitted workers max events replies run assigned i j sender queue th
     let was = was_admitted workers max events replies run i queue url at_i in
     assigned was.0 j was.1 sender url queue there was.2 at_j
 
--- two takes of one URL from one subqueue are one
+-- two takes of the same URL from the same subqueue are the same take
 not_before : (workers max : ℕ) (events : List Event) (replies : List Reply) → IsRun workers max events replies → (i j queue : ℕ) (url : List ℕ) → i < j → slice_get (zip events replies) i ≡ Some (Take queue, told.Taken url) → slice_get (zip events replies) j ≡ Some (Take queue, told.Taken url) → ⊥
 not_before workers max events replies run i j queue url below at_i at_j =
     let history = zip events replies in
@@ -240,7 +240,7 @@ take_all [] (suc n) e = refl
 take_all (x ∷ xs) zero e = absurd (omega (arith, e))
 take_all (x ∷ xs) (suc n) e = ap (λ ys. x ∷ ys) (take_all xs n (omega (arith, e)))
 
--- the URLs that were taken from a subqueue that has none left
+-- all URLs of a subqueue that has none left were taken
 taken_whole : (o : Option Subqueue) → ((found : Subqueue) → o ≡ Some found → found.taken ≡ length found.accepted) → urls_taken o ≡ map (λ m. m.url) (messages o)
 taken_whole o all = grind (arith, take_all)
 
@@ -257,7 +257,7 @@ drained workers max front back event end run queue =
 closing_done : (queue : ℕ) (event : Event) → done_by queue event told.Closed ≡ false
 closing_done queue event = grind arith
 
--- if nothing is being fetched, as many URLs are finished as were taken
+-- if nothing is being fetched, the number of finished URLs is the number of URLs that were taken
 done_whole : (o : Option Subqueue) → ((found : Subqueue) → o ≡ Some found → (found.busy ≡ false) × (found.taken ≤ length found.accepted)) → finished_at o ≡ length (urls_taken o)
 done_whole o all = grind (arith, length_first, length-map)
 

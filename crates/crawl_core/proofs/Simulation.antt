@@ -28,7 +28,7 @@ use Rattle.crawl_core.specs.Moves.{Moves, Move, move, by_gate, counted, admit_to
 use Rattle.crawl_core.specs.Shows.{Shows, ShowsQueue, Makes}
 use Rattle.crawl_core.proofs.Sets.{lookup-insert_entry}
 
--- R of the elements of two lists at an index: either both have an element there, or neither
+-- both elements are present and R holds of them, or neither is present
 abbrev pub Both : {A B : Type 0} → (A → B → Type 0) → Option A → Option B → Type 0
 Both R None None = Unit {0}
 Both R (Some a) (Some b) = R a b
@@ -59,7 +59,7 @@ drop-slice_get {A} [] n = drop_of_length-le {A = A} [] (omega arith)
 drop-slice_get (x ∷ xs) zero = refl
 drop-slice_get (x ∷ xs) (suc n) = drop-slice_get xs n
 
--- the kept form of a subqueue has as many unfinished URLs as the subqueue
+-- the kept form of a subqueue has the same number of unfinished URLs as the subqueue
 outstanding-unfinished : (kept : KeptQueue) (queue : Subqueue) → ShowsQueue kept queue → outstanding kept ≡ unfinished queue
 outstanding-unfinished kept queue shown = grind (arith, length-map, length-drop)
 
@@ -74,7 +74,7 @@ sums (k ∷ ks) (q ∷ qs) z = let first = outstanding-unfinished k q z.0 in let
 is_at_number : (s sender : ℕ) → is_at (nat_cmp s) sender ≡ nat_eq sender s
 is_at_number s sender = grind (arith, nat_tests)
 
--- the number at a sender that may be this one, after one more of this one
+-- the number that is kept for a sender, after one more message from a sender that may be the same one
 numbered : (b : Bool) (o : Option ℕ) (n c : ℕ) → unwrap_or o 0 ≡ c → (b ≡ true → n ≡ c) → unwrap_or (cond b (Some (suc n)) o) 0 ≡ c + cond b 1 0
 numbered b o n c old same = grind arith
 
@@ -123,11 +123,11 @@ pub record Agrees (made : Move) (done : Turn) : Type 0 where
 agrees_if : (b : Bool) (made made' : Move) (done done' : Turn) → Agrees made done → Agrees made' done' → Agrees (if b then made else made') (if b then done else done')
 agrees_if b made made' done done' first second = grind arith
 
--- only a reply, which is the same
+-- a step that only replies, with the same reply
 unchanged : (queues : List KeptQueue) (state : State) → AllZip ShowsQueue queues state.subqueues → (reply : Reply) → Agrees (record { reply = reply; kept = keeping queues state }) (record { reply = reply; state = state })
 unchanged queues state shown reply = record { queues = queues; shown = shown; is_move = refl }
 
--- a count of the rest
+-- a step that only reports the number of units
 counted_agrees : (queues : List KeptQueue) (state : State) → AllZip ShowsQueue queues state.subqueues → Agrees (counted (keeping queues state)) (step.counted state)
 counted_agrees queues state shown = record { queues = queues; shown = shown; is_move = rw (sums queues state.subqueues shown) refl }
 

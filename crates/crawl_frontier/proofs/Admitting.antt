@@ -1,4 +1,4 @@
--- What follows from a shard's answer, under its lock and once that is given back.
+-- What follows from the result of an offer to a shard, while its lock is held and after it is released.
 use Rattle.std.proofs.Common.{◌≡◌, ◌⊎◌, ℕ, true, List, [], ◌∷◌, ◌++◌, length, Some, slice_get, refl, sym, ap, ◌∙◌, subst, ⊎_elim}
 use Rattle.std.specs.Prelude.{slice_set}
 use Rattle.crawl_gate.specs.Seat.{SeatId}
@@ -18,7 +18,7 @@ use Rattle.crawl_frontier.specs.Finishing.{AreRaised}
 use Rattle.crawl_frontier.proofs.Gets.{get_last, get_set_same}
 use Rattle.crawl_frontier.proofs.Logging.{at_map, has_url_at, raised_at, raised_log, raised_known}
 
--- the index that the shard told is true of this list
+-- the index that the shard returned is right for this list
 abbrev pub IsTrueOf : List Entry → List ℕ → ℕ → ℕ → Admit → Type 0
 IsTrueOf es url id hops (Admitted n i) = slice_get es i ≡ Some (entry url id n hops)
 IsTrueOf es url id hops (Crossed found u) = Unit {0}
@@ -26,12 +26,12 @@ IsTrueOf es url id hops (Seen there i u) = (e : Entry) × (slice_get es i ≡ So
 IsTrueOf es url id hops (TooFar u) = Unit {0}
 IsTrueOf es url id hops (NoMemory u) = Unit {0}
 
--- what is known of queue q's list has grown, and the index is true of it
+-- what is known of queue q's list has grown, and the index is right for it
 abbrev pub Raises : List KnownList → List KnownList → ℕ → List ℕ → ℕ → ℕ → Admit → Type 0
 Raises before after q url id hops answer =
     (t u : KnownList) × (slice_get before q ≡ Some t) × (u.list ≡ t.list) × Stays t.items u.items × (after ≡ slice_set before q u) × IsTrueOf u.items url id hops answer
 
--- the answer where the entry at an index has the URL
+-- the result, if the entry at an index has the URL
 pub answered : (s t : ShardId) (url : List ℕ) (id own hops : ℕ) (unit : SeatId) (there : Entry) (k : ℕ) (a : Admit)
     → count_of id s.sent ≡ own → t ≡ s → slice_get s.sent k ≡ Some there → there.url ≡ url → (a ≡ Seen there.url k unit) ⊎ (a ≡ NoMemory unit) → Admits s t url id own hops unit a
 answered s t url id own hops unit there k a count same at is = ⊎_elim
@@ -56,7 +56,7 @@ module _ (s t : ShardId) (url : List ℕ) (id own hops : ℕ) (unit : SeatId) wh
   replied (TooFar u) is = (is.2, is.4)
   replied (NoMemory u) is = is.1
 
-  -- the index is true of the list that the shard has then
+  -- the index is right for the list that the shard has afterwards
   pub true_of : (a : Admit) → Admits s t url id own hops unit a → IsTrueOf t.sent url id hops a
   true_of (Admitted n i) is =
       let e : Entry = entry url id own hops in
@@ -67,7 +67,7 @@ module _ (s t : ShardId) (url : List ℕ) (id own hops : ℕ) (unit : SeatId) wh
   true_of (TooFar u) is = tt
   true_of (NoMemory u) is = tt
 
-  -- what is known of the queue's list becomes the list that the shard has then
+  -- what is known of the queue's list becomes the list that the shard has afterwards
   pub raises : (queues : List QueueId) (told : List KnownList) (q : ℕ) (queue : QueueId) (k u : KnownList) (a : Admit)
       → ListsAre queues told → slice_get queues q ≡ Some queue → slice_get told q ≡ Some k → u ≡ begins_with queue.list t.sent → Stays k.items u.items → Admits s t url id own hops unit a
       → Raises told (slice_set told q u) q url id hops a
@@ -88,7 +88,7 @@ known_of lists es q url id hops (Seen there i u) at is = (is.0, (es, at, is.1), 
 known_of lists es q url id hops (TooFar u) at is = tt
 known_of lists es q url id hops (NoMemory u) at is = tt
 
--- of books whose part was told of queue q's list
+-- what holds of books and logs still holds after more of queue q's list became known
 module _ (before after : List KnownList) (q : ℕ) (url : List ℕ) (id hops : ℕ) (a : Admit) (r : Raises before after q url id hops a) where
   are_raised : AreRaised before after
   are_raised = subst (AreRaised before) (sym r.5) (raised_at before q r.0 r.1 r.2 r.3 r.4)

@@ -19,7 +19,7 @@ numbered_at id n [] k x all at = absurd (cc (at))
 numbered_at id n (y ∷ ys) zero x all at = let same : y ≡ x = cc in (ap (λ e. e.sender) (sym same) ∙ all.0, ap (λ e. e.number) (sym same) ∙ (all.1 ∙ omega arith))
 numbered_at id n (y ∷ ys) (suc k) x all at = let r = numbered_at id (n + 1) ys k x all.2 at in (r.0, omega (arith, r.1))
 
--- two numbered lists of one length, where each entry of the first is in the second
+-- two numbered lists of equal length are the same if each entry of the first is in the second
 pub same_numbered : (id n : ℕ) (xs ys : List Entry) → Numbered id n xs → Numbered id n ys → length xs ≡ length ys → ((j : ℕ) (x : Entry) → At xs j x → (k : ℕ) × At ys k x) → xs ≡ ys
 same_numbered id n [] [] a b len stands = refl
 same_numbered id n [] (y ∷ ys) a b len stands = absurd (omega arith)
@@ -78,7 +78,7 @@ sent_to-stands q es (Accepted e p ∷ ls) stands j x at = by_case (eqb p q) refl
     by_case true is (suc j) here rest = rest j here
     by_case false is j here rest = rest j here
 
--- what is compared is enough
+-- comparing the counts is enough: if they agree, the book agrees with the lists
 pub agrees : (workers least below : ℕ) (lists : List (List Entry)) (b : BookId) → IsBook workers b → least ≤ workers → KeepRuleBelow workers least lists
     → below ≤ least → LogStands below lists b.log → (now : ℕ) → now ≤ below → CountsStand now lists b → AgreesBelow now lists b
 agrees workers least below lists b is within rule under stands now under' counts q es lt at = record {
@@ -100,9 +100,9 @@ agrees workers least below lists b is within rule under stands now under' counts
         let r = sent_to-stands q es b.log in_list j x here in
         entries_of-at b.id es r.0 x r.1 (numbered_at b.id 0 (sent_to q b.log) j x (is.numbered q) here).0
 
--- ---- what is found to differ is a fault
+-- ---- a difference that is found is an error
 
--- a count that is another
+-- a count that differs
 pub count_disagrees : (workers q : ℕ) (lists : List (List Entry)) (b : BookId) → IsBook workers b → q < workers → CountFails q lists b → DisagreesAt q lists b
 count_disagrees workers q lists b is lt (es, n, here, counted, differs) = (
   es,
@@ -113,13 +113,13 @@ count_disagrees workers q lists b is lt (es, n, here, counted, differs) = (
       differs (same ∙ (ap length agree.sent ∙ entries_of-length b.id es)),
 )
 
--- a bound that falls to a queue where something fails
+-- if the bound fell only to queues at which something fails, something fails at the bound
 pub fails_next : (P : ℕ → Type 0) (first old new : ℕ) → new ≤ old → (old < first → P old) → (new < old → P new) → new < first → P new
 fails_next P first old new le before now lt = ⊎_elim now (λ not. let same : old ≡ new = omega (arith, le, not) in subst P same (before (omega (arith, lt, same)))) (cases_lt new old)
 
 -- ---- from the last book to the first
 
--- one book more, before those that were compared
+-- one more book, before those that were compared
 pub agree_first : (lists : List (List Entry)) (b : BookId) (bs : List BookId) (settled old new : ℕ) → AgreeTo old settled lists bs → new ≤ old → AgreesBelow new lists b → (new < old → DisagreesAt new lists b)
     → AgreeTo new settled lists (b ∷ bs)
 agree_first lists b bs settled old new (within, agree, differ) le one differs =
@@ -132,7 +132,7 @@ agree_first lists b bs settled old new (within, agree, differ) le one differs =
     later : OneDisagrees old lists bs → OneDisagrees old lists (b ∷ bs)
     later d = (suc d.0, d.1, d.2, d.3)
 
--- what is in the second of two lists
+-- what is in the second of two lists is in both together
 pub second_half : {X : Type 0} (xs ys : List X) (j : ℕ) (x : X) → At ys j x → (i : ℕ) × At (xs ++ ys) i x
 second_half [] ys j x at = (j, at)
 second_half (z ∷ zs) ys j x at = let r = second_half zs ys j x at in (suc r.0, r.1)

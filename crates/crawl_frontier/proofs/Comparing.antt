@@ -1,4 +1,4 @@
--- Once the books are compared, a run has its account or its fault.
+-- After the books are compared, a run has its account or its error.
 use Rattle.std.proofs.Common.{◌≡◌, ◌∙◌, ℕ, ◌<◌, ◌≤◌, List, [], length, map, sym, ap, subst, arith}
 use Rattle.std.proofs.lemmas.Result.{MatchResult-weaker}
 use Rattle.std.specs.Prelude.{MatchResult}
@@ -15,7 +15,7 @@ use Rattle.crawl_frontier.specs.Finishing.{AllAre, AgreeTo, CanCompare, KeepRule
 use Rattle.crawl_frontier.proofs.Gets.{get_within}
 
 module _ (workers : ℕ) (closed : List WorkerId) (senders : List SenderId) (s : Settled) (can : CanCompare workers closed senders s) where
-  -- what a comparison asks for
+  -- what a comparison requires
   pub askable : (lists : List (List Entry)) → lists ≡ s.lists.items
       → (s.least ≤ length lists) × AllAre (IsBook (length lists)) (map book_of s.books.items) × KeepRuleBelow (length lists) s.least lists × LogsStand s.least lists (map book_of s.books.items)
   askable lists same =

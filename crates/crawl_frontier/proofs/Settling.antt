@@ -1,4 +1,4 @@
--- One subqueue more was settled; and what maps by number have after a change.
+-- One more queue is settled, and what maps by number contain after a change.
 use Rattle.std.proofs.Common.{◌≡◌, ◌⊎◌, ℕ, ◌+◌, ◌<◌, ◌≤◌, Bool, true, false, true≢false, cond, eqb, List, [], ◌∷◌, ◌++◌, length, map, Option, Some, None, get_or, slice_get, refl, sym, ap, ◌∙◌, subst, inl, inr, ⊎_elim, arith}
 use Rattle.std.proofs.lemmas.Bool.{cases_lt}
 use Rattle.std.proofs.lemmas.Bool.Decides.{nat_tests}
@@ -28,7 +28,7 @@ key_is key q e = let same : eqb key q ≡ true = unsigned_ties key q ∙ e in gr
 key_self : (key : ℕ) → is_at (nat_cmp key) key ≡ true
 key_self key = let same : eqb key key ≡ true = grind (arith, nat_tests) in sym (unsigned_ties key key) ∙ same
 
--- the books of an element
+-- the model of the book at an index
 pub at_book : (books : List Book) (j : ℕ) (x : Book) → j < length books → x ≡ get_or books j x → At (map book_of books) j (book_of x)
 at_book books j x lt is = slice_get-map book_of books j ∙ ap (option_map book_of) (slice_get_read books (length books) j x refl lt is)
 
@@ -73,7 +73,7 @@ placed-none gate workers closed rights alone none = record {
     past : {X : Type 0} → (k : ℕ) (w : WorkerId) → At closed k w → length closed ≤ k → X
     past k w at from = let lt = get_within closed k w at in absurd (omega arith)
 
--- one closed worker more was taken apart, the n-th
+-- one more closed worker, the n-th, was taken apart
 pub placed_more : (gate : GateId) (workers : ℕ) (closed : List WorkerId) (m m' : BTreeMap ℕ PassId) (n : ℕ) (w : WorkerId) (r : PassId) (alone alone' : ℕ)
     → Placed gate workers closed (n + 1) m alone → At closed n w → w.queue < workers
     → ((q : ℕ) → get nat_cmp m' q ≡ cond (is_at (nat_cmp w.queue) q) (Some r) (get nat_cmp m q))
@@ -140,7 +140,7 @@ shared_more gate workers closed m n w limit alone alone' old at le named before 
         let t = old.whose w.queue here.1 in
         (n, t.0, w, t.1, at, t.2, sym here.0, t.4 ∙ sym here.0, λ same. absurd (omega (arith, t.3, same)))
 
--- one queue more was settled
+-- one more queue was settled
 pub settle_more : (workers : ℕ) (queues : List QueueId) (shards : List ShardId) (rights : BTreeMap ℕ PassId) (lists : List (List Entry)) (doubts : List (Option Doubt))
     (list : List Entry) (doubt : Option Doubt) → AllSettle workers queues shards rights lists doubts → length lists ≡ length doubts
     → SettlesAt workers queues shards rights (length lists) list doubt → AllSettle workers queues shards rights (lists ++ list ∷ []) (doubts ++ doubt ∷ [])
@@ -155,7 +155,7 @@ Settled workers rights least lists =
     (q : ℕ) (es : List Entry) → q < least → At lists q es
     → ((p : PassId) × (get nat_cmp rights q ≡ Some p) × (es ≡ p.view.taken)) × KeepsRule workers q [] es
 
--- where no queue is in doubt
+-- if no queue below `least` is in doubt, all of them are settled
 pub settled : (workers : ℕ) (queues : List QueueId) (shards : List ShardId) (rights : BTreeMap ℕ PassId) (lists : List (List Entry)) (doubts : List (Option Doubt)) (least : ℕ)
     → AllSettle workers queues shards rights lists doubts → ((q : ℕ) → q < least → At doubts q None) → Settled workers rights least lists
 settled workers queues shards rights lists doubts least all none q es lt at =
@@ -200,14 +200,14 @@ known_some : (o : Option PassId) → is_some o ≡ true → (p : PassId) × (o �
 known_some None e = absurd (cc (e))
 known_some (Some p) e = (p, refl)
 
--- with nothing left to take apart, the books of each part are here
+-- if nothing is left to take apart, the book of each part was gathered
 pub has_book : (workers : ℕ) (closed : List WorkerId) (senders : List SenderId) (books : List BookId) → Gathered workers closed senders [] [] books → (b : BookId) → IsPart closed senders b → HasBook books b
 has_book workers closed senders books g b part = ⊎_elim
     (λ (t : (k : ℕ) × (w : WorkerId) × At closed k w × (w.book ≡ b)). subst (HasBook books) t.3 (⊎_elim (λ (lt : t.0 < 0). absurd (omega arith)) (λ h. h) (g.closed_in t.0 t.1 t.2)))
     (λ (t : (k : ℕ) × (s : SenderId) × At senders k s × (s.book ≡ b)). subst (HasBook books) t.3 (⊎_elim (λ (lt : t.0 < 0). absurd (omega arith)) (λ h. h) (g.senders_in t.0 t.1 t.2)))
     part
 
--- each queue that has a right to pop has a worker, and one that has none has none
+-- if each queue has a right to pop, each has a worker; a queue with no right to pop has no worker
 pub all_work : (gate : GateId) (workers : ℕ) (queues : List QueueId) (closed : List WorkerId) (rights : BTreeMap ℕ PassId)
     → Slots gate workers queues closed rights → ((q : ℕ) → q < workers → is_some (get nat_cmp rights q) ≡ true) → HasWorkers workers closed
 all_work gate workers queues closed rights slots there q lt =
@@ -221,7 +221,7 @@ one_is_missing gate workers closed rights alone q placed lt none has =
     let t = has q lt in
     true≢false (sym (placed.there t.0 t.1 t.2 (omega arith)) ∙ (ap (λ k. is_some (get nat_cmp rights k)) t.3 ∙ none))
 
--- with nothing left to take apart and all queues compared, the lists are an account
+-- if nothing is left to take apart and all queues were compared, the lists are an account
 pub accounts : (gate : GateId) (workers : ℕ) (queues : List QueueId) (closed : List WorkerId) (senders : List SenderId) (rights : BTreeMap ℕ PassId) (books : List BookId) (lists : List (List Entry)) (alone least now : ℕ) (ids : BTreeSet ℕ)
     → length lists ≡ workers → Slots gate workers queues closed rights → Placed gate workers closed 0 rights alone → Gathered workers closed senders [] [] books
     → ((q : ℕ) → q < workers → is_some (get nat_cmp rights q) ≡ true) → Settled workers rights least lists

@@ -24,11 +24,11 @@ map_set_same f (z ∷ zs) (suc i) x y e is = ap (λ l. f z ∷ l) (map_set_same 
 pub all_snoc : {X : Type 0} (P : X → Type 0) (xs : List X) (x : X) → AllAre P xs → P x → AllAre P (xs ++ x ∷ [])
 all_snoc P xs x all new j y at = ⊎_elim (λ before. all j y before) (λ now. subst P now.1 new) (get_snoc xs x y j at)
 
--- the queues below n are told
+-- for each queue below n, what is known of its list holds in its shard's, if that is at home
 abbrev pub ToldBelow : ℕ → List ShardId → List KnownList → Type 0
 ToldBelow n shards told = (q : ℕ) (s : ShardId) (t : KnownList) → q < n → IsHome shards q s → At told q t → Stays t.items s.sent
 
--- one queue more
+-- one more queue
 pub told_more : (shards : List ShardId) (start before after : List KnownList) (n j : ℕ) (s : ShardId) (t u : KnownList)
     → AreRaised start before → ToldBelow n shards before → At before n t → u.list ≡ t.list → Stays t.items u.items → after ≡ set before n u
     → At shards j s → j + n + 1 ≡ length shards → (s.queue ≡ n → Stays u.items s.sent)
@@ -52,15 +52,15 @@ told_more shards start before after n j s t u raised below at list stay is there
         subst (λ (y : KnownList × ShardId). Stays y.0.items y.1.sent) (λ i. (sym new i, sym shard i)) (told queue))
         (cases_lt q n)
 
--- all queues are told
+-- if n is the number of queues, what is known of each list holds in its shard's
 pub told_of : (n : ℕ) (shards : List ShardId) (told : List KnownList) → ToldBelow n shards told → length told ≡ n → AreToldOf shards told
 told_of n shards told below len q s t home at = let lt = get_within told q t at in below q s t (omega (arith, lt, len)) home at
 
--- the logs of the first n books are
+-- the logs of the first n books are true of the shards
 abbrev pub LogsBelow : ℕ → List ShardId → List BookId → Type 0
 LogsBelow n shards books = (j : ℕ) (b : BookId) → j < n → At books j b → LogIsOf shards b.log
 
--- one book more
+-- one more book
 pub book_more : (shards : List ShardId) (books : List BookId) (now : List Book) (n : ℕ) (b : Book)
     → map book_of now ≡ books → At now n b → LogsBelow n shards books → LogIsOf shards (book_of b).log → LogsBelow (n + 1) shards books
 book_more shards books now n b are at below new j c lt here = ⊎_elim
@@ -71,7 +71,7 @@ book_more shards books now n b are at below new j c lt here = ⊎_elim
     subst (λ (x : BookId). LogIsOf shards x.log) is new)
     (cases_lt j n)
 
--- where no queue is in doubt, the lists are the shards'
+-- if no queue below `least` is in doubt, what the logs say of the shards' lists holds of these lists
 pub logs_stand : (workers : ℕ) (queues : List QueueId) (shards : List ShardId) (rights : BTreeMap ℕ PassId) (lists : List (List Entry)) (doubts : List (Option Doubt)) (least : ℕ) (books : List BookId)
     → AllSettle workers queues shards rights lists doubts → ((q : ℕ) → q < least → At doubts q None) → LogsAreOf shards books → LogsStand least lists books
 logs_stand workers queues shards rights lists doubts least books all none are j b at k l here lt es there =

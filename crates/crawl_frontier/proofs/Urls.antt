@@ -9,7 +9,7 @@ use Rattle.hash_index.proofs.Listed.{found_at}
 use Rattle.crawl_queues.specs.declared.entry.Entry.{Entry}
 use Rattle.crawl_queues.specs.Entries.{has_url}
 
--- the list has a URL where that has an index
+-- a URL is in the list exactly if it has an index
 pub has_index : (es : List Entry) (url : List ℕ) → is_some (index_of (map (λ e. e.url) es) url) ≡ has_url url es
 has_index [] url = refl
 has_index (e ∷ es) url = by_first (bytes_eq e.url url) (index_of (map (λ e. e.url) es) url) (has_index es url)
@@ -23,7 +23,7 @@ has_index (e ∷ es) url = by_first (bytes_eq e.url url) (index_of (map (λ e. e
 pub url_at : (es : List Entry) (k : ℕ) (e : Entry) → slice_get es k ≡ Some e → slice_get (map (λ e. e.url) es) k ≡ Some e.url
 url_at es k e at = slice_get-map (λ e. e.url) es k ∙ ap (option_map (λ e. e.url)) at
 
--- the entry at a URL's index
+-- there is an entry with the URL at the URL's index
 pub entry_there : (es : List Entry) (url : List ℕ) (k : ℕ) → index_of (map (λ e. e.url) es) url ≡ Some k → (e : Entry) × ((slice_get es k ≡ Some e) × (e.url ≡ url))
 entry_there es url k found = by_entry (slice_get es k) refl
   where
@@ -34,7 +34,7 @@ entry_there es url k found = by_entry (slice_get es k) refl
 pub index_within : (es : List Entry) (url : List ℕ) (k : ℕ) → index_of (map (λ e. e.url) es) url ≡ Some k → k < length es
 index_within es url k found = let there = entry_there es url k found in slice_get_within es k there.0 there.1.0
 
--- it has the URL
+-- the entry at the URL's index has the URL
 pub url_there : (es : List Entry) (url : List ℕ) (k : ℕ) (e : Entry) → index_of (map (λ e. e.url) es) url ≡ Some k → slice_get es k ≡ Some e → e.url ≡ url
 url_there es url k e found at =
     let both : Some e.url ≡ Some url = sym (url_at es k e at) ∙ found_at _ url k found in

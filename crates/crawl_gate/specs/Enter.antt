@@ -1,4 +1,4 @@
--- The words that an entering call meets, by its result.
+-- The values of the gate's word that a call to enter reads, by the result of the call.
 use Rattle.std.specs.Prelude.{◌≡◌, ◌≢◌, ℕ, ◌<◌, false, List, [], ◌∷◌}
 use Rattle.crawl_gate.specs.declared.rule.View.{View}
 use Rattle.crawl_gate.specs.declared.gate.enter.Enter.{Enter}
@@ -7,8 +7,8 @@ use Rattle.crawl_gate.specs.Word.{Word, open_at, closed_at}
 use Rattle.crawl_gate.specs.View.{knows_closed, view_looking, view_losing}
 use Rattle.crawl_gate.specs.Seat.{GateId, SeatId, IsSeatOf, with_view, after_looking, after_entering, after_losing}
 
--- One try of a pass. Its load meets a closed word, or an open one with the maximum, and that is the result;
--- or an open word below the maximum, and then its exchange meets that word again, or another.
+-- One try to enter with a pass. If its load reads a closed word, or an open word with the maximum count, that is the result;
+-- otherwise its exchange reads the same word again and enters, or it reads another word and the try is lost.
 abbrev pub TriesToEnter : SeatId → Enter → Type 0
 TriesToEnter pass (Entered unit) =
     (n : ℕ) × (n < pass.view.max_pending) × (knows_closed pass.view ≡ false)
@@ -19,7 +19,7 @@ TriesToEnter pass (Lost back) =
     (n : ℕ) × (x : Word) × (n < pass.view.max_pending) × (knows_closed pass.view ≡ false) × (x ≢ open_at n)
     × (back ≡ after_losing (after_looking pass (open_at n)) x)
 
--- One try with a unit, whose seat makes the load: the gate is open, and the pass makes at most the exchange.
+-- One try while another seat holds a unit: that seat makes the load, so the gate is open, and the pass makes at most the exchange.
 abbrev pub TriesToEnterBeside : SeatId → SeatId → SeatId → Enter → Type 0
 TriesToEnterBeside held held' pass (Entered unit) =
     (n : ℕ) × (n < pass.view.max_pending) × (held' ≡ after_looking held (open_at n)) × (unit ≡ after_entering pass (open_at n))
@@ -29,11 +29,11 @@ TriesToEnterBeside held held' pass (Lost back) =
     (n : ℕ) × (x : Word) × (n < pass.view.max_pending) × (x ≢ open_at n)
     × (held' ≡ after_looking held (open_at n)) × (back ≡ after_losing pass x)
 
--- a lost try: the count that its load met, and the other word that its exchange met
+-- a lost try: the count that its load read, and the other word that its exchange read
 abbrev pub LostTry : Type 0
 LostTry = ℕ × Word
 
--- each load met an open word below the maximum, and each exchange another word than its load
+-- each load read an open word below the maximum, and each exchange read another word than its load
 abbrev pub AllLost : ℕ → List LostTry → Type 0
 AllLost max [] = Unit {0}
 AllLost max (t ∷ ts) = (t.0 < max) × (t.1 ≢ open_at t.0) × AllLost max ts
@@ -79,13 +79,13 @@ abbrev pub EntersAtLast : SeatId → Enter → Type 0
 EntersAtLast pass answer =
     (ts : List LostTry) × AllLost pass.view.max_pending ts × TriesToEnter (after_trying pass ts) answer × ¬ IsLost answer
 
--- likewise with a unit
+-- likewise while another seat holds a unit
 abbrev pub EntersAtLastBeside : SeatId → SeatId → SeatId → Enter → Type 0
 EntersAtLastBeside held held' pass answer =
     (ts : List LostTry) × AllLost pass.view.max_pending ts
     × TriesToEnterBeside (after_loading held ts) held' (after_exchanging pass ts) answer × ¬ IsLost answer
 
--- the seat that comes back is of this gate
+-- the seat that is returned belongs to this gate
 abbrev pub GivesSeatOf : GateId → Enter → Type 0
 GivesSeatOf gate (Entered unit) = IsSeatOf gate unit
 GivesSeatOf gate (Closed back) = IsSeatOf gate back

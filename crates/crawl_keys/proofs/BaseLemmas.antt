@@ -1,4 +1,4 @@
--- Where a page's root and its folder end in the text of its URL, and the URLs that plain links lead to from there.
+-- The ends of a page's root and folder in the text of its URL, and the URLs that common link forms lead to from there.
 use Rattle.std.proofs.lemmas.Grind.{common_steps}
 use Rattle.std.proofs.Common.{◌≡◌, ◌⊎◌, ℕ, zero, suc, ◌+◌, ◌-◌, ◌<◌, true, List, [], ◌∷◌, ◌++◌, length, get_or, take, drop, refl, ap, sym, subst, ◌∙◌, ⊎_elim, inr, All, Some, None, Ok, arith, append_assoc, append-nil, length-append, length-drop, take_all, take_at, drop_at}
 use Rattle.std.specs.Prelude.{Option, slice_range, decimal, is_some, option_map, unwrap_or}
@@ -29,7 +29,7 @@ use Rattle.crawl_keys.proofs.SpelledLemmas.{parse_spelled, resolve-spelled}
 pub front_slice : (xs own : List ℕ) (n : ℕ) → own ≡ xs → slice_range own 0 n ≡ take n xs
 front_slice xs own n same = grind arith
 
--- and one to the end
+-- a slice to the end
 pub back_slice : (xs own : List ℕ) (n : ℕ) → own ≡ xs → take (length own - n) (drop n own) ≡ drop n xs
 back_slice xs own n same = take_all (length own - n) (drop n own) (omega (arith, length-drop n own)) ∙ ap (drop n) same
 
@@ -103,7 +103,7 @@ path_place url web bare =
     let len = ap (prefix_len (is_other 63)) all ∙ prefix_len_at (is_other 63) front (query_text url.query) passes (stops_at_query url.query) in
     (λ i. take (len i) (all i)) ∙ take_at front (query_text url.query) (length front) refl
 
--- and the folder ends after the last slash before that
+-- the folder ends after the last slash before the first question mark
 folder_place : (url : Parts) → IsWeb url → url.fragment ≡ None → without_last_segment (take (prefix_len (is_other 63) (serialize url)) (serialize url)) ≡ folder_text url
 unfolding folder_text
 folder_place url web bare = ap without_last_segment (path_place url web bare)
@@ -201,7 +201,7 @@ front_text page root folder path k =
 
 -- ---- the base of a text
 
--- the places that are read off the text
+-- the ends of the root and the folder, as they are read off the text
 pub is_base : (text : List ℕ) (root folder start end : ℕ) → IsCanonical text → IsSpelled text start end → root ≡ end + prefix_len (is_other 47) (drop end text)
     → folder ≡ length (without_last_segment (take (prefix_len (is_other 63) text) text)) + 1 → IsBase text root folder
 is_base text root folder start end k s root_is folder_is =
@@ -224,7 +224,7 @@ is_base text root folder start end k s root_is folder_is =
 front_root : (text : List ℕ) (root folder : ℕ) (k : IsCanonical text) → IsBase text root folder → take root text ≡ root_text k.url
 front_root text root folder k b = grind (arith, common_steps, page_text, web_url, query_text)
 
--- the folder that is so many above the page's
+-- the n-th folder above the page's
 own_above : (text : List ℕ) (root folder n : ℕ) (k : IsCanonical text) → IsBase text root folder → take (folder_above text root folder n) text ≡ root_text k.url ++ (above n (without_last_segment k.url.path) ++ 47 ∷ [])
 own_above text root folder n k b =
     let url = k.url in
@@ -244,7 +244,7 @@ front_folder text root folder k b =
     own_above text root folder 0 k b ∙ sym (append_assoc (root_text k.url) (without_last_segment k.url.path) (47 ∷ []))
     ∙ ap (λ f. f ++ 47 ∷ []) (sym (folder_text-root k.url (web_url k.url k.valid k.web)))
 
--- the folder of whatever the page's text parses to
+-- the folder of the URL that the page's text parses to
 pub own_folder : (text : List ℕ) (root folder : ℕ) (k : IsCanonical text) → IsBase text root folder → (url : Parts) → parse_url None text ≡ Ok url → take folder text ≡ folder_text url ++ 47 ∷ []
 own_folder text root folder k b url parses =
     front_folder text root folder k b ∙ ap (λ u. folder_text u ++ 47 ∷ []) (one_url text k.url url k.parses parses)
@@ -289,7 +289,7 @@ leads_same text link k same = grind (arith, common_steps, resolve-same, page_of)
 pub leads_absolute : (text link : List ℕ) (start end : ℕ) → IsCanonical text → IsSpelled link start end → resolve text link ≡ Ok link
 leads_absolute text link start end k s = resolve-spelled k.url text link start end k.parses s
 
--- pages whose texts have one folder
+-- two pages with the same folder resolve a link to the same URL if the link passes the test `is_of_folder`
 pub leads_beside : (text other : List ℕ) (root folder its_root its_folder : ℕ) → IsCanonical text → IsCanonical other → IsBase text root folder → IsBase other its_root its_folder
     → take folder text ≡ take its_folder other → (link : List ℕ) → is_of_folder link ≡ true → resolve text link ≡ resolve other link
 leads_beside text other root folder its_root its_folder k o b d same link plain =

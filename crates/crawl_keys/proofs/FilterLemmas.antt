@@ -19,21 +19,21 @@ use Rattle.crawl_keys.specs.HostFilter.{is_dot, is_within, is_good, in_order, fi
 pub bytes_eq-lengths : (xs ys : List ℕ) → (length xs ≡ length ys → ⊥) → bytes_eq xs ys ≡ false
 bytes_eq-lengths xs ys apart = grind (arith, common_steps, false_from_ne_true, bytes_eq-Decides)
 
--- two texts compare in either order
+-- comparing two texts gives the same result in either order
 pub bytes_eq-comm : (xs ys : List ℕ) → bytes_eq xs ys ≡ bytes_eq ys xs
 bytes_eq-comm xs ys = grind (arith, common_steps, bytes_eq-Decides, false_from_ne_true, cases_Bool)
 
--- a suffix is the text after one of the dots of a text
+-- the suffix is the text after one of the text's dots
 abbrev pub is_behind_dot : List ℕ → List ℕ → Bool
 is_behind_dot [] suffix = false
 is_behind_dot (b ∷ more) suffix = is_dot b && bytes_eq more suffix || is_behind_dot more suffix
 
--- it is not in a text that is not longer
+-- a text has no suffix after a dot if the text is not longer than the suffix
 pub is_behind_dot-short : (text suffix : List ℕ) → length text ≤ length suffix → is_behind_dot text suffix ≡ false
 is_behind_dot-short [] suffix short = refl
 is_behind_dot-short (b ∷ more) suffix short = grind (arith, bytes_eq-lengths, and_right, is_behind_dot-short more suffix)
 
--- the last bytes of a text that is longer than that
+-- the last bytes of a text are those of its rest, if the rest is long enough
 pub drop-longer : (b : ℕ) (more : List ℕ) (n : ℕ) → n < length more → drop (length (b ∷ more) - suc n) (b ∷ more) ≡ drop (length more - suc n) more
 drop-longer b more n longer = grind arith
 
@@ -67,7 +67,7 @@ ends_with-dot (b ∷ more) suffix =
         ap (λ s. bytes_eq (46 ∷ suffix) s) (drop-longer b more (length suffix) longer)
         ∙ rest ∙ rw (bytes_eq-lengths more suffix (λ same. absurd (omega arith)), and_right (is_dot b) false refl) refl
 
--- the tests by two words together
+-- some element passes one of two tests exactly if some element passes the first or some element passes the second
 pub list_any-or : {A : Type 0} (p q : A → Bool) (xs : List A) → list_any (λ x. p x || q x) xs ≡ (list_any p xs || list_any q xs)
 list_any-or p q [] = refl
 list_any-or p q (x ∷ xs) = rw (list_any-or p q xs) (mixed (p x) (q x) (list_any p xs) (list_any q xs))
@@ -78,7 +78,7 @@ list_any-or p q (x ∷ xs) = rw (list_any-or p q xs) (mixed (p x) (q x) (list_an
     mixed false true false d = refl
     mixed false false c d = refl
 
--- tests that agree find the same
+-- tests that agree give the same result
 pub list_any-same : {A : Type 0} (p q : A → Bool) → ((x : A) → p x ≡ q x) → (xs : List A) → list_any p xs ≡ list_any q xs
 list_any-same p q same [] = refl
 list_any-same p q same (x ∷ xs) = rw (same x, list_any-same p q same xs) refl
@@ -88,7 +88,7 @@ pub list_any-contains : (text : List ℕ) (strings : List (String Global)) → l
 list_any-contains text [] = refl
 list_any-contains text (s ∷ more) = rw (is_eq-slice_cmp text (string_bytes s), list_any-contains text more) refl
 
--- a string goes to its place among strings as its bytes do among their bytes
+-- a string is inserted among strings as its bytes are inserted among theirs
 pub map-insert_key : (string : String Global) (strings : List (String Global)) → map string_bytes (insert_key string_cmp strings string) ≡ insert_key (slice_cmp nat_cmp) (map string_bytes strings) (string_bytes string)
 map-insert_key string [] = refl
 map-insert_key string (s ∷ more) = grind (arith, map-insert_key string more)
@@ -103,7 +103,7 @@ pub is_behind_dot-none : (text suffix : List ℕ) → position_or_len is_dot tex
 is_behind_dot-none [] suffix all = refl
 is_behind_dot-none (b ∷ more) suffix all = grind (arith, cases_Bool, is_behind_dot-none more)
 
--- the two ways to be within
+-- a host is within some suffix exactly if it is a suffix or has one after a dot
 pub list_any-within : (host : List ℕ) (suffixes : List (List ℕ)) → list_any (is_within host) suffixes ≡ (list_any (bytes_eq host) suffixes || list_any (is_behind_dot host) suffixes)
 list_any-within host suffixes =
     list_any-or (bytes_eq host) (λ suffix. ends_with nat_eq host (codes "." ++ suffix)) suffixes
@@ -117,18 +117,18 @@ within-whole host suffixes found = list_any-within host suffixes ∙ ap (λ b. b
 pub within-behind : (host : List ℕ) (suffixes : List (List ℕ)) → list_any (bytes_eq host) suffixes ≡ false → list_any (is_within host) suffixes ≡ list_any (is_behind_dot host) suffixes
 within-behind host suffixes missed = list_any-within host suffixes ∙ ap (λ b. b || list_any (is_behind_dot host) suffixes) missed
 
--- the same for the text after the first dot
+-- some suffix is after a dot of the text exactly if the text after the first dot is a suffix or has one after a dot
 pub behind-first : (text behind : List ℕ) (suffixes : List (List ℕ)) → position_or_len is_dot text < length text → behind ≡ after_first is_dot text → list_any (is_behind_dot text) suffixes ≡ (list_any (bytes_eq behind) suffixes || list_any (is_behind_dot behind) suffixes)
 behind-first text behind suffixes within cut =
     list_any-same _ _ (λ suffix. is_behind_dot-first text suffix within) suffixes
     ∙ list_any-or (bytes_eq (after_first is_dot text)) (is_behind_dot (after_first is_dot text)) suffixes
     ∙ (λ i. list_any (bytes_eq (sym cut i)) suffixes || list_any (is_behind_dot (sym cut i)) suffixes)
 
--- if the text after it is a suffix, the text is within one
+-- if the text after the first dot is a suffix, some suffix is after a dot of the text
 pub behind-found : (text behind : List ℕ) (suffixes : List (List ℕ)) → position_or_len is_dot text < length text → behind ≡ after_first is_dot text → list_any (bytes_eq behind) suffixes ≡ true → list_any (is_behind_dot text) suffixes ≡ true
 behind-found text behind suffixes within cut found = grind (arith, common_steps, behind-first)
 
--- otherwise the texts after its dots decide
+-- otherwise some suffix is after a dot of the text exactly if one is after a dot of the rest
 pub behind-missed : (text behind : List ℕ) (suffixes : List (List ℕ)) → position_or_len is_dot text < length text → behind ≡ after_first is_dot text → list_any (bytes_eq behind) suffixes ≡ false → list_any (is_behind_dot text) suffixes ≡ list_any (is_behind_dot behind) suffixes
 behind-missed text behind suffixes within cut missed = grind (arith, common_steps, behind-first)
 
@@ -145,10 +145,10 @@ position-map p f xs = rw (place p f xs, length-map xs f) refl
     place p f [] = refl
     place p f (x ∷ xs) = ap (λ n. cond (not (p (f x))) (1 + n) 0) (place p f xs)
 
--- the filter of suffixes of which one is bad
+-- if some suffix is bad, the filter is an error with the index of the first bad one
 pub filter_of-bad : (suffixes : List (Bor (List ℕ))) (place : ℕ) → position (λ suffix. not (is_good suffix.now)) suffixes ≡ Some place → filter_of (map (λ suffix. suffix.now) suffixes) ≡ Err (BadSuffix place)
 filter_of-bad suffixes place first = grind (arith, common_steps, position-map)
 
--- and of good ones
+-- if all suffixes are good, the filter has them in order
 pub filter_of-good : (suffixes : List (Bor (List ℕ))) → position (λ suffix. not (is_good suffix.now)) suffixes ≡ None → filter_of (map (λ suffix. suffix.now) suffixes) ≡ Ok (in_order (map (λ suffix. suffix.now) suffixes))
 filter_of-good suffixes none = grind (arith, common_steps, position-map)

@@ -1,4 +1,4 @@
--- The parts of a plain text: the segments of a path, and a query.
+-- The segments of a path, and a query, in a text that the parser of URLs leaves as it is.
 use Rattle.std.proofs.lemmas.Grind.{common_steps}
 use Rattle.std.proofs.Common.{◌≡◌, ◌≢◌, ℕ, suc, ◌+◌, ◌-◌, ◌<◌, ◌==◌, Bool, true, not, ◌&&◌, List, [], ◌∷◌, ◌++◌, length, take, drop, get_or, take-append-drop, refl, ap, sym, subst, ◌∙◌, ⊎_elim, All, Some, IfSome, arith, bit_and, nat_eq}
 use Rattle.std.specs.Prelude.{Option, is_some, unwrap_or}
@@ -55,11 +55,11 @@ all_kept last (b ∷ text) plain =
     (λ _ kept. All_from_list_all is_kept text kept) (λ _ more. all_kept b text more) parts.1 in
     All-cons (Passes is_kept) b text (follows_kept last b parts.0) later
 
--- a plain text is plain after a byte that may precede it
+-- a text is plain after a byte if its first byte may follow that byte and the rest is plain after the first byte
 pub plain_then : (last b : ℕ) (text : List ℕ) → may_follow last b ≡ true → is_plain b text ≡ true → is_plain last (b ∷ text) ≡ true
 plain_then last b text first plain = grind (arith, common_steps, and_from, cond_both, list_all_from_All, all_kept)
 
--- and the rest after a byte of the path is plain
+-- if a text is plain and its first byte is no `?`, the rest is plain after that byte
 plain_after : (last b : ℕ) (text : List ℕ) → is_plain last (b ∷ text) ≡ true → b ≢ 63 → is_plain b text ≡ true
 plain_after last b text plain other = grind arith
 
@@ -101,7 +101,7 @@ path_bytes : (segment : List ℕ) → All (Passes is_kept) segment → All (IsNo
 path_bytes [] kept none = All-nil (IsKept PATH)
 path_bytes (b ∷ segment) kept none = grind (arith, path_byte, path_bytes segment)
 
--- a plain text with no slash and no query is a segment
+-- a text that is plain and has neither a slash nor a query is a segment
 pub plain_segment : (segment : List ℕ) → is_plain 47 segment ≡ true → All (IsNot 63) segment → All (IsNot 47) segment → IsSegment SpecialNotFile segment
 plain_segment segment plain no_query no_slash = grind (arith, common_steps, path_bytes, all_kept, whole_bytes, dots_none_of)
 
@@ -158,7 +158,7 @@ runs last (b ∷ text) plain none =
       each = later.each;
     }
 
--- a plain text with no query that begins with a slash is a list of segments
+-- a text that is plain, begins with a slash and has no query is a list of segments
 pub rooted_path : (last b : ℕ) (text : List ℕ) → b ≡ 47 → is_plain last (b ∷ text) ≡ true → All (IsNot 63) (b ∷ text) → IsSegmentList SpecialNotFile (b ∷ text)
 rooted_path last b text slash plain none =
     let run = runs b text (plain_after last b text plain (All-head (IsNot 63) b text none)) (All-tail (IsNot 63) b text none) in
@@ -217,7 +217,7 @@ plain_parts : (last : ℕ) (path query : List ℕ) → is_plain last path ≡ tr
 plain_parts last [] query plain some stops kept = plain_mark last query some stops kept
 plain_parts last (b ∷ path) query plain some stops kept = grind (arith, and_parts, and_from, cond_both, list_all-append, cond-true, cond-false, plain_parts b path query)
 
--- a plain path and a query that is kept are a plain text
+-- a text is plain if its path is plain and the bytes of its query are kept
 pub plain_query : (last : ℕ) (text path query : List ℕ) (n : ℕ) → n ≡ prefix_len (is_other 63) text → path ≡ take n text → query ≡ drop n text
     → is_plain last path ≡ true → 0 < length query → list_all is_kept query ≡ true → is_plain last text ≡ true
 plain_query last text path query n place front back plain some kept =

@@ -1,4 +1,4 @@
--- The targets of plain links: the parser's relative state on texts that it leaves as they are.
+-- The targets of links in common forms: the parser's relative state on texts that it leaves as they are.
 use Rattle.std.proofs.lemmas.Grind.{common_steps}
 use Rattle.std.proofs.Common.{◌≡◌, ℕ, zero, suc, ◌+◌, ◌<◌, ◌==◌, true, false, List, [], ◌∷◌, ◌++◌, length, get_or, drop, reverse, refl, ap, sym, subst, ◌∙◌, ⊎_elim, inl, All, Some, None, Ok, IfSome, arith, append_assoc, append-nil, length-append, take_all, add-one}
 use Rattle.std.specs.Prelude.{Option, if◌then◌else◌}
@@ -89,7 +89,7 @@ parse_url-path base text body path query web kept split none some own relative =
 
 -- ---- `/path`
 
--- no scheme ends in front of a slash
+-- a text that begins with a slash has no scheme
 pub rooted_scheme : (more : List ℕ) → split_scheme (47 ∷ more) ≡ None
 rooted_scheme more =
     no_scheme 47 (47 ∷ more) (record { rest = more; is = refl; all = λ n d inside. inl refl })
@@ -98,7 +98,7 @@ pub one_slash : (kind : SchemeType) (rest : List ℕ) → StopsAt (is_slash kind
 unfolding leading_slashes
 one_slash kind rest stops = grind arith
 
--- a plain text after a slash does not begin with a slash
+-- a text that is plain after a slash does not begin with a slash
 stops_plain : (text : List ℕ) → is_plain 47 text ≡ true → StopsAt (is_slash SpecialNotFile) text
 stops_plain text plain = grind arith
 
@@ -186,7 +186,7 @@ parse_run path body plain none =
     ∙ parse_own_segments SpecialNotFile path run.first run.others (stays_unless_file SpecialNotFile path run.first refl) (run_segment body run) run.each
     ∙ ap (λ b. path ++ 47 ∷ b) (sym run.is)
 
--- the parser's relative state, on a path that it reads as this one, so many folders above
+-- the parser's relative state on a text that it reads like this path in the n-th folder above the page's
 folder_relative : (base : Parts) (n : ℕ) (text body : List ℕ) → IsWeb base → StopsAt (is_slash SpecialNotFile) text
     → ((front : List ℕ) → parse_path SpecialNotFile front text ≡ parse_path SpecialNotFile (above n front) body) → is_plain 47 body ≡ true → All (IsNot 63) body
     → parse_relative base text ≡ Ok (with_path (head_only base) (in_folder base n body))

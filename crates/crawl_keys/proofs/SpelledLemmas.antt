@@ -50,24 +50,24 @@ canonical_spelled text start end k = record {
   parses = parse_spelled text start end None k;
 }
 
--- its canonical text is the text
+-- the canonical text of such a text is the text itself
 pub canonical-spelled : (text : List ℕ) (start end : ℕ) → IsSpelled text start end → canonical text ≡ Ok text
 canonical-spelled text start end k = canonical-canonical text (canonical_spelled text start end k)
 
--- against any page
+-- on any page such a text resolves to itself
 pub resolve-spelled : (base : Parts) (page text : List ℕ) (start end : ℕ) → parse_url None page ≡ Ok base → IsSpelled text start end → resolve page text ≡ Ok text
 resolve-spelled base page text start end parses k =
     ap (λ p. resolve_from p text) parses
     ∙ ap text_of_parse (parse_spelled text start end (Some base) k ∙ sym (parse_spelled text start end None k))
     ∙ canonical-spelled text start end k
 
--- it is laid out by the places of its host
+-- such a text is laid out by the offsets of its host
 pub laid_spelled : (u : Laid) → IsSpelled u.text u.host_start u.host_end → u.hash ≡ hash_of u.text → IsLaidOut u
 laid_spelled u k hashed =
     laid_out u k.url k.valid k.web (sym k.spelled ∙ (λ i. serialize (record k.url { fragment = k.bare i })))
     (subst IsAscii k.spelled (IsAscii-serialize k.url k.valid)) (sym k.start) (sym k.end) hashed k
 
--- the same by other numbers that are equal
+-- likewise for equal offsets
 pub spelled_at : (text : List ℕ) (start end own its : ℕ) → IsSpelled text start end → own ≡ start → its ≡ end → IsSpelled text own its
 spelled_at text start end own its k first last = grind arith
 
@@ -107,7 +107,7 @@ spelled_rest head text path query valid web rest =
       end = refl;
     }
 
--- a plain text that begins with a slash is a path and a query
+-- a text that is plain and begins with a slash is a path and a query
 rooted_rest : (last : ℕ) (more : List ℕ) → is_plain last (47 ∷ more) ≡ true → IsRest (47 ∷ more) (split_once 63 (47 ∷ more)).0 (split_once 63 (47 ∷ more)).1
 unfolding split_once
 rooted_rest last more plain =

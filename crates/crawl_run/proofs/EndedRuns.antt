@@ -36,7 +36,7 @@ use Rattle.crawl_run.specs.declared.error.CrawlError.{CrawlError}
 use Rattle.crawl_run.specs.declared.error.CrawlError.TheVariants as wrong
 use Rattle.crawl_run.proofs.WithoutLoss.{run_without_loss}
 
--- ---- one end more
+-- ---- one more end
 
 pub closed_on : {K : _} (e : WorkerEnd K) (rest all : List (WorkerEnd K)) (so_far whole : List WorkerId) → all ≡ e ∷ rest → so_far ++ all_closed all ≡ whole → (so_far ++ e.closed ∷ []) ++ all_closed rest ≡ whole
 closed_on {K} e rest all so_far whole is before = append_assoc so_far (e.closed ∷ []) (all_closed rest) ∙ ap (λ (es : List (WorkerEnd K)). so_far ++ all_closed es) (sym is) ∙ before
@@ -111,7 +111,7 @@ shares_whole {K} gate workers n allowed meaning (w ∷ ws) (e ∷ es) fresh ran 
     All-cons (IsWithoutLoss workers allowed meaning) (record { start = w; now = e.closed; found = e.results.items }) (shares_of ws es) (fresh.2, whole)
     (shares_whole gate workers (n + 1) allowed meaning ws es fresh.5 ran.1 (All-tail (λ (x : WorkerEnd K). all_losses x.losses ≡ 0) e es none))
 
--- the entries of the account have what was asked for, where nothing was lost
+-- if nothing was lost, all allowed seeds and links are entries of the account, and all entries have results
 pub nothing_lost : {K : _} (gate : GateId) (workers : ℕ) (allowed : List ℕ → Bool) (meaning : List ℕ → Page) (seeds : List (List ℕ)) (starts : List WorkerId) (ends : List (WorkerEnd K)) (sender : SenderId) (before losses : Losses) (account : AccountId) (results : List PageResult)
     → 0 < workers → account.workers ≡ workers → AllFresh gate workers 0 starts → AllRan workers allowed meaning starts ends → Accounts workers (all_closed ends) (sender ∷ []) account.queues → results ≡ all_found ends → losses ≡ losses_with before ends
     → (all_losses before ≡ 0 → AllLogged workers allowed sender.book.log seeds) → all_losses losses ≡ 0 → NothingLost allowed seeds (entries_of account) results
@@ -125,7 +125,7 @@ nothing_lost {K} gate workers allowed meaning seeds starts ends sender before lo
     let given : results ≡ flat_map (λ (share : Share). share.found) shares = found ∙ sym (shares_found workers allowed meaning starts ends ran) in
     subst (λ es. NothingLost allowed seeds es results) (sym entries) (subst (λ rs. NothingLost allowed seeds (entries_in account.queues) rs) (sym given) whole)
 
--- ---- a fault of what is missing
+-- ---- errors that report something missing
 
 one_at_least : (n : ℕ) → (n ≡ 0 → ⊥) → 1 ≤ n
 one_at_least n some = elim (cases_lt 0 n) [
@@ -144,7 +144,7 @@ none_missing true e = refl
 none_missing false true = refl
 none_missing false false = refl
 
--- nothing is missing where nothing was lost
+-- if nothing was lost, nothing is missing
 abbrev pub LacksNothing : (List ℕ → Bool) → List (List ℕ) → List Entry → List PageResult → Losses → Type 0
 LacksNothing allowed seeds entries results losses =
     all_losses losses ≡ 0 → (seed_missing allowed seeds entries ≡ false) × (not_fetched entries results ≡ false) × (link_missing allowed entries results ≡ false)
@@ -166,7 +166,7 @@ cause_lost allowed seeds entries results cert.NotFetched losses lacks first = mi
 cause_lost allowed seeds entries results cert.LinkMissing losses lacks first = missing_lost allowed seeds entries results cert.LinkMissing losses refl lacks first
 cause_lost allowed seeds entries results cause losses lacks first = tt
 
--- so the culprit of a run in which nothing was lost tells nothing that is missing
+-- so if nothing was lost, the culprit of the run reports nothing missing
 pub culprit_lost : (allowed : List ℕ → Bool) (seeds : List (List ℕ)) (entries : List Entry) (results : List PageResult) (culprit : Culprit) (losses : Losses) → LacksNothing allowed seeds entries results losses
     → IsCulprit (first_fault allowed seeds entries results) (is_at_fault allowed seeds entries results) culprit ⊎ (culprit ≡ no_memory) → IsLost (of_cert culprit.cause) (losses_at culprit.url losses)
 culprit_lost allowed seeds entries results culprit losses lacks told = elim told [
@@ -174,7 +174,7 @@ culprit_lost allowed seeds entries results culprit losses lacks told = elim told
   | inr memory ↦ subst (λ (c : Culprit). IsLost (of_cert c.cause) (losses_at c.url losses)) (sym memory) tt
 ]
 
--- an error without a certificate tells nothing that is missing
+-- an error without a certificate reports nothing missing
 pub uncertified_lost : (error : CrawlError) (losses : Losses) → IsUncertified error → IsLost error losses
 uncertified_lost (wrong.Cert error) losses is = absurd is
 uncertified_lost error losses is = tt
@@ -184,7 +184,7 @@ uncertified_lost error losses is = tt
 one_lost : (most a b c d e f : ℕ) → 0 < most → (a + b + min (c + 1) most + d + e + f ≡ 0 → ⊥) × (a + b + c + min (d + 1) most + e + f ≡ 0 → ⊥) × (a + b + c + d + min (e + 1) most + f ≡ 0 → ⊥) × (a + b + c + d + e + min (f + 1) most ≡ 0 → ⊥)
 one_lost most a b c d e f some = (λ none. omega (arith, some, none), λ none. omega (arith, some, none), λ none. omega (arith, some, none), λ none. omega (arith, some, none))
 
--- it is lost, unless the filter does not allow it
+-- a seed that is refused is lost, unless the filter does not allow it
 pub refusal_line : (error : OfferError) (before : Losses) (allowed : Bool) (Line : Type 0) (held held' pass pass' : SeatId) → OfferWordsBeside held held' pass pass' (Err error) → (IsFiltered (Err error) → allowed ≡ false) → all_losses (with_refusal error before) ≡ 0 → (all_losses before ≡ 0) × (allowed ≡ true → Line)
 refusal_line refused.Filtered before allowed Line h h' p p' words filtered none = (none, λ is. absurd (true≢false (sym is ∙ filtered tt)))
 refusal_line refused.Closed before allowed Line h h' p p' words filtered none = absurd words
@@ -197,7 +197,7 @@ pub refusal_filtered : (error : OfferError) (before : Losses) → IsFiltered (Er
 refusal_filtered refused.Filtered before is = refl
 refusal_filtered error before is = absurd is
 
--- ---- what a run answers
+-- ---- what a run returns
 
 pub found_of : {E : Type 0} (result : Result left.RunOutput E) (meaning : List ℕ → Page) (found : List PageResult) → ArePages meaning found → IfOk result (λ ran. ran.results.items ≡ found) → IfOk result (λ ran. ArePages meaning ran.results.items)
 found_of (Ok ran) meaning found pages is = subst (ArePages meaning) (sym is) pages

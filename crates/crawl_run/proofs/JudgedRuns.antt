@@ -52,18 +52,18 @@ together_more all l = λ i. record {
   no_memory = kind_more (λ (x : Losses). x.no_memory) all l i;
 }
 
--- so it is of the ends of workers
+-- likewise for the ends of workers
 with_ends : {K : _} (all : List Losses) (ends : List (WorkerEnd K)) → losses_with (together all) ends ≡ together (all ++ all_lost ends)
 with_ends {K} all [] = ap together (sym (append-nil all))
 with_ends {K} all (e ∷ es) = ap (λ (l : Losses). losses_with l es) (together_more all e.losses) ∙ with_ends (all ++ e.losses ∷ []) es ∙ ap together (append_assoc all (e.losses ∷ []) (all_lost es))
 
--- ---- a seed more
+-- ---- one more seed
 
--- what the offer of a seed was answered
+-- the result of the offer of a seed
 abbrev Answer : Type 0
 Answer = Result Offer OfferError
 
--- what is lost with a seed whose offer had this answer, beside what was lost before
+-- the losses so far, together with what is lost by an offer of a seed with this result
 abbrev with_offer : Answer → Losses → Losses
 with_offer (Ok offer) losses = losses
 with_offer (Err refusal) losses = with_refusal refusal losses
@@ -166,7 +166,7 @@ same_ran {K} workers allowed meaning [] [] ran = tt
 same_ran {K} workers allowed meaning (w ∷ ws) (e ∷ es) ran = (ran.0, same_ran workers allowed meaning ws es ran.1)
 same_ran {K} workers allowed meaning starts ends ran = absurd ran
 
--- ---- what a run answers
+-- ---- what a run returns
 
 pub run_of : {K : _} {E : Type 0} (result : Result left.RunOutput E) (gate : GateId) (workers : ℕ) (allowed : List ℕ → Bool) (meaning : List ℕ → Page) (seeds : List (List ℕ)) (starts : List WorkerId) (ends : List (WorkerEnd K)) (seeder seeded : SeederId) (sender : SenderId) (before : Losses)
     → AllFresh gate workers 0 starts → AllRan workers allowed meaning starts ends → seeder.book ≡ fresh_book workers workers → AreOffered workers allowed seeder seeded seeds before → sender.book ≡ seeded.book
@@ -195,14 +195,14 @@ run_of {K} (Ok ran) gate workers allowed meaning seeds starts ends seeder seeded
 }
 run_of {K} (Err e) gate workers allowed meaning seeds starts ends seeder seeded sender before fresh did first offered last many own results lost = tt
 
--- ---- what is told of it
+-- ---- what is reported of a run
 
 cause_counted : (workers : ℕ) (allowed : List ℕ → Bool) (meaning : List ℕ → Page) (seeds : List (List ℕ)) (entries : List Entry) (results : List PageResult) (losses : Losses) (cause : CertError) (url : List ℕ) → IsRun workers allowed meaning seeds entries results losses
     → first_fault allowed seeds entries results ≡ Some cause → IsLeast (is_at_fault allowed seeds entries results cause) (Some url) → CountsLosses workers allowed meaning seeds (of_cert cause) (Some url) losses
 cause_counted workers allowed meaning seeds entries results losses cert.NoMemory url run first least = absurd (true≢false (sym least.0))
 cause_counted workers allowed meaning seeds entries results losses cause url run first least = record { entries = entries; results = results; run = run; first = first; least = least }
 
--- a culprit of such a run is told with its losses, and with none where memory ran out
+-- a culprit of such a run is reported with its losses, and with none if memory ran out
 pub culprit_counted : (workers : ℕ) (allowed : List ℕ → Bool) (meaning : List ℕ → Page) (seeds : List (List ℕ)) (entries : List Entry) (results : List PageResult) (losses : Losses) (culprit : Culprit) → IsRun workers allowed meaning seeds entries results losses
     → IsCulprit (first_fault allowed seeds entries results) (is_at_fault allowed seeds entries results) culprit ⊎ (culprit ≡ no_memory) → CountsLosses workers allowed meaning seeds (of_cert culprit.cause) culprit.url (losses_at culprit.url losses)
 culprit_counted workers allowed meaning seeds entries results losses culprit run told = elim told [

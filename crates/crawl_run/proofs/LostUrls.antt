@@ -101,7 +101,7 @@ same_lists (q ∷ qs) (e ∷ es) len each =
     let others : qs ≡ all_taken es = same_lists qs es (omega (arith, len)) (λ k w at. each (suc k) w at) in
     ap (λ (x : List Entry). x ∷ qs) first ∙ ap (λ (xs : List (List Entry)). e.closed.taken ∷ xs) others
 
--- ---- seeds lose links alone
+-- ---- seeds lose only links
 
 no_url : (answer : Answer) → ((lost_seed answer).failed ≡ 0) × ((lost_seed answer).unkept ≡ 0)
 no_url (Ok offer) = (refl, refl)

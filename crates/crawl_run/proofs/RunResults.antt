@@ -53,15 +53,15 @@ urls_counted account urls counts counted own = record {
       here.1.1 ∙ ap Some (sym (own queue here.0 below here.1.0));
 }
 
--- ---- the fault of a certificate
+-- ---- the error of a certificate
 
--- that of these entries and results, with the least URL that has it
+-- the error of these entries and results, with the least URL that shows it
 judged_at : (meaning : List ℕ → Page) (allowed : List ℕ → Bool) (seeds : List (List ℕ)) (entries : List Entry) (results : List PageResult) (cause : CertError) (url : List ℕ) → ArePages meaning results → first_fault allowed seeds entries results ≡ Some cause
     → IsLeast (is_at_fault allowed seeds entries results cause) (Some url) → IsJudgedAt meaning allowed seeds (of_cert cause) (Some url)
 judged_at meaning allowed seeds entries results cert.NoMemory url means first least = absurd (true≢false (sym least.0))
 judged_at meaning allowed seeds entries results cause url means first least = record { entries = entries; results = results; means = means; first = first; least = least }
 
--- a culprit of these entries and results, as the crawl tells it
+-- a culprit of these entries and results, as the crawl reports it
 pub culprit_judged : (meaning : List ℕ → Page) (allowed : List ℕ → Bool) (seeds : List (List ℕ)) (entries : List Entry) (results : List PageResult) (culprit : Culprit) → ArePages meaning results
     → IsCulprit (first_fault allowed seeds entries results) (is_at_fault allowed seeds entries results) culprit ⊎ (culprit ≡ no_memory) → IsJudgedAt meaning allowed seeds (of_cert culprit.cause) culprit.url
 culprit_judged meaning allowed seeds entries results culprit means told = elim told [
@@ -74,19 +74,19 @@ pub cause_of_run : (cause : CertError) → IsOfRun (of_cert cause)
 cause_of_run cert.NoMemory = tt
 cause_of_run cause = tt
 
--- and comes in either mode
+-- and it can occur in either mode
 pub cause_comes : (mode : Mode) (cause : CertError) → ComesIn mode (of_cert cause)
 cause_comes mode cert.NoMemory = tt
 cause_comes mode cause = tt
 
--- an error without a certificate is told with no URL
+-- an error without a certificate is reported without a URL
 pub uncertified_judged : (meaning : List ℕ → Page) (allowed : List ℕ → Bool) (seeds : List (List ℕ)) (error : CrawlError) → IsUncertified error → IsOfRun error × IsJudgedAt meaning allowed seeds error None
 uncertified_judged meaning allowed seeds (wrong.Frontier error) is = absurd is
 uncertified_judged meaning allowed seeds (wrong.Cert error) is = absurd is
 uncertified_judged meaning allowed seeds wrong.NoMemory is = (tt, tt)
 uncertified_judged meaning allowed seeds error is = (is, tt)
 
--- the error alone
+-- likewise for the error without its URL
 pub judged_alone : (meaning : List ℕ → Page) (allowed : List ℕ → Bool) (seeds : List (List ℕ)) (error : CrawlError) (culprit : Option (List ℕ)) → IsJudgedAt meaning allowed seeds error culprit → IsJudged meaning allowed seeds error
 judged_alone meaning allowed seeds (wrong.Cert error) (Some url) at = record { entries = at.entries; results = at.results; means = at.means; first = at.first }
 judged_alone meaning allowed seeds (wrong.Cert error) None at = absurd at

@@ -1,4 +1,4 @@
--- A session that was told that the frontier is closed.
+-- A session with the answer that the frontier is closed.
 use Rattle.std.proofs.Common.{◌≡◌, ℕ, Bool, if◌then◌else◌, List, [], ◌∷◌, ◌++◌, Option, Result, Ok, Err, sym, ap, subst, ◌∙◌, arith, append_assoc, append-nil}
 use Rattle.std.proofs.lemmas.Bool.Decides.{nat_tests}
 use Rattle.crawl_core.specs.declared.event.Event.{Event}
@@ -20,7 +20,7 @@ use Rattle.crawl_session.specs.Settings.{Settings}
 use Rattle.crawl_session.proofs.Choices.{either_way}
 use Rattle.crawl_session.proofs.Lines.{history_of-append}
 
--- ---- where the frontier was found closed
+-- ---- the frontier was found closed
 
 -- the last event found the gate closed
 pub record Closes (history : List (Event × Reply)) : Type 0 where
@@ -37,7 +37,7 @@ closes_at e reply is = record { before = []; last = e; is = ap (λ r. (e, r) ∷
 closes_behind : (x : Event × Reply) (history : List (Event × Reply)) → Closes history → Closes (x ∷ history)
 closes_behind x history closes = record { before = x ∷ closes.before; last = closes.last; is = ap (λ l. x ∷ l) closes.is }
 
--- an event, and then what comes where its reply passes a test; else the reply is the answer
+-- an event, followed by the rest of an exchange if its reply passes a test; otherwise its reply is the answer
 by_choice : (e : Event) (reply : Reply) (b : Bool) (x : Exchange) (state : State) → (x.answer ≡ Told told.Closed → Closes x.history)
     → (if b then x else ends reply state).answer ≡ Told told.Closed → Closes ((e, reply) ∷ (if b then x else ends reply state).history)
 by_choice e reply b x state more closed = grind (arith, closes_behind, closes_at, told_is)
@@ -85,7 +85,7 @@ answered_closes state (Err why) closed = absurd (cc (closed))
 closes_later : (front history : List (Event × Reply)) → Closes history → Closes (front ++ history)
 closes_later front history closes = record { before = front ++ closes.before; last = closes.last; is = ap (λ l. front ++ l) closes.is ∙ sym (append_assoc front closes.before ((closes.last, told.Closed) ∷ [])) }
 
--- the events of lines whose last is answered so
+-- if the answer to the last line is that the frontier is closed, the last event found the gate closed
 pub session_closes : (settings : Settings) (state : Frontier) (front : List (List ℕ)) (line : List ℕ) → (line_exchange settings (state_after settings state front) line).answer ≡ Told told.Closed → Closes (history_of settings state (front ++ line ∷ []))
 session_closes settings state front line closed =
     let mid = state_after settings state front in

@@ -1,4 +1,4 @@
--- The lines of a log that are needed bring a new session to the same state, but for the words that senders remember.
+-- The lines of a log that are needed bring a new session to the same state, except for the gate words that senders remember.
 use Rattle.std.proofs.Common.{◌≡◌, ℕ, suc, arith, ◌<◌, ◌≤◌, Bool, true, false, ◌||◌, if◌then◌else◌, List, [], ◌∷◌, ◌++◌, length, get_or, slice_get, Option, Some, None, Result, Ok, Err, IfOk, refl, sym, ap, subst, ◌∙◌, true≢false}
 use Rattle.std.specs.BTreeMap.{is_at}
 use Rattle.std.specs.Ordering.{nat_cmp}
@@ -46,7 +46,7 @@ use Rattle.crawl_session.proofs.Words.{Words, answered_alike, words_forgotten}
 abbrev done_with_it : State → ℕ → Exchange
 done_with_it state named = exchanges.done_with state named
 
--- the same state, but for the words
+-- the same state, except for the gate words that senders remember
 abbrev pub Same : Frontier → Frontier → Type 0
 Same state next = (words : Words) × (next ≡ with_words state words)
 
@@ -74,14 +74,14 @@ done_idle had state named queue = grind arith
 take_idle : (had : Had) (state : State) (named : ℕ) (queue : Option Subqueue) → Idle had state (take_from state named queue)
 take_idle had state named queue = grind arith
 
--- an entry that is refused leaves the gate
+-- an entry that is refused leaves the gate as it is
 record Refuses (gate : GateSide) (done : GateTurn) : Type 0 where
   same : is_entered done.reply ≡ false → done.gate ≡ gate
 
 enter_refuses : (gate : GateSide) (messages : ℕ) → Refuses gate (enter gate messages client)
 enter_refuses gate messages = grind arith
 
--- a URL that is admitted by the one unit was seen, or is accepted
+-- a URL that the client's unit admits was seen before, or is accepted
 record Admits (had : Had) (state : State) (done : Turn) : Type 0 where
   seen : is_seen done.reply ≡ true → done.state ≡ state
   other : is_seen done.reply ≡ false → changes had done.reply ≡ true
@@ -234,7 +234,7 @@ line_stays : (had : Had) (workers : ℕ) (state : Frontier) (r : Result Request 
 line_stays had workers state (Ok request) assigned some rest known none = unneeded had workers state request (asks_again request) refl assigned some rest known none
 line_stays had workers state (Err why) assigned some rest known none = (state.machine.gate.remembered, refl)
 
--- ---- a gate that the client was told is closed
+-- ---- a gate that was reported closed
 
 pub stays_closed : (old : State) (history : List (Event × Reply)) (new : State) → Sound old → old.gate.closed ≡ true → Run old history new → new.gate.closed ≡ true
 stays_closed old [] new sound closed run = ap (λ (s : State). s.gate.closed) run ∙ closed

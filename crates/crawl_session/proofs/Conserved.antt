@@ -1,4 +1,4 @@
--- What waited in a queue, and then what joined it, is what was taken from it, and then what waits.
+-- What waited in a queue, followed by what joined it, is what was taken from it, followed by what waits.
 use Rattle.std.proofs.lemmas.Grind.{common_steps}
 use Rattle.std.proofs.Common.{◌≡◌, ℕ, zero, suc, ◌+◌, Bool, true, cond, ◌||◌, if◌then◌else◌, is_some, List, [], ◌∷◌, ◌++◌, length, get_or, replicate, slice_get, Option, Some, None, Result, refl, sym, ap, subst, ◌∙◌, arith, append-nil}
 use Rattle.std.specs.List.{cons_option}
@@ -29,7 +29,7 @@ use Rattle.crawl_session.proofs.Runs.{answered_runs}
 abbrev pub line_of : Frontier → ℕ → List (List ℕ)
 line_of state queue = line_at (queue_at state queue) (deferrals_at state queue).waiting
 
--- ---- what runs keep
+-- ---- what runs preserve
 
 sound_run : (old : State) (history : List (Event × Reply)) (new : State) → Sound old → Run old history new → Sound new
 sound_run old [] new sound run = subst Sound (sym run) sound
@@ -45,7 +45,7 @@ line_sound settings state line sound =
 put_on : {A : Type 0} (o : Option A) (xs : List A) → cons_option o xs ≡ option_to_list o ++ xs
 put_on o xs = grind arith
 
--- a line, between what was before and what comes
+-- the effect of one line, joined to that of the lines after it
 joint : (waits next more taken last : List (List ℕ)) (j t : Option (List ℕ)) → waits ++ option_to_list j ≡ option_to_list t ++ next → next ++ more ≡ taken ++ last → waits ++ cons_option j more ≡ cons_option t taken ++ last
 joint waits next more taken last j t here later = grind (arith, common_steps, put_on)
 
@@ -70,7 +70,7 @@ settled_after_lines settings state [] sound settled = (sound, settled)
 settled_after_lines settings state (line ∷ more) sound settled =
     settled_after_lines settings (line_exchange settings state line).state more (line_sound settings state line sound) (answered_passes state (request_for settings line) sound settled).settled
 
--- ---- how often
+-- ---- the numbers of URLs
 
 abbrev count : Bool → ℕ
 count b = cond b 1 0
@@ -86,7 +86,7 @@ counts_line queue r answer busy next is was free = grind arith
 length_on : {A : Type 0} (o : Option A) (xs : List A) → length (cons_option o xs) ≡ one_if (is_some o) + length xs
 length_on o xs = grind arith
 
--- as many were taken as fetches ended, but for those that are on
+-- the number of URLs taken is the number of fetches that ended, apart from a fetch in progress before or after
 pub counted_takes : (settings : Settings) (state : Frontier) (lines : List (List ℕ)) (queue : ℕ) → Sound state.machine → Settled state
     → length (taken_of queue (asked settings state lines)) + one_if (is_some (busy_of state queue)) ≡ (done_of queue (asked settings state lines) + put_back_of queue (asked settings state lines)) + one_if (is_some (busy_of (state_after settings state lines) queue))
 counted_takes settings state [] queue sound settled = refl
@@ -104,7 +104,7 @@ counted_takes settings state (line ∷ more) queue sound settled =
     let put = sum_by-cons (λ (y : Asked). cond (puts_back queue y.request y.answer) 1 0) x rest in
     omega (arith, later, first, taken, done, put)
 
--- as many joined as were accepted and put back
+-- the number of URLs that joined is the number that were accepted plus the number that were put back
 join_counts : (queue : ℕ) (r : Result Request RequestError) (answer : Answer) (busy : Option (List ℕ)) → ((finishes queue r answer || puts_back queue r answer) ≡ true → is_some busy ≡ true) → one_if (is_some (joins queue busy (record { request = r; answer = answer }))) ≡ one_if (is_some (accepts queue r answer)) + count (puts_back queue r answer)
 join_counts queue r answer busy was = grind arith
 

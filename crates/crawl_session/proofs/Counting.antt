@@ -1,4 +1,4 @@
--- The numbers of a queue are those of the answers before.
+-- The numbers of a queue, derived from the answers before.
 use Rattle.std.proofs.Common.{◌≡◌, ℕ, ◌+◌, ◌-◌, true, false, is_some, List, [], ◌∷◌, length, map, take, drop, Option, Some, None, sym, ap, subst, ◌∙◌, arith}
 use Rattle.std.proofs.lemmas.List.{length-append, length-drop, length-map, take-append-drop}
 use Rattle.crawl_core.specs.Flags.{one_if}
@@ -23,7 +23,7 @@ use Rattle.crawl_session.proofs.Returns.{busy_is}
 use Rattle.crawl_session.proofs.Runs.{session_runs}
 use Rattle.crawl_session.proofs.Sees.{sees_accepted}
 
--- as many are in line as were not taken and as were put back
+-- the length of the line is the number of URLs that are still to be taken plus the number that were put back
 length_in_line : (taken : ℕ) (urls : List (List ℕ)) (ds : List Deferred) → length (in_line taken urls ds) ≡ length urls + length ds
 length_in_line taken urls [] = omega arith
 length_in_line taken urls (d ∷ ds) =

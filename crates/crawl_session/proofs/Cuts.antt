@@ -53,7 +53,7 @@ one_line bytes unfinished some = grind (arith, slice_split_none, ne_eqb)
 pub line_before : (line more : List ℕ) → IsUnfinished line → lines (line ++ 10 ∷ more) ≡ strip_carriage_return line ∷ lines more
 line_before line more unfinished = grind (arith, slice_split_at, before_others, parts_below)
 
--- where the first line of whole lines ends
+-- the first line of whole lines, and the bytes after its end
 record FirstEnd (bytes : List ℕ) : Type 0 where
   line : List ℕ
   more : List ℕ
@@ -68,13 +68,13 @@ first_end (x ∷ xs) = by_byte (x == 10) refl (first_end xs)
     by_byte true is rest = record { line = []; more = xs ++ 10 ∷ []; split = ap (λ y. y ∷ xs ++ 10 ∷ []) (eqb-true x 10 is); unfinished = All-nil IsOther }
     by_byte false is rest = record { line = x ∷ rest.line; more = rest.more; split = ap (λ l. x ∷ l) rest.split; unfinished = All-cons IsOther x rest.line is rest.unfinished }
 
--- ---- lines that ask alike
+-- ---- lines that request the same
 
--- what each line asks
+-- what each line requests
 abbrev pub requests : Settings → List (List ℕ) → List (Result Request RequestError)
 requests settings ls = map (request_for settings) ls
 
--- a longer line is another word
+-- a line that is longer than a word differs from the word
 another : (line word : List ℕ) → length word < length line → bytes_eq line word ≡ false
 another line word longer = grind (arith, bytes_eq-Decides)
 
@@ -87,7 +87,7 @@ refused_so part line long = grind (arith, another)
 too_long : (settings : Settings) (line : List ℕ) → line_limit < length line → request_for settings line ≡ Err LineTooLong
 too_long settings line long = grind (arith, asks_too_long, refused_so)
 
--- two lines that are too long
+-- two lines that are too long request the same
 both_long : (settings : Settings) (line other : List ℕ) → line_limit < length line → line_limit < length other → request_for settings line ≡ request_for settings other
 both_long settings line other first second = too_long settings line first ∙ sym (too_long settings other second)
 
@@ -102,7 +102,7 @@ cut_or_whole tail = by_length (nat_lt held_limit (length tail)) refl
     by_length true long = let above = ltb-true held_limit (length tail) long in let cut = length-take-le held_limit tail (omega (arith, above)) in inr (omega (arith, cut), omega (arith, above))
     by_length false short = inl (take_all held_limit tail (ltb-false held_limit (length tail) short))
 
--- at the end of the input
+-- an unfinished line at the end of the input requests the same if it is cut short
 pub tail_asks : (settings : Settings) (tail : List ℕ) → IsUnfinished tail → requests settings (lines (take held_limit tail)) ≡ requests settings (lines tail)
 tail_asks settings tail unfinished = by_cut (cut_or_whole tail)
   where
@@ -113,7 +113,7 @@ tail_asks settings tail unfinished = by_cut (cut_or_whole tail)
         ∙ ap (λ r. r ∷ []) (both_long settings (take held_limit tail) tail (omega (arith, long.0)) (omega (arith, long.1)))
         ∙ sym (ap (requests settings) (one_line tail unfinished (omega (arith, long.1))))
 
--- and where its line ends in what follows
+-- so does an unfinished line whose end is in the bytes that follow
 pub front_asks : (settings : Settings) (tail front : List ℕ) → IsUnfinished tail → requests settings (lines (take held_limit tail ++ (front ++ 10 ∷ []))) ≡ requests settings (lines (tail ++ (front ++ 10 ∷ [])))
 front_asks settings tail front unfinished = by_cut (cut_or_whole tail)
   where

@@ -1,4 +1,4 @@
--- A compacted log tells elsewhere what the whole one does, each URL once.
+-- A compacted log gives the same `elsewhere` answers as the whole log, each URL once.
 use Rattle.std.proofs.Common.{◌≡◌, Bool, true, false, not, ◌||◌, if◌then◌else◌, ℕ, List, [], ◌∷◌, ◌++◌, Option, Some, None, Result, Ok, Err, refl, ap, ◌∙◌, arith}
 use Rattle.std.specs.List.{cons_option, filter_map}
 use Rattle.std.specs.Str.Lines.{lines}
@@ -17,7 +17,7 @@ use Rattle.crawl_session.specs.Sessions.{answered, line_exchange}
 use Rattle.crawl_session.specs.Settings.{Settings}
 use Rattle.crawl_session.proofs.CompactText.{needed_stands}
 
--- ---- what is told elsewhere follows from what a line asks
+-- ---- the `elsewhere` answers follow from what the lines request
 
 abbrev told_by : Result Request RequestError → Option (List ℕ)
 told_by (Err (wrong.Elsewhere part url)) = Some url
@@ -47,7 +47,7 @@ told_asked settings state (line ∷ more) =
 told_stays : (texts : List (List ℕ)) (answer : Answer) → told_elsewhere answer ≡ None → with_told texts answer ≡ texts
 told_stays texts answer none = grind arith
 
--- what is known once a URL was told elsewhere that was among those before, or was not
+-- what is known after an `elsewhere` answer, by whether its URL had such an answer before
 abbrev knowing : Had → ℕ → List ℕ → Bool → Had
 knowing had part url b = record { closed = says_closed (Unasked (wrong.Elsewhere part url)) || had.closed; elsewhere = if b then had.elsewhere else had.elsewhere ++ url ∷ [] }
 

@@ -1,4 +1,4 @@
--- A session that was told that the frontier is closed: all is done, and nothing comes after.
+-- If an answer says that the frontier is closed, all URLs are done, and no URL is accepted or taken afterwards.
 use Rattle.std.proofs.Common.{◌≡◌, ℕ, ◌+◌, ◌≤◌, ◌<◌, Bool, true, false, cond, is_some, List, [], ◌∷◌, ◌++◌, length, map, Option, Some, None, Result, refl, sym, ap, subst, ◌∙◌, arith, append-nil}
 use Rattle.std.specs.List.{cons_option, sum_by}
 use Rattle.std.specs.Option.{option_to_list}
@@ -40,7 +40,7 @@ use Rattle.crawl_session.proofs.Runs.{answered_runs, session_runs}
 use Rattle.crawl_session.proofs.Sees.{sees_accepted}
 use Rattle.std.proofs.lemmas.List.{nil_from_length}
 
--- ---- a state in which no unit is out
+-- ---- a state in which no unit is held
 
 -- a queue in which nothing waits and nothing is fetched
 record Empties (state : Frontier) (queue : ℕ) : Type 0 where
@@ -53,7 +53,7 @@ no_units state owned none sender = grind (arith, nil_from_length)
 own_sender : (d : Deferred) → has_sender d.sender d ≡ 1
 own_sender d = ap {B = ℕ} (λ b. cond b 1 0) (eqb_same d.sender)
 
--- no URL that was put back, if none has a sender
+-- no URL was put back, if none has a sender
 none_put_back : (deferrals : Deferrals) → ((sender : ℕ) → units_in sender deferrals ≡ 0) → deferrals ≡ no_deferrals
 none_put_back deferrals none = by_parts deferrals.waiting deferrals.fetched none
   where
@@ -122,7 +122,7 @@ owned_after_lines settings state (line ∷ more) sound settled owned =
     let r = request_for settings line in
     owned_after_lines settings (line_exchange settings state line).state more (line_sound settings state line sound) (answered_passes state r sound settled).settled (answered_owned state r sound settled owned)
 
--- what holds of the state after a line that was answered so
+-- what holds of the state after a line with this answer
 record Shut (settings : Settings) (max : ℕ) (all : List (List ℕ)) : Type 0 where
   sound : Sound (state_after settings (start settings.workers max) all).machine
   settled : Settled (state_after settings (start settings.workers max) all)
@@ -179,7 +179,7 @@ all_is_done settings max front line closed =
           omega (arith, joined, same, over, none_now);
     }
 
--- ---- and nothing comes after
+-- ---- and nothing happens afterwards
 
 quiet_accepts : (queue : ℕ) (e : Event) (reply : Reply) → is_quiet reply ≡ true → accepted_by queue e reply ≡ None
 quiet_accepts queue e reply quiet = grind arith
@@ -189,7 +189,7 @@ closed_run : (queue : ℕ) (old : State) (history : List (Event × Reply)) (new 
 closed_run queue old [] new sound closed run = refl
 closed_run queue old (x ∷ xs) new sound closed run = grind (arith, nat_tests, closed_run queue run.0 xs, gate_effect, quiet_accepts)
 
--- nothing is taken where nothing waits, then and afterwards
+-- nothing is taken if nothing waits before or afterwards
 takes_none : (queue : ℕ) (r : Result Request RequestError) (answer : Answer) (busy : Option (List ℕ)) → option_to_list (joins queue busy (record { request = r; answer = answer })) ≡ option_to_list (takes queue r answer) ++ [] → takes queue r answer ≡ None
 takes_none queue r answer busy same = grind arith
 

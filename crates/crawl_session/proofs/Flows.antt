@@ -1,4 +1,4 @@
--- In each queue happens what the client is told.
+-- What happens in each queue is what the answers say.
 use Rattle.std.proofs.lemmas.Grind.{common_steps}
 use Rattle.std.proofs.Common.{◌≡◌, ◌⊎◌, inl, inr, ℕ, zero, suc, ◌≤◌, Bool, true, false, not, ◌&&◌, ◌||◌, if◌then◌else◌, is_some, List, [], ◌∷◌, length, slice_get, slice_set, Option, Some, None, Result, Ok, Err, refl, sym, ap, subst, ◌∙◌, arith, true≢false}
 use Rattle.std.proofs.Math.ListN.{get_or-eq_default}
@@ -38,7 +38,7 @@ use Rattle.crawl_session.proofs.Sees.{entry_tells, is_other}
 abbrev as_offer : List ℕ → ℕ → Result Request RequestError
 as_offer url named = Ok (Offer url named)
 
--- the queue has one more, or nothing happens
+-- the queue has one more URL, or nothing happens
 abbrev Accepts : State → List ℕ → ℕ → Exchange → Type 0
 Accepts state url named x =
     (found : Subqueue) × ((number : ℕ) × ((slice_get state.subqueues named ≡ Some found) × ((x.answer ≡ Told (told.Accepted named number)) × (x.state.subqueues ≡ slice_set state.subqueues named (after_accepting found (next_message found client url))))))
@@ -247,7 +247,7 @@ finishing_passes state named (Some d) is sound settled = let found = in_range st
 abbrev as_later : ℕ → Result Request RequestError
 as_later named = Ok (Later named)
 
--- the URL stands after all that was accepted
+-- the URL that is put back comes after all URLs that were accepted
 pushed_fine : (queue : Subqueue) (next : Subqueue) (deferrals : Deferrals) (url : List ℕ) (sender n : ℕ) → n ≡ length queue.accepted → next.accepted ≡ queue.accepted → Fine (Some queue) deferrals → Fine (Some next) (waits_again deferrals (record { url = url; sender = sender; after = n }))
 pushed_fine queue next deferrals url sender n is same fine = grind (arith, within_push)
 

@@ -4,13 +4,12 @@ use Rattle.std.proofs.lemmas.List.{length-drop, take-append-le, drop-append-le, 
 use Rattle.std.proofs.Math.ListN.{drop_of_length-le}
 use Rattle.crawl_session.specs.declared.deferrals.Deferred.{Deferred}
 
--- after so many were taken, these URLs wait that were not; each that was put back stands after as many as the queue had
--- accepted then
+-- the line once `taken` URLs were taken: `urls`, and each URL that was put back, after the URLs that were accepted before that
 abbrev pub in_line : ℕ → List (List ℕ) → List Deferred → List (List ℕ)
 in_line taken urls [] = urls
 in_line taken urls (d ∷ ds) = take (d.after - taken) urls ++ d.url ∷ in_line (taken + (d.after - taken)) (drop (d.after - taken) urls) ds
 
--- none stands after more than that
+-- no URL that was put back comes after more than `most` accepted URLs
 abbrev pub Within : ℕ → List Deferred → Type 0
 Within most [] = Unit {0}
 Within most (d ∷ ds) = (d.after ≤ most) × Within most ds
@@ -23,11 +22,11 @@ pub within_push : (most : ℕ) (ds : List Deferred) (d : Deferred) → d.after �
 within_push most [] d below within = (below, tt)
 within_push most (e ∷ ds) d below within = (within.0, within_push most ds d below within.1)
 
--- what is left after the first that was put back
+-- likewise for what is left after the first URL that was put back
 rest_within : (taken n : ℕ) (urls : List (List ℕ)) (ds : List Deferred) → n ≤ length urls → Within (taken + length urls) ds → Within (taken + n + length (drop n urls)) ds
 rest_within taken n urls ds below within = grind (arith, length-drop, within_more)
 
--- one more is accepted
+-- one more URL is accepted
 pub line_accepts : (taken : ℕ) (urls : List (List ℕ)) (url : List ℕ) (ds : List Deferred) → Within (taken + length urls) ds → in_line taken (urls ++ url ∷ []) ds ≡ in_line taken urls ds ++ url ∷ []
 line_accepts taken urls url [] within = refl
 line_accepts taken urls url (d ∷ ds) within =
@@ -41,7 +40,7 @@ line_accepts taken urls url (d ∷ ds) within =
     ∙ ap (λ (l : List (List ℕ)). take n urls ++ d.url ∷ l) more
     ∙ sym (append_assoc (take n urls) (d.url ∷ in_line (taken + n) (drop n urls) ds) (url ∷ []))
 
--- one more is put back
+-- one more URL is put back
 pub line_defers : (taken : ℕ) (urls : List (List ℕ)) (ds : List Deferred) (d : Deferred) → Within (taken + length urls) ds → d.after ≡ taken + length urls → in_line taken urls (ds ++ d ∷ []) ≡ in_line taken urls ds ++ d.url ∷ []
 line_defers taken urls [] d within is =
     let n = d.after - taken in
@@ -56,10 +55,10 @@ line_defers taken urls (e ∷ ds) d within is =
     ap (λ (l : List (List ℕ)). take n urls ++ e.url ∷ l) more
     ∙ sym (append_assoc (take n urls) (e.url ∷ in_line (taken + n) (drop n urls) ds) (d.url ∷ []))
 
--- the first that was put back is due
+-- if the first URL that was put back is due, it is next
 pub line_retakes : (taken : ℕ) (urls : List (List ℕ)) (d : Deferred) (ds : List Deferred) → d.after ≤ taken → in_line taken urls (d ∷ ds) ≡ d.url ∷ in_line taken urls ds
 line_retakes taken urls d ds due = grind arith
 
--- it is not, so the first that was not taken is next
+-- if it is not due, the first URL that is still to be taken is next
 pub line_takes : (taken : ℕ) (url : List ℕ) (urls : List (List ℕ)) (d : Deferred) (ds : List Deferred) → taken < d.after → in_line taken (url ∷ urls) (d ∷ ds) ≡ url ∷ in_line (suc taken) urls (d ∷ ds)
 line_takes taken url urls d ds early = grind arith

@@ -26,7 +26,7 @@ abbrev pub urls_at : Option Subqueue → List (List ℕ)
 urls_at None = []
 urls_at (Some queue) = map url_of (waiting queue)
 
--- what waits in it, in order
+-- what waits in a queue, in order
 abbrev pub line_at : Option Subqueue → List Deferred → List (List ℕ)
 line_at queue ds = in_line (taken_at queue) (urls_at queue) ds
 
@@ -34,13 +34,12 @@ abbrev pub fetched_at : Option Subqueue → Option (List ℕ)
 fetched_at None = None
 fetched_at (Some queue) = fetch_of queue
 
--- the URL that it is busy with
+-- the URL that a queue is busy with
 abbrev pub busy_at : Option Subqueue → Option Deferred → Option (List ℕ)
 busy_at queue (Some d) = Some d.url
 busy_at queue None = fetched_at queue
 
--- no URL was put back after more than were accepted; and while one is fetched that was put back before, the machine's queue is
--- not busy
+-- URLs that were put back come after at most all accepted URLs; while one of them is fetched, the machine's queue is not busy
 pub record Fine (queue : Option Subqueue) (deferrals : Deferrals) : Type 0 where
   pub within : Within (accepted_at queue) deferrals.waiting
   pub apart : is_some deferrals.fetched ≡ true → is_fetching queue ≡ false
@@ -55,7 +54,7 @@ pub record Flow (old : Option Subqueue) (before : Deferrals) (joins takes : Opti
 pub flow_still : (queue : Option Subqueue) (deferrals : Deferrals) → Flow queue deferrals None None false queue deferrals
 flow_still queue deferrals = grind (arith, append-nil)
 
--- how many wait
+-- the URLs that were taken and those that wait are all that were accepted
 all_there : (queue : Subqueue) → SubqueueInvariant queue → queue.taken + length (map url_of (waiting queue)) ≡ length queue.accepted
 all_there queue inv = grind (arith, length-map, length-drop)
 
@@ -70,7 +69,7 @@ got_before (x ∷ xs) y (suc i) below = got_before xs y i (omega (arith, below))
 fetch_stays : (queue : Subqueue) (m : Message) → SubqueueInvariant queue → fetch_of (after_accepting queue m) ≡ fetch_of queue
 fetch_stays queue m inv = grind (arith, got_before)
 
--- the URL that is fetched, by what was put back, and by the machine
+-- the URL that is being fetched: one that was put back, or else the machine's
 abbrev busy_of_kept : Option Deferred → Option (List ℕ) → Option (List ℕ)
 busy_of_kept (Some d) found = Some d.url
 busy_of_kept None found = found
@@ -99,7 +98,7 @@ idle_fetch queue idle = ap (λ b. if b then option_map url_of (slice_get queue.a
 idle_busy : (queue : Subqueue) (fetched : Option Deferred) → queue.busy ≡ false → fetched ≡ None → busy_at (Some queue) fetched ≡ None
 idle_busy queue fetched idle none = ap (busy_at (Some queue)) none ∙ idle_fetch queue idle
 
--- the first that was not taken is taken, since none that was put back is due
+-- the first URL that is still to be taken is taken, since none that was put back is due
 line_of_first : (queue : Subqueue) (m : Message) (ds : List Deferred) → oldest queue ≡ Some m → queue.busy ≡ false → is_due (Some queue) ds ≡ false → line_at (Some queue) ds ≡ m.url ∷ line_at (Some (after_taking queue)) ds
 line_of_first queue m ds first idle due =
     let there : drop queue.taken queue.accepted ≡ m ∷ drop (suc queue.taken) queue.accepted = rw first at (drop-slice_get queue.accepted queue.taken) in

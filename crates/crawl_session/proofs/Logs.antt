@@ -42,7 +42,7 @@ next_some suffix more good =
 next_none : (workers max : ℕ) → next_suffix (numbers_text workers max) ≡ None
 next_none workers max = grind arith
 
--- what was read so far: these suffixes, and a rest; so of a line that was written with some suffixes, these are the first
+-- the line was read up to `rest`, with the suffixes `so_far`; if it was written with some suffixes, these are the first of them
 pub record Reads (line : List ℕ) (so_far : List (List ℕ)) (rest : List ℕ) : Type 0 where
   pub written : line ≡ within_text so_far ++ rest
   pub follows : (workers max : ℕ) (suffixes : List (List ℕ)) → All IsGood suffixes → line ≡ settings_line workers max suffixes
@@ -54,7 +54,7 @@ front_of suffix more rest = grind (arith, append_assoc)
 from_word : (p : List ℕ × List ℕ) (b : Bool) (found : List ℕ × List ℕ) → bytes_eq p.0 (codes "within") ≡ b → (if b then at_space p.1 else None) ≡ Some found → (bytes_eq p.0 (codes "within") ≡ true) × (at_space p.1 ≡ Some found)
 from_word p b found is e = grind arith
 
--- what is cut stands there
+-- the text begins with `within`, a space, the suffix that is cut from it, and a space
 next_stands : (text suffix more : List ℕ) (p : Option (List ℕ × List ℕ)) → at_space text ≡ p → option_and_then suffix_from p ≡ Some (suffix, more) → text ≡ codes "within " ++ (suffix ++ (codes " " ++ more))
 next_stands text suffix more None cut e = absurd (cc)
 next_stands text suffix more (Some p) cut e =

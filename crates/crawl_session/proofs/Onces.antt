@@ -1,4 +1,4 @@
--- Each URL once, in order, by its host's subqueue, as a client is told.
+-- According to the answers, each URL is handed out once, in order, by the queue of its host.
 use Rattle.std.proofs.Common.{◌≡◌, ◌≤◌, ℕ, zero, suc, Bool, if◌then◌else◌, is_some, List, [], ◌∷◌, ◌++◌, slice_get, Option, Some, None, refl, sym, ap, subst, ◌∙◌, arith}
 use Rattle.std.specs.List.{cons_option}
 use Rattle.crawl_core.specs.Flags.{one_if}
@@ -15,13 +15,13 @@ use Rattle.crawl_session.proofs.Queues.{busy_of}
 use Rattle.crawl_session.proofs.Runs.{session_runs, zipped, as_run}
 use Rattle.crawl_session.proofs.Sees.{quiet_first, quiet_rest, sees_accepted}
 
--- what is at a place of a list is there with more after it
+-- an element stays at its index if more is appended to the list
 got_of_front : {A : Type 0} (xs ys : List A) (k : ℕ) (x : A) → slice_get xs k ≡ Some x → slice_get (xs ++ ys) k ≡ Some x
 got_of_front [] ys k x at = absurd (cc)
 got_of_front (z ∷ zs) ys zero x at = at
 got_of_front (z ∷ zs) ys (suc k) x at = got_of_front zs ys k x at
 
--- what joined a queue is what was taken from it, and then what waits
+-- what joined a queue is what was taken from it, followed by what waits
 pub joined_is : (settings : Settings) (max : ℕ) (lines : List (List ℕ)) (queue : ℕ) → joined_of queue (asked settings (start settings.workers max) lines) ≡ taken_of queue (asked settings (start settings.workers max) lines) ++ line_of (state_after settings (start settings.workers max) lines) queue
 joined_is settings max lines queue =
     let begun = start settings.workers max in
@@ -30,7 +30,7 @@ joined_is settings max lines queue =
     ∙ ap (λ (l : List (List ℕ)). l ++ joined_from queue (busy_of begun queue) all) (sym (starts_empty settings.workers max queue))
     ∙ conserved settings begun lines queue (start_sound settings.workers max) (starts_settled settings.workers max)
 
--- where none was put back, those joined that were accepted
+-- if no URL was put back, the URLs that joined are those that were accepted
 plain_joins : (queue : ℕ) (busy : Option (List ℕ)) (all : List Asked) → put_back_of queue all ≡ 0 → joined_from queue busy all ≡ accepted_of queue all
 plain_joins queue busy [] none = refl
 plain_joins queue busy (x ∷ more) none =

@@ -40,7 +40,7 @@ use Rattle.crawl_session.proofs.Choices.{either_way}
 use Rattle.crawl_session.proofs.Flows.{fetches_busy, in_range}
 use Rattle.crawl_session.proofs.Queues.{Settled, queue_at}
 
--- how many URLs have this sender, in a queue and in all
+-- the number of URLs that were put back and have this sender, in a queue and in all queues
 abbrev pub has_sender : ℕ → Deferred → ℕ
 has_sender sender d = cond (nat_eq d.sender sender) 1 0
 
@@ -54,15 +54,15 @@ units_in sender deferrals = sum_by (has_sender sender) deferrals.waiting + fetch
 abbrev pub units_of : ℕ → Frontier → ℕ
 units_of sender state = sum_by (units_in sender) state.deferrals
 
--- none has the client as its sender; each sender has as many as it holds units, at most; and the senders that come next hold none
+-- no URL that was put back has the client as sender; others have at most one each, and only with a unit; later senders hold none
 pub record Owned (state : Frontier) : Type 0 where
   pub mine : units_of client state ≡ 0
   pub held : (sender : ℕ) → units_of sender state ≤ one_if (holds state.machine.gate sender)
   pub fresh : (n : ℕ) → state.senders ≤ n → holds state.machine.gate (suc n) ≡ false
 
--- ---- the machine alone
+-- ---- the machine without the session
 
--- no unit of another than the client comes or goes
+-- the units of senders other than the client stay as they are
 abbrev Others : State → State → Type 0
 Others old new = (n : ℕ) → holds new.gate (suc n) ≡ holds old.gate (suc n)
 
@@ -117,7 +117,7 @@ units_after : (state : Frontier) (named : ℕ) (deferrals : Deferrals) (found : 
     → sum_by (units_in sender) (slice_set state.deferrals named deferrals) + units_in sender (deferrals_at state named) ≡ units_of sender state + units_in sender deferrals
 units_after state named deferrals found settled at sender = grind (arith, slice_get_within, sum_by-set)
 
--- the same URLs in another way
+-- a change of one queue that keeps each sender's units
 owned_same : (state : Frontier) (named : ℕ) (deferrals : Deferrals) (found : Subqueue) → Settled state → queue_at state named ≡ Some found → ((sender : ℕ) → units_in sender deferrals ≡ units_in sender (deferrals_at state named)) → Owned state → Owned (with_deferrals state named deferrals)
 owned_same state named deferrals found settled at same owned = grind (arith, units_after)
 
@@ -136,7 +136,7 @@ next_owned state named None is sound settled owned =
     (λ due. retake_owned state named (queue_at state named) (deferrals_at state named).waiting refl refl settled is due owned)
     (λ _. owned_machine state (taking state.machine named).state (taking_others state.machine named sound) owned)
 
--- one that was put back is done
+-- a URL that was put back is done
 finish_units : (sender : ℕ) (d : Deferred) (deferrals : Deferrals) → deferrals.fetched ≡ Some d → units_in sender (record { waiting = deferrals.waiting; fetched = None }) + has_sender sender d ≡ units_in sender deferrals
 finish_units sender d deferrals is = grind arith
 
@@ -159,7 +159,7 @@ finishing_owned : (state : Frontier) (named : ℕ) (fetched : Option Deferred) �
 finishing_owned state named None is sound settled owned = owned_machine state (exchanges.done_with state.machine named).state (λ n. (gate_history.held state.machine sound (event.Done named)).holders (suc n)) owned
 finishing_owned state named (Some d) is sound settled owned = let found = in_range state named d settled is in finish_again_owned state named d found.0 found.1 is sound settled owned
 
--- one waits again
+-- a URL that is being fetched waits again
 push_units : (sender : ℕ) (d : Deferred) (deferrals : Deferrals) → units_in sender (waits_again deferrals d) ≡ sum_by (has_sender sender) deferrals.waiting + has_sender sender d
 push_units sender d deferrals = let sum = sum_by_push (has_sender sender) deferrals.waiting d in omega (arith, sum)
 
@@ -243,7 +243,7 @@ pub answered_owned : (state : Frontier) (r : Result Request RequestError) → So
 answered_owned state (Ok request) sound settled owned = request_owned state request sound settled owned
 answered_owned state (Err why) sound settled owned = owned
 
--- ---- a new session, and one where no unit is out
+-- ---- a new session, and one in which no unit is held
 
 none_new : (workers sender : ℕ) → sum_by (units_in sender) (replicate workers no_deferrals) ≡ 0
 none_new zero sender = refl

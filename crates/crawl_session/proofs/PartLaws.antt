@@ -1,4 +1,4 @@
--- Parts of one crawl: each accepts what its own queues' hosts have, and tells of every other URL where it belongs.
+-- Parts of one crawl: each accepts only URLs whose hosts belong to its queues, and reports to which part every other URL belongs.
 use Rattle.std.proofs.Common.{◌≡◌, ◌≢◌, ℕ, ◌/◌, Bool, false, nat_lt, if◌then◌else◌, List, [], length, codes, slice_get, Some, None, Result, Ok, Err, IfOk, refl, sym, ap, ◌∙◌, arith}
 use Rattle.std.specs.Str.{bytes_eq}
 use Rattle.std.proofs.lemmas.Slice.Eq.{bytes_eq-Decides}
@@ -49,15 +49,15 @@ shares_no_url first second own other old older lines others queue there k l url 
 
 -- ---- elsewhere
 
--- a word without a space that is no request asks nothing, whatever else it is
+-- a word without a space that is no request is not read as one
 asks_nothing : (workers : ℕ) (suffixes : List (List ℕ)) (word : List ℕ) (request : Request) (b : Bool) → at_space word ≡ None → plain_request word ≡ None → request_in workers suffixes (if b then Ok word else Err (NotText 1)) ≡ Ok request → ⊥
 asks_nothing workers suffixes word request b single plain asks = grind arith
 
--- a line that offers is no such word
+-- a line that is a request is no such word
 no_word : (workers : ℕ) (suffixes : List (List ℕ)) (line word : List ℕ) (request : Request) → nat_lt line_limit (length word) ≡ false → at_space word ≡ None → plain_request word ≡ None → request_of workers suffixes line ≡ Ok request → bytes_eq line word ≡ false
 no_word workers suffixes line word request short single plain asks = grind (arith, bytes_eq-Decides, asks_nothing)
 
--- of an offer, the part asks what its queue says
+-- a part reads an offer by the queue that the offer names
 offer_placed : (settings : Settings) (part : Part) (line url : List ℕ) (queue : ℕ) → settings.part ≡ Some part → request_of settings.workers settings.suffixes line ≡ Ok (Offer url queue) → request_for settings line ≡ placed part (Offer url queue)
 offer_placed settings part line url queue is asks =
     let asked_it = request_of settings.workers settings.suffixes line in

@@ -1,4 +1,4 @@
--- What a line asks of a frontier that may be a part: what it asks of any, or nothing.
+-- What a line requests of a frontier that may be a part: what it requests of any frontier, or nothing.
 use Rattle.std.proofs.Common.{◌≡◌, ℕ, List, Option, Result, Ok, IfOk, sym, ap, subst, ◌∙◌, arith}
 use Rattle.crawl_keys.specs.Outcome.{Gives}
 use Rattle.crawl_session.specs.declared.part.Part.{Part}
@@ -13,20 +13,20 @@ use Rattle.crawl_session.specs.Settings.{Settings}
 abbrev Asked : Type 0
 Asked = Result Request RequestError
 
--- what holds where a part is asked by its own words, and else, holds of what a line asks of it
+-- what holds of the requests to a part still holds once `sync` and `identity`, which only parts read, are set aside
 pub by_words : (P : Request → Type 0) (part : Part) (line : List ℕ) (asked : Asked) → IfOk (placed_if part asked) P → IfOk (asked_by part line asked) P
 by_words P part line asked holds = grind arith
 
 asked_keeps : (P : Request → Type 0) (part : Option Part) (line : List ℕ) (asked : Asked) → IfOk asked P → IfOk (asked_of part line asked) P
 asked_keeps P part line asked holds = grind arith
 
--- what holds of each request that a line can be, holds here too
+-- what holds of the request that a line is to any frontier holds of the request that it is to this one
 pub for_keeps : (P : Request → Type 0) (settings : Settings) (line : List ℕ) → IfOk (request_of settings.workers settings.suffixes line) P → IfOk (request_for settings line) P
 for_keeps P settings line holds = asked_keeps P settings.part line (request_of settings.workers settings.suffixes line) holds
 
 -- ---- a part
 
--- an offer names a queue of which this holds, and its URL
+-- if the request is an offer, P holds of its queue and its URL
 abbrev pub OffersWhere : (ℕ → List ℕ → Type 0) → Request → Type 0
 OffersWhere P (Offer url queue) = P queue url
 OffersWhere P _ = Unit {0}

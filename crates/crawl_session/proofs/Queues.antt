@@ -33,12 +33,12 @@ pub record Settled (state : Frontier) : Type 0 where
 abbrev pub as_told : Result Request RequestError → Answer → Asked
 as_told r answer = record { request = r; answer = answer }
 
--- what comes of what a line asks: in each queue happens what the client is told
+-- the outcome of a request: what happens in each queue is what the answer says
 pub record Passes (state : Frontier) (r : Result Request RequestError) (x : Outcome) : Type 0 where
   pub settled : Settled x.state
   pub flow : (queue : ℕ) → Flow (queue_at state queue) (deferrals_at state queue) (joins queue (busy_of state queue) (as_told r x.answer)) (takes queue r x.answer) (finishes queue r x.answer || puts_back queue r x.answer) (queue_at x.state queue) (deferrals_at x.state queue)
 
--- nothing happens in any
+-- nothing happens in any queue
 abbrev pub Quietly : Result Request RequestError → Answer → Type 0
 Quietly r answer = (queue : ℕ) (busy : Option (List ℕ)) → (joins queue busy (as_told r answer) ≡ None) × ((takes queue r answer ≡ None) × ((finishes queue r answer || puts_back queue r answer) ≡ false))
 
@@ -51,7 +51,7 @@ passes_still state r reply settled quiet = record {
   flow = λ queue. let said = quiet queue (busy_of state queue) in still_as (queue_at state queue) (deferrals_at state queue) _ _ _ said.0 said.1.0 said.1.1;
 }
 
--- the machine's queues stay
+-- the machine's queues stay as they are
 pub passes_gate : (state : Frontier) (r : Result Request RequestError) (x : Exchange) → Settled state → x.state.subqueues ≡ state.machine.subqueues → Quietly r x.answer → Passes state r (by_machine state x)
 passes_gate state r x settled same quiet =
     let at : (queue : ℕ) → slice_get x.state.subqueues queue ≡ queue_at state queue = λ queue. ap (λ (l : List Subqueue). slice_get l queue) same in
@@ -68,7 +68,7 @@ passes_gate state r x settled same quiet =
 
 -- ---- one queue
 
--- what holds of this queue where a test of it is passed, and of the others where it is not
+-- what holds of the named queue and of every other queue holds of each queue
 one_queue : (named queue : ℕ) (P : Bool → ℕ → Type 0) → P true named → (nat_eq named queue ≡ false → P false queue) → P (nat_eq named queue) queue
 one_queue named queue P here other = grind arith
 
@@ -83,7 +83,7 @@ pub record Change (state new : Frontier) (named : ℕ) (queue : Option Subqueue)
 pub settled_after : (state new : Frontier) (named : ℕ) (queue : Option Subqueue) (deferrals : Deferrals) → Settled state → Change state new named queue deferrals → Fine queue deferrals → Settled new
 settled_after state new named queue deferrals settled change fine = grind arith
 
--- what happens there, and nothing in the others
+-- what happens in the named queue, and that nothing happens in the others
 pub flow_after : (state new : Frontier) (named : ℕ) (queue : Option Subqueue) (deferrals : Deferrals) (j t : ℕ → Bool → Option (List ℕ)) (e : Bool → Bool) → Change state new named queue deferrals
     → Flow (queue_at state named) (deferrals_at state named) (j named true) (t named true) (e true) queue deferrals
     → ((there : ℕ) → (j there false ≡ None) × ((t there false ≡ None) × (e false ≡ false)))
@@ -98,7 +98,7 @@ flow_after state new named queue deferrals j t e change flow quiet there =
     (subst (λ (d : Deferrals). Flow (queue_at state there) (deferrals_at state there) (j there false) (t there false) (e false) (queue_at state there) d) (sym (change.other_too there apart))
     (still_as (queue_at state there) (deferrals_at state there) (j there false) (t there false) (e false) said.0 said.1.0 said.1.1)))
 
--- a queue of the machine is another
+-- one queue of the machine is replaced
 pub change_queue : (state : Frontier) (gate_machine : State) (named : ℕ) (old new : Subqueue) → Settled state → queue_at state named ≡ Some old → gate_machine.subqueues ≡ slice_set state.machine.subqueues named new
     → Change state (record state { machine = gate_machine }) named (Some new) (deferrals_at state named)
 change_queue state machine named old new settled at is = record {
@@ -109,14 +109,14 @@ change_queue state machine named old new settled at is = record {
   other_too = λ there apart. refl;
 }
 
--- its deferrals are others
+-- the deferrals of one queue are replaced
 apart_from : (named there : ℕ) → nat_eq named there ≡ false → (there ≡ named → ⊥)
 apart_from named there apart same = eqb-false named there apart (sym same)
 
 pub change_deferrals : (state : Frontier) (named : ℕ) (queue : Subqueue) (deferrals : Deferrals) → Settled state → queue_at state named ≡ Some queue → Change state (with_deferrals state named deferrals) named (Some queue) deferrals
 change_deferrals state named queue deferrals settled at = grind (arith, slice_get_within, length-slice_set, get_or-set_same, get_or-set_other, apart_from)
 
--- both, with so many senders
+-- both are replaced, and the number of senders too
 pub change_both : (state : Frontier) (machine : State) (named senders : ℕ) (old new : Subqueue) (deferrals : Deferrals) → Settled state → queue_at state named ≡ Some old → machine.subqueues ≡ slice_set state.machine.subqueues named new
     → Change state (record { machine = machine; deferrals = slice_set state.deferrals named deferrals; senders = senders }) named (Some new) deferrals
 change_both state machine named senders old new deferrals settled at is =

@@ -1,4 +1,4 @@
--- Between two requests the client holds no unit; so what each request can be answered is what the table says.
+-- Between two requests the client holds no unit, so the answers to each request are those of the table.
 use Rattle.std.proofs.Common.{◌≡◌, ℕ, suc, arith, ◌<◌, ◌≤◌, Bool, true, false, ◌||◌, if◌then◌else◌, List, [], ◌∷◌, length, nat_eq, get_or, slice_get, Option, Some, None, Result, Ok, Err, IfOk, refl, sym, ap, subst, ◌∙◌, true≢false}
 use Rattle.std.proofs.lemmas.Bool.Decides.{nat_tests}
 use Rattle.std.specs.List.{All, list_any}
@@ -75,7 +75,7 @@ record Leaves (holders : List ℕ) (test : Reply → Bool) (done : Turn) : Type 
   same : done.state.gate.holders ≡ holders
   passes : test done.reply ≡ true
 
--- what is answered, or that nothing waits
+-- a reply that can be the answer, or the reply that nothing waits
 taken_or_empty : ℕ → Reply → Bool
 taken_or_empty named reply = is_empty reply || can_be_told (Next named) reply
 
@@ -111,7 +111,7 @@ next_fits workers named state rest =
 
 -- ---- an offer
 
--- the client, which holds nothing and remembers this very word, is told that the gate is closed or full, or enters
+-- the client, which holds nothing and remembers the current word, enters, or is refused since the gate is closed or full
 abbrev pub tried : GateSide → ℕ → GateTurn
 tried gate messages =
     if gate.closed then turned_away gate why.Closed
@@ -136,7 +136,7 @@ tries url named gate messages nobody =
 pub looked_word : (gate : GateSide) (messages : ℕ) → remembers (look gate messages client).gate client ≡ Some (shown_word gate messages)
 looked_word gate messages = lookup-insert_entry nat_cmp_total client client (shown_word gate messages) gate.remembered
 
--- the client holds a unit: it goes with the URL, or the URL was seen
+-- an admission while the client holds a unit: the URL was seen, or the unit goes with the URL
 record Admission (state : State) (url : List ℕ) (named : ℕ) (done : Turn) : Type 0 where
   seen : is_seen done.reply ≡ true → done.state ≡ state
   other : is_seen done.reply ≡ false → (can_be_told (Offer url named) done.reply ≡ true) × (holds done.state.gate client ≡ false)
@@ -183,7 +183,7 @@ offer_fits workers url named state below rest =
 
 -- ---- URLs that are put back
 
--- another sender's entry leaves the client without a unit
+-- another sender's entry does not change whether the client holds a unit
 enters_apart : (who : ℕ) (held : Bool) (reply : Reply) → holds_after client held (event.Enter (suc who)) reply ≡ held
 enters_apart who held reply = grind (arith, nat_tests)
 

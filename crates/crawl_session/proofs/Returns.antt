@@ -1,4 +1,4 @@
--- How often a URL is taken, done and put back, as a client is told.
+-- How often a URL is taken, done and put back, according to the answers.
 use Rattle.std.proofs.lemmas.Grind.{common_steps}
 use Rattle.std.proofs.Common.{◌≡◌, ℕ, zero, suc, ◌+◌, ◌≤◌, Bool, true, false, cond, ◌||◌, if◌then◌else◌, is_some, List, [], ◌∷◌, ◌++◌, slice_get, Option, Some, None, Result, refl, sym, ap, subst, ◌∙◌, arith}
 use Rattle.std.specs.List.{All, cons_option}
@@ -38,7 +38,7 @@ times_on url o urls = grind (arith, common_steps, sum_by-cons)
 pub times_append : (url : List ℕ) (front back : List (List ℕ)) → times url (front ++ back) ≡ times url front + times url back
 times_append url front back = sum_by-append (one url) front back
 
--- a URL that has no place is there no time, and one that has one place at most is there once at most
+-- a URL that has no index does not occur, and one that has at most one index occurs at most once
 no_place : (url : List ℕ) (urls : List (List ℕ)) → ((i : ℕ) → slice_get urls i ≡ Some url → ⊥) → times url urls ≡ 0
 no_place url [] none = refl
 no_place url (u ∷ urls) none = by_first (bytes_eq u url) refl (no_place url urls (λ i at. none (suc i) at))
@@ -119,7 +119,7 @@ taken_times url settings state (line ∷ more) queue busy sound settled is =
     let put = times_on url (if was_put_back queue x then busy else None) (busy_before (was_put_back queue) queue next rest) in
     omega (arith, later, first, taken, done, put)
 
--- the URL that the client thinks that a queue is busy with is the one that it is busy with
+-- the URL that a queue is busy with according to the answers is the one that it is busy with
 pub busy_is : (settings : Settings) (state : Frontier) (lines : List (List ℕ)) (queue : ℕ) (busy : Option (List ℕ)) → Sound state.machine → Settled state → busy ≡ busy_of state queue → busy_from queue busy (asked settings state lines) ≡ busy_of (state_after settings state lines) queue
 busy_is settings state [] queue busy sound settled is = is
 busy_is settings state (line ∷ more) queue busy sound settled is =

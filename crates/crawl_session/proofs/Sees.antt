@@ -1,4 +1,4 @@
--- What a client is told of URLs is what the events say.
+-- What the answers say about URLs is what the events say.
 use Rattle.std.proofs.Common.{◌≡◌, ℕ, suc, ◌+◌, Bool, true, false, cond, if◌then◌else◌, nat_eq, slice_get, List, [], ◌∷◌, ◌++◌, map, Option, Some, None, Result, Ok, Err, refl, sym, ap, subst, ◌∙◌, true≢false, arith}
 use Rattle.std.proofs.lemmas.Bool.Decides.{nat_tests}
 use Rattle.std.specs.List.{cons_option}
@@ -31,7 +31,7 @@ use Rattle.crawl_session.specs.Sessions.{answered, line_exchange, history_of}
 use Rattle.crawl_session.specs.Settings.{Settings}
 use Rattle.crawl_session.proofs.Choices.{either_way}
 
--- what the events of an exchange say of a subqueue, and what its client is told
+-- what the events of an exchange say about a queue agrees with the answer
 record Agree (queue : ℕ) (request : Result Request RequestError) (x : Exchange) : Type 0 where
   accepted : accepted_urls queue x.history ≡ cons_option (accepts queue request x.answer) []
   taken : taken_urls queue x.history ≡ cons_option (takes queue request x.answer) []
@@ -46,7 +46,7 @@ entered queue sender reply request x agree = record { accepted = agree.accepted;
 
 -- ---- replies that never come
 
--- a reply that tells neither of a URL that was accepted, nor of one that was taken
+-- a reply that reports neither that a URL was accepted nor that one was taken
 unfoldable pub is_other : Reply → Bool
 is_other (told.Accepted there number) = false
 is_other (told.Taken url) = false
@@ -58,12 +58,12 @@ entry_tells state sender = grind arith
 
 -- ---- requests
 
--- an offer that did not enter
+-- an offer that did not enter the gate
 not_entered : (queue named : ℕ) (url : List ℕ) (reply : Reply) (state : State) → is_other reply ≡ true → Agree queue (Ok (Offer url named)) (ends reply state)
 unfolding is_other
 not_entered queue named url reply state other = grind arith
 
--- what comes of an admission by its reply
+-- the exchange from an admission on, by the reply to it
 abbrev admitted : ℕ → ℕ → List ℕ → Reply → State → Exchange
 admitted queue named url reply state =
     let rest = if is_seen reply then after state (event.Back client) (λ _ left. ends told.Seen left) else ends reply state in
@@ -81,7 +81,7 @@ next_agrees queue named state = grind arith
 done_agrees : (queue named : ℕ) (reply : Reply) (state : State) → Agree queue (Ok (Done named)) (record { history = (event.Done named, reply) ∷ []; answer = Told reply; state = state })
 done_agrees queue named reply state = grind arith
 
--- a URL that is told once more was not taken again
+-- the request `again` takes no URL: its answer repeats the URL that is being fetched
 again_agrees : (queue named : ℕ) (reply : Reply) (state : State) → Agree queue (Ok (Again named)) (ends reply state)
 again_agrees queue named reply state = record { accepted = refl; taken = refl; done = refl }
 
@@ -108,12 +108,12 @@ done_accepts queue named frontier fetched = grind arith
 answered_accepts : (queue : ℕ) (frontier : Frontier) (r : Result Request RequestError) → AcceptsSo queue r (answered frontier r)
 answered_accepts queue frontier r = grind (arith, offer_agrees, next_accepts, again_accepts, later_accepts, done_accepts)
 
--- ---- what was taken and done, where nothing is put back
+-- ---- what was taken and done, if nothing is put back
 
 abbrev as_exchange : Outcome → Exchange
 as_exchange x = record { history = x.history; answer = x.answer; state = x.state.machine }
 
--- what the client is told agrees with the events, and still nothing is put back
+-- the answer agrees with the events, and still nothing is put back
 record AgreesOn (r : Result Request RequestError) (x : Outcome) : Type 0 where
   agree : (queue : ℕ) → Agree queue r (as_exchange x)
   none : NoneDeferred x.state
@@ -177,7 +177,7 @@ sees_accepted settings state (line ∷ more) queue =
     ∙ put_first (accepts queue (request_for settings line) here.answer) (accepted_urls queue rest)
     ∙ ap (cons_option (accepts queue (request_for settings line) here.answer)) (sees_accepted settings here.state more queue)
 
--- where no line put a URL back, neither did the first
+-- if no line put a URL back, the first line did not
 count_first : (queue : ℕ) (x : Asked) (more : List Asked) → put_back_of queue (x ∷ more) ≡ cond (puts_back queue x.request x.answer) 1 0 + put_back_of queue more
 count_first queue x more = sum_by-cons (λ (y : Asked). cond (puts_back queue y.request y.answer) 1 0) x more
 

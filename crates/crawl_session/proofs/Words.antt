@@ -43,13 +43,13 @@ with_words_of state words = serving.with_words state words
 abbrev done_with_it : State → ℕ → Exchange
 done_with_it state named = exchanges.done_with state named
 
--- two exchanges of one answer, whose states differ in words alone
+-- two exchanges with the same answer, whose states differ only in the gate words that senders remember
 pub record Alike (x y : Exchange) : Type 0 where
   pub answer : x.answer ≡ y.answer
   pub words : Words
   pub state : x.state ≡ with_words y.state words
 
--- likewise for turns, and of turns of the gate
+-- likewise for turns, and for turns of the gate
 record AlikeTurn (x y : Turn) : Type 0 where
   reply : x.reply ≡ y.reply
   words : Words
@@ -198,7 +198,7 @@ handing_alike state words named sender =
 
 -- ---- what comes of a request
 
--- two outcomes of one answer, whose states differ in words alone
+-- two outcomes with the same answer, whose states differ only in the gate words that senders remember
 pub record AlikeOutcome (x y : Outcome) : Type 0 where
   pub answer : x.answer ≡ y.answer
   pub words : Words

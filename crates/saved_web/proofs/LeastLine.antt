@@ -1,4 +1,4 @@
--- Lines that are sound have no fault, and lines that are not have one.
+-- Lines that are sound have no error, and lines that are not sound have one.
 use Rattle.std.proofs.Common.{◌≡◌, ℕ, List, [], ◌∷◌, ◌++◌, Option, Some, None, Ok, Err, refl, sym, ap, subst, ◌∙◌, append_assoc, append-nil, arith}
 use Rattle.std.specs.Option.{option_or}
 use Rattle.crawl_keys.specs.Outcome.{IsRefusal}
@@ -7,7 +7,7 @@ use Rattle.saved_web.specs.WebFaults.{fault_after, IsSound, IsWebFault, IsWebRef
 use Rattle.saved_pages.specs.declared.error.WebError.{WebError}
 use Rattle.saved_pages.specs.declared.error.WebError.TheVariants as wrong
 
--- the fault of the first of these lines that has one, after the earlier ones
+-- the error of the first of these lines that has one, after the earlier lines
 first_fault : List (List ℕ) → List (List ℕ) → Option WebError
 first_fault earlier [] = None
 first_fault earlier (line ∷ more) = option_or (fault_after earlier line) (first_fault (earlier ++ line ∷ []) more)

@@ -24,14 +24,14 @@ get_behind : {X : Type 0} (xs ys : List X) (k : ℕ) → slice_get (xs ++ ys) (l
 get_behind [] ys k = let e : 0 + k ≡ k = omega arith in ap (slice_get ys) e
 get_behind (x ∷ xs) ys k = let e : suc (length xs) + k ≡ suc (length xs + k) = omega arith in ap (slice_get (x ∷ xs ++ ys)) e ∙ get_behind xs ys k
 
--- the pages of the parts from one on
+-- the pages of the parts from the i-th on
 abbrev pub from_part : List (List PageRead) → ℕ → List PageRead
 from_part parts i = flat_map (λ part. part) (drop i parts)
 
 at_part : (parts : List (List PageRead)) (i : ℕ) (part : List PageRead) → i < length parts → part ≡ get_or parts i part → from_part parts i ≡ part ++ from_part parts (i + 1)
 at_part parts i part below is = grind (arith, drop_more)
 
--- a part that is passed over has as many of the indices as pages
+-- counted from the start of a part, an index after the part is larger by the number of the part's pages
 pub passed_place : (parts : List (List PageRead)) (i : ℕ) (part : List PageRead) (k : ℕ) → i < length parts → part ≡ get_or parts i part → slice_get (from_part parts (i + 1)) k ≡ slice_get (from_part parts i) (length part + k)
 passed_place parts i part k below is = grind (arith, nat_tests, common_steps, at_part, get_behind)
 
@@ -47,7 +47,7 @@ found_index parts i part url k below is found =
     let at : slice_get part k ≡ Some (get_or part k none) = slice_get-get_or part k none within in
     found_place parts i part k (get_or part k none) below is at ∙ sym (found_part parts i part url (get_or part k none) below is (page_there part url k found ∙ at))
 
--- what is lent of a part is the page at the index
+-- the page that is borrowed from a part is the page at the index
 pub lent_page : (part pages : List PageRead) (k : ℕ) (o : Option (Bor PageRead)) → option_map (λ page. page.now) o ≡ slice_get part k → ((page : PageRead) → slice_get part k ≡ Some page → slice_get pages k ≡ Some page) → (j : ℕ) (all : List PageRead) → slice_get pages k ≡ slice_get all j → IfSome o (λ page. slice_get all j ≡ Some page.now)
 lent_page part pages k o at there j all same = grind arith
 

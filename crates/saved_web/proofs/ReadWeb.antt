@@ -115,7 +115,7 @@ any_under p old earlier line e = grind (arith, any_one, under_more)
 second_more : (number : ℕ) (second : Bool) (earlier : List (List ℕ)) (line : List ℕ) → number ≡ length earlier → second ≡ is_second earlier → (if number + 1 == 1 then bytes_eq line (codes "savedweb 2") else second) ≡ is_second (earlier ++ line ∷ [])
 second_more number second earlier line numbered e = grind arith
 
--- no fault is expected
+-- no error is expected
 none_expected : (expected : Option WebError) → checked expected ≡ Ok tt → expected ≡ None
 none_expected expected e = grind arith
 

@@ -5,7 +5,7 @@ use Rattle.hash_index.specs.Lists.{index_of}
 use Rattle.hash_index.proofs.Listed.{has_index}
 use Rattle.crawl_session.proofs.texts.Texts.insert.Goals as goal
 
--- what was found tells whether the text was there
+-- what was found says whether the text was there
 found_tells : (found : Option ℕ) (seen before old : List (List ℕ)) (text : List ℕ) → found ≡ index_of (map (λ (t : List ℕ). t) seen) text → seen ≡ before → before ≡ old → is_some found ≡ has_text old text
 found_tells found seen before old text found_is same view = grind (arith, map-id, has_index)
 
