@@ -224,6 +224,7 @@ fn sorted_copies(alloc: Global, results: &[PageResult]) -> Result<Vec<PageResult
     copies(alloc, &ordered)
 }
 
+/// Returns copies of these results, in the same order.
 fn copies(alloc: Global, results: &[&PageResult]) -> Result<Vec<PageResult>, AllocError>
     ensures { IfOk result (λ copies. copies.items ≡ pointed results.now) }
 {

@@ -71,6 +71,8 @@ impl Chains {
         }
     }
 
+    /// Returns the index of a worker and a queue in a list with an item for each such pair. A sender that is no worker has an index
+    /// after the end of the list.
     fn pair(&self, worker: u64, queue: u32) -> usize {
         (worker as usize)
             .saturating_mul(self.workers as usize)

@@ -81,6 +81,7 @@ impl<'a> Accepted<'a> {
         nearest
     }
 
+    /// Returns the entry with this index among those of all queues.
     pub fn entry(&self, index: usize) -> &Entry
         requires { index < length self.now }
         ensures { slice_get self.now index ≡ Some result.now }

@@ -40,6 +40,7 @@ pub struct Marks<'r, 'e> {
 }
 
 impl<'r, 'e> Told<'r, 'e> {
+    /// Combines what two lists of results show: for each error the lesser of the two URLs.
     pub fn and(self, more: Told<'r, 'e>) -> Told<'r, 'e>
         ensures missing { url_of result.missing ≡ lesser (url_of self.entry.missing) (url_of more.entry.missing) }
         ensures stray { url_of result.stray ≡ lesser (url_of self.entry.stray) (url_of more.entry.stray) }
@@ -84,6 +85,7 @@ pub fn no_marks(alloc: Global, accepted: &Accepted<'_>) -> Result<Vec<bool>, All
     Ok(marks)
 }
 
+/// Marks the entries that have a result and those that results link to. Returns the least URL of each error.
 fn mark_results<'r, 'e>(
     filter: &Filter,
     accepted: &'e Accepted<'_>,

@@ -13,6 +13,7 @@ use crate::lookups::Accepted;
 use crawl_frontier::Entry;
 use crawl_keys::{CanonUrl, Filter};
 
+/// Whether the filter allows the URL, but no entry has it.
 fn is_missing(filter: &Filter, accepted: &Accepted<'_>, url: &CanonUrl) -> bool
     ensures { result ≡ is_lost (allows filter.now) accepted.now url.now }
 {

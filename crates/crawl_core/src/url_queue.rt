@@ -56,6 +56,7 @@ impl UrlQueue {
         }
     }
 
+    /// Whether the URL that was taken last is not done.
     pub fn is_busy(&self) -> bool
         ensures { result ≡ self.now.busy }
     {

@@ -38,6 +38,7 @@ impl Model for AcceptedList {
 }
 
 impl AcceptedList {
+    /// Creates the list from its entries, with the index of their URLs and the number of entries of each sender.
     pub(crate) fn new(sent: Vec<Entry>, index: HashIndex, counts: Counts) -> AcceptedList
         requires index { IsIndexOf hash_of (map (λ e. e.url) sent.items) index }
         requires counts { (id : ℕ) → count_in counts id ≡ count_of id sent.items }

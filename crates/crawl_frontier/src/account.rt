@@ -41,6 +41,7 @@ impl Model for Account {
 }
 
 impl Account {
+    /// Creates the account from the list of each queue, in the order of the queues.
     pub(crate) fn new(workers: u32, queues: Vec<AcceptedList>) -> Account
         requires len { length queues.items ≡ workers }
         requires rule { AllKeepRule workers queues.items }

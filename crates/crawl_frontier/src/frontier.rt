@@ -163,6 +163,7 @@ impl<K: Name> Frontier<K> {
         &self.filter
     }
 
+    /// Returns the gate, of which every worker and sender of the frontier has a pass.
     pub(crate) fn gate(&self) -> &Gate
         ensures { result.now ≡ K.gate }
     {

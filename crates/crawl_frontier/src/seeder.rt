@@ -54,6 +54,7 @@ impl<K: Name> Model for Seeder<K> {
 }
 
 impl<K: Name> Seeder<K> {
+    /// Creates the seeder of a new frontier, with the opening unit of its gate.
     pub(crate) fn new(opening: Unit, pass: Pass, book: Book) -> Seeder<K>
         requires opening { IsSeatOf K.gate opening }
         requires pass { IsSeatOf K.gate pass }

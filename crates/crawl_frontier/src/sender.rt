@@ -47,6 +47,7 @@ impl<K: Name> Model for Sender<K> {
 }
 
 impl<K: Name> Sender<K> {
+    /// Creates a sender with these books and this pass of the gate.
     pub(crate) fn new(book: Book, pass: Pass) -> Sender<K>
         requires pass { IsSeatOf K.gate pass }
         requires book { IsBook K.workers (book_of book) }
@@ -60,6 +61,7 @@ impl<K: Name> Sender<K> {
         }
     }
 
+    /// Returns the sender's books, and drops its pass of the gate.
     pub(crate) fn into_book(self) -> Book
         ensures book { book_of result ≡ self.book }
         ensures is_book { IsBook K.workers (book_of result) }

@@ -158,6 +158,7 @@ fn copies(offered: &Offered<'_>) -> Result<(Entry, Entry), KeyError>
 }
 
 impl<K: Name> Shard<K> {
+    /// Creates the shard of a queue that has accepted nothing. The call allocates nothing.
     pub(crate) fn new(alloc: Global, queue: u32, right: PushRight) -> Shard<K>
         requires view { right.view ≡ pushing (home K.gate K.workers queue) [] }
         requires subqueue { slice_get K.queues queue ≡ Some right.subqueue }

@@ -10,6 +10,7 @@ use std::collections::BTreeMap;
 /// The number of entries of each sender, by its id.
 pub type Counts = BTreeMap<u64, u64>;
 
+/// Returns the number of the sender's entries. It is 0 for a sender that is not in the table.
 pub fn count(counts: &Counts, sender: u64) -> u64
     ensures { result ≡ count_in counts.now sender }
 {

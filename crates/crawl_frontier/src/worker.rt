@@ -65,6 +65,7 @@ pub enum Turn<K: Name> {
 }
 
 impl<K: Name> Worker<K> {
+    /// Creates the worker of a queue, which has taken no URL yet.
     pub(crate) fn new(queue: u32, right: PopRight, pass: Pass, book: Book) -> Worker<K>
         requires view { right.view ≡ popping (home K.gate K.workers queue) [] 0 }
         requires subqueue { slice_get K.queues queue ≡ Some right.subqueue }

@@ -75,6 +75,7 @@ impl Base {
         Ok(Base::of_url(alloc, url))
     }
 
+    /// Finds the start of the path and the end of the folder in the URL's text. The URL is parsed later, if a link needs that.
     fn of_url(alloc: Global, url: CanonUrl) -> Base
         ensures { result ≡ url }
     {

@@ -100,12 +100,14 @@ fn is_good(suffix: &str) -> bool
     !suffix.is_empty() && has_suffix_bytes_alone(suffix)
 }
 
+/// Whether each byte of the text may be in a suffix. This is true of an empty text.
 fn has_suffix_bytes_alone(suffix: &str) -> bool
     ensures { result ≡ list_all spec.is_suffix_byte suffix.now }
 {
     suffix.as_bytes().iter().all(|byte| is_suffix_byte(*byte))
 }
 
+/// Whether a suffix may have this byte: `a` to `z`, `0` to `9`, `-` or `.`.
 fn is_suffix_byte(byte: u8) -> bool
     ensures { result ≡ spec.is_suffix_byte byte }
 {

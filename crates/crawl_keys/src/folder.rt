@@ -37,6 +37,7 @@ pub fn has_no_scheme(text: &str) -> bool
     matches!(text.as_bytes(), [b'.', ..]) || is_of_folder(text)
 }
 
+/// Whether the text has a colon, so that it may begin with a scheme.
 fn has_colon(text: &str) -> bool
     ensures { result ≡ list_any spec.is_colon text.now }
 {

@@ -34,6 +34,7 @@ fn before_sign(text: &str) -> &str
     &text[..len_before(text.as_bytes(), b'#')]
 }
 
+/// Whether the text ends with a byte that a URL parser does not trim: not a space or a control byte. An empty text does not.
 fn ends_visibly(text: &str) -> bool
     ensures { result ≡ spec.ends_visibly text.now }
 {

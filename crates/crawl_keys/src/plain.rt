@@ -179,6 +179,7 @@ fn is_named(host: &[u8]) -> bool
     }
 }
 
+/// Returns what follows the last dot of the host, or the whole host if it has no dot.
 fn last_label(host: &[u8]) -> &[u8]
     ensures { result.now ≡ spec.last_label host.now }
 {
@@ -281,6 +282,7 @@ fn is_plain_short(last: u8, text: &[u8]) -> bool
     true
 }
 
+/// Whether a path keeps the byte unchanged after `last`. After a slash the byte must be one that may begin a segment.
 fn may_follow(last: u8, byte: u8) -> bool
     ensures { result ≡ spec.may_follow last byte }
 {
@@ -311,18 +313,21 @@ static CLASS: [u8; 256] = *b"\
     00000000000000000000000000000000\
     00000000000000000000000000000000";
 
+/// Whether a path and a query keep this byte unchanged.
 fn is_kept(byte: u8) -> bool
     ensures { result ≡ spec.is_kept byte }
 {
     CLASS[byte as usize] & KEPT != 0
 }
 
+/// Whether a segment that begins with this byte stays unchanged: the segment is not empty and not a dot segment.
 fn may_begin(byte: u8) -> bool
     ensures { result ≡ spec.may_begin byte }
 {
     CLASS[byte as usize] & FIRST != 0
 }
 
+/// Whether a domain keeps this byte unchanged: a lower case letter, a digit, `-`, `.` or `_`.
 fn is_host_byte(byte: u8) -> bool
     ensures { result ≡ spec.is_host_byte byte }
 {

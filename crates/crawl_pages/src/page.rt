@@ -139,6 +139,7 @@ impl Page {
         matches!(self, Page::Moved { .. })
     }
 
+    /// Returns an equal page. The only error is `NoMemory`.
     fn copy(&self) -> Result<Page, KeyError>
         ensures { Gives KeyError.NoMemory (λ copy. copy) result (Ok self.now) }
     {

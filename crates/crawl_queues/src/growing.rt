@@ -75,6 +75,7 @@ impl Growing {
         Ok((Growing { table }, Owner { seat }))
     }
 
+    /// Adds the entry to the list in contracts. When it runs, it changes nothing in memory.
     fn add<B: Adds>(&self, owner: &mut Owner, entry: &Entry)
         requires entry { B.entry ≡ entry.now }
         requires list { owner.old.list ≡ self.now }

@@ -227,6 +227,7 @@ impl Subqueue {
         }
     }
 
+    /// Looks at the bell up to `LOOKS` times, and returns whether it rang.
     fn rings_soon(&self) -> bool {
         for _ in 0..LOOKS {
             if self.bell.load(SeqCst) != AWAITED {

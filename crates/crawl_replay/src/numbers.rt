@@ -29,12 +29,14 @@ pub fn number64(text: &str) -> Option<u64>
     }
 }
 
+/// Whether the text has one to `DIGIT_LIMIT` bytes, and all are ASCII digits.
 fn is_number(text: &str) -> bool
     ensures { result ≡ is_number text.now }
 {
     !text.is_empty() && text.len() <= DIGIT_LIMIT && has_digits_alone(text)
 }
 
+/// Whether each byte is an ASCII digit. This is true of an empty text.
 fn has_digits_alone(text: &str) -> bool
     ensures { result ≡ list_all is_ascii_digit text.now }
 {

@@ -25,6 +25,7 @@ pub fn replay_text(alloc: Global, bytes: &[u8]) -> Result<Vec<u8>, ScriptError>
     Ok(reply_lines(alloc, &replies)?.into_bytes())
 }
 
+/// Runs the events of the script on a new machine, and returns the replies. The only error is out of memory.
 fn replies_to(alloc: Global, script: &Script) -> Result<Vec<Reply>, NoMemory>
     requires { AreLimits script.now.workers script.now.max }
     ensures { IfOk result (λ replies. IsRun script.now.workers script.now.max script.now.events.items replies.items) }

@@ -40,6 +40,7 @@ impl fmt::Display for ReplyText<'_> {
     }
 }
 
+/// Returns the reason as it is printed after `refused`.
 fn refusal_text(why: Refusal) -> &'static str
     ensures { result.now ≡ refusal_text why }
 {

@@ -53,6 +53,7 @@ pub fn read_script(alloc: Global, bytes: &[u8]) -> Result<Script, ScriptError>
     script_from(alloc, bytes)
 }
 
+/// Reads the header in the first line, and then the events in the others.
 fn script_from(alloc: Global, bytes: &[u8]) -> Result<Script, ScriptError>
     ensures exact { Gives ScriptError.NoMemory content result (script_of bytes.now) }
     ensures limits { IfOk result (λ script. AreLimits script.workers script.max) }
@@ -69,6 +70,7 @@ fn script_from(alloc: Global, bytes: &[u8]) -> Result<Script, ScriptError>
     })
 }
 
+/// Reads `workers N max M`. A line that is something else, or has a number outside its limits, is a `BadHeader`.
 fn header_in(line: &[u8]) -> Result<Header, ScriptError>
     ensures exact { result ≡ header_in line.now }
     ensures limits { IfOk result (λ header. AreLimits header.workers header.max) }

@@ -93,6 +93,8 @@ impl Compactor {
         Ok(!again & changes)
     }
 
+    /// Whether a request with this reply has changed the session: it accepted or took a URL, gave a unit back, or was the first
+    /// request that was answered with `closed`.
     fn changes(&self, reply: &Reply) -> bool
         ensures { result ≡ spec.changes self.now reply.now }
     {
@@ -104,12 +106,14 @@ impl Compactor {
     }
 }
 
+/// Whether the request is `again`, which changes nothing although its reply is `taken`.
 fn asks_again(request: &Request) -> bool
     ensures { result ≡ spec.asks_again request.now }
 {
     matches!(request, Request::Again { .. })
 }
 
+/// Whether the reply is `closed`.
 fn is_closed(reply: &Reply) -> bool
     ensures { result ≡ spec.says_closed (Told reply.now) }
 {
@@ -126,6 +130,7 @@ fn write_line<O: Write>(line: &[u8], out: &mut O) -> Result<(), ServeError>
     Ok(())
 }
 
+/// Returns LF, or CR LF after a line that ends with a CR, because a reader drops the CR just before an LF.
 fn line_end(line: &[u8]) -> &'static [u8]
     ensures { result.now ≡ spec.line_end line.now }
 {

@@ -38,6 +38,7 @@ impl Model for QueueDeferrals {
 }
 
 impl QueueDeferrals {
+    /// Creates a queue to which no URL was put back.
     fn new(alloc: Global) -> QueueDeferrals
         ensures { result ≡ no_deferrals }
     {
@@ -54,6 +55,7 @@ impl QueueDeferrals {
         self.waiting.get(0)
     }
 
+    /// Returns the URL that the queue is busy with, if it was put back before.
     fn fetched(&self) -> Option<&Deferred>
         ensures { option_map (λ url. url.now) result ≡ self.now.fetched }
     {

@@ -25,6 +25,7 @@ pub fn offer(core: &mut Core, url: Text, queue: u32) -> Result<Reply, NoMemory>
     enter(core, url, queue)
 }
 
+/// Enters the client at the gate, and admits the URL by the client's new unit. A reply other than `entered` ends the offer.
 #[tactic(auto, using(crate::proofs::Steps::goes_back_at_once))]
 fn enter(core: &mut Core, url: Text, queue: u32) -> Result<Reply, NoMemory>
     ensures comes { IfOk result (λ reply. Comes (λ state. spec.entering state url queue) core.old (Answer.Told reply) core.new) }
@@ -52,6 +53,7 @@ fn admit(core: &mut Core, url: Text, queue: u32) -> Result<Reply, NoMemory>
     Ok(reply)
 }
 
+/// Takes the URL that has waited longest in the queue. If the queue is empty, tries to close the gate.
 pub fn next(core: &mut Core, queue: u32) -> Result<Reply, NoMemory>
     ensures comes { IfOk result (λ reply. Comes (λ state. spec.taking state queue) core.old (Answer.Told reply) core.new) }
     ensures succeeds { IsOk result }
@@ -63,6 +65,7 @@ pub fn next(core: &mut Core, queue: u32) -> Result<Reply, NoMemory>
     Ok(reply)
 }
 
+/// Reports that the URL that the queue is busy with is done.
 pub fn finish(core: &mut Core, queue: u32) -> Result<Reply, NoMemory>
     ensures comes { IfOk result (λ reply. Comes (λ state. spec.done_with state queue) core.old (Answer.Told reply) core.new) }
     ensures err { OnErr result (core.new ≡ core.old) }
@@ -70,6 +73,7 @@ pub fn finish(core: &mut Core, queue: u32) -> Result<Reply, NoMemory>
     core.step(&Event::Done { queue })
 }
 
+/// Reports that no more seeds will come, which gives back the opening unit.
 pub fn end_seeds(core: &mut Core) -> Result<Reply, NoMemory>
     ensures comes { IfOk result (λ reply. Comes spec.seeds_ended core.old (Answer.Told reply) core.new) }
     ensures err { OnErr result (core.new ≡ core.old) }
@@ -98,18 +102,21 @@ fn give_back(core: &mut Core) -> NoMemory
     }
 }
 
+/// Whether the reply gives the client a unit.
 fn is_entered(reply: &Reply) -> bool
     ensures { result ≡ spec.is_entered reply.now }
 {
     matches!(reply, Reply::Entered(_))
 }
 
+/// Whether the URL was accepted before, so that the client still holds its unit.
 fn is_seen(reply: &Reply) -> bool
     ensures { result ≡ spec.is_seen reply.now }
 {
     matches!(reply, Reply::Seen)
 }
 
+/// Whether no URL waits in the queue.
 fn is_empty(reply: &Reply) -> bool
     ensures { result ≡ spec.is_empty reply.now }
 {

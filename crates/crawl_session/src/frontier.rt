@@ -74,6 +74,7 @@ impl Frontier {
     // `offer`, `end_seeds`, `take` and `finish` only call `exchange.rt`. They are functions only for the prover: each states for the
     // frontier what its call does to the machine.
 
+    /// Offers the URL to the machine's queue, for the session's client.
     fn offer(&mut self, url: Text, queue: u32) -> Result<Reply, NoMemory>
         ensures comes { IfOk result (λ reply. Comes (λ state. spec.by_machine state (spec.offering state.machine url queue)) self.old (Answer.Told reply) self.new) }
         ensures err { OnErr result (GivesUp self.old self.new) }
@@ -81,6 +82,7 @@ impl Frontier {
         offer(&mut self.core, url, queue)
     }
 
+    /// Gives back the opening unit: no more seeds will come.
     fn end_seeds(&mut self) -> Result<Reply, NoMemory>
         ensures comes { IfOk result (λ reply. Comes (λ state. spec.by_machine state (spec.seeds_ended state.machine)) self.old (Answer.Told reply) self.new) }
         ensures err { OnErr result (self.new ≡ self.old) }
@@ -88,6 +90,8 @@ impl Frontier {
         end_seeds(&mut self.core)
     }
 
+    /// Takes the first URL that was put back, if it is due, or else the first that waits in the machine's queue. It is refused
+    /// while the queue is busy with a URL that was put back.
     fn next(&mut self, queue: u32) -> Result<Reply, NoMemory>
         ensures comes { IfOk result (λ reply. Comes (λ state. spec.taking_next state queue (deferrals_at state queue).waiting (deferrals_at state queue).fetched) self.old (Answer.Told reply) self.new) }
         ensures err { OnErr result (self.new ≡ self.old) }
@@ -114,6 +118,7 @@ impl Frontier {
         !progress.busy && progress.taken >= first.after
     }
 
+    /// Makes the queue busy with the first URL that was put back, and returns that URL. The machine is not involved.
     fn retake(&mut self, queue: u32) -> Result<Reply, NoMemory>
         ensures comes { IfOk result (λ reply. Comes (λ state. spec.retaking state queue (deferrals_at state queue).waiting) self.old (Answer.Told reply) self.new) }
         ensures err { OnErr result (self.new ≡ self.old) }
@@ -126,6 +131,7 @@ impl Frontier {
         Ok(Reply::Taken(url))
     }
 
+    /// Takes a URL from the machine's queue. If the queue is empty, tries to close the gate.
     fn take(&mut self, queue: u32) -> Result<Reply, NoMemory>
         ensures comes { IfOk result (λ reply. Comes (λ state. spec.by_machine state (spec.taking state.machine queue)) self.old (Answer.Told reply) self.new) }
         ensures err { OnErr result (self.new ≡ self.old) }
@@ -143,6 +149,7 @@ impl Frontier {
         }
     }
 
+    /// Finishes the URL that the queue is busy with, whether or not it was put back before.
     fn done(&mut self, queue: u32) -> Result<Reply, NoMemory>
         ensures comes { IfOk result (λ reply. Comes (λ state. spec.finishing state queue (deferrals_at state queue).fetched) self.old (Answer.Told reply) self.new) }
         ensures err { OnErr result (self.new ≡ self.old) }
@@ -153,6 +160,7 @@ impl Frontier {
         }
     }
 
+    /// Finishes the URL that the machine's queue is busy with, which gives back its unit.
     fn finish(&mut self, queue: u32) -> Result<Reply, NoMemory>
         ensures comes { IfOk result (λ reply. Comes (λ state. spec.by_machine state (spec.done_with state.machine queue)) self.old (Answer.Told reply) self.new) }
         ensures err { OnErr result (self.new ≡ self.old) }
@@ -172,6 +180,7 @@ impl Frontier {
         Ok(reply)
     }
 
+    /// Puts the URL that the queue is busy with back to the end of the queue, whether or not it was put back before.
     fn later(&mut self, queue: u32) -> Result<Reply, NoMemory>
         ensures comes { IfOk result (λ reply. Comes (λ state. spec.deferring state queue (deferrals_at state queue).fetched) self.old (Answer.Told reply) self.new) }
         ensures err { OnErr result (self.new ≡ self.old) }
@@ -192,6 +201,7 @@ impl Frontier {
         Ok(Reply::Count(self.core.count()))
     }
 
+    /// Returns how many URLs the queue has accepted. It is 0 if there is no such queue.
     fn accepted_in(&self, queue: u32) -> usize
         ensures { (state : kept.Frontier) → kept.Shows self.now state → result ≡ spec.accepted_in state.machine queue }
     {
@@ -233,6 +243,7 @@ impl Frontier {
         Ok(Reply::Count(count))
     }
 
+    /// Counts the URLs of one queue, or of all queues if `queue` is `None`. It is refused if there is no such queue.
     fn stats(&self, queue: Option<u32>) -> Result<Answer, NoMemory>
         ensures { IfOk result (λ answer. Comes (λ state. spec.counting state queue) self.now answer self.now) }
     {
@@ -273,6 +284,7 @@ impl Frontier {
     }
 }
 
+/// Whether the reply is the number of units that are still out, so that a unit was given back.
 fn is_count(reply: &Reply) -> bool
     ensures { result ≡ spec.is_count reply.now }
 {

@@ -40,6 +40,7 @@ pub fn settings_line(alloc: Global, header: &Header, suffixes: &[&str]) -> Resul
     Ok(line)
 }
 
+/// Returns `within SUFFIX` for each suffix, with a space after each.
 fn within_text(alloc: Global, suffixes: &[&str]) -> Result<String, NoMemory>
     ensures { IfOk result (λ text. string_bytes text ≡ spec.within_text (map (λ suffix. suffix.now) suffixes.now)) }
 {

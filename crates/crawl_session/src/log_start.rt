@@ -24,6 +24,7 @@ pub fn start_text(
     Ok(text)
 }
 
+/// Returns `part I of K` with a space after it, or an empty text for a crawl that is not divided.
 fn part_text(alloc: Global, part: Option<(u32, u32)>) -> Result<String, NoMemory>
     ensures { IfOk result (λ text. string_bytes text ≡ spec.part_text part) }
 {
@@ -37,6 +38,7 @@ fn part_text(alloc: Global, part: Option<(u32, u32)>) -> Result<String, NoMemory
     }
 }
 
+/// Appends `identity TEXT` with a space after it, if there is an identity.
 fn push_identity(text: &mut String, identity: Option<&str>) -> Result<(), NoMemory>
     ensures { IfOk result (λ _. string_bytes text.new ≡ string_bytes text.old ++ spec.identity_text (option_map (λ t. t.now) identity.entry)) }
 {
@@ -61,6 +63,7 @@ pub fn read_start(line: &str) -> (Option<(u32, u32)>, Option<&str>, &str)
     }
 }
 
+/// Returns the part that the line begins with, and what follows it: the whole line if it names none.
 fn read_part(line: &str) -> (Option<(u32, u32)>, &str)
     ensures { (result.0, result.1.now) ≡ spec.read_part line.now }
 {
@@ -70,6 +73,7 @@ fn read_part(line: &str) -> (Option<(u32, u32)>, &str)
     }
 }
 
+/// Reads `part I of K` at the beginning of the line: the number of the part, the number of parts, and the rest of the line.
 fn part_in(line: &str) -> Option<(u32, u32, &str)>
     ensures { option_map (λ x. (x.0, (x.1, x.2.now))) result ≡ spec.part_in line.now }
 {

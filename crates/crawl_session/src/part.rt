@@ -41,6 +41,7 @@ pub(crate) fn placed(part: &Part, request: Request) -> Result<Request, RequestEr
     }
 }
 
+/// Whether the queue with this number among those of all parts belongs to this part.
 fn is_own(part: &Part, queue: u32) -> bool
     requires { 1 ≤ part.now.queues }
     ensures { result ≡ spec.is_own part.now queue }

@@ -94,6 +94,7 @@ pub fn request_of(
     request_from(alloc, workers, filter, text)
 }
 
+/// Reads a request from the text of a line, by its first word. A text that is no request is a `BadLine`.
 fn request_from(
     alloc: Global,
     workers: u32,
@@ -115,6 +116,7 @@ fn request_from(
     }
 }
 
+/// Returns the request of a line that is only this word: `endseeds` or `stats`.
 fn plain_request(word: &str) -> Option<Request>
     ensures { result ≡ spec.plain_request word.now }
 {
@@ -125,6 +127,7 @@ fn plain_request(word: &str) -> Option<Request>
     }
 }
 
+/// Returns the request of a line with a word and the number of a queue: `next`, `again`, `later`, `done` or `stats`.
 fn numbered_request(word: &str, number: &str) -> Option<Request>
     ensures { result ≡ spec.numbered_request word.now number.now }
 {
@@ -183,6 +186,7 @@ fn link_of(
     }
 }
 
+/// Returns the offer of the text resolved against the base, if the filter allows the URL.
 fn linked(
     alloc: Global,
     workers: u32,

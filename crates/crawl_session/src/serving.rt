@@ -65,6 +65,7 @@ pub fn serve<I: Read, O: Write>(
     serve_by(alloc, session, input, out, &mut buffer)
 }
 
+/// Answers the lines of the input to its end, and reads them into this buffer.
 fn serve_by<I: Read, O: Write>(
     alloc: Global,
     session: &mut Session,
@@ -182,6 +183,7 @@ fn answer_line(session: &mut Session, line: &[u8], text: &mut String) -> Result<
     Ok(())
 }
 
+/// Writes the text and flushes it. Any failure is a `CannotWrite`.
 fn write_out<O: Write>(out: &mut O, text: &str) -> Result<(), ServeError>
     ensures { IfOk result (λ _. Appends (O.contents out.old) (O.contents out.new) text.now) }
 {

@@ -192,6 +192,7 @@ fn told_identity(part: &Part) -> Result<Request, RequestError>
     }
 }
 
+/// Whether the line is this word and nothing else.
 fn is_word(line: &[u8], word: &str) -> bool
     ensures { result ≡ bytes_eq line.now word.now }
 {

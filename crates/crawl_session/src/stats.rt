@@ -99,6 +99,7 @@ impl fmt::Display for Unfinished<'_> {
     }
 }
 
+/// Adds two numbers. A sum above 64 bits is reported as out of memory.
 fn sum(a: u64, b: u64) -> Result<u64, NoMemory>
     ensures { IfOk result (λ n. n ≡ a + b) }
 {
@@ -108,6 +109,7 @@ fn sum(a: u64, b: u64) -> Result<u64, NoMemory>
     }
 }
 
+/// Returns 1 if the flag is set, or else 0.
 fn one_if(flag: bool) -> u64
     ensures { result ≡ flags.one_if flag }
 {

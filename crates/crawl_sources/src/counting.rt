@@ -91,6 +91,7 @@ fn count_links<'a>(
     Ok(())
 }
 
+/// Adds the page to the count for the link's URL, if the table has one. A page that was counted there already adds nothing.
 fn count_link<'a>(
     tallies: &mut Tallies<'a>,
     all: bool,

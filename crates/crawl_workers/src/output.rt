@@ -22,6 +22,7 @@ pub(crate) struct WorkerOutput {
 }
 
 impl WorkerOutput {
+    /// Creates the output of a worker that has found and lost nothing yet.
     pub fn new(alloc: Global) -> WorkerOutput
         ensures nothing { (result.results.items ≡ []) × (result.offers.losses ≡ no_losses) }
         ensures recent { (workers : ℕ) (log : List Logged) → Knows workers log result.offers.recent }
@@ -46,6 +47,7 @@ impl WorkerOutput {
         }
     }
 
+    /// Returns what is left of a worker that has closed: its results and its losses.
     pub fn end<K: Name>(self, closed: ClosedWorker<K>) -> WorkerEnd<K>
         ensures closed { result.closed ≡ closed }
         ensures results { result.results ≡ self.results }

@@ -136,6 +136,7 @@ impl Anchors {
     }
 }
 
+/// Returns the position, or `None` for the value that means a position beyond 4 GiB.
 fn known_index(index: u32) -> Option<u32> {
     if index == FAR { None } else { Some(index) }
 }

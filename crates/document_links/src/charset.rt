@@ -61,6 +61,7 @@ fn charset_unmarked(body: &[u8]) -> Charset
     }
 }
 
+/// Returns UTF-8 if the document is valid UTF-8, or else `otherwise`.
 fn undeclared(body: &[u8], otherwise: Charset) -> Charset
     requires { keeps_ascii otherwise ≡ true }
     ensures { keeps_ascii result ≡ true }
@@ -72,6 +73,7 @@ fn undeclared(body: &[u8], otherwise: Charset) -> Charset
     }
 }
 
+/// Returns the encoding with this name. If the name is not known here, a document that is valid UTF-8 is in UTF-8.
 fn charset_named(name: &[u8], body: &[u8]) -> Charset
     ensures { keeps_ascii result ≡ true }
 {
@@ -84,6 +86,7 @@ fn charset_named(name: &[u8], body: &[u8]) -> Charset
     }
 }
 
+/// Whether the name is one of `names`, which are separated by spaces. Case does not matter.
 fn is_among(name: &[u8], names: &str) -> bool {
     names
         .split(' ')
@@ -233,6 +236,7 @@ fn split_value<'a>(text: &'a [u8], ends: &[u8]) -> (&'a [u8], &'a [u8])
     }
 }
 
+/// Returns the bytes from the first one on that is no white space of HTML.
 fn skip_spaces(bytes: &[u8]) -> &[u8]
     ensures { length result.now ≤ length bytes.now }
 {
@@ -256,6 +260,7 @@ fn length_before(bytes: &[u8], ends: &[u8]) -> usize
     bytes.len()
 }
 
+/// Whether the byte is white space in HTML: tab, LF, FF, CR or space.
 fn is_space(byte: u8) -> bool {
     matches!(byte, b'\t' | b'\n' | b'\x0c' | b'\r' | b' ')
 }
@@ -279,6 +284,7 @@ pub(crate) fn from_windows(alloc: Global, body: &[u8]) -> Result<Vec<u8>, AllocE
     Ok(text.into_bytes())
 }
 
+/// Returns the character of a byte in windows-1252.
 fn character_of(byte: u8) -> char
     ensures own { byte < 128 → result ≡ byte }
     ensures all { result ≡ character_of byte }

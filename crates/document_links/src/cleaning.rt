@@ -15,6 +15,7 @@ pub(crate) fn trimmed(text: &[u8]) -> &[u8]
     trimmed_end(trimmed_start(text))
 }
 
+/// Returns the text without spaces and control bytes at its start.
 fn trimmed_start(text: &[u8]) -> &[u8]
     ensures { result.now ≡ trim_start is_c0_control_or_space text.now }
 {

@@ -43,6 +43,7 @@ pub(crate) fn without_mark(body: &[u8]) -> &[u8]
     }
 }
 
+/// Returns the bytes from the first one on that is not white space. Vertical tabs count as white space here.
 fn skip_spaces(bytes: &[u8]) -> &[u8]
     ensures { length result.now ≤ length bytes.now }
 {

@@ -20,18 +20,21 @@ pub fn fits(front: usize, text: &[u8]) -> bool
     front + text.len() <= LINE_LIMIT && is_text(text) && has_no_break(text)
 }
 
+/// Whether the bytes are valid UTF-8, as a saved web requires.
 fn is_text(text: &[u8]) -> bool
     ensures { result ≡ is_utf8 text.now }
 {
     simdutf8::is_utf8(text)
 }
 
+/// Whether no byte of the text ends a line.
 fn has_no_break(text: &[u8]) -> bool
     ensures { result ≡ list_all is_inner text.now }
 {
     text.iter().all(|byte| is_inner(*byte))
 }
 
+/// Whether the byte is neither LF nor CR.
 fn is_inner(byte: u8) -> bool
     ensures { result ≡ is_inner byte }
 {
@@ -47,12 +50,14 @@ pub(crate) fn fits_plainly(text: &[u8]) -> bool
     text.len() <= TEXT_LIMIT && is_plain(text)
 }
 
+/// Whether each byte is printable ASCII other than a space or a colon.
 fn is_plain(text: &[u8]) -> bool
     ensures { result ≡ list_all is_plain text.now }
 {
     text.iter().all(|byte| is_plain_byte(*byte))
 }
 
+/// Whether the byte is printable ASCII other than a space or a colon.
 fn is_plain_byte(byte: u8) -> bool
     ensures { result ≡ is_plain byte }
 {

@@ -26,6 +26,7 @@ impl Model for LinkTexts {
 }
 
 impl LinkTexts {
+    /// Creates an empty list. The call allocates nothing.
     pub fn new(alloc: Global) -> LinkTexts
         ensures { result ≡ [] }
     {

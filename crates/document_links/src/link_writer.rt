@@ -236,6 +236,7 @@ impl LinkWriter {
         self.links.push(text)
     }
 
+    /// Appends a text that fits in a line, counts it, and adds its position if positions are kept.
     fn push_text(&mut self, text: &[u8]) -> Result<(), AllocError>
         requires { fits 5 text.now ≡ true }
         ensures base { self.new.base ≡ self.old.base }

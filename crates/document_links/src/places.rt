@@ -47,6 +47,7 @@ struct Known {
     place: TextPlace,
 }
 
+/// Returns the location of each position in the text, in the order of the positions. Ascending positions are found fastest.
 fn places_in(alloc: Global, text: &[u8], indices: &[usize]) -> Result<Vec<TextPlace>, AllocError>
     ensures { IfOk result (λ places. places.items ≡ map (place_at text.now) indices.now) }
 {
@@ -59,6 +60,7 @@ fn places_in(alloc: Global, text: &[u8], indices: &[usize]) -> Result<Vec<TextPl
     Ok(places)
 }
 
+/// Returns the location of position 0: line 1, column 1.
 fn first() -> Known
     ensures index { result.index ≡ 0 }
     ensures place { result.place ≡ place_of [] }
@@ -81,6 +83,7 @@ fn known_at(text: &[u8], known: Known, index: usize) -> Known
     known_on(text, begin, index.min(text.len()))
 }
 
+/// Returns the location of a position, from that of the same position or an earlier one.
 fn known_on(text: &[u8], known: Known, index: usize) -> Known
     requires order { known.index ≤ index }
     requires within { index ≤ length text.now }
@@ -110,6 +113,7 @@ fn behind(place: TextPlace, bytes: &[u8]) -> TextPlace
     }
 }
 
+/// Counts the LF bytes, one run of at most `RUN` bytes after another.
 fn line_feeds(bytes: &[u8]) -> usize
     ensures count { result ≡ count_by is_lf bytes.now }
     ensures small { result ≤ length bytes.now }

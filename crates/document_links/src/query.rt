@@ -20,6 +20,7 @@ pub(crate) fn push_with_query(link: &[u8], out: &mut Vec<u8>) -> Result<(), Allo
     out.extend_from_slice(link.get(front.len()..).unwrap_or(&[]))
 }
 
+/// Appends a query, with each character above ASCII percent-encoded. One that is not UTF-8 is appended unchanged.
 fn push_query(query: &[u8], out: &mut Vec<u8>) -> Result<(), AllocError> {
     let Ok(text) = str::from_utf8(query) else {
         return out.extend_from_slice(query);
@@ -30,6 +31,7 @@ fn push_query(query: &[u8], out: &mut Vec<u8>) -> Result<(), AllocError> {
     Ok(())
 }
 
+/// Appends a character of a query. One that windows-1252 lacks becomes the character reference `&#N;`, percent-encoded.
 fn push_in_query(character: char, out: &mut Vec<u8>) -> Result<(), AllocError> {
     if character.is_ascii() {
         let mut buffer = [0; 4];
@@ -48,6 +50,7 @@ fn push_in_query(character: char, out: &mut Vec<u8>) -> Result<(), AllocError> {
 
 static DIGITS: [u8; 16] = *b"0123456789ABCDEF";
 
+/// Appends the byte percent-encoded, with upper case digits.
 fn push_escape(byte: u8, out: &mut Vec<u8>) -> Result<(), AllocError> {
     out.extend_from_slice(&[
         b'%',

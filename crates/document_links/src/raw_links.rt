@@ -15,6 +15,7 @@ pub struct RawLinks {
 }
 
 impl RawLinks {
+    /// Creates a list without links. The call allocates nothing.
     pub fn new(alloc: Global) -> RawLinks
         ensures { result.texts ≡ [] }
     {
@@ -96,6 +97,7 @@ pub(crate) struct RawIds {
 }
 
 impl RawIds {
+    /// Creates a list without ids. The call allocates nothing.
     pub(crate) fn new(alloc: Global) -> RawIds
         ensures { result.ids ≡ [] }
     {

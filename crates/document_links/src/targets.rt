@@ -47,6 +47,7 @@ impl<'t> Targets<'t> {
         Ok(number)
     }
 
+    /// Returns the number of links with this text. A new text is resolved, and gets the next number.
     fn find_or_insert(&mut self, text: &'t [u8]) -> Result<usize, AllocError> {
         if let Some(number) = self.numbers.get(text) {
             return Ok(*number);

@@ -22,6 +22,7 @@ pub(crate) fn ascii_text(alloc: Global, body: &[u8]) -> Result<Vec<u8>, AllocErr
     Ok(text.into_bytes())
 }
 
+/// Returns the character of an ASCII byte, or `UNKNOWN` for any other byte.
 fn known_character(byte: u8) -> char
     ensures own { byte < 128 → result ≡ byte }
     ensures unknown { 128 ≤ byte → result ≡ 128 }
@@ -53,6 +54,7 @@ pub(crate) fn keep_known(base: Base, raw: &mut RawLinks) -> Result<Base, AllocEr
     if has_base { Ok(base) } else { Ok(None) }
 }
 
+/// Whether the document has no `base`, or one that is known up to its fragment.
 fn is_base_known(base: &Base) -> bool {
     match base {
         Some(base) => is_known(before_fragment(base.as_slice())),
@@ -60,6 +62,7 @@ fn is_base_known(base: &Base) -> bool {
     }
 }
 
+/// Returns the known parts of the links. Without a known base, a link is kept only if it means the same with every base.
 fn known_links(raw: &RawLinks, has_base: bool) -> Result<RawLinks, AllocError> {
     let mut known = RawLinks::new(raw.allocator());
     for index in 0..raw.len() {

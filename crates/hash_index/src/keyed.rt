@@ -11,9 +11,11 @@ pub trait Keyed {
     // The hash of a text.
     ghost hash: { List ℕ → ℕ };
 
+    /// Returns the text by which the value is found.
     fn text(&self) -> &str
         ensures { result.now ≡ text self.now };
 
+    /// Returns the hash of that text.
     fn text_hash(&self) -> u64
         ensures { result ≡ hash (text self.now) };
 }

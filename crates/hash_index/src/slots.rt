@@ -78,6 +78,7 @@ impl Slots {
         count - count.div_ceil(3)
     }
 
+    /// Returns the allocator that the memory of the slots comes from.
     pub fn allocator(&self) -> Global {
         *self.words.allocator()
     }
@@ -148,6 +149,7 @@ impl Slots {
         }
     }
 
+    /// Returns the first vacant slot of the hash, or `None` if all of its slots are taken.
     fn first_vacant(&self, hash: u64) -> Option<usize>
         ensures vacant { IfSome result (λ slot. IsFirstVacant self.now hash slot) }
         ensures full { IfNone result (AreTaken self.now hash 8) }

@@ -16,6 +16,7 @@ pub trait TextList {
     fn text_count(&self) -> usize
         ensures { result ≡ length (texts self.now) };
 
+    /// Returns the text at the index, which must be less than the number of texts.
     fn text_at(&self, index: usize) -> &str
         requires { index < length (texts self.now) }
         ensures { result.now ≡ get_or (texts self.now) index [] };

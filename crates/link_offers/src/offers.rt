@@ -24,6 +24,7 @@ pub struct LinkOffers {
 }
 
 impl LinkOffers {
+    /// Creates the offers of a worker that has offered and lost nothing yet.
     pub fn new(alloc: Global) -> LinkOffers
         ensures losses { result.losses ≡ no_losses }
         ensures recent { (workers : ℕ) (log : List Logged) → Knows workers log result.recent }

@@ -28,6 +28,7 @@ enum Slot {
 const _: () = prove!(size_of::<Slot>() == 16);
 
 impl Slot {
+    /// Returns the mark of the URL in the slot, or `None` if the slot is vacant.
     fn mark(&self) -> Option<u32> {
         match self {
             Slot::Taken { mark, .. } => Some(*mark),
@@ -68,6 +69,7 @@ pub struct RecentUrls {
 }
 
 impl RecentUrls {
+    /// Creates one without URLs. The call allocates nothing.
     pub fn new(alloc: Global) -> RecentUrls
         ensures { (workers : ℕ) (log : List Logged) → Knows workers log result }
     {
@@ -214,6 +216,7 @@ fn pair_of(mark: u32, slots: usize) -> usize
     2 * (mark as usize & (pairs - 1))
 }
 
+/// Returns the last byte of the URL's text. Reading it brings the end of the text into the cache.
 fn last_byte(url: &CanonUrl) -> Option<&u8> {
     url.as_str().as_bytes().last()
 }

@@ -12,6 +12,7 @@ use std::process::ExitCode;
 use std::rt::Env;
 use std::{env, io};
 
+/// Runs the command line that this process was started with, and exits with its status.
 fn main(rt: HostRuntime) -> ExitCode {
     let _placeholders = (placeholder(&rt), placeholder(&rt), placeholder(&rt));
     let words = match words(&rt) {

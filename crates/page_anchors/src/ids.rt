@@ -33,6 +33,7 @@ impl Model for Ids {
 }
 
 impl Ids {
+    /// Creates a list without ids. The call allocates nothing.
     pub fn new(alloc: Global) -> Ids
         ensures { result ≡ [] }
     {
@@ -109,6 +110,7 @@ impl Ids {
         Ok(sorted)
     }
 
+    /// Returns references to the ids, in the order of their indices.
     fn pointers(&self, alloc: Global) -> Result<Vec<&[u8]>, NoMemory>
         ensures { IfOk result (λ ids. pointed ids.items ≡ self.now) }
     {
@@ -120,6 +122,7 @@ impl Ids {
         Ok(ids)
     }
 
+    /// Appends copies of these ids, in order.
     fn push_all(&mut self, ids: &[&[u8]]) -> Result<(), NoMemory>
         ensures { OnOk result (self.new ≡ self.old ++ pointed ids.now) }
     {
@@ -152,6 +155,7 @@ fn begin_of(ends: &[u32], index: usize) -> usize
     ends[index - 1] as usize
 }
 
+/// Appends an id to the bytes, and its end to the ends. Fails if an allocation fails, or if the bytes would be 4 GiB or more.
 fn push_id(id: &[u8], bytes: &mut Vec<u8>, ends: &mut Vec<u32>) -> Result<(), NoMemory>
     ensures bytes { OnOk result (bytes.new.items ≡ bytes.old.items ++ id.now) }
     ensures ends { OnOk result (ends.new.items ≡ ends.old.items ++ length bytes.new.items ∷ []) }

@@ -53,6 +53,7 @@ fn is_odd(byte: u8) -> bool
     is_escaped(byte) || byte == b'%' || byte == b':'
 }
 
+/// Whether a URL parser percent-encodes this byte in a fragment.
 fn is_escaped(byte: u8) -> bool
     ensures { result ≡ is_escaped byte }
 {
@@ -82,6 +83,7 @@ fn before_directive(text: &[u8]) -> &[u8]
     text
 }
 
+/// Whether the text begins with `:~:`, which starts a fragment directive.
 fn begins_directive(text: &[u8]) -> bool
     ensures { result ≡ begins_directive text.now }
 {
@@ -96,6 +98,7 @@ fn has_part(alloc: Global, ids: &Ids, text: &[u8]) -> Result<bool, NoMemory>
     has_fragment(alloc, ids, fragment.as_str().as_bytes())
 }
 
+/// Whether the document has the anchor that a fragment names, as it is or after percent-decoding.
 fn has_fragment(alloc: Global, ids: &Ids, fragment: &[u8]) -> Result<bool, NoMemory>
     ensures { DoAscend ids.now → IfOk result (λ found. found ≡ has_fragment ids.now fragment.now) }
 {
@@ -105,6 +108,7 @@ fn has_fragment(alloc: Global, ids: &Ids, fragment: &[u8]) -> Result<bool, NoMem
     decoded_has(alloc, ids, fragment)
 }
 
+/// Whether the document has the anchor that a fragment names after percent-decoding. Bytes that are not UTF-8 become U+FFFD.
 fn decoded_has(alloc: Global, ids: &Ids, fragment: &[u8]) -> Result<bool, NoMemory>
     ensures { DoAscend ids.now → IfOk result (λ found. found ≡ decoded_has ids.now fragment.now) }
 {
@@ -113,6 +117,7 @@ fn decoded_has(alloc: Global, ids: &Ids, fragment: &[u8]) -> Result<bool, NoMemo
     Ok(found)
 }
 
+/// Whether an id is the decoded text, or the text needs no id because it is `top` or a route.
 fn has_decoded(ids: &Ids, text: &[u8]) -> bool
     ensures { DoAscend ids.now → result ≡ has_decoded ids.now text.now }
 {
@@ -122,6 +127,7 @@ fn has_decoded(ids: &Ids, text: &[u8]) -> bool
     is_top(text) || is_route(text)
 }
 
+/// Whether the text is `top`, in upper or lower case, which names the top of a document without an id.
 fn is_top(text: &[u8]) -> bool
     ensures { result ≡ is_top text.now }
 {
@@ -133,6 +139,7 @@ fn is_top(text: &[u8]) -> bool
         && is_letter(text[2], b'P', b'p')
 }
 
+/// Whether the byte is this letter, in upper or lower case.
 fn is_letter(byte: u8, upper: u8, lower: u8) -> bool
     ensures { result ≡ is_letter byte upper lower }
 {

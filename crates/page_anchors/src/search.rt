@@ -28,6 +28,7 @@ pub fn has_id(ids: &Ids, text: &[u8]) -> bool
     false
 }
 
+/// Compares an id with a text, byte by byte. If one begins with the other, the shorter one is less.
 fn order(id: &[u8], text: &[u8]) -> Ordering
     ensures { result ≡ slice_cmp nat_cmp id.now text.now }
 {

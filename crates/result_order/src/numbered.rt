@@ -14,6 +14,7 @@ pub struct Numbered {
     pub page: PageResult,
 }
 
+/// Returns the bytes of the result's URL, by which results are sorted.
 pub fn text_of(numbered: &Numbered) -> &[u8]
     ensures { result.now ≡ numbered.now.page.url }
 {

@@ -14,6 +14,7 @@ pub fn results_by_url(alloc: Global, results: &[PageResult]) -> Result<Vec<&Page
     Ok(ordered)
 }
 
+/// Returns a reference to each result, in the given order.
 fn references(alloc: Global, results: &[PageResult]) -> Result<Vec<&PageResult>, AllocError>
     ensures { IfOk result (λ all. map (λ r. r.now) all.items ≡ results.now) }
 {

@@ -41,6 +41,7 @@ impl Above {
         }
     }
 
+    /// Returns what is known below the first line, which says whether the web has version 2.
     fn in_version(self, second: bool) -> Above
         ensures { result ≡ record self { second = second } }
     {
@@ -51,6 +52,7 @@ impl Above {
         }
     }
 
+    /// Returns what is known below the line of a page: the page has no links and has not moved. The version stays.
     fn under_new_page(self) -> Above
         ensures { result ≡ record { second = self.second; link = false; moved = false } }
     {
@@ -61,6 +63,7 @@ impl Above {
         }
     }
 
+    /// Returns what is known below a link.
     fn with_link(self) -> Above
         ensures { result ≡ record self { link = true } }
     {
@@ -71,6 +74,7 @@ impl Above {
         }
     }
 
+    /// Returns what is known below a moved line.
     fn with_moved(self) -> Above
         ensures { result ≡ record self { moved = true } }
     {

@@ -28,6 +28,7 @@ pub(crate) fn aliases_among(
     Ok(all)
 }
 
+/// Whether the page at the alias has only the link to the own URL. The only error is out of memory.
 fn has_alias(alloc: Global, pages: &LinkedPages, alias: &Alias) -> Result<bool, AllocError>
     ensures { IfOk result (λ has. has ≡ true → page_at pages.now alias.now.url ≡ alias_page alias.now) }
 {
@@ -48,6 +49,7 @@ fn is_alias_page(page: &Page, own: &CanonUrl) -> bool
     }
 }
 
+/// Whether there is exactly one link, and it is to this URL.
 fn is_only(links: &[CanonUrl], own: &CanonUrl) -> bool
     ensures { result ≡ true → links.now ≡ own.now ∷ [] }
 {
@@ -57,6 +59,7 @@ fn is_only(links: &[CanonUrl], own: &CanonUrl) -> bool
     }
 }
 
+/// Whether both URLs have the same text.
 fn is_same(one: &CanonUrl, other: &CanonUrl) -> bool
     ensures { result ≡ true → one.now ≡ other.now }
 {

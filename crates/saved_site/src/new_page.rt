@@ -225,6 +225,8 @@ fn without_origin<'a>(url: &'a str, origin: &str) -> &'a str {
 }
 
 impl NewPage {
+    /// Creates the page of a task, as yet without spellings, anchors and positions. If its URL is too long for a line, there is a
+    /// note instead of the page.
     fn new(task: &Task, under: Under, notes: Vec<Note>) -> Result<NewPage, AllocError> {
         let page = SitePage::new(task.url.clone()?, under);
         let mut notes = notes;
@@ -247,6 +249,7 @@ impl NewPage {
     }
 }
 
+/// Returns the number of bytes of the page's lines; 0 if there is no page.
 fn byte_count_of(page: &Option<SitePage>) -> usize {
     match page {
         Some(page) => page.byte_count(),

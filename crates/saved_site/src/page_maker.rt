@@ -69,6 +69,7 @@ pub(crate) struct PageMaker<S> {
 }
 
 impl<S: PageSink> PageMaker<S> {
+    /// Creates a maker without pages, whose room for a file and its links is empty.
     fn new(alloc: Global, files: &SiteFiles<'_>) -> Result<PageMaker<S>, AllocError> {
         Ok(PageMaker {
             alloc,
@@ -217,6 +218,7 @@ impl<S: PageSink> Batch<S> {
         Ok(batch)
     }
 
+    /// Creates a batch without pages and makers.
     fn new(alloc: Global) -> Batch<S> {
         Batch {
             pages: Vec::new(alloc),
@@ -259,11 +261,13 @@ impl<S: PageSink> Batch<S> {
         unread.append(&mut maker.unread)
     }
 
+    /// Sorts the pages by the numbers of their tasks.
     fn sort(&mut self) -> Result<(), AllocError> {
         self.pages
             .sort_by(|a: &NewPage, b: &NewPage| a.number.cmp(&b.number))
     }
 
+    /// Adds the notes about these files, which cannot be read.
     fn add_notes(&mut self, unread: Vec<UnreadFile>) -> Result<(), AllocError> {
         for one in unread {
             let UnreadFile { note, .. } = one;

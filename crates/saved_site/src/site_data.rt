@@ -53,6 +53,7 @@ impl<S: PageSink> SiteData<S> {
         Ok(data)
     }
 
+    /// Adds what is known of a page, except its lines, which the sink has.
     fn push(&mut self, page: NewPage) -> Result<(), AllocError> {
         let NewPage {
             url,
@@ -75,6 +76,7 @@ impl<S: PageSink> SiteData<S> {
         Ok(())
     }
 
+    /// Adds an alias from the page's URL to the own URL of its file, if the page is an alias.
     fn push_alias(&mut self, url: &CanonUrl, own: Option<CanonUrl>) -> Result<(), AllocError> {
         if let Some(own) = own {
             let url = url.clone()?;
@@ -83,6 +85,7 @@ impl<S: PageSink> SiteData<S> {
         Ok(())
     }
 
+    /// Adds the positions of the page's links, if it has any.
     fn push_places(&mut self, url: &CanonUrl, indices: Vec<u32>) -> Result<(), AllocError> {
         if !indices.is_empty() {
             let url = url.clone()?;
@@ -91,6 +94,7 @@ impl<S: PageSink> SiteData<S> {
         Ok(())
     }
 
+    /// Adds the notes about a page to those of the round, if there are any.
     fn push_notes(&mut self, url: &CanonUrl, notes: Vec<Note>) -> Result<(), AllocError> {
         if !notes.is_empty() {
             let url = url.clone()?;

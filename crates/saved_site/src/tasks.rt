@@ -64,6 +64,7 @@ impl SpelledTasks {
         Ok(())
     }
 
+    /// Adds a page, unless one at its URL was added before.
     fn add(&mut self, spelling: Task) -> Result<(), AllocError> {
         if !self.known.contains(&spelling.url) {
             self.known.insert(spelling.url.clone()?)?;

@@ -47,6 +47,7 @@ pub struct Summary {
 }
 
 impl Summary {
+    /// Returns the same counts with the number of these aliases.
     pub(crate) fn with_aliases(self, aliases: &[Alias]) -> Summary {
         Summary {
             aliases: aliases.len() as u64,
@@ -54,12 +55,14 @@ impl Summary {
         }
     }
 
+    /// Counts a page and its links.
     pub(crate) fn add(&mut self, page: &SitePage, counts: LinkCounts) {
         self.pages = self.pages.saturating_add(1);
         self.moved = self.moved.saturating_add(u64::from(page.is_moved()));
         self.links.add(counts);
     }
 
+    /// Adds the pages, redirects and links that another thread has counted. The number of aliases stays.
     pub(crate) fn join(&mut self, more: Summary) {
         self.pages = self.pages.saturating_add(more.pages);
         self.moved = self.moved.saturating_add(more.moved);

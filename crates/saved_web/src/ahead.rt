@@ -67,6 +67,7 @@ impl<'w, 'a> Ahead<'w, 'a> {
         }
     }
 
+    /// Creates one in which no links were resolved.
     fn of_none(alloc: Global, web: &'w WebPages<'a>) -> Ahead<'w, 'a>
         ensures { result ≡ web.now }
     {

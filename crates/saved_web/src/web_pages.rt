@@ -272,6 +272,7 @@ fn some_has_in_threads<R: Threads + Sync>(
     first || second
 }
 
+/// Splits the pages into two halves, in order. If their number is odd, the second half has one more.
 fn halves<'l, 'a>(list: &'l [KnownPage<'a>]) -> (&'l [KnownPage<'a>], &'l [KnownPage<'a>])
     ensures { result.0.now ++ result.1.now ≡ list.now }
 {

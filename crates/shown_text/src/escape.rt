@@ -54,6 +54,7 @@ pub fn shown_lines(alloc: Global, text: &str) -> Result<String, AllocError>
     shown_in(alloc, Lines::Several, text)
 }
 
+/// Returns the text with an escape in place of each hidden character.
 fn shown_in(alloc: Global, how: Lines, text: &str) -> Result<String, AllocError>
     ensures { IfOk result (λ all. string_bytes all ≡ shown_in how text.now) }
 {
@@ -65,6 +66,7 @@ fn shown_in(alloc: Global, how: Lines, text: &str) -> Result<String, AllocError>
     }
 }
 
+/// Appends the text with an escape in place of each hidden character. Runs of plain bytes are copied whole.
 fn put_text(out: &mut Vec<u8>, how: Lines, text: &str) -> Result<(), AllocError>
     ensures { OnOk result (out.new.items ≡ out.old.items ++ shown_in how text.now) }
 {
@@ -85,6 +87,7 @@ fn plain_len(text: &str) -> usize
     bytes.iter().take_while(|byte| is_plain(**byte)).count()
 }
 
+/// Whether no hidden character begins with this byte of UTF-8.
 fn is_plain(byte: u8) -> bool
     ensures { result ≡ is_plain byte }
 {
@@ -108,6 +111,7 @@ fn put_first<'a>(out: &mut Vec<u8>, how: Lines, text: &'a str) -> Result<&'a str
     }
 }
 
+/// Appends the character, or its escape if it needs one.
 fn put_char(out: &mut Vec<u8>, how: Lines, c: char) -> Result<(), AllocError>
     ensures { OnOk result (out.new.items ≡ out.old.items ++ shown_char_in how c) }
 {
@@ -118,6 +122,7 @@ fn put_char(out: &mut Vec<u8>, how: Lines, c: char) -> Result<(), AllocError>
     out.extend_from_slice(c.encode_utf8(&mut bytes).as_bytes())
 }
 
+/// Whether the character needs an escape: each hidden one does, except a line feed in a text of several lines.
 fn is_escaped(how: Lines, c: char) -> bool
     ensures { result ≡ is_escaped how c }
 {
@@ -127,6 +132,8 @@ fn is_escaped(how: Lines, c: char) -> bool
     }
 }
 
+/// Whether the character is a control character, separates lines or paragraphs (U+2028, U+2029), or sets the direction of the
+/// text after it (U+202A to U+202E, U+2066 to U+2069).
 fn is_hidden(c: char) -> bool
     ensures { result ≡ is_hidden c }
 {
@@ -141,6 +148,7 @@ fn put_escape(out: &mut Vec<u8>, c: char) -> Result<(), AllocError>
     out.extend_from_slice(text.as_bytes())
 }
 
+/// Returns the escape of the character with this number, such as `\u{1b}`, in lower case hexadecimal digits.
 fn escape_of(alloc: Global, code: u32) -> Result<String, AllocError>
     ensures { IfOk result (λ text. string_bytes text ≡ escape_of code) }
 {

@@ -11,6 +11,7 @@ use std::collections::BTreeSet;
 /// The URLs of aliases.
 pub(crate) type AliasUrls<'a> = BTreeSet<HashedText<'a>>;
 
+/// Returns the URLs of these aliases as a set, in which they can be looked up.
 pub(crate) fn alias_urls(alloc: Global, aliases: &[Alias]) -> Result<AliasUrls<'_>, NoMemory>
     ensures { IfOk result (λ set. (url : List ℕ) → is_in set url ≡ is_alias aliases.now url) }
 {

@@ -109,6 +109,7 @@ pub fn check_site<'f, R: Threads + Sync, B: FileBytes + Sync>(
     told(alloc, input, site, all, &sought, places)
 }
 
+/// Puts together what the threads of a check read: the results, the anchors and aliases, and the files of the site.
 fn site_of<'p, 'f>(
     results: &'p [PageResult],
     files: &'f SiteFiles<'f>,
@@ -137,6 +138,8 @@ struct BrokenLinks<'p> {
     leads: Vec<Lead>,
 }
 
+/// Finds the links to missing pages and the links to missing anchors, at the same time if a thread can be started. Ignored pages
+/// do not count.
 fn sought_by<'p, R: Threads + Sync>(
     rt: &R,
     alloc: Global,
@@ -216,6 +219,7 @@ fn told(
     })
 }
 
+/// Returns the files that the crawl did not reach, if the check has to list them.
 fn unreached_files(
     alloc: Global,
     input: CheckInput<'_>,
@@ -281,6 +285,7 @@ fn unused_entries(
     unused(alloc, input.ignores, told.as_slice(), pages.as_slice())
 }
 
+/// Returns the text of each anchor, as it is printed.
 fn texts_of(alloc: Global, parts: &[MissingAnchor]) -> Result<Vec<&str>, NoMemory>
     ensures { IfOk result (λ texts. pointed texts.items ≡ map part_text parts.now) }
 {

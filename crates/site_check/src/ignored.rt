@@ -83,6 +83,7 @@ pub(crate) fn is_ignored(entries: &[String], text: &str) -> bool
     false
 }
 
+/// Splits the first entry from the others. `None` if there are no entries.
 fn parts(entries: &[String]) -> Option<(&String, &[String])>
     ensures { MatchOption result (entries.now ≡ []) (λ x. entries.now ≡ x.0.now ∷ x.1.now) }
 {
@@ -110,6 +111,7 @@ pub(crate) fn unused(
     Ok(all)
 }
 
+/// Whether the entry matches one of these anchors or pages.
 fn is_used(entry: &str, parts: &[&str], pages: &[&str]) -> bool
     ensures { result ≡ list_any (begins entry.now) (pointed parts.now ++ pointed pages.now) }
 {

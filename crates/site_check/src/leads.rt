@@ -81,12 +81,14 @@ fn own_number(front: &str, ignores: &[String], number: usize, one: &PageResult) 
     }
 }
 
+/// Whether the page is missing and is reported, because no entry of the ignore list matches it.
 fn is_told(front: &str, ignores: &[String], one: &PageResult) -> bool
     ensures { result ≡ is_told front.now (map string_bytes ignores.now) one.now }
 {
     one.page.is_missing() && !is_ignored(ignores, shown(front, one.url.as_str()))
 }
 
+/// Appends the URL as a target, if it has a number.
 fn push_target<'a>(
     url: &'a CanonUrl,
     number: Option<usize>,
@@ -103,6 +105,7 @@ fn push_target<'a>(
     }
 }
 
+/// Adds these targets to the table. The last of several targets with one URL decides its number.
 fn insert_all<'a>(numbers: &mut TargetNumbers<'a>, targets: &[Target<'a>]) -> Result<(), NoMemory>
     ensures { OnOk result ((url : List ℕ) → number_at numbers.new url ≡ fold (number_with url) (number_at numbers.old url) (map target_at targets.now)) }
 {
@@ -141,6 +144,7 @@ fn moved_to<'a>(numbers: &TargetNumbers<'a>, one: &'a PageResult) -> Option<usiz
     }
 }
 
+/// Returns the number of the missing page to which the URL leads, if it leads to one that is reported.
 fn number_of<'a>(numbers: &TargetNumbers<'a>, url: &'a CanonUrl) -> Option<usize>
     ensures { result ≡ number_at numbers.now url.now }
 {
@@ -150,6 +154,7 @@ fn number_of<'a>(numbers: &TargetNumbers<'a>, url: &'a CanonUrl) -> Option<usize
 /// The positions of the links of documents, by their URLs.
 pub(crate) type LinkIndices<'a> = BTreeMap<HashedText<'a>, &'a [u32]>;
 
+/// Returns a table of the positions of each document's links, by the document's URL.
 pub(crate) fn link_indices(
     alloc: Global,
     places: &[LinkPlaces],
@@ -205,6 +210,7 @@ fn push_page<'p>(
     }
 }
 
+/// Returns the positions of the links of the document at this URL; none if they are not known.
 fn indices_of<'p>(indices: &LinkIndices<'p>, url: &'p CanonUrl) -> &'p [u32]
     ensures { result.now ≡ indices_at indices.now url.now }
 {
@@ -238,6 +244,7 @@ fn push_leads<'p>(
     }
 }
 
+/// Appends a link of the result `source` at this position, if it leads to a target.
 fn push_lead(
     source: usize,
     index: usize,
@@ -268,6 +275,7 @@ struct First<'p, 'i> {
     behind: &'i [u32],
 }
 
+/// Splits off the first link and its position. `None` if there are no more links, or no more positions.
 fn first_link<'p, 'i>(urls: &'p [CanonUrl], indices: &'i [u32]) -> Option<First<'p, 'i>>
     ensures { MatchOption result (HasNoLink urls.now indices.now) (λ first. (urls.now ≡ first.url.now ∷ first.more.now) × (indices.now ≡ first.index ∷ first.behind.now)) }
 {

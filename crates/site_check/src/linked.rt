@@ -102,6 +102,7 @@ fn sums<'a>(
     Ok(all)
 }
 
+/// Returns a result with the sum of the counts from two lists. The sum stops at the greatest number of 64 bits.
 fn with_sum<'a>(one: &'a PageResult, first: u64, second: u64) -> Linked<'a>
     ensures { first + second < 2 ^ 64 → linked_at result ≡ record { result = one.now; pages = first + second } }
 {
@@ -121,12 +122,14 @@ fn pages_at(counts: &[Linked<'_>], index: usize) -> u64
     }
 }
 
+/// Returns the results of pages that are missing or moved, in their order.
 fn unfound(alloc: Global, results: &[PageResult]) -> Result<Vec<&PageResult>, NoMemory>
     ensures { IfOk result (λ all. pointed all.items ≡ filter is_unfound results.now) }
 {
     results.iter().filter(|one| is_unfound(one)).collect(alloc)
 }
 
+/// Whether the page of the result is missing or moved.
 fn is_unfound(one: &PageResult) -> bool
     ensures { result ≡ is_unfound one.now }
 {
@@ -149,6 +152,7 @@ fn with_counts<'a>(
     Ok(all)
 }
 
+/// Returns the result with the number of results that link to its URL. The table must have a count for it.
 fn with_count<'a>(one: &'a PageResult, tallies: &Tallies<'a>) -> Linked<'a>
     requires { IsSome (count_of tallies.now one.now.url) }
     ensures { (results : List PageResult) → ((url : List ℕ) → IsTally false results url (count_of tallies.now url)) → linked_at result ≡ linked results one.now }

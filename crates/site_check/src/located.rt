@@ -126,6 +126,7 @@ fn file_of<'f>(site: Site<'_, 'f>, leads: &[Lead]) -> Option<SiteFile<'f>> {
     })
 }
 
+/// Appends the locations of these links in the contents of the file with this name.
 fn push_places(
     alloc: Global,
     leads: &[Lead],
@@ -143,6 +144,7 @@ fn push_places(
     Ok(())
 }
 
+/// Returns the positions of these links in the text of their document.
 fn indices_of(alloc: Global, leads: &[Lead]) -> Result<Vec<usize>, NoMemory> {
     leads.iter().map(|lead| lead.index).collect(alloc)
 }

@@ -15,6 +15,7 @@ pub(crate) struct Anchor<'a> {
 }
 
 impl Anchor<'_> {
+    /// Compares two anchors by their documents' URLs, and then by their fragments.
     fn order(&self, other: &Anchor<'_>) -> Ordering {
         (self.url.as_str(), self.fragment).cmp(&(other.url.as_str(), other.fragment))
     }

@@ -41,6 +41,7 @@ pub(crate) fn names_of<'a>(alloc: Global, files: &'a SiteFiles<'_>) -> Result<Na
     Ok(names)
 }
 
+/// Adds the page with this number under its file name, if there is such a page and it is made of a file.
 fn add_page<'a>(
     names: &mut Names<'a>,
     files: &'a SiteFiles<'_>,
@@ -75,6 +76,7 @@ fn add_file<'a>(
     }
 }
 
+/// Adds a page with this file name. A name that was added before means several pages from then on.
 fn add_name<'a>(names: &mut Names<'a>, name: &'a [u8], number: usize) -> Result<(), NoMemory>
     ensures { OnOk result ((other : List ℕ) → named_at names.new other ≡ (if bytes_eq name.now other then Some (known_with (named_at names.old other) number) else named_at names.old other)) }
 {
@@ -83,6 +85,7 @@ fn add_name<'a>(names: &mut Names<'a>, name: &'a [u8], number: usize) -> Result<
     Ok(())
 }
 
+/// Returns which pages have a name after this page is added: only this one, or several.
 fn known_with(known: Option<&Namesakes>, number: usize) -> Namesakes
     ensures { result ≡ known_with (option_copied known.entry) number }
 {
@@ -197,6 +200,7 @@ fn last_part(url: &str) -> &[u8]
     behind_slashes(path_of(url).as_bytes())
 }
 
+/// Returns the URL up to its first `?`, or all of it if it has no query.
 fn path_of(url: &str) -> &str
     ensures { result.now ≡ path_of url.now }
 {

@@ -39,6 +39,7 @@ pub(crate) fn broken_rows<'n>(
     Ok(all)
 }
 
+/// Appends the row of a result's page, if the page is missing and not ignored.
 fn push_row<'n>(
     alloc: Global,
     input: CheckInput<'_>,
@@ -107,6 +108,7 @@ pub(crate) fn redirect_rows(
     Ok(all)
 }
 
+/// Appends the row of a result's page, if the page moved and at least one page links to it.
 fn push_way(
     alloc: Global,
     front: &str,
@@ -131,6 +133,7 @@ fn push_way(
     Ok(())
 }
 
+/// Returns the target of a redirect as it is printed, if the redirect has one.
 fn target_of(alloc: Global, front: &str, to: &Option<CanonUrl>) -> Result<Option<String>, NoMemory>
     ensures { IfOk result (λ target. option_map string_bytes target ≡ option_map (shown front.now) to.now) }
 {

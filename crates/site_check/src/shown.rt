@@ -9,6 +9,7 @@ pub(crate) fn shown<'a>(front: &str, url: &'a str) -> &'a str
     or_top(without(front, url))
 }
 
+/// Returns the URL without the front, or unchanged if it does not begin with that.
 fn without<'a>(front: &str, url: &'a str) -> &'a str
     ensures { result.now ≡ (if begins front.now url.now then drop (length front.now) url.now else url.now) }
 {
@@ -18,6 +19,7 @@ fn without<'a>(front: &str, url: &'a str) -> &'a str
     }
 }
 
+/// Returns the text, or `./` for an empty text, which is the top of the site.
 fn or_top(text: &str) -> &str
     ensures { result.now ≡ or_top text.now }
 {

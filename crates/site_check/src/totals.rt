@@ -24,6 +24,7 @@ pub(crate) fn totals_of<'a>(
     Ok(totals)
 }
 
+/// Returns the totals. `urls` are the URLs of the aliases.
 fn totals_by<'a>(
     urls: &AliasUrls<'a>,
     results: &'a [PageResult],
@@ -69,12 +70,14 @@ fn alias_count<'a>(urls: &AliasUrls<'a>, results: &'a [PageResult]) -> u64
     count
 }
 
+/// Whether a page was found at the own URL of a file.
 fn is_own_page<'a>(urls: &AliasUrls<'a>, one: &'a PageResult) -> bool
     ensures { result ≡ is_own_page (is_in urls.now) one.now }
 {
     one.page.is_found() && !urls.contains(&one.url.hashed())
 }
 
+/// Whether a page was found at an alias.
 fn is_alias_page<'a>(urls: &AliasUrls<'a>, one: &'a PageResult) -> bool
     ensures { result ≡ is_alias_page (is_in urls.now) one.now }
 {
@@ -92,6 +95,7 @@ fn link_count<'a>(urls: &AliasUrls<'a>, results: &'a [PageResult]) -> u64
     count
 }
 
+/// Returns the number of links in a page at the own URL of a file; 0 for any other result.
 fn own_links<'a>(urls: &AliasUrls<'a>, one: &'a PageResult) -> u64
     ensures { result ≡ capped (own_links (is_in urls.now) one.now) }
 {
@@ -102,6 +106,7 @@ fn own_links<'a>(urls: &AliasUrls<'a>, one: &'a PageResult) -> u64
     }
 }
 
+/// Returns the number of links in a page, with the links that were skipped. A page that was not found has none.
 fn links_in(page: &Page) -> u64
     ensures { result ≡ capped (links_in page.now) }
 {
@@ -151,6 +156,7 @@ fn part_count(broken: &[Broken]) -> u64
     count
 }
 
+/// Whether the row is that of a missing anchor.
 fn is_part(kind: Kind) -> bool
     ensures { result ≡ is_part kind }
 {

@@ -85,6 +85,7 @@ fn insert<'a>(count: Count<'a>, first: &mut Vec<Count<'a>>) -> Result<(), NoMemo
     Ok(())
 }
 
+/// Returns these counts with copies of the file names, in the same order.
 fn told(alloc: Global, counts: &[Count<'_>]) -> Result<Vec<FileCount>, NoMemory> {
     let mut told = Vec::new(alloc);
     for count in counts {

@@ -15,6 +15,7 @@ pub fn is_below(alloc: Global, top: &str, url: &CanonUrl) -> Result<bool, AllocE
     Ok(is_below)
 }
 
+/// Whether `url` begins with `top`, either as they are or after both are percent-decoded.
 fn is_text_below(alloc: Global, top: &str, url: &str) -> Result<bool, AllocError>
     ensures { IfOk result (λ is. is ≡ is_below top.now url.now) }
 {
@@ -36,6 +37,7 @@ pub(crate) fn is_slashed(alloc: Global, url: &str, text: &str) -> Result<bool, A
     Ok(text.as_slice() == read.as_slice())
 }
 
+/// Whether the text begins with these bytes.
 fn begins(front: &[u8], text: &[u8]) -> bool
     ensures { result ≡ begins front.now text.now }
 {
@@ -66,6 +68,7 @@ fn without_slashes(text: &[u8]) -> &[u8]
     rest
 }
 
+/// Whether the byte is a slash, which ends the name of a folder in a URL.
 fn is_slash(byte: u8) -> bool
     ensures { result ≡ is_slash byte }
 {

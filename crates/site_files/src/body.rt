@@ -36,6 +36,7 @@ impl Body {
         }
     }
 
+    /// Returns the contents, without the room that is not in use.
     pub fn as_slice(&self) -> &[u8] {
         self.room.as_slice().get(..self.used).unwrap_or(&[])
     }
@@ -92,6 +93,7 @@ impl Body {
         Ok(count != 0)
     }
 
+    /// Adds 1 MiB of room, which is filled with zeros. The contents stay.
     fn grow(&mut self) -> Result<(), AllocError> {
         let length = self.room.len().max(self.used);
         self.room.resize(length.saturating_add(GROWTH), 0)

@@ -199,6 +199,7 @@ impl<'a> SiteFiles<'a> {
     }
 }
 
+/// Returns the URL of a page and the index of its file among the names. A page that is a redirect has no file.
 fn page_of(entry: &Entry) -> (&str, Option<usize>)
     ensures { page_file result.0.now result.1 ≡ page_of entry.now }
 {

@@ -46,6 +46,7 @@ impl Inside {
         }
     }
 
+    /// Adds a note that the file or folder with this name is left out for this reason.
     fn note(&mut self, left: Left, place: String) -> Result<(), AllocError> {
         self.notes.push(Note { left, place })?;
         Ok(())
@@ -74,6 +75,7 @@ impl Inside {
     }
 }
 
+/// Compares two folders by their names, after those that are no symbolic links come before those that are.
 fn order_of(a: &Folder, b: &Folder) -> Ordering {
     match a.is_link.cmp(&b.is_link) {
         Ordering::Equal => a.name.as_str().cmp(b.name.as_str()),
@@ -296,6 +298,7 @@ fn left_by(error: &io::Error) -> Left {
     }
 }
 
+/// Appends a slash, which ends the name of a folder.
 fn with_slash(name: String) -> Result<String, AllocError> {
     let mut name = name;
     name.push('/')?;

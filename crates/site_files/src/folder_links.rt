@@ -24,6 +24,7 @@ impl LinkedFolders {
         Ok(LinkedFolders { links })
     }
 
+    /// Whether no folder has another name, so that no URL is below one.
     pub(crate) fn is_empty(&self) -> bool {
         self.links.is_empty()
     }

@@ -310,6 +310,7 @@ fn set_own(own: &mut [Option<usize>], index: usize, number: usize) -> bool {
     }
 }
 
+/// Appends a page at the canonical URL of this text.
 fn add(url: &str, source: Source, entries: &mut Vec<Entry>) -> Result<(), SiteError>
     ensures { IfErr result IsOfFiles }
 {
@@ -393,12 +394,14 @@ fn is_top(alloc: Global, page: &str, url: &CanonUrl, text: &str) -> Result<bool,
     is_slashed(alloc, page, text)
 }
 
+/// Whether the URL has a `?`, even one with nothing after it.
 fn has_query(url: &str) -> bool
     ensures { result ≡ list_any is_mark url.now }
 {
     url.as_bytes().contains(&b'?')
 }
 
+/// Whether the text is exactly that of the URL.
 fn is_same(url: &CanonUrl, text: &str) -> bool
     ensures { result ≡ true → url.now ≡ text.now }
 {

@@ -174,6 +174,7 @@ impl Walk {
         Ok(())
     }
 
+    /// Adds the contents of the next folder: its names, links and notes, and its subfolders to those that are to be listed.
     fn push(&mut self, inside: Inside) -> Result<(), AllocError> {
         let Inside {
             mut names,

@@ -67,12 +67,14 @@ pub fn cut_line(bytes: &[u8], from: usize) -> Option<(&[u8], &[u8])>
     Some((&bytes[..end], &bytes[end..]))
 }
 
+/// Returns the index of the first LF.
 fn newline_in(bytes: &[u8]) -> Option<usize>
     ensures { result ≡ position (λ b. b == 10) bytes.now }
 {
     memchr(b'\n', bytes)
 }
 
+/// Returns the line without one CR at its end, if it has one.
 fn without_return(line: &[u8]) -> &[u8]
     ensures { result.now ≡ strip_carriage_return line.now }
 {
@@ -83,6 +85,7 @@ fn without_return(line: &[u8]) -> &[u8]
     }
 }
 
+/// Returns the text of a line without one CR at its end, if it has one.
 fn text_without_return(line: &str) -> &str
     ensures { result.now ≡ strip_carriage_return line.now }
 {

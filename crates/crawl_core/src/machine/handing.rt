@@ -63,12 +63,14 @@ impl Core {
         Ok(true)
     }
 
+    /// Whether the queue exists and the URL that it took last is not done.
     fn is_fetching(&self, queue: u32) -> bool
         ensures { result ≡ unwrap_or (option_map (λ queue. queue.busy) (slice_get self.now.queues queue)) false }
     {
         self.queues.is_busy(queue).unwrap_or(false)
     }
 
+    /// Whether the gate is open and the sender holds no unit, so that it can be given one.
     fn lets_in(&self, sender: u64) -> bool
         ensures { result ≡ lets_in self.now.gate sender }
     {

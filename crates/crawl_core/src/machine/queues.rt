@@ -23,6 +23,8 @@ impl Core {
         self.queues.in_fetch(queue)
     }
 
+    /// Accepts a URL into the queue, with the sender's unit, unless the queue has accepted it before. The sender must hold a unit,
+    /// and keeps it if the URL is not accepted.
     pub(super) fn admit(&mut self, sender: u64, url: &Text, queue: u32) -> Result<Reply, NoMemory>
         ensures moves { IfOk result (λ reply. Moves self.old (Event.Admit sender url.now queue) reply self.new) }
         ensures err { OnErr result (self.new ≡ self.old) }
@@ -42,6 +44,7 @@ impl Core {
         Ok(Reply::Accepted { queue, number })
     }
 
+    /// Takes the URL that has waited longest in the queue. It is refused while the URL taken before it is not done.
     pub(super) fn take(&mut self, queue: u32) -> Reply
         ensures { Moves self.old (Event.Take queue) result self.new }
     {
@@ -57,6 +60,7 @@ impl Core {
         Reply::Taken(url)
     }
 
+    /// The URL that the queue took last is done, and its unit is given back.
     pub(super) fn done(&mut self, queue: u32) -> Reply
         ensures { Moves self.old (Event.Done queue) result self.new }
     {

@@ -90,6 +90,7 @@ impl Suffixes {
         false
     }
 
+    /// Whether the text is one of the suffixes. The marks exclude most other texts without a search.
     fn contains(&self, text: &str) -> bool
         ensures { result ≡ list_any (bytes_eq text.now) self.now }
     {

@@ -37,6 +37,7 @@ pub fn said_by(
     Ok(Some(event_of(alloc, workers, number, text)?))
 }
 
+/// Reads the event of the line with this number, by its first word. A line that is no event is a `BadLine`.
 fn event_of(alloc: Global, workers: u32, number: u64, text: &str) -> Result<Event, ScriptError>
     requires some_worker { 1 ≤ workers }
     requires few_workers { workers ≤ worker_limit }
@@ -54,6 +55,7 @@ fn event_of(alloc: Global, workers: u32, number: u64, text: &str) -> Result<Even
     }
 }
 
+/// Returns the event of a line that is only this word: `endseeds` or `close`.
 fn plain_event(word: &str) -> Option<Event>
     ensures exact { result ≡ plain_event word.now }
     ensures addressed { (workers : ℕ) → IfSome result (IsAddressed workers) }
@@ -65,6 +67,8 @@ fn plain_event(word: &str) -> Option<Event>
     }
 }
 
+/// Returns the event of a line with a word and a number. The number is a sender's after `look`, `enter` and `back`, and a
+/// queue's after `take` and `done`.
 fn numbered_event(word: &str, number: &str) -> Option<Event>
     ensures exact { result ≡ numbered_event word.now number.now }
     ensures addressed { (workers : ℕ) → IfSome result (IsAddressed workers) }
@@ -103,6 +107,7 @@ fn admit_of(alloc: Global, workers: u32, number: u64, rest: &str) -> Result<Even
     Ok(Event::Admit { sender, url, queue })
 }
 
+/// Splits the text at its first space into the number of a sender and the text of a URL.
 fn admit_parts(rest: &str) -> Option<(u64, &str)>
     ensures { option_map (λ x. (x.0, x.1.now)) result ≡ admit_parts rest.now }
 {

@@ -34,6 +34,7 @@ pub fn header_of(text: &str) -> Option<Header>
     }
 }
 
+/// Whether both numbers are at least 1 and at most their limits.
 fn is_within(workers: u32, max: u64) -> bool
     ensures { result ≡ is_within workers max }
 {

@@ -31,6 +31,7 @@ impl Model for KnownText {
 }
 
 impl KnownText {
+    /// Copies a link's text and keeps its hash, with the index of the URL to which it leads, if it leads to one.
     fn new(alloc: Global, key: &LinkText<'_>, index: Option<u32>) -> Result<KnownText, AllocError>
         ensures { IfOk result (λ known. known ≡ (key.now, index)) }
     {

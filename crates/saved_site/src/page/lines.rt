@@ -51,6 +51,7 @@ impl SitePage {
     }
 }
 
+/// Appends the line `page URL`, which starts a page.
 fn print_url(url: &CanonUrl, web: &mut Vec<u8>) -> Result<(), AllocError>
     ensures text { OnOk result (web.new.items ≡ web.old.items ++ page_line url.now) }
     ensures own { canonical url.now ≡ Ok url.now }
@@ -63,6 +64,7 @@ fn print_url(url: &CanonUrl, web: &mut Vec<u8>) -> Result<(), AllocError>
 }
 
 impl Under {
+    /// Appends the lines that follow the URL of a page: its links, or its redirect.
     fn print(&self, web: &mut Vec<u8>) -> Result<(), AllocError>
         ensures text { OnOk result (web.new.items ≡ web.old.items ++ under_text self.now) }
         ensures fit { OnOk result (fits_under self.now ≡ true) }
@@ -73,6 +75,7 @@ impl Under {
         }
     }
 
+    /// For the proof: all texts fit in lines. It does nothing else.
     fn stands(&self)
         ensures { fits_under self.now ≡ true }
     {
@@ -86,6 +89,7 @@ impl Under {
         }
     }
 
+    /// Returns the number of bytes of these lines, as far as it can be counted.
     #[tactic(auto, using(crate::proofs::PageLengths::moved_length))]
     fn byte_count(&self) -> usize
         ensures most { result ≤ length (under_text self.now) }
@@ -108,6 +112,7 @@ fn links_length(links: &LinkTexts) -> usize
     around.saturating_add(links.byte_count())
 }
 
+/// Appends a line for each link, in order.
 fn print_links(links: &LinkTexts, web: &mut Vec<u8>) -> Result<(), AllocError>
     ensures text { OnOk result (web.new.items ≡ web.old.items ++ link_lines links.now) }
     ensures fit { all_fit links.now ≡ true }
@@ -118,6 +123,7 @@ fn print_links(links: &LinkTexts, web: &mut Vec<u8>) -> Result<(), AllocError>
     Ok(())
 }
 
+/// Appends the line `link TEXT`.
 fn print_link(text: &str, web: &mut Vec<u8>) -> Result<(), AllocError>
     ensures { OnOk result (web.new.items ≡ web.old.items ++ link_line text.now) }
 {
@@ -127,6 +133,7 @@ fn print_link(text: &str, web: &mut Vec<u8>) -> Result<(), AllocError>
     Ok(())
 }
 
+/// Appends the line `moved TEXT`.
 fn print_moved(text: &[u8], web: &mut Vec<u8>) -> Result<(), AllocError>
     ensures { OnOk result (web.new.items ≡ web.old.items ++ moved_line text.now) }
 {
