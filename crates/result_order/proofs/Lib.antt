@@ -1,3 +1,1 @@
-pub mod Parting
-pub mod SixteenBytes
 pub mod SortedParts

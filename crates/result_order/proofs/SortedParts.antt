@@ -2,18 +2,74 @@
 use Rattle.std.proofs.Common.{◌≡◌, ℕ, zero, suc, ◌+◌, ◌-◌, ◌*◌, ◌<◌, ◌≤◌, Bool, false, List, [], ◌∷◌, ◌++◌, length, take, drop, get_or, slice_index, refl, sym, ap, subst, ◌∙◌, arith, inl, inr}
 use Rattle.std.specs.List.{All, Contains}
 use Rattle.std.specs.List.Sorted.{IsPermutation, IsNonDecreasingBy, IsSortedBy, IsSortedByKey}
-use Rattle.std.specs.Cmp.Lexicographic.{slice_cmp}
-use Rattle.std.specs.Ordering.{nat_cmp, is_lt}
-use Rattle.std.proofs.lemmas.Bool.{cases_lt, cases_order}
+use Rattle.std.specs.Cmp.Lexicographic.{slice_cmp, nat_list_cmp_total}
+use Rattle.std.specs.Ordering.{nat_cmp, is_lt, ordering_then, ordering_reverse}
+use Rattle.std.proofs.lemmas.Bool.{cases_lt, cases_order, cases_eq}
 use Rattle.std.proofs.lemmas.List.{map-append, length-append, length-map, take-append-drop, get_or_append_left, get_or-append_right, get_or-map}
 use Rattle.std.proofs.Math.Seq.{take-append_seam}
 use Rattle.std.proofs.lemmas.List.Elements.{All-contains, All-take, All-drop, Contains-get_or, Contains-append_left, Contains-append_right}
 use Rattle.std.proofs.lemmas.List.Sorted.{All-permutation, IsPermutation-append, IsPermutation-map, IsPermutation-sym, IsNonDecreasingBy-take, IsNonDecreasingBy-drop, Contains-permutation}
 use Rattle.crawl_pages.specs.declared.page.PageResult.{PageResult}
 use Rattle.result_order.specs.declared.numbered.Numbered.{Numbered}
-use Rattle.result_order.specs.Sixteens.{AreAlikeWithin, BeginAlike}
+use Rattle.result_order.specs.Sixteens.{AreAlikeWithin, BeginAlike, bytes_from, IsSixteen}
 use Rattle.result_order.specs.Sorting.{AllBeginAlike, AreInOrder, ArePrepared, AllEqual, ArePartedAt, IsNumbered, pages_of}
-use Rattle.result_order.proofs.SixteenBytes.{less_number, equal_number}
+use Rattle.std.specs.Int.Digits.{number_from_digits_after, AllBelowBase}
+use Rattle.std.specs.declared.cmp.Ordering.TheVariants.{Less, Equal}
+use Rattle.std.proofs.lemmas.Bool.Decides.{nat_tests}
+
+-- ---- sixteen bytes as a number: the numbers of two texts that begin alike are ordered as the texts are
+
+abbrev after : ℕ → List ℕ → ℕ
+after n bytes = number_from_digits_after 256 n bytes
+
+abbrev Small : List ℕ → Type 0
+Small bytes = AllBelowBase 256 bytes
+
+-- ---- numbers
+
+rises : (count : ℕ) (s t : List ℕ) (i j a b : ℕ) → Small (bytes_from s i count) → a < b → after a (bytes_from s i count) < after b (bytes_from t j count)
+rises zero s t i j a b small less = less
+rises (suc count) s t i j a b small less = grind (arith, nat_tests, rises count, slice_index)
+
+-- the bytes of two texts are the same from an index on, up to one at which that of the first is less
+record FirstLess (s t : List ℕ) (from : ℕ) : Type 0 where
+  index : ℕ
+  alike : (k : ℕ) → from ≤ k → k < index → slice_index s k ≡ slice_index t k
+  less : slice_index s index < slice_index t index
+
+less_somewhere : (count : ℕ) (s t : List ℕ) (from n : ℕ) → Small (bytes_from s from count) → Small (bytes_from t from count)
+    → after n (bytes_from s from count) < after n (bytes_from t from count) → FirstLess s t from
+less_somewhere zero s t from n small_s small_t less = absurd (omega arith)
+less_somewhere (suc count) s t from n small_s small_t less = grind (arith, cases_order, cases_eq, rises, less_somewhere count s t (suc from))
+
+-- ---- texts
+
+is_less : (x y : ℕ) → x < y → nat_cmp x y ≡ Less
+is_less x y less = grind (arith, nat_tests)
+
+is_equal : (x y : ℕ) → x ≡ y → nat_cmp x y ≡ Equal
+is_equal x y same = grind (arith, nat_tests)
+
+less_text : (index : ℕ) (a b : List ℕ) → BeginAlike index a b → slice_index a index < slice_index b index → slice_cmp nat_cmp a b ≡ Less
+less_text zero [] [] alike less = absurd (omega arith)
+less_text zero [] (y ∷ b) alike less = refl
+less_text zero (x ∷ a) [] alike less = absurd (omega arith)
+less_text zero (x ∷ a) (y ∷ b) alike less = ap (λ o. ordering_then o (slice_cmp nat_cmp a b)) (is_less x y less)
+less_text (suc index) [] [] alike less = absurd (omega arith)
+less_text (suc index) [] (y ∷ b) alike less = refl
+less_text (suc index) (x ∷ a) [] alike less = absurd (omega arith)
+less_text (suc index) (x ∷ a) (y ∷ b) alike less =
+    ap (λ o. ordering_then o (slice_cmp nat_cmp a b)) (is_equal x y (alike zero (omega arith)))
+    ∙ less_text index a b (λ k below. alike (suc k) (omega arith)) less
+
+less_number : (a b : List ℕ) (from m n : ℕ) → BeginAlike from a b → IsSixteen a from m → IsSixteen b from n → m < n → is_lt (slice_cmp nat_cmp b a) ≡ false
+less_number a b from m n alike one other less =
+    let first = less_somewhere 16 a b from 0 one.bytes other.bytes (omega (arith, one.value, other.value, less)) in
+    let is = less_text first.index a b (λ k below. elim (cases_lt k from) [ inl early ↦ alike k early | inr late ↦ first.alike k late below ]) first.less in
+    ap is_lt (nat_list_cmp_total.antisymm b a ∙ ap ordering_reverse is)
+
+equal_number : (a b : List ℕ) (from m n : ℕ) → BeginAlike from a b → IsSixteen a from m → IsSixteen b from n → m ≡ n → BeginAlike (from + 16) a b
+equal_number a b from m n alike one other same = grind arith
 
 -- ---- pages and their numbers
 

@@ -27,6 +27,7 @@ pub fn number_all<R: Threads + Sync>(
 }
 
 /// Sets each number to the sixteen bytes of the URL from `from` on, in at most `parts` threads.
+#[tactic(auto, using(crate::proofs::SortedParts::each_page_same))]
 fn set_numbers<R: Threads + Sync>(rt: &R, parts: usize, pages: &mut [Numbered], from: usize)
     requires { from + 16 ≤ 4096 }
     ensures same { pages_of pages.new ≡ pages_of pages.old }

@@ -43,12 +43,7 @@ sort_runs-sort_both-requires-clause-high g t c κs within =
     prepared_back c.args.from c.args.levels c.in-Some.index c.args.pages.now _ c.requires c.split_at_mut-low.ensures.back
 
 pub sort_runs-returns-in-Some-clause-same : goal.sort_runs-returns-in-Some-clause-same
-sort_runs-returns-in-Some-clause-same g t c =
-    let halves = c.split_at_mut-low.ensures in
-    let both = c.sort_both.ensures in
-    parts_permuted c.in-Some.index c.args.pages.now _ _
-    (subst (λ xs. IsPermutation (pages_of xs) (pages_of c.sort_both.new.low)) halves.front both.low_same)
-    (subst (λ xs. IsPermutation (pages_of xs) (pages_of c.sort_both.new.high)) halves.back both.high_same)
+sort_runs-returns-in-Some-clause-same g t c = grind (arith, parts_permuted)
 
 pub sort_runs-returns-in-Some-clause-sorted : goal.sort_runs-returns-in-Some-clause-sorted
 sort_runs-returns-in-Some-clause-sorted g t c =

@@ -1,13 +1,11 @@
 use Rattle.std.proofs.Common.{Vec, Global, sym, subst, ap, ◌∙◌, arith}
-use Rattle.std.specs.Cmp.Lexicographic.{slice_cmp}
-use Rattle.std.specs.Ordering.{nat_cmp}
-use Rattle.std.specs.List.Sorted.{IsPermutation, IsSortedByKey}
+use Rattle.std.specs.List.Sorted.{IsPermutation}
 use Rattle.std.proofs.lemmas.List.Sorted.{IsPermutation-trans}
 use Rattle.std.proofs.lemmas.Result.{IfOk-weaker}
 use Rattle.crawl_pages.specs.declared.page.PageResult.{PageResult}
 use Rattle.result_order.specs.Sorting.{pages_of}
 use Rattle.result_order.proofs.SortedParts.{take_front}
-use Rattle.result_order.proofs.SortedParts.{pages_in_order}
+use Rattle.result_order.proofs.SortedParts.{pages_in_order, take_front}
 use Rattle.result_order.proofs.sorting.in_order.Goals as goal
 
 pub returns-clause-same : goal.returns-clause-same
@@ -18,8 +16,4 @@ returns-clause-same g c =
     (IsPermutation-trans _ _ _ (subst (λ ps. IsPermutation c.args.results.items (pages_of ps)) (sym c.as_mut_slice.ensures.value) c.in_ok-pages.ensures) c.sort_from.ensures.same)) c.without_numbers.ensures
 
 pub returns-clause-sorted : goal.returns-clause-sorted
-returns-clause-sorted g c =
-    IfOk-weaker c.without_numbers.result _ _ (λ (sorted : Vec PageResult Global) is.
-    subst (IsSortedByKey (λ (r : PageResult). r.url) (slice_cmp nat_cmp))
-    (sym (is ∙ ap pages_of (take_front c.in_ok-pages.pages.len c.sort_from.new.pages _ (omega arith))))
-    (pages_in_order c.sort_from.new.pages c.sort_from.ensures.sorted)) c.without_numbers.ensures
+returns-clause-sorted g c = grind (arith, take_front, pages_in_order)
