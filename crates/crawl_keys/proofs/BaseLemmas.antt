@@ -271,20 +271,19 @@ spelled_folder text link root folder n rest start end k b s inside =
 
 -- the part before the query of the page
 front_path : (text : List ℕ) (k : IsCanonical text) → take (prefix_len (is_other 63) text) text ≡ root_text k.url ++ k.url.path
-front_path text k = grind (arith, common_steps, web_url, path_place, path_text)
+front_path text k = grind (arith, web_url, path_place, path_text)
 
 own_query : (text link : List ℕ) (k : IsCanonical text) → take (prefix_len (is_other 63) text) text ++ link ≡ root_text k.url ++ (k.url.path ++ link)
 own_query text link k = ap (λ f. f ++ link) (front_path text k) ∙ append_assoc (root_text k.url) k.url.path link
 
 pub leads_query : (text link : List ℕ) (k : IsCanonical text) → is_query link ≡ true → resolve text link ≡ Ok (take (prefix_len (is_other 63) text) text ++ link)
-leads_query text link k query = grind (arith, common_steps, resolve-query, page_of, own_query)
+leads_query text link k query = grind (arith, resolve-query, page_of, own_query)
 
 pub spelled_at_query : (text link : List ℕ) (start end : ℕ) (k : IsCanonical text) → IsSpelled text start end → is_query link ≡ true → IsSpelled (take (prefix_len (is_other 63) text) text ++ link) start end
-spelled_at_query text link start end k s query =
-    spelled_query k.url _ link start end k.valid (page_of text k) query (own_query text link k) (own_start text start end k s) (own_end text start end k s)
+spelled_at_query text link start end k s query = grind (arith, spelled_query, page_of, own_query, own_start, own_end)
 
 pub leads_same : (text link : List ℕ) → IsCanonical text → is_same link ≡ true → resolve text link ≡ Ok text
-leads_same text link k same = grind (arith, common_steps, resolve-same, page_of)
+leads_same text link k same = grind (arith, resolve-same, page_of)
 
 pub leads_absolute : (text link : List ℕ) (start end : ℕ) → IsCanonical text → IsSpelled link start end → resolve text link ≡ Ok link
 leads_absolute text link start end k s = resolve-spelled k.url text link start end k.parses s

@@ -1,5 +1,4 @@
 -- A canonical text parses to the very URL that it is the text of.
-use Rattle.std.proofs.lemmas.Grind.{common_steps}
 use Rattle.std.proofs.Common.{◌≡◌, List, ℕ, None, Ok, Err, true, false, arith}
 use Rattle.std.proofs.lemmas.Bool.{or_cases, cond-true, cond-false}
 use Rattle.std.proofs.lemmas.Slice.Eq.{bytes_eq-Decides}
@@ -14,7 +13,7 @@ use Rattle.crawl_keys.specs.declared.error.KeyError.TheVariants.{NotHttp}
 -- the standard calls the scheme of a web URL special, and it is no file
 pub web_kind : (url : Parts) → is_web url ≡ true → kind_of url ≡ SpecialNotFile
 unfolding scheme_type default_port
-web_kind url web = grind (arith, common_steps, bytes_eq-Decides, or_cases)
+web_kind url web = grind (arith, bytes_eq-Decides, or_cases)
 
 -- a valid URL stays valid without its fragment
 pub without_fragment_valid : (url : Parts) → IsValid url → IsValid (without_fragment url)
@@ -28,7 +27,7 @@ parse_url-without_fragment url valid web =
 
 -- that text is canonical
 pub canonical_text : (url : Parts) → IsValid url → is_web url ≡ true → IsCanonical (serialize (without_fragment url))
-canonical_text url valid web = grind (arith, common_steps, without_fragment_valid, parse_url-without_fragment)
+canonical_text url valid web = grind (arith, without_fragment_valid, parse_url-without_fragment)
 
 -- and it is the one of the URL
 pub text_of-web : (url : Parts) → is_web url ≡ true → text_of url ≡ Ok (serialize (without_fragment url))
@@ -42,4 +41,4 @@ text_of-other url other = cond-false _ _ _ other
 
 -- the canonical text of a canonical text is itself
 pub canonical-canonical : (text : List ℕ) → IsCanonical text → canonical text ≡ Ok text
-canonical-canonical text key = grind (arith, common_steps, text_of-web)
+canonical-canonical text key = grind (arith, text_of-web)

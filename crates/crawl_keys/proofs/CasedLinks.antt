@@ -1,7 +1,7 @@
 -- How the parser reads web URLs with letters in any case, with the scheme's default port, or with no path.
 use Rattle.std.proofs.lemmas.Grind.{common_steps}
-use Rattle.std.proofs.Common.{◌≡◌, ◌⊎◌, ℕ, ◌+◌, ◌<◌, ◌==◌, Bool, true, false, not, ◌&&◌, ◌||◌, ltb, List, [], ◌∷◌, ◌++◌, length, get_or, take, drop, refl, ap, sym, subst, ◌∙◌, inl, inr, All, Some, None, Ok, Err, arith, append_assoc, append-nil, length-append, take_at, drop_at}
-use Rattle.std.specs.Prelude.{Option, codes, unwrap_or, if◌then◌else◌}
+use Rattle.std.proofs.Common.{◌≡◌, ◌⊎◌, ℕ, ◌+◌, ◌<◌, ◌==◌, Bool, true, false, not, ◌&&◌, ◌||◌, ltb, List, [], ◌∷◌, ◌++◌, length, get_or, take, drop, refl, ap, sym, subst, ◌∙◌, inl, inr, All, Some, None, Ok, arith, append_assoc, append-nil, length-append, take_at, drop_at}
+use Rattle.std.specs.Prelude.{Option, codes, unwrap_or}
 use Rattle.std.specs.Char.{is_ascii, is_ascii_alphabetic, is_ascii_alphanumeric, is_ascii_digit, to_ascii_lowercase}
 use Rattle.std.specs.List.{list_all}
 use Rattle.std.proofs.lemmas.Bool.{and_left, and_parts, cond-false, cond-true, cond_both}
@@ -12,16 +12,15 @@ use Rattle.std.proofs.lemmas.Slice.Eq.{bytes_eq-Decides}
 use Rattle.percent_encoding.specs.declared.ascii_set.TheConstants.{CONTROLS}
 use Rattle.percent_encoding.specs.Percent.{IsKept, percent_decode}
 use Rattle.percent_encoding.proofs.PercentLemmas.{percent_decode-nil, percent_decode_not_percent}
-use Rattle.url.specs.declared.error.ParseError.TheVariants.{EmptyHost}
 use Rattle.url.specs.declared.host.Host.{Host}
 use Rattle.url.specs.declared.host.Host.TheVariants.{Domain}
 use Rattle.url.specs.declared.scheme.SchemeType.{SchemeType}
 use Rattle.url.specs.declared.scheme.SchemeType.TheVariants.{NotSpecial, SpecialNotFile}
 use Rattle.url.specs.declared.sets.TheConstants.{FORBIDDEN_HOST}
 use Rattle.url.specs.Head.{with_authority}
-use Rattle.url.specs.Host.{ascii_domain, host_of_ascii, parse_domain, parse_host, parse_special_host}
+use Rattle.url.specs.Host.{ascii_domain, host_of_ascii, parse_special_host}
 use Rattle.url.specs.Input.{lowercase, split_once}
-use Rattle.url.specs.Parser.{Parsed, after_double_slash, and_then, base_for_scheme, before_tail, host_len as before_colon, lacks_host, leading_slashes, parse_authority, parse_body, parse_parts, parse_port, parse_relative, parse_url, skip_slashes, split_port, split_scheme, with_path, with_tail}
+use Rattle.url.specs.Parser.{Parsed, after_double_slash, and_then, base_for_scheme, before_tail, host_len as before_colon, leading_slashes, parse_authority, parse_body, parse_parts, parse_port, parse_relative, parse_url, skip_slashes, split_port, split_scheme, with_path, with_tail}
 use Rattle.url.specs.Parts.{Parts, kind_of}
 use Rattle.url.specs.Path.{parse_path_start}
 use Rattle.url.specs.Scheme.{is_scheme_byte, is_slash, is_special, scheme_len, scheme_type}
@@ -31,7 +30,7 @@ use Rattle.url.proofs.OnLiterals.{url_on_literals}
 use Rattle.url.proofs.RoundTrip.{stops_at_path}
 use Rattle.url.proofs.SchemeLemmas.{lowercase-lowercase_all}
 use Rattle.url.proofs.SetLemmas.{kept_from_passes}
-use Rattle.crawl_keys.specs.CanonicalText.{IsCanonical, resolve, resolve_from, text_of_parse}
+use Rattle.crawl_keys.specs.CanonicalText.{text_of_parse}
 use Rattle.crawl_keys.specs.Cased.{IsCut, IsFront, IsFrontOf, IsLowered, IsWithPort, LeadsAnywhere}
 use Rattle.crawl_keys.specs.Plain.{first_is_slash, host_len, is_host_byte, is_kept, is_lower, is_named, is_plain, is_plain_host}
 use Rattle.crawl_keys.specs.Spelled.{IsSpelled}
@@ -128,10 +127,10 @@ abbrev IsWeb : List ℕ → Type 0
 IsWeb scheme = (scheme ≡ codes "http") ⊎ (scheme ≡ codes "https")
 
 own_web : (own scheme : List ℕ) → lowercase own ≡ scheme → IsWeb scheme → IsOwn own scheme
-own_web own scheme lower h3 = grind (arith, common_steps, own_by, http, http_kind, https, https_kind)
+own_web own scheme lower h3 = grind (arith, own_by, http, http_kind, https, https_kind)
 
 web_scheme : (scheme : List ℕ) → IsWeb scheme → IsWebScheme scheme
-web_scheme scheme h1 = grind (arith, common_steps, http, https)
+web_scheme scheme h1 = grind (arith, http, https)
 
 own_len : (own rest : List ℕ) → 0 < length own → All (Passes is_ascii_alphabetic) own → scheme_len (own ++ 58 ∷ rest) ≡ length own
 unfolding scheme_len
@@ -150,7 +149,7 @@ Split = List ℕ × Option (List ℕ)
 parse_url-cased : (base : Option Parts) (own scheme rest body : List ℕ) (query : Option (List ℕ)) → IsOwn own scheme → All (Passes is_kept) (own ++ 58 ∷ rest)
     → split_once 63 (own ++ 58 ∷ rest) ≡ (own ++ 58 ∷ body, query) → parse_url base (own ++ 58 ∷ rest) ≡ parse_parts scheme (base_for_scheme base scheme) body query None
 unfolding parse_url
-parse_url-cased base own scheme rest body query o kept split = grind (arith, common_steps, uncut, split_cased)
+parse_url-cased base own scheme rest body query o kept split = grind (arith, uncut, split_cased)
 
 -- ---- the host
 
@@ -165,10 +164,7 @@ decoded (b ∷ host) names =
 -- the parser puts it in lower case
 special_cased : (host : List ℕ) → All (Passes is_name) host → parse_special_host host ≡ host_of_ascii (Some (lowercase host))
 unfolding parse_special_host ascii_domain
-special_cased host names =
-    cond-false _ _ _ (no_bracket host names)
-    ∙ ap parse_domain (decoded host names)
-    ∙ ap host_of_ascii (cond-true _ _ _ (list_all_from_All is_ascii host (All-weaker (Passes is_name) (Passes is_ascii) name_ascii host names)))
+special_cased host names = grind (arith, cond-false, no_bracket, decoded, cond-true, list_all_from_All, name_ascii)
 
 ends_host : (host rest : List ℕ) → All (Passes is_name) host → (rest ≡ []) ⊎ (get_or rest 0 0 ≡ 58) → before_colon false (host ++ rest) ≡ length host
 ends_host host rest names end =
@@ -192,11 +188,6 @@ abbrev with_user : List ℕ → Option (List ℕ) → Host (List ℕ) → Option
 with_user scheme user host port =
     with_authority scheme (split_once 58 (unwrap_or user [])).0 (unwrap_or (split_once 58 (unwrap_or user [])).1 []) host port
 
-abbrev by_port : List ℕ → Option (List ℕ) → Split → Parsed Parts
-by_port scheme user ends =
-    if lacks_host user ends.0 ends.1 then Err EmptyHost
-    else and_then (parse_host (scheme_type scheme) ends.0) (λ host. and_then (parse_port scheme (unwrap_or ends.1 [])) (λ port. Ok (with_user scheme user host port)))
-
 -- the result for a host without a path whose text in lower case is this
 abbrev of_host : List ℕ → List ℕ → Parsed Parts
 of_host scheme name = and_then (host_of_ascii (Some name)) (λ host. Ok (with_user scheme None host None))
@@ -204,13 +195,7 @@ of_host scheme name = and_then (host_of_ascii (Some name)) (λ host. Ok (with_us
 authority_at : (scheme bytes host : List ℕ) (port : Option (List ℕ)) → scheme_type scheme ≡ SpecialNotFile → All (Passes is_end) bytes → split_port bytes ≡ (host, port)
     → 0 < length host → All (Passes is_name) host → parse_port scheme (unwrap_or port []) ≡ Ok None → parse_authority scheme bytes ≡ of_host scheme (lowercase host)
 unfolding parse_authority
-authority_at scheme bytes host port kind all split some names own =
-    let none = rsplit_once_none 64 bytes (All-weaker (Passes is_end) (IsNot 64) end_at bytes all) in
-    let parses = ap (λ k. parse_host k host) kind ∙ special_cased host names in
-    ap (λ (r : Option (List ℕ) × List ℕ). by_port scheme r.0 (split_port r.1)) none
-    ∙ ap (by_port scheme None) split
-    ∙ cond-false _ (Err EmptyHost) _ (and_left _ _ (is_empty_nonempty host some))
-    ∙ (λ i. and_then (parses i) (λ h. and_then (own i) (λ p. Ok (with_user scheme None h p))))
+authority_at scheme bytes host port kind all split some names own = grind (arith, rsplit_once_none, end_at, special_cased, cond-false, and_left, is_empty_nonempty)
 
 -- the authority is parsed to the host of this name
 record IsAuthority (scheme authority name : List ℕ) : Type 0 where
@@ -276,12 +261,12 @@ Fits scheme None = Unit {0}
 Fits scheme (Some base) = (base.scheme ≡ scheme) × (is_special (kind_of base) ≡ true)
 
 base_fits : (base : Option Parts) (scheme : List ℕ) → Fits scheme (base_for_scheme base scheme)
-base_fits base scheme = grind (arith, common_steps, cond_both, bytes_eq-Decides, and_parts)
+base_fits base scheme = grind (arith, cond_both, bytes_eq-Decides, and_parts)
 
 body_at : (scheme : List ℕ) (base : Option Parts) (rest : List ℕ) → scheme_type scheme ≡ SpecialNotFile → Fits scheme base → StopsAt is_any_slash rest
     → parse_body scheme base (47 ∷ 47 ∷ rest) ≡ after_double_slash scheme rest
 unfolding parse_body parse_relative
-body_at scheme base rest kind fits stops = grind (arith, common_steps, cond-false, cond-true, skipped, two_slashes)
+body_at scheme base rest kind fits stops = grind (arith, cond-false, cond-true, skipped, two_slashes)
 
 abbrev finished : Option (List ℕ) → Parsed Parts → Parsed Parts
 finished query made = and_then made (λ url. Ok (with_tail (before_tail url query None) query None))
@@ -403,10 +388,6 @@ leads-cased text own rest front port authority path host url is f cut ends l bas
     name_bytes : (host : List ℕ) → All (Passes is_name) host → All (Passes is_name) (lowercase host)
     name_bytes host names = All-map (Passes is_name) to_ascii_lowercase host (All-weaker (Passes is_name) (λ b. Passes is_name (to_ascii_lowercase b)) lower_name host names)
 
--- on a page
-pub resolve-anywhere : (page text url : List ℕ) → IsCanonical page → LeadsAnywhere text url → resolve page text ≡ Ok url
-resolve-anywhere page text url k leads = ap (λ p. resolve_from p text) k.parses ∙ leads (Some k.url)
-
 -- ---- the text in lower case
 
 pub spelled_front : (front rest : List ℕ) (start end : ℕ) → IsFront front → is_plain_host rest ≡ true → start ≡ length front → end ≡ length front + host_len rest → IsSpelled (front ++ rest) start end
@@ -417,9 +398,6 @@ spelled_front front rest start end (inr is) plain first last =
     spelled_at (front ++ rest) 8 (8 + host_len rest) start end (subst (λ f. IsSpelled (f ++ rest) 8 (8 + host_len rest)) (sym is) (spelled_host (codes "https") rest https plain))
     (first ∙ ap length is) (last ∙ ap (λ f. length f + host_len rest) is)
 
-pub front_web : (own front port : List ℕ) → IsFrontOf own front port → IsFront front
-front_web own front port f = grind arith
-
 http_port : parse_port (codes "http") (codes "80") ≡ Ok None
 unfolding url_on_literals
 http_port = refl
@@ -429,7 +407,7 @@ unfolding url_on_literals
 https_port = refl
 
 pub http_front : (own : List ℕ) → lowercase own ≡ codes "http" → IsFrontOf own (codes "http://") (codes ":80")
-http_front own lower = grind (arith, common_steps, http_port)
+http_front own lower = grind (arith, http_port)
 
 pub https_front : (own : List ℕ) → lowercase own ≡ codes "https" → IsFrontOf own (codes "https://") (codes ":443")
-https_front own lower = grind (arith, common_steps, https_port)
+https_front own lower = grind (arith, https_port)

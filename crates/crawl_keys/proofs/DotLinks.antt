@@ -36,14 +36,7 @@ above_more n (suc m) path =
     ap without_last_segment (above_more n m path) ∙ ap (λ k. above k path) next
 
 pub behind_then : (text mid rest : List ℕ) (n m : ℕ) → IsBehind text n mid → IsBehind mid m rest → IsBehind text (n + m) rest
-behind_then text mid rest n m one other = record {
-  reads = record {
-    path = λ front. one.reads.path front ∙ other.reads.path (above n front) ∙ ap (λ p. parse_path SpecialNotFile p (split_once 63 rest).0) (above_more n m front);
-    query = one.reads.query ∙ other.reads.query;
-  };
-  kept = λ kept. one.kept (other.kept kept);
-  rootless = λ rootless. one.rootless (other.rootless rootless);
-}
+behind_then text mid rest n m one other = grind (arith, above_more)
 
 -- ---- `../`
 
@@ -55,7 +48,7 @@ rootless_ups : (n : ℕ) (rest : List ℕ) → first_is_slash rest ≡ false →
 rootless_ups n rest rootless = grind arith
 
 pub ups_behind : (n : ℕ) (rest : List ℕ) → IsBehind (behind_ups n rest) n rest
-ups_behind n rest = grind (arith, common_steps, split_ups, parse_ups, keeps_ups, rootless_ups)
+ups_behind n rest = grind (arith, split_ups, parse_ups, keeps_ups, rootless_ups)
 
 pub in_folder_ups : (text : List ℕ) (n : ℕ) (rest : List ℕ) → text ≡ behind_ups n rest → is_plain 47 rest ≡ true → has_no_scheme text ≡ true → IsInFolder text n rest
 in_folder_ups text n rest is plain none = record {
@@ -144,24 +137,7 @@ same_first segment rest more = grind (arith, common_steps)
 
 behind_segment : (segment rest more : List ℕ) → All (IsNot 63) segment → All (IsNoSlash SpecialNotFile) segment → IsBehind rest 0 more → IsBehind (segment ++ 47 ∷ rest) 0 (segment ++ 47 ∷ more)
 unfolding split_once
-behind_segment segment rest more no_query whole behind =
-    let one = split_behind segment (47 ∷ rest) no_query in
-    let other = split_behind segment (47 ∷ more) no_query in
-    record {
-      reads = record {
-        path = λ front.
-            ap (λ (r : Split). parse_path SpecialNotFile front r.0) one
-            ∙ parse_path_more SpecialNotFile front segment 47 (split_once 63 rest).0 whole refl
-            ∙ behind.reads.path (push_segment SpecialNotFile front segment false)
-            ∙ sym (parse_path_more SpecialNotFile front segment 47 (split_once 63 more).0 whole refl)
-            ∙ sym (ap (λ (r : Split). parse_path SpecialNotFile front r.0) other);
-        query = ap (λ (r : Split). r.1) one ∙ behind.reads.query ∙ sym (ap (λ (r : Split). r.1) other);
-      };
-      kept = λ kept.
-          let parts = and_parts _ _ (sym (list_all-append is_kept segment (47 ∷ more)) ∙ kept) in
-          list_all-append is_kept segment (47 ∷ rest) ∙ and_from _ _ parts.0 (behind.kept parts.1);
-      rootless = λ rootless. same_first segment rest more ∙ rootless;
-    }
+behind_segment segment rest more no_query whole behind = grind (arith, split_behind, parse_path_more, and_parts, list_all-append, and_from, same_first)
 
 pub segment_ahead : (segment rest : List ℕ) → is_plain 47 segment ≡ true → All (IsNot 63) segment → All (IsNot 47) segment → IsAhead (segment ++ 47 ∷ rest) rest
 segment_ahead segment rest plain no_query no_slash = record {
@@ -176,6 +152,4 @@ pub within_from : (text rest behind : List ℕ) (ups : ℕ) → IsAhead text res
 within_from text rest behind ups ahead dots none = grind (arith, common_steps, length-append)
 
 pub behind_both : (text rest path : List ℕ) (ups : ℕ) → IsBehind text ups rest → IsBehind rest 0 path → IsBehind text ups path
-behind_both text rest path ups one other =
-    let same : ups + 0 ≡ ups = omega arith in
-    subst (λ n. IsBehind text n path) same (behind_then text rest path ups 0 one other)
+behind_both text rest path ups one other = grind (arith, behind_then)

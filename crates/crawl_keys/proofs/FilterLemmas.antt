@@ -1,5 +1,4 @@
 -- A host is within a suffix if a look-up of the host, or of the text after one of its dots, finds the suffix.
-use Rattle.std.proofs.lemmas.Grind.{common_steps}
 use Rattle.std.proofs.Common.{◌≡◌, ◌≤◌, ◌<◌, ◌+◌, ◌-◌, ℕ, Bool, true, false, ◌&&◌, ◌||◌, not, List, [], ◌∷◌, ◌++◌, map, length, drop, suc, refl, ap, sym, ◌∙◌, ⊎_elim, arith, cond, String, Global, Bor, Some, None, Ok, Err}
 use Rattle.std.proofs.lemmas.Bool.{cases_order, false_from_ne_true, and_right, cases_Bool}
 use Rattle.std.proofs.Math.Bool.{or-false}
@@ -17,11 +16,11 @@ use Rattle.crawl_keys.specs.HostFilter.{is_dot, is_within, is_good, in_order, fi
 
 -- texts of different lengths differ
 pub bytes_eq-lengths : (xs ys : List ℕ) → (length xs ≡ length ys → ⊥) → bytes_eq xs ys ≡ false
-bytes_eq-lengths xs ys apart = grind (arith, common_steps, false_from_ne_true, bytes_eq-Decides)
+bytes_eq-lengths xs ys apart = grind (arith, false_from_ne_true, bytes_eq-Decides)
 
 -- comparing two texts gives the same result in either order
 pub bytes_eq-comm : (xs ys : List ℕ) → bytes_eq xs ys ≡ bytes_eq ys xs
-bytes_eq-comm xs ys = grind (arith, common_steps, bytes_eq-Decides, false_from_ne_true, cases_Bool)
+bytes_eq-comm xs ys = grind (arith, bytes_eq-Decides, false_from_ne_true, cases_Bool)
 
 -- the suffix is the text after one of the text's dots
 abbrev pub is_behind_dot : List ℕ → List ℕ → Bool
@@ -126,11 +125,11 @@ behind-first text behind suffixes within cut =
 
 -- if the text after the first dot is a suffix, some suffix is after a dot of the text
 pub behind-found : (text behind : List ℕ) (suffixes : List (List ℕ)) → position_or_len is_dot text < length text → behind ≡ after_first is_dot text → list_any (bytes_eq behind) suffixes ≡ true → list_any (is_behind_dot text) suffixes ≡ true
-behind-found text behind suffixes within cut found = grind (arith, common_steps, behind-first)
+behind-found text behind suffixes within cut found = grind (arith, behind-first)
 
 -- otherwise some suffix is after a dot of the text exactly if one is after a dot of the rest
 pub behind-missed : (text behind : List ℕ) (suffixes : List (List ℕ)) → position_or_len is_dot text < length text → behind ≡ after_first is_dot text → list_any (bytes_eq behind) suffixes ≡ false → list_any (is_behind_dot text) suffixes ≡ list_any (is_behind_dot behind) suffixes
-behind-missed text behind suffixes within cut missed = grind (arith, common_steps, behind-first)
+behind-missed text behind suffixes within cut missed = grind (arith, behind-first)
 
 -- a text with no dot has no suffix after one
 pub behind-none : (text : List ℕ) (suffixes : List (List ℕ)) → position_or_len is_dot text ≡ length text → list_any (is_behind_dot text) suffixes ≡ false
@@ -147,8 +146,8 @@ position-map p f xs = rw (place p f xs, length-map xs f) refl
 
 -- if some suffix is bad, the filter is an error with the index of the first bad one
 pub filter_of-bad : (suffixes : List (Bor (List ℕ))) (place : ℕ) → position (λ suffix. not (is_good suffix.now)) suffixes ≡ Some place → filter_of (map (λ suffix. suffix.now) suffixes) ≡ Err (BadSuffix place)
-filter_of-bad suffixes place first = grind (arith, common_steps, position-map)
+filter_of-bad suffixes place first = grind (arith, position-map)
 
 -- if all suffixes are good, the filter has them in order
 pub filter_of-good : (suffixes : List (Bor (List ℕ))) → position (λ suffix. not (is_good suffix.now)) suffixes ≡ None → filter_of (map (λ suffix. suffix.now) suffixes) ≡ Ok (in_order (map (λ suffix. suffix.now) suffixes))
-filter_of-good suffixes none = grind (arith, common_steps, position-map)
+filter_of-good suffixes none = grind (arith, position-map)

@@ -20,7 +20,7 @@ use Rattle.url.proofs.InputLemmas.{is_empty_nonempty, rsplit_once_at}
 use Rattle.url.proofs.PathLemmas.{empty_segment, push_valid, rooted, without_last_valid}
 use Rattle.url.proofs.Theorems.{parse_url-serialize_special}
 use Rattle.url.proofs.ValidLemmas.{base_from_authority, hierarchical, special_has_authority}
-use Rattle.crawl_keys.specs.CanonicalText.{IsPage, is_web, resolve, resolve_from, text_of_parse}
+use Rattle.crawl_keys.specs.CanonicalText.{IsPage, is_web, resolve}
 use Rattle.crawl_keys.specs.Folders.{folder_text, is_colon, is_of_folder, root_text}
 use Rattle.crawl_keys.proofs.CanonicalLemmas.{web_kind}
 
@@ -92,7 +92,7 @@ no_colon_at l n all = ⊎_elim (λ inside. all n 0 inside) (λ past same. let no
 
 pub no_scheme : (b : ℕ) (l : List ℕ) → Begins b (NoScheme b) l → split_scheme l ≡ None
 unfolding split_scheme scheme_len
-no_scheme b l k = grind (arith, common_steps, cond-false, and_right, ne_eqb, no_colon_at, cases_eq)
+no_scheme b l k = grind (arith, cond-false, and_right, ne_eqb, no_colon_at, cases_eq)
 
 -- ---- the parts of the page that the parser uses
 
@@ -108,7 +108,7 @@ unfolding shorten_path
 shorten_web path = refl
 
 shorten-folder : (url : Parts) → kind_of url ≡ SpecialNotFile → shorten_path (kind_of url) url.path ≡ shorten_path (kind_of url) (folder url).path
-shorten-folder url kind = grind (arith, common_steps, shorten_web, front_of_last)
+shorten-folder url kind = grind (arith, shorten_web, front_of_last)
 
 -- against the URL with this path left of the page's
 abbrev relative_to : Parts → List ℕ → List ℕ → Parsed Parts
@@ -136,7 +136,7 @@ unfolding parse_parts
 parse_parts-more url body query fragment more = cond-false _ _ _ (is_empty_nonempty body more)
 
 pub parse_without_scheme-web : (url : Parts) (body : List ℕ) (query fragment : Option (List ℕ)) → has_authority url ≡ true → 0 < length body → parse_without_scheme (Some url) body query fragment ≡ parse_all url.scheme (Some url) body query fragment
-parse_without_scheme-web url body query fragment authority more = grind (arith, common_steps, cond-false, and_left, base_from_authority, parse_parts-more)
+parse_without_scheme-web url body query fragment authority more = grind (arith, cond-false, and_left, base_from_authority, parse_parts-more)
 
 parse_without_scheme-folder : (url : Parts) (body : List ℕ) (query fragment : Option (List ℕ)) → kind_of url ≡ SpecialNotFile → has_authority url ≡ true → 0 < length body → parse_without_scheme (Some url) body query fragment ≡ parse_without_scheme (Some (folder url)) body query fragment
 parse_without_scheme-folder url body query fragment kind authority more =
@@ -189,7 +189,7 @@ pub record IsWeb (url : Parts) : Type 0 where
   pub some : 0 < length url.path
 
 pub web_url : (url : Parts) → IsValid url → is_web url ≡ true → IsWeb url
-web_url url valid web = grind (arith, common_steps, web_kind, special_has_authority, hierarchical, base_from_authority)
+web_url url valid web = grind (arith, web_kind, special_has_authority, hierarchical, base_from_authority)
 
 folder_valid : (url : Parts) → IsWeb url → IsValid (folder url)
 folder_valid url web =
@@ -218,8 +218,7 @@ folder_text-root url web =
     ap without_last_segment (path_text url web.authority) ∙ without_last-append (root_text url) url.path cut
 
 serialize-folder : (url : Parts) → IsWeb url → serialize (folder url) ≡ folder_text url ++ 47 ∷ []
-serialize-folder url web =
-    bare_text (folder url) web.authority refl refl ∙ sym (append_assoc (root_text url) (without_last_segment url.path) (47 ∷ [])) ∙ ap (λ l. l ++ 47 ∷ []) (sym (folder_text-root url web))
+serialize-folder url web = grind (arith, bare_text, append_assoc, folder_text-root)
 
 -- two pages whose folders have one text have one folder
 same_folder : (one other : Parts) → IsWeb one → IsWeb other → folder_text one ≡ folder_text other → folder one ≡ folder other
@@ -273,11 +272,4 @@ parse_url-folder url text web k =
     ∙ sym (ap (λ s. parse_by_scheme s (Some (folder url)) question.0 question.1 hash.1) none)
 
 pub resolve-beside : (one other : Parts) → IsValid one → IsValid other → IsPage one → IsPage other → folder_text one ≡ folder_text other → (text : List ℕ) → is_of_folder text ≡ true → resolve (serialize one) text ≡ resolve (serialize other) text
-resolve-beside one other valid its_valid page its_page same text plain =
-    let k = plain_text text plain in
-    let web = web_url one valid page.web in
-    let its_web = web_url other its_valid its_page.web in
-    let folders = same_folder one other web its_web same in
-    ap (λ p. resolve_from p text) page.parses
-    ∙ ap text_of_parse (parse_url-folder one text web k ∙ ap (λ u. parse_url (Some u) text) folders ∙ sym (parse_url-folder other text its_web k))
-    ∙ sym (ap (λ p. resolve_from p text) its_page.parses)
+resolve-beside one other valid its_valid page its_page same text plain = grind (arith, plain_text, web_url, same_folder, parse_url-folder)

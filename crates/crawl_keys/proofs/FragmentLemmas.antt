@@ -1,8 +1,8 @@
 -- A link without its fragment has the link's target.
 use Rattle.std.proofs.lemmas.Grind.{common_steps}
 use Rattle.std.proofs.lemmas.Bool.Decides.{nat_tests}
-use Rattle.std.proofs.Common.{◌≡◌, ◌⊎◌, ℕ, suc, ◌+◌, ◌<◌, ◌-◌, ◌==◌, ◌&&◌, ◌||◌, Bool, true, false, not, List, [], ◌∷◌, ◌++◌, length, get_or, take, drop, refl, ap, sym, subst, ◌∙◌, ⊎_elim, All, Some, None, Ok, Err, arith, one-add}
-use Rattle.std.specs.Prelude.{Option, bytes_eq, codes, filter, is_some, if◌then◌else◌}
+use Rattle.std.proofs.Common.{◌≡◌, ◌⊎◌, ℕ, suc, ◌+◌, ◌<◌, ◌-◌, ◌==◌, ◌&&◌, Bool, true, false, not, List, [], ◌∷◌, ◌++◌, length, get_or, take, drop, refl, ap, sym, subst, ◌∙◌, ⊎_elim, All, Some, None, Ok, Err, arith, one-add}
+use Rattle.std.specs.Prelude.{Option, filter, is_some, if◌then◌else◌}
 use Rattle.std.specs.List.{suffix_len, position_or_len, before_first, after_first}
 use Rattle.std.proofs.Math.Seq.{take-append-add, take-nil}
 use Rattle.std.proofs.lemmas.Bool.{and_left, and_from, and_parts, or_parts, not-true, eq-eqb, eqb-true, ltb-true, true≢false, cases_lt, cases_Bool, cond-true, cond-false, lt-leb, or_left, or_right, or_cases}
@@ -89,14 +89,10 @@ cut_parts front c fragment above plain =
 
 -- ---- the parser's last step
 
--- whether a URL with this scheme is of the web
-abbrev is_web_scheme : List ℕ → Bool
-is_web_scheme scheme = bytes_eq scheme (codes "http") || bytes_eq scheme (codes "https")
-
 -- the URL with a tail, of which its text keeps only the query
 text_of-web : (url : Parts) (query : Option (List ℕ)) (fragment : Option (List ℕ)) → is_web url ≡ true → text_of (with_tail (before_tail url query fragment) query fragment) ≡ text_of (with_tail url query None)
 unfolding text_of
-text_of-web url query fragment web = grind (arith, common_steps, web_kind, cond-false, and_left)
+text_of-web url query fragment web = grind (arith, web_kind, cond-false, and_left)
 
 text_of-other : (url : Parts) (query : Option (List ℕ)) (fragment : Option (List ℕ)) → is_web url ≡ false → text_of (with_tail (before_tail url query fragment) query fragment) ≡ Err NotHttp
 unfolding text_of
@@ -110,7 +106,7 @@ text_of-tail url query one other =
     (cases_Bool (is_web url))
 
 text_of_parse-tail : (made : Parsed Parts) (query : Option (List ℕ)) (one other : Option (List ℕ)) → text_of_parse (and_then made (λ url. Ok (with_tail (before_tail url query one) query one))) ≡ text_of_parse (and_then made (λ url. Ok (with_tail (before_tail url query other) query other)))
-text_of_parse-tail made query one other = grind (arith, common_steps, text_of-tail)
+text_of_parse-tail made query one other = grind (arith, text_of-tail)
 
 text_of-fragment : (url : Parts) (query : Option (List ℕ)) (one other : Option (List ℕ)) → text_of (with_tail url query one) ≡ text_of (with_tail url query other)
 unfolding text_of
@@ -118,17 +114,17 @@ text_of-fragment url query one other = refl
 
 parse_parts-fragment : (scheme : List ℕ) (base : Option Parts) (body : List ℕ) (query : Option (List ℕ)) (one other : Option (List ℕ)) → text_of_parse (parse_parts scheme base body query one) ≡ text_of_parse (parse_parts scheme base body query other)
 unfolding parse_parts
-parse_parts-fragment scheme base body query one other = grind (arith, common_steps, text_of_parse-tail, text_of-fragment)
+parse_parts-fragment scheme base body query one other = grind (arith, text_of_parse-tail, text_of-fragment)
 
 -- more than a fragment
 abbrev IsMore : List ℕ → Option (List ℕ) → Type 0
 IsMore body query = (is_empty body && not (is_some query)) ≡ false
 
 parse_without_scheme-fragment : (base : Option Parts) (body : List ℕ) (query : Option (List ℕ)) (one other : Option (List ℕ)) → IsMore body query → text_of_parse (parse_without_scheme base body query one) ≡ text_of_parse (parse_without_scheme base body query other)
-parse_without_scheme-fragment base body query one other more = grind (arith, common_steps, parse_parts-fragment)
+parse_without_scheme-fragment base body query one other more = grind (arith, parse_parts-fragment)
 
 parse_by_scheme-fragment : (split : Option (List ℕ × List ℕ)) (base : Option Parts) (body : List ℕ) (query : Option (List ℕ)) (one other : Option (List ℕ)) → IsMore body query → text_of_parse (parse_by_scheme split base body query one) ≡ text_of_parse (parse_by_scheme split base body query other)
-parse_by_scheme-fragment split base body query one other more = grind (arith, common_steps, parse_without_scheme-fragment, parse_parts-fragment)
+parse_by_scheme-fragment split base body query one other more = grind (arith, parse_without_scheme-fragment, parse_parts-fragment)
 
 more_than_fragment : (text : List ℕ) → 0 < length text → IsMore (split_once 63 text).0 (split_once 63 text).1
 unfolding split_once
@@ -139,7 +135,7 @@ more_than_fragment (x ∷ text) some =
 
 parse_url-cut : (base : Option Parts) (text front : List ℕ) → IsCut text front → text_of_parse (parse_url base front) ≡ text_of_parse (parse_url base text)
 unfolding parse_url
-parse_url-cut base text front cut = grind (arith, common_steps, parse_by_scheme-fragment, more_than_fragment)
+parse_url-cut base text front cut = grind (arith, parse_by_scheme-fragment, more_than_fragment)
 
 -- ---- the whole
 
@@ -171,25 +167,17 @@ long_text text visible inside =
 
 -- the text stays, or is cut
 long_or_whole : (text : List ℕ) → (before_fragment text ≡ text) ⊎ IsLong text
-long_or_whole text = grind (arith, common_steps, long_text, cond-true, take_all, cases_lt, cond-false, cases_Bool)
+long_or_whole text = grind (arith, long_text, cond-true, take_all, cases_lt, cond-false, cases_Bool)
 
 resolve_from-cut : (base : Parsed Parts) (text front : List ℕ) → IsCut text front → resolve_from base front ≡ resolve_from base text
-resolve_from-cut base text front cut = grind (arith, common_steps, parse_url-cut)
+resolve_from-cut base text front cut = grind (arith, parse_url-cut)
 
 pub resolve-before_fragment : (text base : List ℕ) → resolve base (before_fragment text) ≡ resolve base text
-resolve-before_fragment text base =
-    ⊎_elim
-    (λ same. ap (resolve base) same)
-    (λ k. ap (resolve base) k.cut ∙ resolve_from-cut (parse_url None base) (k.front ++ k.last ∷ 35 ∷ k.fragment) (k.front ++ k.last ∷ []) (cut_parts k.front k.last k.fragment k.above k.plain) ∙ sym (ap (resolve base) k.whole))
-    (long_or_whole text)
+resolve-before_fragment text base = grind (arith, resolve_from-cut, cut_parts, long_or_whole)
 
 -- and so does its canonical text
 pub canonical-before_fragment : (text : List ℕ) → canonical (before_fragment text) ≡ canonical text
-canonical-before_fragment text =
-    ⊎_elim
-    (λ same. ap canonical same)
-    (λ k. ap canonical k.cut ∙ parse_url-cut None (k.front ++ k.last ∷ 35 ∷ k.fragment) (k.front ++ k.last ∷ []) (cut_parts k.front k.last k.fragment k.above k.plain) ∙ sym (ap canonical k.whole))
-    (long_or_whole text)
+canonical-before_fragment text = grind (arith, parse_url-cut, cut_parts, long_or_whole)
 
 front_of_folder : (front rest : List ℕ) → 0 < length front → is_of_folder (front ++ rest) ≡ true → is_of_folder front ≡ true
 front_of_folder front rest some folder = grind (arith, common_steps, and_parts, and_from, or_left, or_right, or_parts, list_any-append, not-true, or_cases)

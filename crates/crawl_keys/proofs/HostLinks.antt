@@ -1,6 +1,5 @@
 -- The targets of links that begin with two slashes: the page's scheme comes before them.
-use Rattle.std.proofs.lemmas.Grind.{common_steps}
-use Rattle.std.proofs.Common.{◌≡◌, ◌⊎◌, ℕ, ◌+◌, ◌==◌, Bool, true, not, ◌&&◌, List, [], ◌∷◌, ◌++◌, length, take, drop, refl, ap, sym, subst, ◌∙◌, ⊎_elim, All, Some, None, Ok, arith, append_assoc, length-append, take-append-drop}
+use Rattle.std.proofs.Common.{◌≡◌, ◌⊎◌, ℕ, ◌+◌, ◌==◌, Bool, true, not, ◌&&◌, List, [], ◌∷◌, ◌++◌, length, take, drop, refl, ap, sym, subst, ◌∙◌, All, Some, None, Ok, arith, append_assoc, length-append, take-append-drop}
 use Rattle.std.specs.Prelude.{Option, codes}
 use Rattle.std.proofs.lemmas.Bool.{and_from, and_left, and_parts, cond-false, cond-true, ne_eqb, or_cases}
 use Rattle.std.proofs.lemmas.Bool.Decides.{nat_tests}
@@ -10,7 +9,7 @@ use Rattle.url.specs.Input.{split_once}
 use Rattle.url.specs.Parser.{base_for_scheme, parse_parts, parse_url}
 use Rattle.url.specs.Parts.{Parts, IsValid, serialize}
 use Rattle.url.specs.Scheme.{IsScheme, is_special}
-use Rattle.url.proofs.InputLemmas.{All-take-prefix_len, All_from_list_all, IsNot, Passes}
+use Rattle.url.proofs.InputLemmas.{All-take-prefix_len, IsNot, Passes}
 use Rattle.url.proofs.RoundTrip.{split_own_scheme}
 use Rattle.url.proofs.ValidLemmas.{base_from_authority}
 use Rattle.crawl_keys.specs.Bases.{IsSchemeOf}
@@ -31,13 +30,10 @@ abbrev stands : ℕ → Bool
 stands b = is_kept b && not (b == 63)
 
 http_or_https : (base : Parts) → is_web base ≡ true → (base.scheme ≡ codes "http") ⊎ (base.scheme ≡ codes "https")
-http_or_https base web = grind (arith, common_steps, bytes_eq-Decides, or_cases)
+http_or_https base web = grind (arith, bytes_eq-Decides, or_cases)
 
 scheme_bytes : (base : Parts) → is_web base ≡ true → All (Passes stands) base.scheme
-scheme_bytes base web =
-    ⊎_elim (λ http. subst (All (Passes stands)) (sym http) (All_from_list_all stands (codes "http") refl))
-    (λ https. subst (All (Passes stands)) (sym https) (All_from_list_all stands (codes "https") refl))
-    (http_or_https base web)
+scheme_bytes base web = grind (arith, http_or_https)
 
 -- ---- the parser reads the link after the page's scheme as it reads the link itself
 
@@ -54,7 +50,7 @@ split_behind (b ∷ front) rest none =
 pub parse_url-scheme : (base : Option Parts) (scheme rest body : List ℕ) (query : Option (List ℕ)) → IsScheme scheme → All (Passes is_kept) (scheme ++ 58 ∷ rest)
     → split_once 63 (scheme ++ 58 ∷ rest) ≡ (scheme ++ 58 ∷ body, query) → parse_url base (scheme ++ 58 ∷ rest) ≡ parse_parts scheme (base_for_scheme base scheme) body query None
 unfolding parse_url
-parse_url-scheme base scheme rest body query valid kept split = grind (arith, common_steps, uncut, split_own_scheme)
+parse_url-scheme base scheme rest body query valid kept split = grind (arith, uncut, split_own_scheme)
 
 own_base : (base : Parts) → IsWeb base → base_for_scheme (Some base) base.scheme ≡ Some base
 own_base base web = cond-true _ _ _ (and_from _ _ (ap is_special web.kind) ((bytes_eq-Decides base.scheme base.scheme).1 refl))

@@ -1,5 +1,4 @@
 -- Suffixes in order are the suffixes given.
-use Rattle.std.proofs.lemmas.Grind.{common_steps}
 use Rattle.std.proofs.Common.{◌≡◌, ◌↔◌, ℕ, Bool, true, false, ◌||◌, List, [], ◌∷◌, Ok, Result, refl, ap, sym, subst, ◌∙◌, fold, bytes_eq, Contains, arith}
 use Rattle.std.specs.BTreeSet.{insert_key}
 use Rattle.std.specs.Cmp.Lexicographic.{slice_cmp, nat_list_eq_equiv}
@@ -88,4 +87,4 @@ Contains-kept given kept same suffix =
 
 -- and the filter allows the same hosts
 pub allows-kept : (given kept : List (List ℕ)) → ◌≡◌ {A = Result (List (List ℕ)) FilterError} (Ok (in_order given)) (Ok kept) → (url : List ℕ) → allows kept url ≡ allows given url
-allows-kept given kept same url = grind (arith, common_steps, allows-in_order)
+allows-kept given kept same url = grind (arith, allows-in_order)

@@ -1,23 +1,21 @@
 -- URLs whose path is opaque have no canonical text.
 use Rattle.std.proofs.lemmas.Grind.{common_steps}
-use Rattle.std.proofs.Common.{◌≡◌, ℕ, ◌==◌, Bool, true, false, List, [], ◌∷◌, get_or, drop, refl, ap, sym, subst, ◌∙◌, All, Some, None, Ok, Err, arith, append-nil, take_all}
+use Rattle.std.proofs.Common.{◌≡◌, ℕ, Bool, true, false, List, [], ◌∷◌, get_or, refl, ap, sym, subst, ◌∙◌, All, Some, None, Ok, Err, arith, append-nil, take_all}
 use Rattle.std.specs.Prelude.{Option, bytes_eq, codes, is_some, if◌then◌else◌}
 use Rattle.std.specs.Char.{is_ascii_alphabetic, is_ascii_lowercase, to_ascii_lowercase}
 use Rattle.std.specs.List.{prefix_len}
-use Rattle.std.proofs.lemmas.Bool.{and_parts, and_right, cases_Bool, cond-true, cond_both, or_from, true≢false}
+use Rattle.std.proofs.lemmas.Bool.{and_parts, and_right, cases_Bool, cond-true, cond_both, or_from}
 use Rattle.std.proofs.lemmas.Bool.Decides.{nat_tests}
 use Rattle.std.proofs.lemmas.List.Elements.{All-weaker}
 use Rattle.std.proofs.lemmas.Slice.Eq.{bytes_eq-Decides}
 use Rattle.percent_encoding.specs.Percent.{percent_encode}
-use Rattle.url.specs.declared.scheme.SchemeType.{SchemeType}
 use Rattle.url.specs.declared.scheme.SchemeType.TheVariants.{NotSpecial, SpecialNotFile}
 use Rattle.url.specs.declared.sets.TheConstants.{OPAQUE_PATH}
 use Rattle.url.specs.Head.{scheme_only}
 use Rattle.url.specs.Input.{split_once}
-use Rattle.url.specs.Parser.{Parsed, after_double_slash, base_for_scheme, before_tail, parse_body, parse_file, parse_non_special, parse_parts, parse_url, skip_slashes, with_path}
+use Rattle.url.specs.Parser.{base_for_scheme, before_tail, parse_body, parse_non_special, parse_parts, parse_url, with_path}
 use Rattle.url.specs.Parts.{Parts, kind_of}
-use Rattle.url.specs.Path.{parse_path}
-use Rattle.url.specs.Scheme.{IsScheme, default_port, is_file, is_scheme_byte, is_slash, is_special, scheme_len, scheme_type}
+use Rattle.url.specs.Scheme.{IsScheme, default_port, is_scheme_byte, is_slash, is_special, scheme_len, scheme_type}
 use Rattle.url.proofs.InputLemmas.{All-take-prefix_len, IsNot, Passes, StopsAt, lowercase_other, map_fixed, prefix_len_at}
 use Rattle.url.proofs.SchemeLemmas.{not_special_from}
 use Rattle.crawl_keys.specs.CanonicalText.{IsCanonical, is_web, resolve, resolve_from, text_of_parse}
@@ -60,33 +58,20 @@ word_scheme scheme word =
     }
 
 not_web : (url : Parts) → is_special (kind_of url) ≡ false → is_web url ≡ false
-not_web url other = grind (arith, common_steps, true≢false, web_kind, cases_Bool)
+not_web url other = grind (arith, web_kind, cases_Bool)
 
 -- a page of the web is no base for it
 other_base : (base : Parts) (scheme : List ℕ) → is_special (scheme_type scheme) ≡ false → base_for_scheme (Some base) scheme ≡ None
-other_base base scheme other = grind (arith, common_steps, cond_both, true≢false, and_parts, bytes_eq-Decides)
+other_base base scheme other = grind (arith, cond_both, and_parts, bytes_eq-Decides)
 
 -- ---- the path
-
-abbrev Split : Type 0
-Split = List ℕ × Option (List ℕ)
-
-abbrev by_kind : List ℕ → List ℕ → SchemeType → Parsed Parts
-by_kind scheme body kind =
-    if is_file kind then parse_file None body
-    else (if is_special kind then after_double_slash scheme (skip_slashes body) else parse_non_special scheme body)
 
 abbrev opaque : List ℕ → List ℕ → Parts
 opaque scheme body = with_path (scheme_only scheme) (percent_encode OPAQUE_PATH body)
 
-abbrev by_slashes : List ℕ → List ℕ → ℕ → Parsed Parts
-by_slashes scheme body slashes =
-    if slashes == 2 then after_double_slash scheme (drop 2 body)
-    else (if slashes == 1 then Ok (with_path (scheme_only scheme) (parse_path NotSpecial [] (drop 1 body))) else Ok (opaque scheme body))
-
 opaque_body : (scheme body : List ℕ) → is_special (scheme_type scheme) ≡ false → StopsAt (is_slash NotSpecial) body → parse_body scheme None body ≡ Ok (opaque scheme body)
 unfolding parse_body parse_non_special
-opaque_body scheme body other stops = grind (arith, common_steps, not_special_from, no_slashes)
+opaque_body scheme body other stops = grind (arith, not_special_from, no_slashes)
 
 tail_scheme : (url : Parts) (query : Option (List ℕ)) → (before_tail url query None).scheme ≡ url.scheme
 tail_scheme url query = grind arith
@@ -94,7 +79,7 @@ tail_scheme url query = grind arith
 opaque_refused : (scheme body : List ℕ) (query : Option (List ℕ)) → is_special (scheme_type scheme) ≡ false → StopsAt (is_slash NotSpecial) body
     → text_of_parse (parse_parts scheme None body query None) ≡ Err NotHttp
 unfolding parse_parts
-opaque_refused scheme body query other stops = grind (arith, common_steps, opaque_body, text_of-other, not_web, tail_scheme)
+opaque_refused scheme body query other stops = grind (arith, opaque_body, text_of-other, not_web, tail_scheme)
 
 before_query : (path : List ℕ) → first_is_slash path ≡ false → StopsAt (is_slash NotSpecial) (split_once 63 path).0
 unfolding split_once

@@ -1,5 +1,4 @@
 -- The segments of a path, and a query, in a text that the parser of URLs leaves as it is.
-use Rattle.std.proofs.lemmas.Grind.{common_steps}
 use Rattle.std.proofs.Common.{◌≡◌, ◌≢◌, ℕ, suc, ◌+◌, ◌-◌, ◌<◌, ◌==◌, Bool, true, not, ◌&&◌, List, [], ◌∷◌, ◌++◌, length, take, drop, get_or, take-append-drop, refl, ap, sym, subst, ◌∙◌, ⊎_elim, All, Some, IfSome, arith, bit_and, nat_eq}
 use Rattle.std.specs.Prelude.{Option, is_some, unwrap_or}
 use Rattle.std.proofs.lemmas.Bool.{agree_below, agree_below_at, and_from, and_parts, cases_eq, cond-false, cond-true, cond_both, eq-eqb, eqb-true, ne_eqb, true≢false}
@@ -44,8 +43,7 @@ behind_slash : (last b : ℕ) → may_follow last b ≡ true → last ≡ 47 →
 behind_slash last b test slash = sym (cond-true _ _ _ (eq-eqb last 47 slash)) ∙ test
 
 follows_kept : (last b : ℕ) → may_follow last b ≡ true → is_kept b ≡ true
-follows_kept last b test =
-    cond_both (last == 47) (may_begin b) (is_kept b) (λ (v : Bool). v ≡ true → is_kept b ≡ true) (λ _ begins. (and_parts _ _ begins).0) (λ _ kept. kept) test
+follows_kept last b test = grind (arith, cond_both, and_parts)
 
 pub all_kept : (last : ℕ) (text : List ℕ) → is_plain last text ≡ true → All (Passes is_kept) text
 all_kept last [] plain = All-nil (Passes is_kept)
@@ -57,7 +55,7 @@ all_kept last (b ∷ text) plain =
 
 -- a text is plain after a byte if its first byte may follow that byte and the rest is plain after the first byte
 pub plain_then : (last b : ℕ) (text : List ℕ) → may_follow last b ≡ true → is_plain b text ≡ true → is_plain last (b ∷ text) ≡ true
-plain_then last b text first plain = grind (arith, common_steps, and_from, cond_both, list_all_from_All, all_kept)
+plain_then last b text first plain = grind (arith, and_from, cond_both, list_all_from_All, all_kept)
 
 -- if a text is plain and its first byte is no `?`, the rest is plain after that byte
 plain_after : (last b : ℕ) (text : List ℕ) → is_plain last (b ∷ text) ≡ true → b ≢ 63 → is_plain b text ≡ true
@@ -87,7 +85,7 @@ unfolding dot_count
 dots_none segment none = rw none
 
 begins_segment : (b : ℕ) (segment : List ℕ) → may_begin b ≡ true → dot_count (b ∷ segment) ≡ 0
-begins_segment b segment begins = grind (arith, common_steps, dots_none)
+begins_segment b segment begins = grind (arith, dots_none)
 
 dots_none_of : (segment : List ℕ) → is_plain 47 segment ≡ true → dot_count segment ≡ 0
 dots_none_of [] plain = dots_none [] refl
@@ -103,7 +101,7 @@ path_bytes (b ∷ segment) kept none = grind (arith, path_byte, path_bytes segme
 
 -- a text that is plain and has neither a slash nor a query is a segment
 pub plain_segment : (segment : List ℕ) → is_plain 47 segment ≡ true → All (IsNot 63) segment → All (IsNot 47) segment → IsSegment SpecialNotFile segment
-plain_segment segment plain no_query no_slash = grind (arith, common_steps, path_bytes, all_kept, whole_bytes, dots_none_of)
+plain_segment segment plain no_query no_slash = grind (arith, path_bytes, all_kept, whole_bytes, dots_none_of)
 
 -- the text continues the segment that this byte is in or begins, and whole segments follow
 pub record IsRun (last : ℕ) (text : List ℕ) : Type 0 where

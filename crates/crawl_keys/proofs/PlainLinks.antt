@@ -5,7 +5,7 @@ use Rattle.std.specs.Prelude.{Option, if◌then◌else◌}
 use Rattle.std.specs.List.{prefix_len}
 use Rattle.std.proofs.lemmas.Bool.{and_left, and_parts, cond-false, cond_both, eqb-true, lt-leb, or_cases, true≢false}
 use Rattle.std.proofs.lemmas.Bool.Decides.{nat_tests}
-use Rattle.std.proofs.lemmas.Grind.{flat_map-append}
+use Rattle.std.proofs.lemmas.Grind.{flat_map-append, common_steps}
 use Rattle.std.proofs.lemmas.List.{get_or-reverse, length-reverse}
 use Rattle.std.proofs.lemmas.List.Elements.{All-nil, All-cons, All-append, All-from_get_or, All-head, All-weaker}
 use Rattle.percent_encoding.specs.Percent.{IsKept}
@@ -53,7 +53,7 @@ untrimmed xs all =
 
 unstripped : (xs : List ℕ) → All Visible xs → strip_tabs_and_new_lines xs ≡ xs
 unfolding strip_tabs_and_new_lines
-unstripped xs all = grind (arith, common_steps, filter_all)
+unstripped xs all = grind (arith, filter_all)
 
 -- the whole text is left
 pub uncut : (text : List ℕ) → All (Passes is_kept) text → split_once 35 (strip_tabs_and_new_lines (trim_c0_control_and_space text)) ≡ (text, None)
@@ -70,12 +70,12 @@ Split = List ℕ × Option (List ℕ)
 pub parse_url-kept : (base : Parts) (text body : List ℕ) (query : Option (List ℕ)) → All (Passes is_kept) text → split_once 63 text ≡ (body, query) → split_scheme body ≡ None
     → parse_url (Some base) text ≡ parse_without_scheme (Some base) body query None
 unfolding parse_url
-parse_url-kept base text body query kept split none = grind (arith, common_steps, uncut)
+parse_url-kept base text body query kept split none = grind (arith, uncut)
 
 -- the last step leaves a kept query as it is
 tail_of : (base : Parts) (path : List ℕ) (query : Option (List ℕ)) → kind_of base ≡ SpecialNotFile → IfSome query (All (IsKept SPECIAL_QUERY))
     → with_tail (before_tail (with_path (head_only base) path) query None) query None ≡ with_rest base path query
-tail_of base path query kind kept = grind (arith, common_steps, option_unchanged, before_special, with_rest)
+tail_of base path query kind kept = grind (arith, option_unchanged, before_special, with_rest)
 
 -- a kept text leads to the page's URL with this path, if the relative state gives that path
 pub parse_url-path : (base : Parts) (text body path : List ℕ) (query : Option (List ℕ)) → IsWeb base → All (Passes is_kept) text → split_once 63 text ≡ (body, query) → split_scheme body ≡ None
@@ -135,14 +135,11 @@ parse_url-rooted base text web slash plain = grind (arith, common_steps, with_re
 -- the target of the page's URL with a rest
 pub resolve-rest : (base : Parts) (link text path : List ℕ) (query : Option (List ℕ)) → IsValid base → IsPage base → IsRest text path query
     → parse_url (Some base) link ≡ Ok (with_rest base path query) → resolve (serialize base) link ≡ Ok (root_text base ++ text)
-resolve-rest base link text path query valid page rest parses = grind (arith, common_steps, web_url, text_of-web, with_rest, rest_text)
+resolve-rest base link text path query valid page rest parses = grind (arith, web_url, text_of-web, with_rest, rest_text)
 
 -- the target of a link that begins with a slash
 pub resolve-rooted : (base : Parts) (text : List ℕ) → IsValid base → IsPage base → is_rooted text ≡ true → resolve (serialize base) text ≡ Ok (root_text base ++ text)
-resolve-rooted base text valid page rooted =
-    let parts = and_parts _ _ rooted in
-    let slash = eqb-true (get_or text 0 0) 47 parts.0 in
-    resolve-rest base text text _ _ valid page (plain_rest 0 text slash parts.1) (parse_url-rooted base text (web_url base valid page.web) slash parts.1)
+resolve-rooted base text valid page rooted = grind (arith, and_parts, eqb-true, resolve-rest, plain_rest, parse_url-rooted, web_url)
 
 pub spelled_rooted : (base : Parts) (root text : List ℕ) (start end : ℕ) → IsValid base → IsPage base → is_rooted text ≡ true → root ≡ root_text base → start ≡ offset base BeforeHost → end ≡ offset base AfterHost → IsSpelled (root ++ text) start end
 spelled_rooted base root text start end valid page rooted is first last = grind (arith, common_steps, and_parts, spelled_rest, plain_rest, eqb-true, spelled_at)
@@ -191,13 +188,7 @@ folder_relative : (base : Parts) (n : ℕ) (text body : List ℕ) → IsWeb base
     → ((front : List ℕ) → parse_path SpecialNotFile front text ≡ parse_path SpecialNotFile (above n front) body) → is_plain 47 body ≡ true → All (IsNot 63) body
     → parse_relative base text ≡ Ok (with_path (head_only base) (in_folder base n body))
 unfolding parse_relative
-folder_relative base n text body web stops reads plain none =
-    let kind = kind_of base in
-    let own = subst (λ k. StopsAt (is_slash k) text) (sym web.kind) stops in
-    let short = ap (λ k. shorten_path k base.path) web.kind ∙ shorten_web base.path in
-    let path = (λ i. parse_path (web.kind i) (short i) text) ∙ reads (without_last_segment base.path) ∙ parse_run (above n (without_last_segment base.path)) body plain none in
-    ap (relative_by base text) (no_slashes kind text own)
-    ∙ ap (λ p. Ok (with_path (head_only base) p)) path
+folder_relative base n text body web stops reads plain none = grind (arith, shorten_web, parse_run, no_slashes)
 
 append_list : (kind : SchemeType) (path : List ℕ) (segments : List (List ℕ)) → IsSegmentList kind path → All (IsSegment kind) segments → IsSegmentList kind (path ++ join_segments segments)
 append_list kind path segments list each = record {
@@ -350,15 +341,15 @@ spelled_query base own text start end valid page query is first last = grind (ar
 -- ---- an empty link, or only a fragment
 
 same_tail : (base : Parts) (fragment : Option (List ℕ)) → IsWeb base → IsPage base → text_of (with_tail base base.query fragment) ≡ Ok (serialize base)
-same_tail base fragment web page = grind (arith, common_steps, option_unchanged, text_of-web)
+same_tail base fragment web page = grind (arith, option_unchanged, text_of-web)
 
 same_parts : (base : Parts) (fragment : Option (List ℕ)) → IsWeb base → IsPage base → text_of_parse (parse_without_scheme (Some base) [] None fragment) ≡ Ok (serialize base)
 unfolding parse_parts
-same_parts base fragment web page = grind (arith, common_steps, cond-false, and_left, base_from_authority, same_tail)
+same_parts base fragment web page = grind (arith, cond-false, and_left, base_from_authority, same_tail)
 
 same_empty : (base : Parts) → IsWeb base → IsPage base → text_of_parse (parse_url (Some base) []) ≡ Ok (serialize base)
 unfolding parse_url trim_c0_control_and_space strip_tabs_and_new_lines split_once
-same_empty base web page = grind (arith, common_steps, no_text_scheme, same_parts)
+same_empty base web page = grind (arith, no_text_scheme, same_parts)
 
 same_fragment : (base : Parts) (text : List ℕ) → IsWeb base → IsPage base → text_of_parse (parse_url (Some base) (35 ∷ text)) ≡ Ok (serialize base)
 unfolding parse_url split_once
@@ -372,11 +363,11 @@ same_fragment base text web page =
     ∙ same_parts base (Some begins.rest) web page
 
 same_text : (base : Parts) (text : List ℕ) → IsWeb base → IsPage base → is_same text ≡ true → text_of_parse (parse_url (Some base) text) ≡ Ok (serialize base)
-same_text base text web page same = grind (arith, common_steps, same_empty, eqb-true, same_fragment)
+same_text base text web page same = grind (arith, same_empty, eqb-true, same_fragment)
 
 -- such a link leads to the page
 pub resolve-same : (base : Parts) (text : List ℕ) → IsValid base → IsPage base → is_same text ≡ true → resolve (serialize base) text ≡ Ok (serialize base)
-resolve-same base text valid page same = grind (arith, common_steps, same_text, web_url)
+resolve-same base text valid page same = grind (arith, same_text, web_url)
 
 -- one `../` more
 pub behind_more : (n : ℕ) (text : List ℕ) → behind_ups n (46 ∷ 46 ∷ 47 ∷ text) ≡ behind_ups (n + 1) text

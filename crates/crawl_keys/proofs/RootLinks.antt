@@ -1,5 +1,4 @@
 -- The targets of links that begin with a slash and have dot segments: there is no folder above the root.
-use Rattle.std.proofs.lemmas.Grind.{common_steps}
 use Rattle.std.proofs.Common.{◌≡◌, ◌⊎◌, ℕ, zero, suc, ◌+◌, ◌<◌, true, List, [], ◌∷◌, ◌++◌, length, get_or, take, drop, refl, ap, sym, subst, ◌∙◌, All, Some, Ok, IfSome, arith, append_assoc, length-append, take_at}
 use Rattle.std.proofs.lemmas.Bool.{and_from}
 use Rattle.std.proofs.lemmas.List.Elements.{All-cons}
@@ -40,7 +39,7 @@ root_relative : (base : Parts) (n : ℕ) (text body : List ℕ) → kind_of base
     → ((front : List ℕ) → parse_path SpecialNotFile front text ≡ parse_path SpecialNotFile (above n front) body) → is_plain 47 body ≡ true → All (IsNot 63) body
     → parse_relative base (47 ∷ text) ≡ Ok (with_path (head_only base) (47 ∷ body))
 unfolding parse_relative
-root_relative base n text body kind stops reads plain none = grind (arith, common_steps, none_above, parse_run, relative_by, one_slash)
+root_relative base n text body kind stops reads plain none = grind (arith, none_above, parse_run, relative_by, one_slash)
 
 parse_url-root : (base : Parts) (text : List ℕ) (n : ℕ) (rest : List ℕ) → IsWeb base → IsBehind text n rest → is_plain 47 rest ≡ true
     → parse_url (Some base) (47 ∷ text) ≡ Ok (with_rest base (47 ∷ (split_once 63 rest).0) (split_once 63 rest).1)

@@ -1,7 +1,7 @@
 -- Texts of web URLs that are made of a head, a path and a query.
 use Rattle.std.proofs.lemmas.Grind.{common_steps}
 use Rattle.std.proofs.Common.{◌≡◌, ℕ, ◌+◌, ◌<◌, true, false, not, ◌&&◌, ◌||◌, List, [], ◌∷◌, ◌++◌, length, get_or, take, drop, refl, ap, sym, subst, ◌∙◌, All, Some, None, Ok, IfSome, arith, append_assoc, append-nil, length-append, length-take-le, take-append-drop, lit<}
-use Rattle.std.specs.Prelude.{Option, IsAscii, bytes_eq, codes}
+use Rattle.std.specs.Prelude.{Option, IsAscii, bytes_eq, codes, slice_range}
 use Rattle.std.specs.Char.{is_ascii_digit, to_ascii_lowercase}
 use Rattle.std.specs.List.{list_all}
 use Rattle.std.proofs.lemmas.Bool.{and_left, and_right, or_from, true≢false}
@@ -18,7 +18,7 @@ use Rattle.url.specs.Host.{IsDomain, IsHostOf}
 use Rattle.url.specs.Input.{is_empty, rsplit_once, split_once}
 use Rattle.url.specs.Ipv4.{ends_in_a_number, is_number, last_label_of, parse_number}
 use Rattle.url.specs.Parser.{parse_url}
-use Rattle.url.specs.Parts.{Parts, IsValid, IsValidHead, has_authority, offset, serialize}
+use Rattle.url.specs.Parts.{Parts, IsValid, IsValidHead, has_authority, offset, serialize, pieces}
 use Rattle.url.specs.Path.{IsSegmentList}
 use Rattle.url.specs.Scheme.{IsScheme, is_special, scheme_len}
 use Rattle.url.proofs.InputLemmas.{Passes, All-take-prefix_len, is_empty_nonempty, lowercase_other, map_fixed}
@@ -31,14 +31,33 @@ use Rattle.crawl_keys.specs.Folders.{root_text}
 use Rattle.crawl_keys.specs.Layout.{IsLaidOut}
 use Rattle.crawl_keys.specs.Plain.{host_len, is_host_byte, is_lower, is_named, is_plain, is_plain_host}
 use Rattle.crawl_keys.specs.Spelled.{IsSpelled}
-use Rattle.crawl_keys.proofs.CanonicalLemmas.{canonical-canonical, web_kind, without_fragment_valid}
-use Rattle.crawl_keys.proofs.LaidLemmas.{laid_out}
+use Rattle.crawl_keys.proofs.CanonicalLemmas.{canonical-canonical, web_kind, without_fragment_valid, canonical_text, parse_url-without_fragment}
 use Rattle.crawl_keys.proofs.PlainLemmas.{query_text, rooted_path, splits}
+use Rattle.url.proofs.PiecesLemmas.{slice_at, upto-le, upto_ordered}
+use Rattle.crawl_keys.specs.HostKey.{host_key, host_of_parse}
+
+-- the host key is between the start and the end of the host
+slice_range-host : (url : Parts) → IsValid url → is_web url ≡ true → slice_range (serialize (without_fragment url)) (offset url BeforeHost) (offset url AfterHost) ≡ host_key (serialize (without_fragment url))
+slice_range-host url valid web =
+    slice_at _ (pieces (without_fragment url)) 6 7 _ _ refl (omega arith) refl refl ∙ append-nil _
+    ∙ sym (ap host_of_parse (parse_url-without_fragment url valid web))
+
+-- the fields that are read off a web URL are laid out
+laid_out : (u : Laid) (url : Parts) → IsValid url → is_web url ≡ true → u.text ≡ serialize (without_fragment url) → IsAscii u.text → u.host_start ≡ offset url BeforeHost → u.host_end ≡ offset url AfterHost → u.hash ≡ hash_of u.text → IsSpelled u.text u.host_start u.host_end → IsLaidOut u
+laid_out u url valid web spelled ascii start end hashed own = record {
+  canonical = rw spelled (canonical_text url valid web);
+  ascii = ascii;
+  ordered = rw (start, end) (upto_ordered (pieces url) 6 7 (omega arith));
+  inside = rw (end, spelled) (upto-le (pieces (without_fragment url)) 7);
+  host = rw (start, end, spelled) (slice_range-host url valid web);
+  spelled = own;
+  hashed = hashed;
+}
 
 -- ---- the parsed form of such a text
 
 pub parse_spelled : (text : List ℕ) (start end : ℕ) (base : Option Parts) (k : IsSpelled text start end) → parse_url base text ≡ Ok k.url
-parse_spelled text start end base k = grind (arith, common_steps, parse_url-serialize_special, web_kind)
+parse_spelled text start end base k = grind (arith, parse_url-serialize_special, web_kind)
 
 pub canonical_spelled : (text : List ℕ) (start end : ℕ) → IsSpelled text start end → IsCanonical text
 canonical_spelled text start end k = record {
@@ -73,7 +92,7 @@ spelled_at text start end own its k first last = grind arith
 
 -- the text of a web URL without its fragment
 pub spelled_own : (url : Parts) (text : List ℕ) (start end : ℕ) → IsValid url → is_web url ≡ true → text ≡ serialize (without_fragment url) → start ≡ offset url BeforeHost → end ≡ offset url AfterHost → IsSpelled text start end
-spelled_own url text start end valid web spelled first last = grind (arith, common_steps, without_fragment_valid)
+spelled_own url text start end valid web spelled first last = grind (arith, without_fragment_valid)
 
 -- ---- a head with a path and a query
 
@@ -89,7 +108,7 @@ pub record IsRest (text path : List ℕ) (query : Option (List ℕ)) : Type 0 wh
   pub whole : text ≡ path ++ query_text query
 
 pub rest_valid : (head : Parts) (text path : List ℕ) (query : Option (List ℕ)) → IsValidHead head → is_web head ≡ true → IsRest text path query → IsValid (with_rest head path query)
-rest_valid head text path query valid web rest = grind (arith, common_steps, web_kind)
+rest_valid head text path query valid web rest = grind (arith, web_kind)
 
 pub rest_text : (head : Parts) (path : List ℕ) (query : Option (List ℕ)) → has_authority head ≡ true → serialize (with_rest head path query) ≡ root_text head ++ (path ++ query_text query)
 rest_text head path query authority = rw authority (simp (append_assoc, append-nil))
@@ -155,7 +174,7 @@ host_lower : (b : ℕ) → Passes is_host_byte b → to_ascii_lowercase b ≡ b
 host_lower b host = lowercase_other b (grind (arith, nat_tests))
 
 host_domain : (host : List ℕ) → All (Passes is_host_byte) host → is_named host ≡ true → IsDomain host
-host_domain host all letter = grind (arith, common_steps, host_kept, map_fixed, host_lower, named)
+host_domain host all letter = grind (arith, host_kept, map_fixed, host_lower, named)
 
 -- a scheme of the web
 pub record IsWebScheme (scheme : List ℕ) : Type 0 where

@@ -1,4 +1,3 @@
-use Rattle.std.proofs.lemmas.Grind.{common_steps}
 use Rattle.std.proofs.Common.{◌≡◌, ◌++◌, codes, subst, sym, rules, arith}
 use Rattle.crawl_keys.specs.Links.{IsBehind}
 use Rattle.crawl_keys.proofs.DotLinks.{same_behind, ups_behind}
@@ -11,4 +10,4 @@ returns-in-Some-clause-behind c =
     subst (λ t. IsBehind t 1 rest) (sym text) (ups_behind 1 rest)
 
 pub returns-in-Some-strip_prefix-clause-behind : goal.returns-in-Some-strip_prefix-clause-behind
-returns-in-Some-strip_prefix-clause-behind c = grind (arith, common_steps, same_behind)
+returns-in-Some-strip_prefix-clause-behind c = grind (arith, same_behind)

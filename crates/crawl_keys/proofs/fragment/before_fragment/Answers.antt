@@ -1,4 +1,3 @@
-use Rattle.std.proofs.lemmas.Grind.{common_steps}
 use Rattle.std.proofs.Common.{◌≡◌, ◌∙◌, ap, rules, arith}
 use Rattle.crawl_keys.specs.Folders.{is_of_folder}
 use Rattle.crawl_keys.specs.Fragments.{before_fragment}
@@ -6,7 +5,7 @@ use Rattle.crawl_keys.proofs.FragmentLemmas.{is_of_folder-before_fragment, resol
 use Rattle.crawl_keys.proofs.fragment.before_fragment.Goals as goal
 
 pub returns-then-ends_visibly-clause-target : goal.returns-then-ends_visibly-clause-target
-returns-then-ends_visibly-clause-target c base = grind (arith, common_steps, resolve-before_fragment)
+returns-then-ends_visibly-clause-target c base = grind (arith, resolve-before_fragment)
 
 pub returns-then-ends_visibly-clause-folder : goal.returns-then-ends_visibly-clause-folder
 returns-then-ends_visibly-clause-folder c folder =

@@ -1,4 +1,3 @@
-use Rattle.std.proofs.lemmas.Grind.{common_steps}
 use Rattle.std.proofs.Common.{◌≡◌, ℕ, List, IsCharBoundary, subst, sym, arith, rules}
 use Rattle.std.specs.List.{position_or_len}
 use Rattle.std.proofs.lemmas.Bool.{cases_lt, eqb-true}
@@ -8,7 +7,7 @@ use Rattle.crawl_keys.proofs.fragment.before_sign.Goals as goal
 
 -- a text may be cut before its first `#`, or at its end
 cut_before_sign : (text : List ℕ) → IsCharBoundary text (position_or_len is_number_sign text)
-cut_before_sign text = grind (arith, common_steps, eqb-true, passes_at_first, prefix_len-le-length, cases_lt)
+cut_before_sign text = grind (arith, eqb-true, passes_at_first, prefix_len-le-length, cases_lt)
 
 pub range-requires-clause-end_boundary : goal.range-requires-clause-end_boundary
 range-requires-clause-end_boundary c =

@@ -1,4 +1,3 @@
-use Rattle.std.proofs.lemmas.Grind.{common_steps}
 use Rattle.std.proofs.Common.{arith}
 use Rattle.std.proofs.lemmas.Slice.Eq.{bytes_eq-Decides}
 use Rattle.url.proofs.Theorems.{parse_url-serialize_special}
@@ -6,4 +5,4 @@ use Rattle.crawl_keys.proofs.CanonicalLemmas.{web_kind}
 use Rattle.crawl_keys.proofs.parsed.is_url_of.Goals as goal
 
 pub returns-then-is_web : goal.returns-then-is_web
-returns-then-is_web c same = grind (arith, common_steps, bytes_eq-Decides, web_kind, parse_url-serialize_special)
+returns-then-is_web c same = grind (arith, bytes_eq-Decides, web_kind, parse_url-serialize_special)

@@ -11,4 +11,4 @@ pub returns-else-is_plain_short-clause-value : goal.returns-else-is_plain_short-
 returns-else-is_plain_short-clause-value c none = plain_none c.args.last c.args.text.now none
 
 pub returns-then-may_follow-clause-value : goal.returns-then-may_follow-clause-value
-returns-then-may_follow-clause-value c all = grind (arith, common_steps, plain_from)
+returns-then-may_follow-clause-value c all = grind (arith, plain_from)

@@ -1,7 +1,6 @@
-use Rattle.std.proofs.lemmas.Grind.{common_steps}
 use Rattle.std.proofs.Common.{append-nil, arith}
 use Rattle.crawl_keys.proofs.SpelledLemmas.{canonical-spelled}
 use Rattle.crawl_keys.proofs.read.canonical.Goals as goal
 
 pub returns-in-Some : goal.returns-in-Some
-returns-in-Some c = grind (arith, common_steps, append-nil, canonical-spelled)
+returns-in-Some c = grind (arith, append-nil, canonical-spelled)

@@ -1,12 +1,8 @@
-use Rattle.std.proofs.lemmas.Grind.{common_steps}
-use Rattle.std.proofs.Common.{◌≡◌, ◌∷◌, subst, sym, true, rules, arith}
+use Rattle.std.proofs.Common.{◌≡◌, ◌∷◌, subst, sym, true, rules}
 use Rattle.crawl_keys.specs.Links.{IsBehind}
 use Rattle.crawl_keys.specs.Plain.{is_plain}
 use Rattle.crawl_keys.proofs.DotLinks.{behind_both}
 use Rattle.crawl_keys.proofs.base.Base.from_root.Goals as goal
-
-pub at_root-requires : goal.at_root-requires
-at_root-requires c = grind (arith, common_steps)
 
 pub at_root-requires-then-is_plain-2 : goal.at_root-requires-then-is_plain-2
 at_root-requires-then-is_plain-2 c =

@@ -1,14 +1,21 @@
-use Rattle.std.proofs.lemmas.Grind.{common_steps}
-use Rattle.std.proofs.Common.{ap, ◌∙◌, map, string_bytes, arith}
+use Rattle.std.proofs.Common.{ap, ◌∙◌, map, string_bytes, arith, ◌≡◌, ℕ, Bool, true, List}
 use Rattle.std.specs.BTreeSet.{insert_key}
 use Rattle.std.specs.Cmp.Lexicographic.{slice_cmp}
 use Rattle.std.specs.Ordering.{nat_cmp}
 use Rattle.crawl_keys.proofs.FilterLemmas.{map-insert_key}
-use Rattle.crawl_keys.proofs.MarkLemmas.{AreMarked-insert_key}
+use Rattle.std.proofs.lemmas.Bool.{cases_Bool}
+use Rattle.std.proofs.lemmas.Slice.Eq.{bytes_eq-Decides}
+use Rattle.crawl_keys.specs.Marks.{is_marked, AreMarked}
+use Rattle.crawl_keys.proofs.InOrderLemmas.{list_any-insert_key}
 use Rattle.crawl_keys.proofs.filter.suffixes.Suffixes.add.Goals as goal
 
+-- if one more text is kept and marked, and no mark is removed, all kept texts are marked
+AreMarked-insert_key : (old new : List Bool) (before after : List (List ℕ)) (text : List ℕ) → after ≡ insert_key (slice_cmp nat_cmp) before text
+    → AreMarked old before → ((other : List ℕ) → is_marked old other ≡ true → is_marked new other ≡ true) → is_marked new text ≡ true → AreMarked new after
+AreMarked-insert_key old new before after text is kept others own = grind (arith, cases_Bool, list_any-insert_key, bytes_eq-Decides)
+
 pub returns : goal.returns
-returns c = grind (arith, common_steps, map-insert_key)
+returns c = grind (arith, map-insert_key)
 
 pub invariant_of-self-2 : goal.invariant_of-self-2
 invariant_of-self-2 c =
