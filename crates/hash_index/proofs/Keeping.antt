@@ -24,10 +24,7 @@ was_kept o index kept k is at = is ∙ ap (λ o. unwrap_or o index) at
 -- no index of the overflow passes if neither the hash's first nor the text's own does
 pub misses_beside : (passes : ℕ → Bool) (overflow : Overflow) (hash : ℕ) (text : List ℕ) (index first : ℕ) → first ≡ unwrap_or (get nat_cmp overflow.by_hash hash) index
     → passes first ≡ false → ((k : ℕ) → get_by_text overflow.by_text text ≡ Some k → passes k ≡ false) → (k : ℕ) → IsBeside overflow hash text k → passes k ≡ false
-misses_beside passes overflow hash text index first is other own k beside = elim beside.2 [
-  | inl same ↦ subst (λ n. passes n ≡ false) (was_kept _ index first beside.0 is beside.1 ∙ same) other
-  | inr at ↦ own k at
-]
+misses_beside passes overflow hash text index first is other own k beside = grind (arith, was_kept)
 
 -- an index is not the one that is kept if its text is not there, and others stay
 pub text_stays : (texts : List (List ℕ)) (old new : List ℕ → Option ℕ) (key : List ℕ) (index kept : ℕ) → kept ≡ unwrap_or (old key) index → stands_at texts kept key ≡ false
@@ -53,13 +50,11 @@ stays old new hash text k slots taken beside (inr (full, at)) = inr (taken full,
 -- no kept index passes if the hash's slots miss, and one of them is vacant or the overflow misses too
 pub misses_vacant : (passes : ℕ → Bool) (table : HashIndex) (hash : ℕ) (text : List ℕ) (slot : ℕ) → IsFirstVacant table.slots hash slot → Misses passes table.slots hash
     → (k : ℕ) → IsKept table hash text k → passes k ≡ false
-misses_vacant passes table hash text slot first misses k (inl held) = misses k held
-misses_vacant passes table hash text slot first misses k (inr (full, at)) = absurd (full first.0 first.1 first.4)
+misses_vacant passes table hash text slot first misses k h8 = grind arith
 
 pub misses_full : (passes : ℕ → Bool) (table : HashIndex) (hash : ℕ) (text : List ℕ) → Misses passes table.slots hash → ((k : ℕ) → IsBeside table.overflow hash text k → passes k ≡ false)
     → (k : ℕ) → IsKept table hash text k → passes k ≡ false
-misses_full passes table hash text misses others k (inl held) = misses k held
-misses_full passes table hash text misses others k (inr (full, at)) = others k at
+misses_full passes table hash text misses others k h7 = grind arith
 
 -- ---- what a search returns
 
@@ -96,8 +91,7 @@ module _ (hash : List ℕ → ℕ) (texts : List (List ℕ)) (table : HashIndex)
 -- a list of items with one more
 pub pushed_item : {X : Type 0} (text : X → List ℕ) (hash : List ℕ → ℕ) (table : HashIndex) (items longer : List X) (item : X) → longer ≡ items ++ item ∷ []
     → IsIndexOf hash (map text items ++ text item ∷ []) table → IsIndexOf hash (map text longer) table
-pushed_item text hash table items longer item is known =
-    subst (λ xs. IsIndexOf hash (map text xs) table) (sym is) (subst (λ texts. IsIndexOf hash texts table) (sym (map-append text items (item ∷ []))) known)
+pushed_item text hash table items longer item is known = grind (arith, map-append)
 
 -- what the maps of the overflow say when all slots are taken is what a search returns
 module _ (hash : List ℕ → ℕ) (texts : List (List ℕ)) (old new : HashIndex) (key : List ℕ) (was : IsIndexOf hash texts old) (misses : Misses (λ k. stands_at texts k key) old.slots (hash key)) where

@@ -1,5 +1,5 @@
 -- Texts of a list by their indices.
-use Rattle.std.proofs.Common.{◌≡◌, ◌⊎◌, inl, inr, ℕ, zero, suc, ◌<◌, Bool, ◌||◌, true, false, List, [], ◌∷◌, ◌++◌, length, take, slice_get, Option, Some, None, is_some, refl, sym, ap, subst, ◌∙◌, suc-le-suc, zero-le}
+use Rattle.std.proofs.Common.{◌≡◌, ◌⊎◌, inl, inr, ℕ, zero, suc, ◌<◌, Bool, true, false, List, [], ◌∷◌, ◌++◌, length, take, slice_get, Option, Some, None, is_some, refl, ap, subst, ◌∙◌, suc-le-suc, zero-le, arith}
 use Rattle.std.specs.Bool.{if◌then◌else◌}
 use Rattle.std.specs.Option.{option_map}
 use Rattle.std.specs.List.{list_any}
@@ -19,10 +19,7 @@ pub push_cases : {X : Type 0} (xs : List X) (y : X) (k : ℕ) (x : X) → slice_
 push_cases [] y zero x at = inr (refl, cc)
 push_cases [] y (suc k) x at = absurd (cc)
 push_cases (z ∷ zs) y zero x at = inl (suc-le-suc zero-le, at)
-push_cases (z ∷ zs) y (suc k) x at = elim (push_cases zs y k x at) [
-  | inl before ↦ inl (suc-le-suc before.0, before.1)
-  | inr last ↦ inr (ap suc last.0, last.1)
-]
+push_cases (z ∷ zs) y (suc k) x at = grind (arith, suc-le-suc, push_cases zs y k x at)
 
 -- an element of the first n
 pub slice_get_take : {X : Type 0} (n : ℕ) (xs : List X) (k : ℕ) (x : X) → slice_get (take n xs) k ≡ Some x → (k < n) × (slice_get xs k ≡ Some x)
@@ -59,16 +56,7 @@ found_at (text ∷ texts) key k found = by_first (bytes_eq text key) refl found 
 -- if none is returned, it is nowhere
 pub absent_at : (texts : List (List ℕ)) (key : List ℕ) → index_of texts key ≡ None → (k : ℕ) → slice_get texts k ≡ Some key → ⊥
 absent_at [] key none k at = cc
-absent_at (text ∷ texts) key none k at = by_first (bytes_eq text key) refl none (index_of texts key) refl (λ nowhere j there. absent_at texts key nowhere j there) k at
-  where
-    by_first : (b : Bool) → bytes_eq text key ≡ b → (if b then Some 0 else option_map suc (index_of texts key)) ≡ None
-        → (o : Option ℕ) → index_of texts key ≡ o → (index_of texts key ≡ None → (j : ℕ) → slice_get texts j ≡ Some key → ⊥) → (k : ℕ) → slice_get (text ∷ texts) k ≡ Some key → ⊥
-    by_first true first none o found more k at = cc
-    by_first false first none (Some j) found more k at = cc
-    by_first false first none None found more zero at =
-        let same : text ≡ key = cc in
-        both_ways _ first (ap (λ u. bytes_eq u key) same ∙ text_itself key)
-    by_first false first none None found more (suc k) at = more found k at
+absent_at (text ∷ texts) key none k at = grind (arith, both_ways, text_itself, absent_at texts key)
 
 -- the index at which it is, is the one that is returned
 pub stands_first : (texts : List (List ℕ)) (key : List ℕ) (k : ℕ) → AreApart texts → stands_at texts k key ≡ true → index_of texts key ≡ Some k
@@ -79,29 +67,12 @@ stands_first texts key k apart stands = by_index (index_of texts key) refl
     by_index (Some j) found = ap Some (apart j k key (found_at texts key j found) (at_index texts k key stands))
 
 pub AreApart-push : (texts : List (List ℕ)) (key : List ℕ) → index_of texts key ≡ None → AreApart texts → AreApart (texts ++ key ∷ [])
-AreApart-push texts key none apart i k text at_i at_k =
-    elim (push_cases texts key i text at_i) [
-      | inl first ↦ elim (push_cases texts key k text at_k) [
-        | inl second ↦ apart i k text first.1 second.1
-        | inr last ↦ absurd (absent_at texts key none i (first.1 ∙ sym (ap Some last.1)))
-      ]
-      | inr own ↦ elim (push_cases texts key k text at_k) [
-        | inl second ↦ absurd (absent_at texts key none k (second.1 ∙ sym (ap Some own.1)))
-        | inr last ↦ own.0 ∙ sym last.0
-      ]
-    ]
+AreApart-push texts key none apart i k text at_i at_k = grind (arith, push_cases, absent_at)
 
 -- a text has an index if it is one of the list's
 pub has_index : (texts : List (List ℕ)) (key : List ℕ) → is_some (index_of texts key) ≡ list_any (λ text. bytes_eq text key) texts
 has_index [] key = refl
-has_index (text ∷ texts) key = by_first (bytes_eq text key) (index_of texts key) (has_index texts key)
-  where
-    by_first : (b : Bool) (o : Option ℕ) → is_some o ≡ list_any (λ text. bytes_eq text key) texts
-        → is_some (if b then Some 0 else option_map suc o) ≡ (b || list_any (λ text. bytes_eq text key) texts)
-    by_first true o more = refl
-    by_first false None more = more
-    by_first false (Some k) more = more
+has_index (text ∷ texts) key = grind (arith, has_index texts key)
 
 pub none_there : {X : Type 0} (o : Option X) → is_some o ≡ false → o ≡ None
-none_there None e = refl
-none_there (Some x) e = absurd (cc)
+none_there o e = grind arith

@@ -45,6 +45,7 @@ impl Overflow {
     }
 
     /// Likewise. If there is none, the text has the list's next index from now on.
+    #[tactic(auto, using(crate::proofs::Keeping::misses_beside))]
     pub fn find_or_insert<L: TextList>(
         &mut self,
         alloc: Global,
@@ -115,6 +116,7 @@ fn find_text<L: TextList>(list: &L, by_text: &BTreeMap<String, usize>, text: &st
 }
 
 /// Likewise. If there is none, the text has the list's next index from now on: one search for both.
+#[tactic(auto, using(crate::proofs::Keeping::text_stays))]
 fn find_text_or_insert<L: TextList>(
     alloc: Global,
     by_text: &mut BTreeMap<String, usize>,
@@ -139,6 +141,7 @@ fn find_text_or_insert<L: TextList>(
 }
 
 /// The index that is kept for the text: this one from now on, if there was none.
+#[tactic(auto, using(std::proofs::lemmas::Map::Text::text_keys))]
 fn text_or_insert(
     alloc: Global,
     by_text: &mut BTreeMap<String, usize>,

@@ -84,6 +84,7 @@ impl Slots {
     }
 
     /// Looks for the text, which has this hash, in the slots of the hash.
+    #[tactic(auto, using(crate::proofs::Taking::misses_to))]
     pub fn search<L: TextList>(&self, list: &L, text: &str, hash: u64) -> Search
         ensures found { (index : ℕ) → result ≡ Search.Found index → stands_at (L.texts list.now) index text.now ≡ true }
         ensures vacant { (slot : ℕ) → result ≡ Search.Vacant slot → IsFirstVacant self.now hash slot × Misses (λ index. stands_at (L.texts list.now) index text.now) self.now hash }
