@@ -1,13 +1,7 @@
 -- No control character is left in an escaped text.
-use Rattle.std.proofs.Common.{◌≡◌, ℕ, nat_le, ◌+◌, ◌/◌, ◌%◌, ◌≤◌, ◌==◌, true, false, ◌&&◌, not, List, [], ◌∷◌, ◌++◌, codes, nat_lt, chars, IsUtf8, refl, arith}
-use Rattle.std.proofs.lemmas.Bool.{and_parts, both_ways, cond_both, eqb-true, false_from_ne_true, leb-true, ltb-true, ne_eqb}
-use Rattle.std.proofs.lemmas.Bool.Decides.{nat_tests}
+use Rattle.check_report.proofs.Prelude.{◌≡◌, ℕ, ◌+◌, ◌/◌, ◌%◌, ◌≤◌, ◌==◌, true, false, ◌&&◌, not, List, [], ◌∷◌, ◌++◌, codes, nat_lt, chars, IsUtf8, refl, arith, and_parts, both_ways, cond_both, eqb-true, false_from_ne_true, leb-true, ltb-true, ne_eqb, nat_tests, flat_map, list_all, escape_of, is_hidden, is_printed, is_visible, shown_char, data_char, escaped, escaped_char, has_no_c1, is_c1, Escape}
 use Rattle.std.specs.Char.{encode_utf8}
-use Rattle.std.specs.List.{flat_map, list_all}
-use Rattle.shown_text.specs.Shown.{escape_of, is_hidden, is_printed, is_visible, shown_char}
 use Rattle.shown_text.proofs.Visible.{Passes, ascii_from, char_visible, each_passes, escape_passes, is_low, low_passes, passes_ascii, passes_text, shown_char_printed}
-use Rattle.check_report.specs.Escape.{begins_with_c1, data_char, escaped, escaped_char, has_no_c1, html_char, is_c1, property_char}
-use Rattle.check_report.specs.declared.escape.Escape.{Escape}
 use Rattle.check_report.specs.declared.escape.Escape.TheVariants as escape
 
 -- ---- what holds of each escape, and of what is shown of a character, holds of an escaped character
@@ -25,44 +19,18 @@ pub record Holds (P : List ℕ → Type 0) : Type 0 where
   pub apostrophe : P (codes "&#39;")
 
 data_holds : (P : List ℕ → Type 0) → Holds P → (c : ℕ) → P (shown_char c) → P (data_char c)
-data_holds P all c other =
-    cond_both (c == 37) (codes "%25") _ P (λ is. all.percent) (λ not_percent. cond_both (c == 13) (codes "%0D") _ P (λ is. all.return) (λ not_return. cond_both (c == 10) (codes "%0A") (shown_char c) P (λ is. all.feed) (λ not_feed. other)))
-
-property_holds : (P : List ℕ → Type 0) → Holds P → (c : ℕ) → P (shown_char c) → P (property_char c)
-property_holds P all c other =
-    cond_both (c == 58) (codes "%3A") _ P (λ is. all.colon) (λ not_colon. cond_both (c == 44) (codes "%2C") (data_char c) P (λ is. all.comma) (λ not_comma. data_holds P all c other))
-
-html_holds : (P : List ℕ → Type 0) → Holds P → (c : ℕ) → P (shown_char c) → P (html_char c)
-html_holds P all c other =
-    cond_both (c == 38) (codes "&amp;") _ P (λ is. all.ampersand)
-    (λ no_ampersand. cond_both (c == 60) (codes "&lt;") _ P (λ is. all.less)
-    (λ no_less. cond_both (c == 62) (codes "&gt;") _ P (λ is. all.greater)
-    (λ no_greater. cond_both (c == 34) (codes "&#34;") _ P (λ is. all.quote) (λ no_quote. cond_both (c == 39) (codes "&#39;") (shown_char c) P (λ is. all.apostrophe) (λ no_apostrophe. other)))))
+data_holds P all c other = grind (arith, cond_both)
 
 char_holds : (P : List ℕ → Type 0) → Holds P → (how : Escape) (c : ℕ) → P (shown_char c) → P (escaped_char how c)
 char_holds P all escape.Shown c other = other
-char_holds P all escape.Data c other = data_holds P all c other
-char_holds P all escape.Property c other = property_holds P all c other
-char_holds P all escape.Html c other = html_holds P all c other
+char_holds P all escape.Data c other = grind (arith, cond_both)
+char_holds P all escape.Property c other = grind (arith, cond_both, data_holds)
+char_holds P all escape.Html c other = grind (arith, cond_both)
 
 -- ---- bytes
 
-printed_each : Holds (λ t. list_all is_printed t ≡ true)
-printed_each = record {
-  percent = refl;
-  return = refl;
-  feed = refl;
-  colon = refl;
-  comma = refl;
-  ampersand = refl;
-  less = refl;
-  greater = refl;
-  quote = refl;
-  apostrophe = refl;
-}
-
 pub escaped_printed : (how : Escape) (text : List ℕ) → list_all is_printed (escaped how text) ≡ true
-escaped_printed how text = each_passes is_printed (escaped_char how) (λ c. char_holds (λ t. list_all is_printed t ≡ true) printed_each how c (shown_char_printed c)) (chars text)
+escaped_printed how text = grind (arith, each_passes, char_holds, shown_char_printed)
 
 -- ---- characters
 
@@ -90,13 +58,8 @@ escaped_visible how text utf8 =
 
 -- ---- C1 controls
 
--- a byte that is not 194 begins no C1 control
-begins_none : (b : ℕ) (rest : List ℕ) → (b == 194) ≡ false → begins_with_c1 (b ∷ rest) ≡ false
-begins_none b [] other = refl
-begins_none b (code ∷ rest) other = λ i. other i && is_c1 code
-
 other_first : (b : ℕ) (rest : List ℕ) → (b ≡ 194 → ⊥) → has_no_c1 rest ≡ true → has_no_c1 (b ∷ rest) ≡ true
-other_first b rest other none = λ i. not (begins_none b rest (ne_eqb b 194 other) i) && none i
+other_first b rest other none = grind (arith, ne_eqb)
 
 -- a text before one without C1 controls makes none
 abbrev Apart : List ℕ → Type 0
@@ -105,22 +68,14 @@ Apart text = (rest : List ℕ) → has_no_c1 rest ≡ true → has_no_c1 (text +
 ascii_apart : (text : List ℕ) → list_all is_low text ≡ true → Apart text
 unfolding is_low
 ascii_apart [] low = λ rest none. none
-ascii_apart (b ∷ bs) low =
-    let parts = and_parts (nat_lt b 128) (list_all is_low bs) low in
-    let small = ltb-true b 128 parts.0 in
-    λ rest none. other_first b (bs ++ rest) (λ e. omega (arith, small, e)) (ascii_apart bs parts.1 rest none)
+ascii_apart (b ∷ bs) low = grind (arith, and_parts, is_low, ltb-true, other_first, ascii_apart bs)
 
 c1_hidden : (c : ℕ) → 128 ≤ c → c ≤ 159 → is_hidden c ≡ true
 c1_hidden c low high = grind (arith, nat_tests)
 
 -- the two bytes of a character that is not hidden are no C1 control
 two_apart : (c : ℕ) → is_hidden c ≡ false → ((192 + c / 64 == 194) && is_c1 (128 + c % 64)) ≡ false
-two_apart c seen =
-    false_from_ne_true ((192 + c / 64 == 194) && is_c1 (128 + c % 64)) (λ both.
-    let parts = and_parts (192 + c / 64 == 194) (is_c1 (128 + c % 64)) both in
-    let first = eqb-true (192 + c / 64) 194 parts.0 in
-    let within = leb-true (128 + c % 64) 159 (and_parts (nat_le 128 (128 + c % 64)) (nat_le (128 + c % 64) 159) parts.1).1 in
-    both_ways (is_hidden c) seen (c1_hidden c (omega arith) (omega arith)))
+two_apart c seen = grind (arith, false_from_ne_true, and_parts, eqb-true, leb-true, both_ways, c1_hidden)
 
 next_first : (n : ℕ) (rest : List ℕ) → has_no_c1 rest ≡ true → has_no_c1 ((128 + n % 64) ∷ rest) ≡ true
 next_first n rest none = other_first (128 + n % 64) rest (λ e. omega arith) none
@@ -145,18 +100,7 @@ shown_apart c = cond_both (is_hidden c) (escape_of c) (encode_utf8 c) Apart (λ 
 
 apart_each : Holds Apart
 unfolding is_low
-apart_each = record {
-  percent = ascii_apart (codes "%25") refl;
-  return = ascii_apart (codes "%0D") refl;
-  feed = ascii_apart (codes "%0A") refl;
-  colon = ascii_apart (codes "%3A") refl;
-  comma = ascii_apart (codes "%2C") refl;
-  ampersand = ascii_apart (codes "&amp;") refl;
-  less = ascii_apart (codes "&lt;") refl;
-  greater = ascii_apart (codes "&gt;") refl;
-  quote = ascii_apart (codes "&#34;") refl;
-  apostrophe = ascii_apart (codes "&#39;") refl;
-}
+apart_each = grind (arith, ascii_apart)
 
 none_each : (f : ℕ → List ℕ) → ((c : ℕ) → Apart (f c)) → (cs : List ℕ) → has_no_c1 (flat_map f cs) ≡ true
 none_each f each [] = refl

@@ -1,5 +1,5 @@
+pub mod Prelude
 mod Adding
 mod Controls
 mod Inert
-mod Members
 mod Pieces

@@ -1,18 +1,9 @@
 -- A text that is escaped piece by piece.
-use Rattle.std.proofs.Common.{◌≡◌, ℕ, ◌<◌, ◌==◌, true, false, not, List, [], ◌∷◌, ◌++◌, codes, length, get_or, take, chars, IsUtf8, IsCharBoundary, refl, sym, ap, ◌∙◌, append_assoc, append-nil, arith, if◌then◌else◌}
-use Rattle.std.proofs.lemmas.Bool.{and_parts, both_ways, ne_eqb}
-use Rattle.std.proofs.lemmas.Bool.Decides.{nat_tests}
-use Rattle.std.proofs.lemmas.List.Concat.{flat_map-append}
-use Rattle.std.proofs.lemmas.List.Folds.{list_all-append}
+use Rattle.check_report.proofs.Prelude.{common_steps, ◌≡◌, ℕ, ◌<◌, ◌==◌, true, false, List, [], ◌∷◌, ◌++◌, codes, length, take, chars, IsUtf8, IsCharBoundary, refl, sym, ap, ◌∙◌, append-nil, arith, if◌then◌else◌, and_parts, both_ways, ne_eqb, nat_tests, flat_map-append, list_all-append, chars-append, chars-nil, chars_past_char, encodes-chars, flat_map, list_all, prefix_len, shown, shown_char, data_char, escaped, escaped_char, html_char, is_ordinary, property_char, Escape}
 use Rattle.std.proofs.lemmas.List.Sums.{prefix_len-le-length, prefix_len_stops}
-use Rattle.std.proofs.lemmas.Str.{chars-append, chars-nil, chars_past_char, encodes-chars}
 use Rattle.std.specs.Char.{encode_utf8}
-use Rattle.std.specs.List.{flat_map, list_all, prefix_len}
 use Rattle.std.specs.Str.{encode_utf8_all}
-use Rattle.shown_text.specs.Shown.{shown, shown_char}
 use Rattle.shown_text.proofs.Pieces.{front_passes}
-use Rattle.check_report.specs.Escape.{data_char, escaped, escaped_char, html_char, is_ordinary, property_char}
-use Rattle.check_report.specs.declared.escape.Escape.{Escape}
 use Rattle.check_report.specs.declared.escape.Escape.TheVariants as escape
 
 -- ---- a character with ordinary bytes
@@ -34,22 +25,16 @@ property_stays c plain = λ i. if apart c 58 plain refl i then codes "%3A" else 
 
 html_stays : (c : ℕ) → IsOrdinary c → html_char c ≡ shown_char c
 unfolding encode_utf8
-html_stays c plain =
-    λ i. if apart c 38 plain refl i then codes "&amp;" else (if apart c 60 plain refl i then codes "&lt;" else (if apart c 62 plain refl i then codes "&gt;" else (if apart c 34 plain refl i then codes "&#34;" else (if apart c 39 plain refl i then codes "&#39;" else shown_char c))))
+html_stays c plain = grind (arith, apart)
 
 char_stays : (how : Escape) (c : ℕ) → IsOrdinary c → escaped_char how c ≡ shown_char c
-char_stays escape.Shown c plain = refl
-char_stays escape.Data c plain = data_stays c plain
-char_stays escape.Property c plain = property_stays c plain
-char_stays escape.Html c plain = html_stays c plain
+char_stays how c plain = grind (arith, data_stays, property_stays, html_stays)
 
 -- ---- a run of ordinary bytes
 
 run_stays : (how : Escape) (cs : List ℕ) → list_all is_ordinary (encode_utf8_all cs) ≡ true → flat_map (escaped_char how) cs ≡ flat_map shown_char cs
 run_stays how [] plain = refl
-run_stays how (c ∷ cs) plain =
-    let parts = and_parts (list_all is_ordinary (encode_utf8 c)) (list_all is_ordinary (encode_utf8_all cs)) (sym (list_all-append is_ordinary (encode_utf8 c) (encode_utf8_all cs)) ∙ plain) in
-    λ i. char_stays how c parts.0 i ++ run_stays how cs parts.1 i
+run_stays how (c ∷ cs) plain = grind (arith, and_parts, list_all-append, char_stays, run_stays how cs)
 
 ordinary_run : (how : Escape) (run : List ℕ) → IsUtf8 run → list_all is_ordinary run ≡ true → escaped how run ≡ shown run
 ordinary_run how run utf8 plain = run_stays how (chars run) (ap (list_all is_ordinary) (encodes-chars run utf8) ∙ plain)
@@ -67,29 +52,19 @@ within_ascii b other = grind (arith, nat_tests)
 
 -- a text may be cut after its ordinary bytes
 pub run_ends : (text : List ℕ) → IsCharBoundary text (prefix_len is_ordinary text)
-run_ends text = (
-  prefix_len-le-length is_ordinary text,
-  λ inside high. let low = within_ascii (get_or text (prefix_len is_ordinary text) 0) (prefix_len_stops is_ordinary text 0 inside) in omega (arith, low, high),
-)
+run_ends text = grind (arith, prefix_len-le-length, within_ascii, prefix_len_stops)
 
 -- ---- what was put, and what is left
 
 -- if nothing is left, all was put
 pub all_put : (how : Escape) (start out all rest : List ℕ) → length rest ≡ 0 → out ++ escaped how rest ≡ start ++ escaped how all → out ≡ start ++ escaped how all
-all_put how start out all [] empty so_far = sym (ap (λ cs. out ++ flat_map (escaped_char how) cs) chars-nil ∙ append-nil out) ∙ so_far
-all_put how start out all (b ∷ rest) empty so_far = absurd (omega arith)
+all_put how start out all rest empty so_far = grind (arith, common_steps, chars-nil, append-nil)
 
 -- a run, and then the first character after it
 pub run_put : (how : Escape) (start out mid new all text run tail left : List ℕ) →
     out ++ escaped how text ≡ start ++ escaped how all → text ≡ run ++ tail → IsUtf8 run → list_all is_ordinary run ≡ true → mid ≡ out ++ shown run →
     new ++ escaped how left ≡ mid ++ escaped how tail → new ++ escaped how left ≡ start ++ escaped how all
-run_put how start out mid new all text run tail left so_far split utf8 plain put first =
-    first ∙ ap (λ t. t ++ escaped how tail) put
-    ∙ append_assoc out (shown run) (escaped how tail)
-    ∙ ap (λ t. out ++ t) (ap (λ t. t ++ escaped how tail) (sym (ordinary_run how run utf8 plain)) ∙ sym (escaped_both how run tail utf8) ∙ ap (escaped how) (sym split)) ∙ so_far
+run_put how start out mid new all text run tail left so_far split utf8 plain put first = grind (arith, common_steps, ordinary_run, escaped_both)
 
 pub char_put : (how : Escape) (out new text rest : List ℕ) (c : ℕ) → IsUtf8 text → text ≡ encode_utf8 c ++ rest → new ≡ out ++ escaped_char how c → new ++ escaped how rest ≡ out ++ escaped how text
-char_put how out new text rest c utf8 is put =
-    ap (λ t. t ++ escaped how rest) put
-    ∙ append_assoc out (escaped_char how c) (escaped how rest)
-    ∙ ap (λ t. out ++ t) (sym (ap (flat_map (escaped_char how)) (chars_past_char text rest c utf8 is)))
+char_put how out new text rest c utf8 is put = grind (arith, common_steps, chars_past_char)

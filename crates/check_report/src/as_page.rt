@@ -38,6 +38,7 @@ pub fn put_page(out: &mut Vec<u8>, row: Row<'_>) -> Result<(), NoMemory>
 // ---- fixed texts
 
 /// The page up to the text of its title.
+#[tactic(auto, unfolding(crate::specs::Page::head_part))]
 fn head_part() -> &'static str
     ensures { result.now ≡ head_part }
 {
@@ -45,6 +46,7 @@ fn head_part() -> &'static str
 }
 
 /// The text from the end of the title to the script, with the style sheet.
+#[tactic(auto, unfolding(crate::specs::Page::style_part))]
 fn style_part() -> &'static str
     ensures { result.now ≡ style_part }
 {
@@ -52,6 +54,7 @@ fn style_part() -> &'static str
 }
 
 /// The script, and the text from there to the name of the site.
+#[tactic(auto, unfolding(crate::specs::Page::script_part))]
 fn script_part() -> &'static str
     ensures { result.now ≡ script_part }
 {
@@ -59,6 +62,7 @@ fn script_part() -> &'static str
 }
 
 /// The end of the list of counts, and the form for search and order.
+#[tactic(auto, unfolding(crate::specs::Page::tools_part))]
 fn tools_part() -> &'static str
     ensures { result.now ≡ tools_part }
 {
@@ -66,6 +70,7 @@ fn tools_part() -> &'static str
 }
 
 /// The end of the page, after the last section.
+#[tactic(auto, unfolding(crate::specs::Page::tail_part))]
 fn tail_part() -> &'static str
     ensures { result.now ≡ tail_part }
 {
@@ -95,6 +100,7 @@ fn section_start(part: Part) -> &'static str
 // ---- totals
 
 /// Appends the page up to its first section: the title, the heading, the counts, and the form for search and order.
+#[tactic(auto, using(crate::proofs::Adding::joined, crate::proofs::Adding::last_joined), unfolding(crate::specs::Page::page_total))]
 fn put_total(out: &mut Vec<u8>, base: &str, totals: Totals, counts: Counts) -> Result<(), NoMemory>
     ensures { OnOk result (out.new.items ≡ out.old.items ++ page_total base.now totals counts) }
 {

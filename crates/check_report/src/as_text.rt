@@ -219,6 +219,7 @@ fn put_worst(out: &mut Vec<u8>, count: &FileCount) -> Result<(), NoMemory>
 }
 
 /// Appends the line of a redirect: its URL, its target, and the number of pages that link to it.
+#[tactic(auto, using(crate::proofs::Adding::joined, crate::proofs::Adding::last_joined))]
 fn put_redirect(out: &mut Vec<u8>, redirect: &Redirect) -> Result<(), NoMemory>
     ensures { OnOk result (out.new.items ≡ out.old.items ++ redirect_text redirect.now) }
 {

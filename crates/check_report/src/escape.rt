@@ -20,6 +20,7 @@ pub enum Escape {
 }
 
 /// Appends a text, escaped for its position. Hidden characters are escaped in every position.
+#[tactic(auto, using(crate::proofs::Pieces::all_put))]
 pub fn put_escaped(out: &mut Vec<u8>, how: Escape, text: &str) -> Result<(), NoMemory>
     ensures { OnOk result (out.new.items ≡ out.old.items ++ escaped how text.now) }
 {
@@ -51,6 +52,7 @@ fn is_ordinary(byte: u8) -> bool
 }
 
 /// Appends the first character of the text, escaped, and returns the rest.
+#[tactic(auto, using(crate::proofs::Pieces::char_put))]
 fn put_first<'a>(out: &mut Vec<u8>, how: Escape, text: &'a str) -> Result<&'a str, NoMemory>
     ensures text { IfOk result (λ rest. out.new.items ++ escaped how rest.now ≡ out.old.items ++ escaped how text.now) }
     ensures shorter { IfOk result (λ rest. length rest.now ≤ length text.now - 1) }

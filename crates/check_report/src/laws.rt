@@ -8,26 +8,31 @@ ghost use Rattle.check_report.specs.declared.escape.Escape.TheVariants as escape
 ghost use Rattle.shown_text.specs.Shown.{is_printed, is_visible};
 
 /// An escaped text in the HTML page has no `<`, `>`, `"` or `'`, and each `&` starts a character reference.
+#[tactic(auto, using(crate::proofs::Inert::html_inert))]
 pub fn html_text_is_inert()
     ensures { (text : List ℕ) → is_inert (escaped escape.Html text) ≡ true }
 {}
 
 /// An escaped text has no control byte: no C0 control and no DEL. It can neither end a line nor control a terminal.
+#[tactic(auto, using(crate::proofs::Controls::escaped_printed))]
 pub fn shown_text_has_no_control_byte()
     ensures { (how : Escape) (text : List ℕ) → list_all is_printed (escaped how text) ≡ true }
 {}
 
 /// An escaped text has no C1 control, which could also control a terminal.
+#[tactic(auto, using(crate::proofs::Controls::escaped_has_no_c1))]
 pub fn text_for_people_has_no_c1()
     ensures { (how : Escape) (text : List ℕ) → has_no_c1 (escaped how text) ≡ true }
 {}
 
 /// An escaped text has no hidden character: no control character, no separator of lines or paragraphs, and no bidirectional control.
+#[tactic(auto, using(crate::proofs::Controls::escaped_visible))]
 pub fn escaped_text_has_no_hidden_character()
     ensures { (how : Escape) (text : List ℕ) → IsUtf8 text → list_all is_visible (chars (escaped how text)) ≡ true }
 {}
 
 /// An escaped text in an annotation has no line end, and in a property nothing that ends the property.
+#[tactic(auto, using(crate::proofs::Controls::escaped_printed, crate::proofs::Inert::property_inside))]
 pub fn annotation_text_stays_in_its_line()
     ensures message { (text : List ℕ) → list_all is_printed (escaped escape.Data text) ≡ true }
     ensures property { (text : List ℕ) → list_all is_in_property (escaped escape.Property text) ≡ true }

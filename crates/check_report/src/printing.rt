@@ -202,6 +202,7 @@ fn with_edge(out: Vec<u8>, form: Form<'_>, row: Row<'_>, rows: usize) -> Result<
 }
 
 /// Appends the section of the missing pages and anchors, if there are any.
+#[tactic(auto, using(crate::proofs::Adding::part_more))]
 fn with_broken(
     out: Vec<u8>,
     form: Form<'_>,
@@ -217,6 +218,7 @@ fn with_broken(
 }
 
 /// Appends the rows of each missing page or anchor.
+#[tactic(auto, using(crate::proofs::Adding::adds_none, crate::proofs::Adding::rows_more, crate::proofs::Adding::rows_all))]
 fn with_targets(
     mut out: Vec<u8>,
     form: Form<'_>,
@@ -232,6 +234,7 @@ fn with_targets(
 }
 
 /// Appends a missing page or anchor, its locations, and the number of locations that are not listed.
+#[tactic(auto, using(crate::proofs::Adding::then_more, crate::proofs::Adding::adds_both, crate::proofs::Adding::adds_same))]
 fn with_target(
     out: Vec<u8>,
     form: Form<'_>,
@@ -258,6 +261,7 @@ fn shown_places(places: &[Place], all: bool) -> &[Place]
 }
 
 /// Appends a row for each of these locations of links to the target.
+#[tactic(auto, using(crate::proofs::Adding::adds_none, crate::proofs::Adding::row_more, crate::proofs::Adding::rows_all))]
 fn with_places(
     mut out: Vec<u8>,
     form: Form<'_>,
@@ -289,6 +293,7 @@ fn with_left_out(
 }
 
 /// Appends the section of the files with the most broken links, if there are any.
+#[tactic(auto, using(crate::proofs::Adding::part_more))]
 fn with_worst(out: Vec<u8>, form: Form<'_>, counts: &[FileCount]) -> Result<Vec<u8>, NoMemory>
     ensures { IfOk result (λ more. Adds form.entry out.items more.items (worst_part counts.now)) }
 {
@@ -299,6 +304,7 @@ fn with_worst(out: Vec<u8>, form: Form<'_>, counts: &[FileCount]) -> Result<Vec<
 }
 
 /// Appends a row for each of these files.
+#[tactic(auto, using(crate::proofs::Adding::adds_none, crate::proofs::Adding::row_more, crate::proofs::Adding::rows_all))]
 fn with_counts(mut out: Vec<u8>, form: Form<'_>, counts: &[FileCount]) -> Result<Vec<u8>, NoMemory>
     ensures { IfOk result (λ more. Adds form.entry out.items more.items (map line.worst counts.now)) }
 {
@@ -309,6 +315,7 @@ fn with_counts(mut out: Vec<u8>, form: Form<'_>, counts: &[FileCount]) -> Result
 }
 
 /// Appends the section of the redirects that pages link to, if there are any.
+#[tactic(auto, using(crate::proofs::Adding::part_more))]
 fn with_redirects(out: Vec<u8>, form: Form<'_>, pages: &[Redirect]) -> Result<Vec<u8>, NoMemory>
     ensures { IfOk result (λ more. Adds form.entry out.items more.items (redirect_part pages.now)) }
 {
@@ -319,6 +326,7 @@ fn with_redirects(out: Vec<u8>, form: Form<'_>, pages: &[Redirect]) -> Result<Ve
 }
 
 /// Appends a row for each of these redirects.
+#[tactic(auto, using(crate::proofs::Adding::adds_none, crate::proofs::Adding::row_more, crate::proofs::Adding::rows_all))]
 fn with_moved(mut out: Vec<u8>, form: Form<'_>, pages: &[Redirect]) -> Result<Vec<u8>, NoMemory>
     ensures { IfOk result (λ more. Adds form.entry out.items more.items (map line.redirect pages.now)) }
 {
@@ -329,6 +337,7 @@ fn with_moved(mut out: Vec<u8>, form: Form<'_>, pages: &[Redirect]) -> Result<Ve
 }
 
 /// Appends the section of the external URLs, if there are any.
+#[tactic(auto, using(crate::proofs::Adding::part_more))]
 fn with_external(out: Vec<u8>, form: Form<'_>, urls: &[External]) -> Result<Vec<u8>, NoMemory>
     ensures { IfOk result (λ more. Adds form.entry out.items more.items (external_part urls.now)) }
 {
@@ -339,6 +348,7 @@ fn with_external(out: Vec<u8>, form: Form<'_>, urls: &[External]) -> Result<Vec<
 }
 
 /// Appends a row for each of these external URLs.
+#[tactic(auto, using(crate::proofs::Adding::adds_none, crate::proofs::Adding::row_more, crate::proofs::Adding::rows_all))]
 fn with_urls(mut out: Vec<u8>, form: Form<'_>, urls: &[External]) -> Result<Vec<u8>, NoMemory>
     ensures { IfOk result (λ more. Adds form.entry out.items more.items (map line.external urls.now)) }
 {
@@ -349,6 +359,7 @@ fn with_urls(mut out: Vec<u8>, form: Form<'_>, urls: &[External]) -> Result<Vec<
 }
 
 /// Appends a section of names, if there are any: the unreached files, or the unused entries of the ignore list.
+#[tactic(auto, using(crate::proofs::Adding::part_more))]
 fn with_names(
     out: Vec<u8>,
     form: Form<'_>,
@@ -364,6 +375,7 @@ fn with_names(
 }
 
 /// Appends a row for each of these names.
+#[tactic(auto, using(crate::proofs::Adding::adds_none, crate::proofs::Adding::row_more, crate::proofs::Adding::adds_same, crate::proofs::Adding::rows_all))]
 fn with_texts(
     mut out: Vec<u8>,
     form: Form<'_>,

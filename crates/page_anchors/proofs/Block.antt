@@ -1,15 +1,6 @@
 -- Ids in one block, and one more after them.
-use Rattle.std.proofs.lemmas.Bool.Decides.{nat_tests}
-use Rattle.std.proofs.lemmas.Grind.{common_steps}
-use Rattle.std.proofs.Common.{◌≡◌, ◌∙◌, ℕ, zero, suc, ◌+◌, ◌-◌, ◌<◌, ◌≤◌, List, [], ◌∷◌, ◌++◌, length, take, drop, get_or, length-append, refl, ap, arith}
-use Rattle.std.proofs.lemmas.List.{drop-append-le, drop_at, get_or-map, length-drop, length-map, length-take, map-append, map_more, take-append-le, take_all}
-use Rattle.std.specs.Borrow.{Bor}
-use Rattle.std.specs.Cmp.Lexicographic.{slice_cmp}
-use Rattle.std.specs.List.{flat_map, slice_range}
-use Rattle.std.specs.List.Sorted.{IsSorted}
-use Rattle.std.specs.Ordering.{is_lt, nat_cmp}
-use Rattle.page_anchors.specs.Ids.{DoBound, pointed, texts_from}
-use Rattle.page_anchors.specs.Indicated.{DoAscend}
+use Rattle.page_anchors.proofs.Prelude.{◌≡◌, ◌∙◌, ℕ, zero, suc, ◌+◌, ◌-◌, ◌<◌, ◌≤◌, List, [], ◌∷◌, ◌++◌, length, drop, get_or, length-append, refl, ap, arith, Bor, slice_cmp, flat_map, slice_range, IsSorted, is_lt, nat_cmp, DoBound, pointed, texts_from, DoAscend}
+use Rattle.std.proofs.lemmas.List.{drop-append-le, drop_at, get_or-map, length-drop, length-map, length-take, map-append, take-append-le, take_all}
 
 -- ---- the ids
 
@@ -52,17 +43,10 @@ pub bound_more : (from : ℕ) (ends : List ℕ) (count more : ℕ) → DoBound f
 bound_more from [] count more bound up = (omega (arith, bound, up), refl)
 bound_more from (end ∷ ends) count more bound up = (bound.0, bound_more end ends count more bound.1 up)
 
--- the bytes before the end are the same
-range_kept : (bytes more : List ℕ) (from end : ℕ) → from ≤ end → end ≤ length bytes → slice_range (bytes ++ more) from end ≡ slice_range bytes from end
-range_kept bytes more from end up within = grind (arith, length-drop, drop-append-le, take-append-le)
-
-last_range : (bytes id : List ℕ) (from : ℕ) → from ≡ length bytes → slice_range (bytes ++ id) from (length (bytes ++ id)) ≡ id
-last_range bytes id from here = grind (arith, drop_at, length-append, take_all)
-
 pub ids_more : (bytes id : List ℕ) (from : ℕ) (ends : List ℕ) → DoBound from ends (length bytes) →
     texts_from (bytes ++ id) from (ends ++ length (bytes ++ id) ∷ []) ≡ texts_from bytes from ends ++ id ∷ []
-ids_more bytes id from [] bound = ap (λ t. t ∷ []) (last_range bytes id from bound)
-ids_more bytes id from (end ∷ ends) bound = grind (arith, range_kept, up_to, ids_more bytes id end ends bound.1)
+ids_more bytes id from [] bound = grind (arith, drop_at, length-append, take_all)
+ids_more bytes id from (end ∷ ends) bound = grind (arith, up_to, ids_more bytes id end ends bound.1, length-drop, drop-append-le, take-append-le)
 
 -- what a push makes of a block
 pub ids_pushed : (bytes more id : List ℕ) (ends longer : List ℕ) → DoBound 0 ends (length bytes) → more ≡ bytes ++ id → longer ≡ ends ++ length more ∷ [] → texts_from more 0 longer ≡ texts_from bytes 0 ends ++ id ∷ []
@@ -75,9 +59,6 @@ bound_pushed bytes more id ends longer bound is ends_are = grind (arith, length-
 
 pub pointed_push : (ids : List (Bor (List ℕ))) (id : Bor (List ℕ)) → pointed (ids ++ id ∷ []) ≡ pointed ids ++ id.now ∷ []
 pointed_push ids id = map-append (λ (text : Bor (List ℕ)). text.now) ids (id ∷ [])
-
-pub pointed_more : (ids : List (Bor (List ℕ))) (i : ℕ) (id : Bor (List ℕ)) → i < length ids → id ≡ get_or ids i id → pointed (take (i + 1) ids) ≡ pointed (take i ids) ++ id.now ∷ []
-pointed_more ids i id below is = grind (arith, nat_tests, common_steps, map_more)
 
 pub pointed_ascend : (ids : List (Bor (List ℕ))) → IsSorted (λ x y. slice_cmp nat_cmp x.now y.now) ids → DoAscend (pointed ids)
 pointed_ascend [] up = λ k d first below. absurd (omega (arith, below))

@@ -1,7 +1,5 @@
 -- The bytes before a fragment directive, one by one.
-use Rattle.std.proofs.Common.{◌≡◌, ℕ, ◌+◌, ◌-◌, ◌<◌, false, List, [], ◌∷◌, ◌++◌, length, take, drop, get_or, length-drop, arith, sym, ap, ◌∙◌, if◌then◌else◌}
-use Rattle.std.proofs.lemmas.List.{append_assoc, drop_more, take_more, take_all}
-use Rattle.page_anchors.specs.Indicated.{before_directive, begins_directive}
+use Rattle.page_anchors.proofs.Prelude.{◌≡◌, ℕ, ◌+◌, ◌-◌, ◌<◌, false, List, [], ◌∷◌, ◌++◌, length, take, drop, get_or, length-drop, arith, sym, ap, ◌∙◌, if◌then◌else◌, append_assoc, drop_more, take_more, take_all, before_directive, begins_directive}
 
 -- a rest up to the end
 pub whole_rest : (text : List ℕ) (i : ℕ) → take (length text - i) (drop i text) ≡ drop i text

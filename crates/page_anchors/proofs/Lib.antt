@@ -1,3 +1,4 @@
+pub mod Prelude
 pub mod Block
 mod Directive
 mod Plain

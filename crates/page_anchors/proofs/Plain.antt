@@ -1,16 +1,11 @@
 -- A text whose bytes are the same in a URL.
-use Rattle.std.proofs.Common.{◌≡◌, ◌≢◌, ◌∙◌, ℕ, ◌<◌, Bool, true, false, ◌==◌, ◌||◌, List, [], ◌∷◌, All, length, refl, ap, arith, if◌then◌else◌}
-use Rattle.std.proofs.lemmas.Bool.{agree_below_at, eq-eqb, ltb-false, or_parts}
+use Rattle.page_anchors.proofs.Prelude.{◌≡◌, ◌≢◌, ◌∙◌, ℕ, ◌<◌, Bool, true, false, ◌==◌, ◌||◌, List, [], ◌∷◌, All, length, refl, ap, arith, if◌then◌else◌, agree_below_at, eq-eqb, ltb-false, or_parts, list_any, is_escaped, is_odd, before_directive, decoded_of, fragment_of, front_indicated, has_decoded, has_id, is_indicated, is_route, is_top, IN_FRAGMENT}
 use Rattle.std.proofs.lemmas.List.Elements.{All-nil, All-cons}
 use Rattle.std.proofs.lemmas.Str.{IsUtf8-from_ascii, utf8_lossy-IsUtf8}
-use Rattle.std.specs.List.{list_any}
 use Rattle.std.specs.Str.Lossy.{utf8_lossy}
 use Rattle.percent_encoding.specs.AsciiSet.{should_percent_encode}
 use Rattle.percent_encoding.specs.Percent.{IsKept, percent_decode}
 use Rattle.percent_encoding.proofs.PercentLemmas.{IsAscii_from_kept, percent_decode-nil, percent_decode_not_percent, percent_encode_unchanged}
-use Rattle.page_anchors.specs.Escapes.{is_escaped, is_odd}
-use Rattle.page_anchors.specs.Indicated.{before_directive, begins_directive, decoded_of, fragment_of, front_indicated, has_decoded, has_id, is_indicated, is_route, is_top}
-use Rattle.page_anchors.specs.declared.indicated.TheConstants.{IN_FRAGMENT}
 
 -- a byte of such a text
 record IsPlain (b : ℕ) : Type 0 where
@@ -25,12 +20,9 @@ agrees b below = agree_below_at (should_percent_encode IN_FRAGMENT) is_escaped 2
 plain_byte : (b : ℕ) → is_odd b ≡ false → IsPlain b
 plain_byte b odd = grind (arith, or_parts, agrees, ltb-false, eq-eqb)
 
-begins_none : (b : ℕ) (bs : List ℕ) → IsPlain b → begins_directive (b ∷ bs) ≡ false
-begins_none b bs plain = grind (arith, plain.directive)
-
 plain_front : (text : List ℕ) → list_any is_odd text ≡ false → before_directive text ≡ text
 plain_front [] none = refl
-plain_front (b ∷ bs) none = grind (arith, or_parts, begins_none, plain_byte, plain_front bs)
+plain_front (b ∷ bs) none = grind (arith, or_parts, plain_byte, plain_front bs)
 
 all_kept : (text : List ℕ) → list_any is_odd text ≡ false → All (IsKept IN_FRAGMENT) text
 all_kept [] none = All-nil (IsKept IN_FRAGMENT)

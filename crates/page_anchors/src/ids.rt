@@ -56,6 +56,7 @@ impl Ids {
     }
 
     /// The number of ids.
+    #[tactic(auto, using(crate::proofs::Block::count_of))]
     pub fn len(&self) -> usize
         ensures { result ≡ length self.now }
     {
@@ -63,6 +64,7 @@ impl Ids {
     }
 
     /// The number of bytes of all ids.
+    #[tactic(auto, using(crate::proofs::Block::all_bytes))]
     pub fn byte_count(&self) -> usize
         ensures { result ≡ length (flat_map (λ id. id) self.now) }
     {
@@ -70,6 +72,7 @@ impl Ids {
     }
 
     /// The id with this index.
+    #[tactic(auto, using(crate::proofs::Block::count_of))]
     pub fn id(&self, index: usize) -> &[u8]
         requires { index < length self.now }
         ensures { result.now ≡ slice_index_or self.now index [] }
@@ -81,6 +84,7 @@ impl Ids {
     ///
     /// # Errors
     /// Out of memory, or the ids would have 4 GiB or more. In both cases all ids are removed.
+    #[tactic(auto, using(crate::proofs::Block::bound_pushed, crate::proofs::Block::ids_pushed))]
     pub fn push(&mut self, id: &[u8]) -> Result<(), NoMemory>
         ensures pushed { OnOk result (self.new ≡ self.old ++ id.now ∷ []) }
         ensures gone { OnErr result (self.new ≡ []) }
@@ -111,6 +115,7 @@ impl Ids {
     }
 
     /// Returns references to the ids, in the order of their indices.
+    #[tactic(auto, using(crate::proofs::Block::pointed_push, std::proofs::lemmas::List::take_more, std::proofs::lemmas::List::take_all))]
     fn pointers(&self, alloc: Global) -> Result<Vec<&[u8]>, NoMemory>
         ensures { IfOk result (λ ids. pointed ids.items ≡ self.now) }
     {
@@ -134,6 +139,7 @@ impl Ids {
 }
 
 /// The id with this index, if the ids end at these positions of the bytes.
+#[tactic(auto, using(crate::proofs::Block::id_within, crate::proofs::Block::id_is))]
 fn id_at<'b>(bytes: &'b [u8], ends: &[u32], index: usize) -> &'b [u8]
     requires within { index < length ends.now }
     requires bound { DoBound 0 ends.now (length bytes.now) }

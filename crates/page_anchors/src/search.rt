@@ -8,6 +8,7 @@ use crate::ids::Ids;
 use std::cmp::Ordering;
 
 /// Whether one of the ids is the text.
+#[tactic(auto, using(crate::proofs::Searched::found_at))]
 pub fn has_id(ids: &Ids, text: &[u8]) -> bool
     ensures { DoAscend ids.now → result ≡ has_id ids.now text.now }
 {

@@ -1,9 +1,5 @@
-use Rattle.std.proofs.Common.{[], ◌∷◌, ◌++◌, codes, decimal, ap, ◌∙◌}
-use Rattle.std.proofs.lemmas.List.{append_assoc}
-use Rattle.json.specs.Token.{end_object, key, number}
-use Rattle.check_report.specs.Json.{broken_counts, count_if_at, count_tokens}
-use Rattle.check_report.proofs.Adding.{joined, last_joined}
-use Rattle.check_report.proofs.Members.{count_first, then_ok}
+use Rattle.check_report.proofs.Prelude.{[], ◌∷◌, ◌++◌, codes, decimal, ap, ◌∙◌, append_assoc, end_object, key, number, broken_counts, count_if_at, count_tokens}
+use Rattle.check_report.proofs.Adding.{joined, last_joined, count_first, then_ok}
 use Rattle.check_report.proofs.as_json.put_optional_counts.Goals as goal
 
 pub returns-clause-tokens : goal.returns-clause-tokens

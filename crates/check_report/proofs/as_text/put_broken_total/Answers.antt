@@ -1,5 +1,4 @@
-use Rattle.std.proofs.Common.{◌++◌, codes, ap, ◌∙◌}
-use Rattle.check_report.specs.Text.{code, counted, plain, verdict}
+use Rattle.check_report.proofs.Prelude.{◌++◌, codes, ap, ◌∙◌, code, counted, plain, verdict}
 use Rattle.check_report.proofs.Adding.{joined, last_joined}
 use Rattle.check_report.proofs.as_text.put_broken_total.Goals as goal
 

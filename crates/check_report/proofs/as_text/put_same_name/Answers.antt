@@ -1,6 +1,4 @@
-use Rattle.std.proofs.Common.{◌≡◌, ◌++◌, OnOk, ap, codes, option_map, string_bytes, subst, sym, ◌∙◌}
-use Rattle.check_report.specs.Escape.{escaped}
-use Rattle.check_report.specs.Text.{same_name_text}
+use Rattle.check_report.proofs.Prelude.{◌≡◌, ◌++◌, OnOk, ap, codes, option_map, string_bytes, subst, sym, ◌∙◌, escaped, same_name_text}
 use Rattle.check_report.proofs.Adding.{joined, last_joined}
 use Rattle.check_report.proofs.as_text.put_same_name.Goals as goal
 

@@ -1,11 +1,5 @@
-use Rattle.std.proofs.Common.{◌≡◌, ◌++◌, IsCharBoundary, IsUtf8, ap, ◌∙◌, subst, sym}
-use Rattle.std.proofs.lemmas.Bool.{eqb-true}
-use Rattle.std.proofs.lemmas.List.{take-append-drop}
-use Rattle.std.proofs.lemmas.List.Folds.{length-prefix_len}
-use Rattle.std.proofs.lemmas.Str.{IsUtf8-take}
-use Rattle.std.specs.List.{list_all}
-use Rattle.check_report.specs.Escape.{is_ordinary}
-use Rattle.check_report.proofs.Pieces.{all_put, run_ends, run_is_ordinary, run_put}
+use Rattle.check_report.proofs.Prelude.{◌≡◌, ◌++◌, IsCharBoundary, IsUtf8, ap, ◌∙◌, subst, sym, take-append-drop, length-prefix_len, IsUtf8-take, list_all, is_ordinary}
+use Rattle.check_report.proofs.Pieces.{run_ends, run_is_ordinary, run_put}
 use Rattle.check_report.proofs.escape.put_escaped.Goals as goal
 
 pub split_at-requires : goal.split_at-requires
@@ -29,6 +23,3 @@ runs-preserved c =
           run_put c.args.how c.args.out.now.items c.runs.out.items c.put_shown.new.out.items c.put_first.new.out.items c.args.text.now text run tail c.in_ok-rest.rest.now
           c.runs.invariant.so_far split utf8 plain c.in_ok-put_shown.ensures c.in_ok-rest.ensures.text;
     }
-
-pub returns : goal.returns
-returns c = all_put c.args.how c.args.out.now.items c.runs.out.items c.args.text.now c.runs.rest.now (eqb-true _ _ (sym c.is_empty.ensures ∙ c.runs-test.false)) c.runs.invariant.so_far

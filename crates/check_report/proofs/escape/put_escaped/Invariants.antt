@@ -1,5 +1,4 @@
-use Rattle.std.proofs.Common.{◌≡◌, ◌++◌, length, IsUtf8}
-use Rattle.check_report.specs.Escape.{escaped}
+use Rattle.check_report.proofs.Prelude.{◌≡◌, ◌++◌, length, IsUtf8, escaped}
 use Rattle.check_report.proofs.escape.put_escaped.Given as goal
 
 abbrev pub decreases-runs : goal.decreases-runs

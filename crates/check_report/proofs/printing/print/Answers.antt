@@ -1,7 +1,4 @@
-use Rattle.std.proofs.Common.{◌≡◌, [], ◌∷◌, ◌++◌, ap, ◌∙◌}
-use Rattle.std.specs.List.{flat_map}
-use Rattle.check_report.specs.Printing.{bytes_of}
-use Rattle.check_report.specs.Rows.{Line, broken_part, counts_of, external_of, external_part, last, listed, name_part, redirect_part, rows_of, sections_of, total, worst_part}
+use Rattle.check_report.proofs.Prelude.{◌≡◌, [], ◌∷◌, ◌++◌, ap, ◌∙◌, flat_map, bytes_of, Line, broken_part, counts_of, external_of, external_part, last, listed, name_part, redirect_part, rows_of, sections_of, total, worst_part}
 use Rattle.check_report.specs.declared.row.Part.TheVariants as part
 use Rattle.check_report.proofs.Adding.{adds_both, adds_same}
 use Rattle.check_report.proofs.printing.print.Goals as goal

@@ -1,6 +1,4 @@
-use Rattle.std.proofs.Common.{take, map}
-use Rattle.check_report.specs.Printing.{Adds}
-use Rattle.check_report.specs.Rows.{worst}
+use Rattle.check_report.proofs.Prelude.{take, map, Adds, worst}
 use Rattle.check_report.proofs.printing.with_counts.Given as goal
 
 abbrev pub invariant-loop-count : goal.invariant-loop-count

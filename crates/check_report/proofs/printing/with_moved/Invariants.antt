@@ -1,6 +1,4 @@
-use Rattle.std.proofs.Common.{take, map}
-use Rattle.check_report.specs.Printing.{Adds}
-use Rattle.check_report.specs.Rows.{redirect}
+use Rattle.check_report.proofs.Prelude.{take, map, Adds, redirect}
 use Rattle.check_report.proofs.printing.with_moved.Given as goal
 
 abbrev pub invariant-loop-page : goal.invariant-loop-page

@@ -1,6 +1,4 @@
-use Rattle.std.proofs.Common.{take}
-use Rattle.check_report.specs.Printing.{Adds}
-use Rattle.check_report.specs.Rows.{place_lines}
+use Rattle.check_report.proofs.Prelude.{take, Adds, place_lines}
 use Rattle.check_report.proofs.printing.with_places.Given as goal
 
 abbrev pub invariant-loop-place : goal.invariant-loop-place

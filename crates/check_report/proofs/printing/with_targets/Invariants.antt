@@ -1,6 +1,4 @@
-use Rattle.std.proofs.Common.{take}
-use Rattle.check_report.specs.Printing.{Adds}
-use Rattle.check_report.specs.Rows.{broken_lines}
+use Rattle.check_report.proofs.Prelude.{take, Adds, broken_lines}
 use Rattle.check_report.proofs.printing.with_targets.Given as goal
 
 abbrev pub invariant-loop-target : goal.invariant-loop-target

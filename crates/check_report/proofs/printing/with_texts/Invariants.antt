@@ -1,6 +1,4 @@
-use Rattle.std.proofs.Common.{take, map, string_bytes}
-use Rattle.check_report.specs.Printing.{Adds}
-use Rattle.check_report.specs.Rows.{name}
+use Rattle.check_report.proofs.Prelude.{take, map, string_bytes, Adds, name}
 use Rattle.check_report.proofs.printing.with_texts.Given as goal
 
 abbrev pub invariant-loop-text : goal.invariant-loop-text

@@ -1,6 +1,4 @@
-use Rattle.std.proofs.Common.{take, map}
-use Rattle.check_report.specs.Printing.{Adds}
-use Rattle.check_report.specs.Rows.{external}
+use Rattle.check_report.proofs.Prelude.{take, map, Adds, external}
 use Rattle.check_report.proofs.printing.with_urls.Given as goal
 
 abbrev pub invariant-loop-url : goal.invariant-loop-url

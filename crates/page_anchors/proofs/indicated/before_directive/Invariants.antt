@@ -1,5 +1,4 @@
-use Rattle.std.proofs.Common.{◌≡◌, ◌++◌, take, drop}
-use Rattle.page_anchors.specs.Indicated.{before_directive}
+use Rattle.page_anchors.proofs.Prelude.{◌≡◌, ◌++◌, take, drop, before_directive}
 use Rattle.page_anchors.proofs.indicated.before_directive.Given as goal
 
 abbrev pub invariant-loop-index : goal.invariant-loop-index

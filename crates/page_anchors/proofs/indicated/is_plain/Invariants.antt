@@ -1,6 +1,4 @@
-use Rattle.std.proofs.Common.{◌≡◌, false, take}
-use Rattle.std.specs.List.{list_any}
-use Rattle.page_anchors.specs.Escapes.{is_odd}
+use Rattle.page_anchors.proofs.Prelude.{◌≡◌, false, take, list_any, is_odd}
 use Rattle.page_anchors.proofs.indicated.is_plain.Given as goal
 
 abbrev pub invariant-loop-byte : goal.invariant-loop-byte

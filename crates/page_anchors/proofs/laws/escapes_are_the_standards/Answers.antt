@@ -1,8 +1,5 @@
-use Rattle.std.proofs.Common.{refl}
-use Rattle.std.proofs.lemmas.Bool.{agree_below_at}
+use Rattle.page_anchors.proofs.Prelude.{refl, agree_below_at, is_escaped, IN_FRAGMENT}
 use Rattle.percent_encoding.specs.AsciiSet.{should_percent_encode}
-use Rattle.page_anchors.specs.Escapes.{is_escaped}
-use Rattle.page_anchors.specs.declared.indicated.TheConstants.{IN_FRAGMENT}
 use Rattle.page_anchors.proofs.laws.escapes_are_the_standards.Goals as goal
 
 pub returns : goal.returns

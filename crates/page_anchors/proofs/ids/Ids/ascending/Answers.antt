@@ -1,9 +1,4 @@
-use Rattle.std.proofs.Common.{◌≡◌, ◌∙◌, ◌++◌, List, ℕ, subst, sym}
-use Rattle.std.proofs.lemmas.List.Sorted.{IsPermutation-map}
-use Rattle.std.specs.Borrow.{Bor}
-use Rattle.std.specs.List.Sorted.{IsPermutation}
-use Rattle.page_anchors.specs.Ids.{pointed}
-use Rattle.page_anchors.specs.Indicated.{DoAscend}
+use Rattle.page_anchors.proofs.Prelude.{◌≡◌, ◌∙◌, ◌++◌, List, ℕ, subst, sym, IsPermutation-map, Bor, IsPermutation, pointed, DoAscend}
 use Rattle.page_anchors.proofs.Block.{pointed_ascend}
 use Rattle.page_anchors.proofs.ids.Ids.ascending.Goals as goal
 

@@ -1,5 +1,4 @@
-use Rattle.std.proofs.Common.{◌≡◌, take}
-use Rattle.page_anchors.specs.Ids.{pointed}
+use Rattle.page_anchors.proofs.Prelude.{◌≡◌, take, pointed}
 use Rattle.page_anchors.proofs.ids.Ids.pointers.Given as goal
 
 abbrev pub invariant-loop-index : goal.invariant-loop-index

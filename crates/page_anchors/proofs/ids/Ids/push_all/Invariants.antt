@@ -1,5 +1,4 @@
-use Rattle.std.proofs.Common.{◌≡◌, ◌++◌, take}
-use Rattle.page_anchors.specs.Ids.{pointed}
+use Rattle.page_anchors.proofs.Prelude.{◌≡◌, ◌++◌, take, pointed}
 use Rattle.page_anchors.proofs.ids.Ids.push_all.Given as goal
 
 abbrev pub invariant-loop-id : goal.invariant-loop-id
