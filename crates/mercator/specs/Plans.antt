@@ -1,16 +1,15 @@
 -- What a command line asks for.
-use Rattle.std.specs.Prelude.{ℕ, ◌<◌, ◌≤◌, ◌*◌, ◌≡◌, ◌⊎◌, ◌&&◌, ◌||◌, Bool, true, false, not, List, [], ◌∷◌, codes, length, if◌then◌else◌, Option, Some, None, IsSome, String, string_bytes}
+use Rattle.std.specs.Prelude.{ℕ, ◌≤◌, ◌≡◌, ◌⊎◌, ◌&&◌, ◌||◌, Bool, true, false, not, List, [], ◌∷◌, codes, length, if◌then◌else◌, Option, Some, None, IsSome, String, string_bytes}
 use Rattle.std.specs.declared.alloc.Global.{Global}
 use Rattle.std.specs.List.{list_all}
 use Rattle.std.specs.Str.{bytes_eq, chars}
-use Rattle.crawl_core.specs.Limits.{queue_limit}
 use Rattle.crawl_limits.specs.Limits.{worker_limit, AreLimits}
 use Rattle.crawl_keys.specs.HostFilter.{is_good}
+use Rattle.session_log.specs.Plans.{IsSessionPlan}
 use Rattle.shown_text.specs.Shown.{is_visible_or_lf}
 use Rattle.mercator.specs.declared.commands.fault.Fault.{Fault}
 use Rattle.mercator.specs.declared.commands.fault.Fault.TheVariants as fault
 use Rattle.mercator.specs.declared.commands.planned.Plan.{Plan}
-use Rattle.mercator.specs.declared.commands.planned.SessionPlan.{SessionPlan}
 use Rattle.mercator.specs.declared.commands.planned.Plan.TheVariants as asks
 use Rattle.mercator.specs.declared.commands.words.PlanError.{PlanError}
 use Rattle.mercator.specs.declared.commands.words.PlanError.TheVariants as wrong
@@ -23,23 +22,6 @@ is_input file = bytes_eq file (codes "-")
 abbrev pub lists_input : Option (String Global) → Bool
 lists_input None = false
 lists_input (Some file) = is_input (string_bytes file)
-
--- the number of queues of all parts, if each part has this many
-abbrev pub all_queues : ℕ → Option (ℕ × ℕ) → ℕ
-all_queues workers None = workers
-all_queues workers (Some p) = workers * p.1
-
-abbrev pub queues_of : SessionPlan → ℕ
-queues_of asked = all_queues asked.workers asked.part
-
--- the number of the part is below the number of parts
-abbrev pub IsPartOf : Option (ℕ × ℕ) → Type 0
-IsPartOf None = Unit {0}
-IsPartOf (Some p) = p.0 < p.1
-
--- the numbers of a session are within the limits of a frontier, and the number of all queues within that of its parts together
-abbrev pub IsSessionPlan : SessionPlan → Type 0
-IsSessionPlan asked = AreLimits asked.workers asked.max × ((queues_of asked ≤ queue_limit) × IsPartOf asked.part)
 
 -- its numbers are within the limits of a frontier; a crawl has a seed or a file of seeds, and not both of its files are the
 -- standard input

@@ -8,29 +8,30 @@ use Rattle.mercator.specs.FaultText.{fault_line, more_lines, torn_line}
 use Rattle.mercator.specs.Faults.{status_of_fault}
 use Rattle.mercator.specs.KeyLine.{IsKeyLine}
 use Rattle.mercator.specs.Limits.{most_input_bytes}
-use Rattle.mercator.specs.Plans.{IsVisible, explains, has_notices, is_bad_suffix, is_input, known_bytes, known_ignores, known_seeds, queues_of, suffixes_of, told_file}
+use Rattle.mercator.specs.Plans.{IsVisible, explains, has_notices, is_bad_suffix, is_input, known_bytes, known_ignores, known_seeds, suffixes_of, told_file}
 use Rattle.crawl_replay.specs.Replay.{IsReplay}
 use Rattle.crawl_replay.specs.Script.{script_of}
 use Rattle.crawl_session.specs.Answers.{answer_lines}
 use Rattle.crawl_session.specs.Frontiers.{start}
 use Rattle.crawl_session.specs.Sessions.{answers, session_text, state_after}
 use Rattle.crawl_session.specs.Settings.{Settings}
-use Rattle.crawl_session.specs.declared.part.Part.{Part}
 use Rattle.std.specs.Str.Lines.{lines}
 use Rattle.mercator_site.specs.Ends.{IsFolderCheck}
 use Rattle.mercator_site.specs.Faults.{IsSiteIncomplete}
 use Rattle.mercator_site.specs.declared.options.CheckOptions.{CheckOptions}
 use Rattle.saved_site.specs.Below.{IsWebAt}
 use Rattle.saved_site.specs.Meaning.{IsSiteWeb}
+use Rattle.session_log.specs.Plans.{queues_of}
+use Rattle.session_log.specs.Plans as session
+use Rattle.session_log.specs.declared.fault.LogFault.TheVariants as unlogged
+use Rattle.session_log.specs.declared.plan.SessionPlan.{SessionPlan}
 use Rattle.mercator.specs.WebCrawl.{IsBegun, IsCrawlText, IsUnbegun}
 use Rattle.mercator.specs.declared.commands.planned.CrawlPlan.{CrawlPlan}
 use Rattle.mercator.specs.declared.commands.planned.Plan.{Plan}
-use Rattle.mercator.specs.declared.commands.planned.SessionPlan.{SessionPlan}
 use Rattle.mercator.specs.declared.commands.planned.Plan.TheVariants as asks
 use Rattle.mercator.specs.declared.commands.words.PlanError.{PlanError}
 use Rattle.mercator.specs.declared.commands.words.PlanError.TheVariants as unplanned
 use Rattle.mercator.specs.declared.commands.fault.Fault.{Fault}
-use Rattle.mercator.specs.declared.commands.log_file.LogFault.TheVariants as unlogged
 use Rattle.mercator.specs.declared.commands.fault.Fault.TheVariants as wrong
 
 -- P holds for some bytes that the file can have: the known ones, if they are known, and no more than the limit
@@ -51,13 +52,8 @@ pub record AreFiles (crawl : CrawlPlan) (input : Option (List ℕ)) (bytes seeds
   pub read_seeds : IfSome (known_seeds crawl.listed input) (λ known. seeds ≡ known)
   pub few_seeds : length seeds ≤ most_input_bytes
 
--- the part with this many queues whose log has this identity
-abbrev pub part_of : ℕ → List ℕ → Option (ℕ × ℕ) → Option Part
-part_of queues identity None = None
-part_of queues identity (Some p) = Some (record { number = p.0; queues = queues; identity = identity })
-
 abbrev pub settings_of : SessionPlan → List ℕ → Settings
-settings_of asked identity = record { workers = queues_of asked; suffixes = suffixes_of asked.within; part = part_of asked.workers identity asked.part }
+settings_of asked identity = session.settings_of asked (suffixes_of asked.within) identity
 
 -- of a part without a log
 abbrev pub no_identity : List ℕ
@@ -134,6 +130,7 @@ FailsSession within _ = ⊥
 -- runs out
 abbrev pub FailsLog : Option (String Global) → Fault → Type 0
 FailsLog within wrong.BadSuffix = is_bad_suffix within ≡ true
+FailsLog within (wrong.Log unlogged.NoMemory) = ⊥
 FailsLog within (wrong.Log fault) = is_bad_suffix within ≡ false
 FailsLog within wrong.NoMemory = Unit {0}
 FailsLog within _ = ⊥

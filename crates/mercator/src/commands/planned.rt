@@ -5,6 +5,7 @@ ghost use Rattle.mercator.specs.Plans.{IsWithinLimits, explains, file_of, listed
 use crate::commands::fault::Fault;
 use crawl_report::Parts;
 use mercator_site::{CheckForm, CheckOptions, ReportOptions, SiteOptions};
+use session_log::{LogPlan, SessionPlan};
 
 /// What the arguments of a command line ask for.
 ///
@@ -86,32 +87,6 @@ pub struct CrawlPlan {
     pub explain: bool,
     /// Whether the number of fetched pages is reported while the crawl runs.
     pub progress: bool,
-}
-
-/// The options of a session.
-#[derive(Drop)]
-pub struct SessionPlan {
-    /// The number of workers, each with its own queue: 1 to 512. All parts together have at most 2^20.
-    pub workers: u32,
-    /// The most URLs that are waiting or in progress at a time: 1 to 2^40.
-    pub max: u64,
-    /// The suffix of the hosts to accept; without one, all hosts.
-    pub within: Option<String>,
-    /// The number of this part of a crawl, from 0, and the number of parts.
-    pub part: Option<(u32, u32)>,
-}
-
-/// A session with a log.
-#[derive(Drop)]
-pub struct LogPlan {
-    /// The options of the session.
-    pub session: SessionPlan,
-    /// The name of the log.
-    pub file: String,
-    /// Whether the log is synced to disk before each answer.
-    pub sync: bool,
-    /// The most seconds to wait for another program that uses the log.
-    pub wait: u64,
 }
 
 impl Plan {
