@@ -35,6 +35,7 @@ use crawl_run::Observe;
 pub use fault::Fault;
 use folder::{run_check, run_site};
 pub use input::{InputLimits, Unread, read_input};
+use planned::CrawlPlan;
 pub use planned::Plan;
 pub use platform::Platform;
 use session_log::LockFile;
@@ -209,8 +210,23 @@ fn run<
     ensures noted { MayNote plan.now (E.contents err.old) (E.contents err.new) }
 {
     match plan {
-        Plan::Crawl(crawl) => {
-            let parts = report_of_plan(platform, alloc, crawl, input)?;
+        Plan::Crawl {
+            workers,
+            max,
+            queues,
+            file,
+            seeds,
+            options,
+        } => {
+            let crawl = CrawlPlan {
+                workers: *workers,
+                max: *max,
+                queues: *queues,
+                file,
+                seeds,
+                options,
+            };
+            let parts = report_of_plan(platform, alloc, &crawl, input)?;
             end_by_parts(out, &parts)?;
             Ok(false)
         }

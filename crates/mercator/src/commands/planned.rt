@@ -27,7 +27,20 @@ use session_log::{LogPlan, SessionPlan};
 #[derive(Drop)]
 pub enum Plan {
     /// `crawl`: print the report of a crawl of a saved web.
-    Crawl(CrawlPlan),
+    Crawl {
+        /// The number of workers, each with its own queue: 1 to 512.
+        workers: u32,
+        /// The most URLs that are waiting or in progress at a time: 1 to 2^40.
+        max: u64,
+        /// Whether the number of URLs of each queue follows the report.
+        queues: bool,
+        /// The file of the saved web; `-` is the input.
+        file: String,
+        /// The seeds on the command line, which come after those of a file of seeds.
+        seeds: Vec<String>,
+        /// The other options.
+        options: CrawlOptions,
+    },
     /// `site`: print a folder as a saved web.
     Site(SiteOptions),
     /// `check`: print the report of the broken links of a folder.
@@ -62,19 +75,9 @@ pub enum Plan {
     },
 }
 
-/// The options of a crawl.
+/// The other options of a crawl.
 #[derive(Drop)]
-pub struct CrawlPlan {
-    /// The number of workers, each with its own queue: 1 to 512.
-    pub workers: u32,
-    /// The most URLs that are waiting or in progress at a time: 1 to 2^40.
-    pub max: u64,
-    /// Whether the number of URLs of each queue follows the report.
-    pub queues: bool,
-    /// The file of the saved web; `-` is the input.
-    pub file: String,
-    /// The seeds on the command line, which come after those of a file of seeds.
-    pub seeds: Vec<String>,
+pub struct CrawlOptions {
     /// The suffix of the hosts to crawl; without one, all hosts.
     pub within: Option<String>,
     /// The file of seeds, if there is one; `-` is the input.
@@ -89,14 +92,24 @@ pub struct CrawlPlan {
     pub progress: bool,
 }
 
+/// The fields of a [`Plan::Crawl`], which functions take whole.
+#[derive(Clone, Copy)]
+pub(in crate::commands) struct CrawlPlan<'a> {
+    pub workers: u32,
+    pub max: u64,
+    pub queues: bool,
+    pub file: &'a String,
+    pub seeds: &'a Vec<String>,
+    pub options: &'a CrawlOptions,
+}
+
 impl Plan {
     /// Returns the FILE of the plan; the empty text for a key and a compaction, which have none.
     pub fn file(&self) -> &str
         ensures { result.now ≡ file_of self.now }
     {
         match self {
-            Plan::Crawl(crawl) => crawl.file.as_str(),
-            Plan::Replay { file } => file.as_str(),
+            Plan::Crawl { file, .. } | Plan::Replay { file } => file.as_str(),
             Plan::Site(options) => options.folder.as_str(),
             Plan::Check { options, .. } => options.site.folder.as_str(),
             Plan::Key { .. } => "",
@@ -131,7 +144,7 @@ impl Plan {
         ensures { result ≡ explains self.now }
     {
         match self {
-            Plan::Crawl(crawl) => crawl.explain,
+            Plan::Crawl { options, .. } => options.explain,
             _ => false,
         }
     }
@@ -142,8 +155,8 @@ impl Plan {
         ensures { result.now ≡ told_file self.now fault.now }
     {
         match (self, fault) {
-            (Plan::Crawl(crawl), Fault::CannotReadSeeds) => {
-                listed_or(&crawl.listed, crawl.file.as_str())
+            (Plan::Crawl { file, options, .. }, Fault::CannotReadSeeds) => {
+                listed_or(&options.listed, file.as_str())
             }
             (Plan::Check { options, ignores }, Fault::CannotReadIgnores) => {
                 listed_or(ignores, options.site.folder.as_str())

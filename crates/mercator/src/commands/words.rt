@@ -9,7 +9,7 @@ ghost use Rattle.mercator.specs.declared.commands.words.PlanError.TheVariants as
 use crate::commands::arguments::{value_of, values_of};
 use crate::commands::command_line::{self, command_line};
 use crate::commands::folder_words::{check_options, site_options};
-use crate::commands::planned::{CrawlPlan, Plan};
+use crate::commands::planned::{CrawlOptions, Plan};
 use crate::commands::report_words::parts_of;
 use clap::ArgMatches;
 use clap::error::ErrorKind;
@@ -185,19 +185,21 @@ fn crawl_of(alloc: Global, found: &ArgMatches<'_>) -> Result<Plan, PlanError>
     if file == "-" && is_input(&listed) {
         return Err(two_inputs(alloc)?);
     }
-    Ok(Plan::Crawl(CrawlPlan {
+    Ok(Plan::Crawl {
         workers,
         max,
         queues: found.get_flag("queues"),
         file: String::from_str(alloc, file)?,
         seeds,
-        within: value_of(alloc, found, "within")?,
-        listed,
-        parts: parts_of(found),
-        json: found.get_flag("json"),
-        explain: found.get_flag("explain"),
-        progress: found.get_flag("progress"),
-    }))
+        options: CrawlOptions {
+            within: value_of(alloc, found, "within")?,
+            listed,
+            parts: parts_of(found),
+            json: found.get_flag("json"),
+            explain: found.get_flag("explain"),
+            progress: found.get_flag("progress"),
+        },
+    })
 }
 
 /// Returns the plan of `key`. The URL is not parsed yet.
