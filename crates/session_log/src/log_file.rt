@@ -31,7 +31,7 @@ pub struct LogPlace<'p, R> {
 
 impl<'p, R: Files> LogPlace<'p, R> {
     /// The file of a log with this name.
-    pub fn new<F: OpenFile>(rt: &'p R, name: String, file: &F) -> io::Result<LogPlace<'p, R>> {
+    pub(crate) fn new<F: OpenFile>(rt: &'p R, name: String, file: &F) -> io::Result<LogPlace<'p, R>> {
         let found = file.metadata()?;
         let node = if found.is_file() {
             Some((found.dev(), found.ino()))
@@ -79,7 +79,7 @@ pub struct Log<'p, F, R> {
 
 impl<'p, F: Write + OpenFile, R: Files> Log<'p, F, R> {
     /// A log of `len` bytes, all of them in whole lines.
-    pub fn new(file: F, place: LogPlace<'p, R>, len: u64, sync: bool) -> Log<'p, F, R> {
+    pub(crate) fn new(file: F, place: LogPlace<'p, R>, len: u64, sync: bool) -> Log<'p, F, R> {
         Log {
             file,
             place,
@@ -97,7 +97,7 @@ impl<'p, F: Write + OpenFile, R: Files> Log<'p, F, R> {
     ///
     /// # Errors
     /// As for [`append`](Log::append).
-    pub fn note(&mut self, bytes: &[u8]) -> io::Result<()>
+    pub(crate) fn note(&mut self, bytes: &[u8]) -> io::Result<()>
         ensures gained { OnOk result (Appends (F.contents self.old.file) (F.contents self.new.file) (noted self.old.unfinished bytes.now)) }
     {
         let end = line_len(bytes);
@@ -113,7 +113,7 @@ impl<'p, F: Write + OpenFile, R: Files> Log<'p, F, R> {
     ///
     /// # Errors
     /// As for [`append`](Log::append).
-    pub fn note_synced(&mut self, bytes: &[u8]) -> io::Result<()>
+    pub(crate) fn note_synced(&mut self, bytes: &[u8]) -> io::Result<()>
         ensures gained { OnOk result (Appends (F.contents self.old.file) (F.contents self.new.file) (noted self.old.unfinished bytes.now)) }
         ensures synced { OnOk result (may_sync self.old.unfinished bytes.now ≡ true → self.new.synced ≡ true) }
     {
@@ -144,7 +144,7 @@ impl<'p, F: Write + OpenFile, R: Files> Log<'p, F, R> {
     ///
     /// # Errors
     /// As for [`append`](Log::append).
-    pub fn end_line(&mut self) -> io::Result<()>
+    pub(crate) fn end_line(&mut self) -> io::Result<()>
         ensures gained { OnOk result (Appends (F.contents self.old.file) (F.contents self.new.file) (line_end self.old.last)) }
     {
         match self.last {
@@ -158,7 +158,7 @@ impl<'p, F: Write + OpenFile, R: Files> Log<'p, F, R> {
     ///
     /// # Errors
     /// If another process changed the file, which then stays as it is. If a write fails; what it wrote is then removed.
-    pub fn append(&mut self, front: &[u8], rest: &[u8]) -> io::Result<()>
+    pub(crate) fn append(&mut self, front: &[u8], rest: &[u8]) -> io::Result<()>
         ensures gained { OnOk result (Appends (F.contents self.old.file) (F.contents self.new.file) (front.now ++ rest.now)) }
     {
         if !self.place.has(self.len) {
@@ -200,7 +200,7 @@ impl<'p, F: Write + OpenFile, R: Files> Log<'p, F, R> {
     }
 
     /// Returns the error after an append that failed.
-    pub fn fault(&self) -> LogFault
+    pub(crate) fn fault(&self) -> LogFault
         ensures { (result ≡ unlogged.CannotWrite) ⊎ (result ≡ unlogged.Changed) }
     {
         if self.changed {

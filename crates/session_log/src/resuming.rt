@@ -17,7 +17,7 @@ use std::io::{self, Read, Seek, SeekFrom, Write};
 /// Runs the requests of the log, and returns the log, ready to be appended to. Its last line must be whole.
 ///
 /// # Errors
-/// `CannotRead`, `NoMemory`; those of [`Log::append`] if the file is empty.
+/// `CannotRead`, `NoMemory`; `CannotWrite` or `Changed` if the log has no whole line, and its first line cannot be appended.
 pub fn resume<'p, R: Files, F: Read + Seek + Write + OpenFile + Drop>(
     rt: &'p R,
     alloc: Global,
