@@ -27,5 +27,5 @@ pub use fault::{LogFault, LoggedFault, Setting};
 pub use lock_file::LockFile;
 pub use log_file::Log;
 pub use opening::{OpenedLog, open_session};
-pub use plan::{LogPlan, SessionPlan, session_of};
+pub use plan::{LogPlan, SessionPlan};
 pub use resuming::{resume, serve_logged};
