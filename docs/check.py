@@ -368,7 +368,7 @@ GROUPS = (
         r"|docs/(?:GUIDE|MANUAL|SESSION|FORMATS|SCALE|GLOSSARY)\.md|clients/python/README\.md")),
     Group("help", re.compile(
         r"crates/mercator/src/commands/.*\.rt"
-        r"|crates/(?:check_report|mercator_cli|mercator_site|saved_site|site_files)/src/.*\.rt"
+        r"|crates/(?:check_report|mercator_cli|mercator_site|saved_site|session_log|site_files)/src/.*\.rt"
         r"|(?:examples|clients|tools)/.*\.(?:py|sh)|(?:try|install)\.sh")),
     Group("others", re.compile(r".*\.md"), frozenset({"subqueue"})),
     Group("comments", re.compile(r".*\.(?:rt|antt)"), frozenset({"subqueue"}), units_of_comments),

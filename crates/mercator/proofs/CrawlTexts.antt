@@ -1,5 +1,5 @@
 -- The text of what a crawl found, by the report that was printed.
-use Rattle.std.proofs.Common.{◌≡◌, ℕ, Bool, List, [], Result, Ok, Err, Vec, Global, Bor, IfOk, sym, ap, subst, ◌∙◌, if◌then◌else◌}
+use Rattle.std.proofs.Common.{◌≡◌, ℕ, List, [], Result, Ok, Err, Vec, Global, Bor, IfOk, sym, ap, subst, ◌∙◌, if◌then◌else◌}
 use Rattle.std.specs.Cmp.Lexicographic.{slice_cmp}
 use Rattle.std.specs.List.{flat_map}
 use Rattle.std.specs.List.Sorted.{IsPermutation, IsSortedByKey}
@@ -11,8 +11,7 @@ use Rattle.crawl_report.specs.Rows.{rows_with}
 use Rattle.crawl_sources.specs.Tallies.{pointed}
 use Rattle.crawl_report.specs.Unreached.{unreached_of}
 use Rattle.crawl_pages.specs.declared.page.PageResult.{PageResult}
-use Rattle.mercator.specs.WebCrawl.{AreUnreached, IsTextOf}
-use Rattle.mercator.specs.declared.commands.planned.CrawlPlan.{CrawlPlan}
+use Rattle.mercator.specs.WebCrawl.{AreUnreached, CrawlPlan, IsTextOf}
 
 pub unreached_told : (urls suffixes : List (List ℕ)) (pages given : List PageResult) (found shown : List (Bor (List ℕ))) → given ≡ pages → shown ≡ found
     → IsPermutation (unreached_of (allows suffixes) given urls) (pointed found) → IsSortedByKey (λ url. url) (slice_cmp nat_cmp) (pointed found) → AreUnreached urls suffixes pages (pointed shown)
@@ -26,10 +25,10 @@ unreached_told urls suffixes pages given found shown same_pages same_shown moved
     }
 
 pub text_told : {E : Type 0} (result : Result (Vec (Vec ℕ Global) Global) E) (plan : CrawlPlan) (known suffixes : List (List ℕ)) (pages given : List PageResult) (counts shown : List ℕ) (urls : List (List ℕ)) → given ≡ pages → shown ≡ (if plan.queues then counts else [])
-    → AreUnreached known suffixes pages urls → IfOk result (λ parts. joined parts.items ≡ flat_map (printed_line plan.json) (rows_with plan.parts given shown urls)) → IfOk result (λ parts. IsTextOf plan known suffixes pages counts (joined parts.items))
+    → AreUnreached known suffixes pages urls → IfOk result (λ parts. joined parts.items ≡ flat_map (printed_line plan.options.json) (rows_with plan.options.parts given shown urls)) → IfOk result (λ parts. IsTextOf plan known suffixes pages counts (joined parts.items))
 text_told (Ok parts) plan known suffixes pages given counts shown urls same_pages same_counts unseen printed = record {
   unreached = urls;
   unseen = unseen;
-  written = printed ∙ (λ i. flat_map (printed_line plan.json) (rows_with plan.parts (same_pages i) (same_counts i) urls));
+  written = printed ∙ (λ i. flat_map (printed_line plan.options.json) (rows_with plan.options.parts (same_pages i) (same_counts i) urls));
 }
 text_told (Err e) plan known suffixes pages given counts shown urls same_pages same_counts unseen printed = tt

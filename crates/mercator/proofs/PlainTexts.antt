@@ -18,8 +18,7 @@ use Rattle.crawl_report.specs.Unreached.{unreached_of}
 use Rattle.saved_web.specs.SavedWeb.{page_urls}
 use Rattle.crawl_report.specs.declared.report.Parts.{Parts}
 use Rattle.crawl_pages.specs.declared.page.PageResult.{PageResult}
-use Rattle.mercator.specs.WebCrawl.{AreUnreached, asked_pages, IsCrawlText, IsPlain, IsPlainText, printed_with}
-use Rattle.mercator.specs.declared.commands.planned.CrawlPlan.{CrawlPlan}
+use Rattle.mercator.specs.WebCrawl.{AreUnreached, CrawlPlan, asked_pages, IsCrawlText, IsPlain, IsPlainText, printed_with}
 
 -- results that ascend are in order
 in_order : (pages : List PageResult) → IsAscending (result_urls pages) → IsSortedByKey (λ r. r.url) (slice_cmp nat_cmp) pages
@@ -54,6 +53,6 @@ plain_text workers with_sources plan bytes listed seeds suffixes text plain own 
   counted = own.counted;
   written =
       own.told.written
-      ∙ plain_print with_sources plan own.pages own.counts own.told.unreached plain (none_asked plan.parts bytes suffixes own.pages own.told.unreached (ap (λ (p : Parts). p.unreached) plain.parts) own.told.unseen)
+      ∙ plain_print with_sources plan own.pages own.counts own.told.unreached plain (none_asked plan.options.parts bytes suffixes own.pages own.told.unreached (ap (λ (p : Parts). p.unreached) plain.parts) own.told.unseen)
       ∙ text_same plan.queues with_sources own.pages own.counts (in_order own.pages own.crawl.found.ascends);
 }

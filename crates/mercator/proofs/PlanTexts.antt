@@ -1,5 +1,5 @@
 -- What a crawl prints; and plans that ask for one text print one.
-use Rattle.std.proofs.Common.{◌≡◌, ℕ, Bool, true, false, true≢false, not, ◌&&◌, List, [], ◌∷◌, ◌++◌, Option, Some, None, Result, Ok, Err, String, Vec, Global, IsErr, IfOk, IfErr, IfSome, IsSomeAnd, ◌<◌, ◌≤◌, length, map, string_bytes, refl, sym, ap, subst, ◌∙◌}
+use Rattle.std.proofs.Common.{◌≡◌, ℕ, Bool, true, false, true≢false, not, ◌&&◌, List, [], ◌∷◌, ◌++◌, Option, Some, None, Result, Ok, String, Global, IsErr, IfSome, IsSomeAnd, ◌<◌, ◌≤◌, length, map, string_bytes, refl, sym, ap, subst, ◌∙◌}
 use Rattle.std.specs.Bool.{if◌then◌else◌}
 use Rattle.std.specs.List.{flat_map}
 use Rattle.std.specs.List.Sorted.{IsPermutation}
@@ -15,11 +15,10 @@ use Rattle.crawl_report.proofs.OneOrder.{one_order}
 use Rattle.crawl_pages.specs.declared.page.PageResult.{PageResult}
 use Rattle.crawl_run.specs.Crawls.{AreCounts}
 use Rattle.crawl_keys.specs.HostFilter.{allows, filter_of, is_good}
-use Rattle.mercator.specs.Plans.{is_bad_suffix, is_input, known_bytes, known_seeds, lists_input, suffixes_of}
+use Rattle.mercator.specs.Plans.{crawl_of, is_bad_suffix, is_input, known_bytes, known_seeds, lists_input, suffixes_of}
 use Rattle.mercator.specs.Limits.{most_input_bytes}
-use Rattle.mercator.specs.Told.{AreFiles, AskForOneReport, AskForOneText, FailsCrawl, Gains, IsTold, OfFile, OfFiles}
-use Rattle.mercator.specs.WebCrawl.{AreUnreached, asked_pages, IsBegun, IsCrawlText, IsFound, IsTextOf, IsUnbegun, printed_with}
-use Rattle.mercator.specs.declared.commands.planned.CrawlPlan.{CrawlPlan}
+use Rattle.mercator.specs.Told.{AreFiles, AskForOneCrawl, AskForOneReport, AskForOneText, FailsCrawl, Gains, IsToldCrawl, OfFile, OfFiles}
+use Rattle.mercator.specs.WebCrawl.{AreUnreached, CrawlPlan, asked_pages, IsBegun, IsCrawlText, IsFound, IsTextOf, IsUnbegun, printed_with}
 use Rattle.mercator.specs.declared.commands.fault.Fault.{Fault}
 use Rattle.mercator.specs.declared.commands.fault.Fault.TheVariants as wrong
 use Rattle.crawl_run.specs.declared.whole_crawl.Crawled.{Crawled}
@@ -43,10 +42,10 @@ no_refusal None text of refused = absurd refused
 no_refusal (Some bytes) text of refused = true≢false (sym (subst (λ (r : Result Said ScriptError). IsErr r) (of_known (λ b. IsReplay b text) (Some bytes) bytes refl of).read refused))
 
 -- of the input, and of no file of seeds
-of_web : (P : List ℕ → List ℕ → Type 0) (crawl : CrawlPlan) (bytes : List ℕ) → is_input (string_bytes crawl.file) ≡ true → crawl.listed ≡ None → OfFiles crawl (Some bytes) P → P bytes []
+of_web : (P : List ℕ → List ℕ → Type 0) (crawl : CrawlPlan) (bytes : List ℕ) → is_input (string_bytes crawl.file) ≡ true → crawl.options.listed ≡ None → OfFiles crawl (Some bytes) P → P bytes []
 of_web P crawl bytes is none of =
-    of_known (P bytes) (known_seeds crawl.listed (Some bytes)) [] (ap (λ l. known_seeds l (Some bytes)) none)
-    (of_input (λ b. OfFile (known_seeds crawl.listed (Some bytes)) (P b)) (string_bytes crawl.file) bytes is of)
+    of_known (P bytes) (known_seeds crawl.options.listed (Some bytes)) [] (ap (λ l. known_seeds l (Some bytes)) none)
+    (of_input (λ b. OfFile (known_seeds crawl.options.listed (Some bytes)) (P b)) (string_bytes crawl.file) bytes is of)
 
 -- of two crawls that find the same pages, and ask for unreached ones or not, these are one list
 one_unreached : (known others suffixes : List (List ℕ)) (pages those : List PageResult) (urls other : List (List ℕ)) → known ≡ others → pages ≡ those → AreUnreached known suffixes pages urls → AreUnreached others suffixes those other → urls ≡ other
@@ -71,7 +70,7 @@ one_text : (crawl other : CrawlPlan) (bytes listed : List ℕ) (texts suffixes :
     → IsCrawlText crawl.workers crawl bytes listed texts suffixes text → IsCrawlText other.workers other bytes listed texts suffixes its → text ≡ its
 one_text crawl other bytes listed texts suffixes text its ask queued many own their =
     let pages : own.pages ≡ their.pages = one_site_crawl bytes listed texts suffixes own.pages their.pages own.crawl their.crawl in
-    let urls : own.told.unreached ≡ their.told.unreached = one_unreached (asked_pages crawl.parts (lines bytes)) (asked_pages other.parts (lines bytes)) suffixes own.pages their.pages own.told.unreached their.told.unreached (ap (λ parts. asked_pages parts (lines bytes)) ask.parts) pages own.told.unseen their.told.unseen in
+    let urls : own.told.unreached ≡ their.told.unreached = one_unreached (asked_pages crawl.options.parts (lines bytes)) (asked_pages other.options.parts (lines bytes)) suffixes own.pages their.pages own.told.unreached their.told.unreached (ap (λ parts. asked_pages parts (lines bytes)) ask.parts) pages own.told.unseen their.told.unseen in
     let counts = one_counts crawl.queues crawl.workers other.workers own.pages their.pages own.counts their.counts many pages own.counted their.counted ∙ ap (λ q. if q then their.counts else []) queued in
     own.told.written ∙ one_print crawl other own.pages their.pages own.counts their.counts own.told.unreached their.told.unreached ask pages counts urls ∙ sym their.told.written
   where
@@ -81,16 +80,21 @@ one_text crawl other bytes listed texts suffixes text its ask queued many own th
     one_counts true workers others pages those counts other many same own their =
         one_count others (result_urls those) counts other (subst (λ n. AreCounts n (result_urls those) counts) (many refl) (subst (λ p. AreCounts workers (result_urls p) counts) same own)) their
 
-pub one_output : (plan other : Plan) (bytes before after its : List ℕ) → AskForOneText plan other → Gains plan (Some bytes) (Some before) (Some after) → Gains other (Some bytes) (Some before) (Some its) → after ≡ its
-one_output (asks.Crawl crawl) (asks.Crawl other) bytes before after its ask own their =
+-- what such crawls print of the same bytes
+one_crawl : (crawl other : CrawlPlan) (bytes text its : List ℕ) → AskForOneCrawl crawl other → IsToldCrawl crawl (Some bytes) text → IsToldCrawl other (Some bytes) its → text ≡ its
+one_crawl crawl other bytes text its ask own their =
     let (own_input, other_input, own_none, other_none, seeded, filtered, parts, queued, many) = ask in
     let texts = map string_bytes crawl.seeds.items in
-    let suffixes = suffixes_of crawl.within in
-    let first : IsCrawlText crawl.workers crawl bytes [] texts suffixes own.text = (of_web (λ b l. IsBegun b l texts × IsCrawlText crawl.workers crawl b l texts suffixes own.text) crawl bytes own_input own_none own.told.1).1 in
-    let plain = (of_web (λ b l. IsBegun b l (map string_bytes other.seeds.items) × IsCrawlText other.workers other b l (map string_bytes other.seeds.items) (suffixes_of other.within) their.text) other bytes other_input other_none their.told.1).1 in
-    let same_seeds = subst (λ t. IsCrawlText other.workers other bytes [] t (suffixes_of other.within) their.text) (sym seeded) plain in
-    let second : IsCrawlText other.workers other bytes [] texts suffixes their.text = subst (λ s. IsCrawlText other.workers other bytes [] texts s their.text) (sym filtered) same_seeds in
-    own.gained ∙ ap (λ t. before ++ t) (one_text crawl other bytes [] texts suffixes own.text their.text parts queued many first second) ∙ sym their.gained
+    let suffixes = suffixes_of crawl.options.within in
+    let first : IsCrawlText crawl.workers crawl bytes [] texts suffixes text = (of_web (λ b l. IsBegun b l texts × IsCrawlText crawl.workers crawl b l texts suffixes text) crawl bytes own_input own_none own.1).1 in
+    let plain = (of_web (λ b l. IsBegun b l (map string_bytes other.seeds.items) × IsCrawlText other.workers other b l (map string_bytes other.seeds.items) (suffixes_of other.options.within) its) other bytes other_input other_none their.1).1 in
+    let same_seeds = subst (λ t. IsCrawlText other.workers other bytes [] t (suffixes_of other.options.within) its) (sym seeded) plain in
+    let second : IsCrawlText other.workers other bytes [] texts suffixes its = subst (λ s. IsCrawlText other.workers other bytes [] texts s its) (sym filtered) same_seeds in
+    one_text crawl other bytes [] texts suffixes text its parts queued many first second
+
+pub one_output : (plan other : Plan) (bytes before after its : List ℕ) → AskForOneText plan other → Gains plan (Some bytes) (Some before) (Some after) → Gains other (Some bytes) (Some before) (Some its) → after ≡ its
+one_output (asks.Crawl workers max queues file seeds options) (asks.Crawl others most counts from those settings) bytes before after its ask own their =
+    own.gained ∙ ap (λ t. before ++ t) (one_crawl (crawl_of workers max queues file seeds options) (crawl_of others most counts from those settings) bytes own.text their.text ask own.told their.told) ∙ sym their.gained
 one_output plan other_plan bytes before after its ask own other = absurd ask
 
 -- the filter of a crawl is that of its suffix, which is good
@@ -121,13 +125,13 @@ still_known file None before after bytes one same known = known
 still_known file (Some name) before after bytes one same known = by_name (is_input file) (is_input (string_bytes name)) before after bytes one same known
 
 -- the two files of a crawl, as they were read, one after the other
-pub are_read : (crawl : CrawlPlan) (input after : Option (List ℕ)) (bytes list : List ℕ) → (is_input (string_bytes crawl.file) && lists_input crawl.listed) ≡ false
+pub are_read : (crawl : CrawlPlan) (input after : Option (List ℕ)) (bytes list : List ℕ) → (is_input (string_bytes crawl.file) && lists_input crawl.options.listed) ≡ false
     → IfSome (known_bytes (string_bytes crawl.file) input) (λ known. bytes ≡ known) → length bytes ≤ most_input_bytes → (is_input (string_bytes crawl.file) ≡ false → after ≡ input)
-    → IfSome (known_seeds crawl.listed after) (λ known. list ≡ known) → length list ≤ most_input_bytes → AreFiles crawl input bytes list
+    → IfSome (known_seeds crawl.options.listed after) (λ known. list ≡ known) → length list ≤ most_input_bytes → AreFiles crawl input bytes list
 are_read crawl input after bytes list one read few same seeds short = record {
   read = read;
   few = few;
-  read_seeds = still_known (string_bytes crawl.file) crawl.listed input after list one same seeds;
+  read_seeds = still_known (string_bytes crawl.file) crawl.options.listed input after list one same seeds;
   few_seeds = short;
 }
 
@@ -146,12 +150,12 @@ of_files crawl input bytes list P are holds = record {
 }
 
 -- what is printed of what was found in these files, by this filter, is the text of the plan's crawl
-pub told_of : (crawl : CrawlPlan) (input : Option (List ℕ)) (bytes list : List ℕ) (filter known : List (List ℕ)) (found : Crawled) (text : List ℕ) → (is_bad_suffix crawl.within ≡ false) × (filter ≡ suffixes_of crawl.within) → AreFiles crawl input bytes list
-    → IsBegun bytes list (map string_bytes crawl.seeds.items) → IsFound crawl.workers bytes list (map string_bytes crawl.seeds.items) filter found → known ≡ asked_pages crawl.parts (lines bytes) → IsTextOf crawl known filter found.result found.counts.items text
-    → IsTold (asks.Crawl crawl) input text
+pub told_of : (crawl : CrawlPlan) (input : Option (List ℕ)) (bytes list : List ℕ) (filter known : List (List ℕ)) (found : Crawled) (text : List ℕ) → (is_bad_suffix crawl.options.within ≡ false) × (filter ≡ suffixes_of crawl.options.within) → AreFiles crawl input bytes list
+    → IsBegun bytes list (map string_bytes crawl.seeds.items) → IsFound crawl.workers bytes list (map string_bytes crawl.seeds.items) filter found → known ≡ asked_pages crawl.options.parts (lines bytes) → IsTextOf crawl known filter found.result found.counts.items text
+    → IsToldCrawl crawl input text
 told_of crawl input bytes list filter known found text suffix are begun own same written =
     let texts = map string_bytes crawl.seeds.items in
-    let suffixes = suffixes_of crawl.within in
+    let suffixes = suffixes_of crawl.options.within in
     let here : IsFound crawl.workers bytes list texts suffixes found = subst (λ s. IsFound crawl.workers bytes list texts s found) suffix.1 own in
     let told = subst (λ us. IsTextOf crawl us suffixes found.result found.counts.items text) same (subst (λ s. IsTextOf crawl known s found.result found.counts.items text) suffix.1 written) in (
       suffix.0,
@@ -160,8 +164,8 @@ told_of crawl input bytes list filter known found text suffix are begun own same
     )
 
 -- why nothing is found of the plan's files
-fails : (crawl : CrawlPlan) (input : Option (List ℕ)) (fault : Fault) → is_bad_suffix crawl.within ≡ false
-    → OfFiles crawl input (λ bytes list. IsUnbegun crawl.workers crawl.max bytes list (map string_bytes crawl.seeds.items) (suffixes_of crawl.within) fault) → FailsCrawl crawl input fault
+fails : (crawl : CrawlPlan) (input : Option (List ℕ)) (fault : Fault) → is_bad_suffix crawl.options.within ≡ false
+    → OfFiles crawl input (λ bytes list. IsUnbegun crawl.workers crawl.max bytes list (map string_bytes crawl.seeds.items) (suffixes_of crawl.options.within) fault) → FailsCrawl crawl input fault
 fails crawl input wrong.CannotRead good of = good
 fails crawl input wrong.CannotReadSeeds good of = absurd of.holds.holds
 fails crawl input wrong.BadSuffix good of = absurd of.holds.holds
@@ -169,10 +173,10 @@ fails crawl input wrong.NoMemory good of = tt
 fails crawl input fault good of = (good, of)
 
 -- and of these files
-pub fails_in_files : (crawl : CrawlPlan) (input : Option (List ℕ)) (bytes list : List ℕ) (filter : List (List ℕ)) (fault : Fault) → (is_bad_suffix crawl.within ≡ false) × (filter ≡ suffixes_of crawl.within) → AreFiles crawl input bytes list
+pub fails_in_files : (crawl : CrawlPlan) (input : Option (List ℕ)) (bytes list : List ℕ) (filter : List (List ℕ)) (fault : Fault) → (is_bad_suffix crawl.options.within ≡ false) × (filter ≡ suffixes_of crawl.options.within) → AreFiles crawl input bytes list
     → IsUnbegun crawl.workers crawl.max bytes list (map string_bytes crawl.seeds.items) filter fault → FailsCrawl crawl input fault
 fails_in_files crawl input bytes list filter fault suffix are unbegun =
     let texts = map string_bytes crawl.seeds.items in
     fails crawl input fault suffix.0
-    (of_files crawl input bytes list (λ bytes list. IsUnbegun crawl.workers crawl.max bytes list texts (suffixes_of crawl.within) fault) are
+    (of_files crawl input bytes list (λ bytes list. IsUnbegun crawl.workers crawl.max bytes list texts (suffixes_of crawl.options.within) fault) are
     (subst (λ s. IsUnbegun crawl.workers crawl.max bytes list texts s fault) suffix.1 unbegun))

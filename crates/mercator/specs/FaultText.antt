@@ -15,10 +15,6 @@ use Rattle.crawl_sources.specs.declared.seeds.SeedsFault.TheVariants as seeds
 use Rattle.link_offers.specs.declared.losses.Losses.{Losses}
 use Rattle.mercator.specs.declared.commands.fault.Fault.{Fault}
 use Rattle.mercator.specs.declared.commands.fault.Fault.TheVariants as wrong
-use Rattle.mercator.specs.declared.commands.log_file.LogFault.{LogFault}
-use Rattle.mercator.specs.declared.commands.log_file.LogFault.TheVariants as unlogged
-use Rattle.mercator.specs.declared.commands.log_file.Setting.{Setting}
-use Rattle.mercator.specs.declared.commands.log_file.Setting.TheVariants as other
 use Rattle.crawl_run.specs.declared.error.CrawlError.{CrawlError}
 use Rattle.crawl_run.specs.declared.error.CrawlError.TheVariants as crawl
 use Rattle.crawl_run.specs.declared.failure.CrawlFailure.{CrawlFailure}
@@ -26,6 +22,7 @@ use Rattle.crawl_replay.specs.declared.script.error.ScriptError.{ScriptError}
 use Rattle.crawl_replay.specs.declared.script.error.ScriptError.TheVariants as script
 use Rattle.mercator_site.specs.declared.fault.SiteFault.{SiteFault}
 use Rattle.mercator_site.specs.declared.fault.SiteFault.TheVariants as unsited
+use Rattle.session_log.specs.Faults.{log_text}
 use Rattle.shown_text.specs.Shown.{shown}
 
 -- what is wrong with a line
@@ -89,27 +86,6 @@ crawl_text (crawl.Run error) = codes "incomplete: " ++ run_error_text error
 crawl_text (crawl.Finish error) = codes "incomplete: " ++ finish_text error
 crawl_text (crawl.Cert error) = codes "incomplete: " ++ cert_text error
 crawl_text crawl.NoMemory = codes "out of memory"
-
--- the setting of a log that is not that of the command line
-abbrev pub setting_text : Setting → List ℕ
-setting_text (other.Part number parts) = codes "made with --part " ++ decimal number ++ codes "/" ++ decimal parts
-setting_text other.NoPart = codes "made without --part"
-setting_text other.Within = codes "made with another --within: see its first line"
-setting_text other.NoWithin = codes "made without --within"
-setting_text (other.Workers workers) = codes "made with --workers " ++ decimal workers
-setting_text (other.MaxPending max) = codes "made with --max-pending " ++ decimal max
-
--- why a session with a log cannot start or continue
-abbrev pub log_text : LogFault → List ℕ
-log_text unlogged.CannotOpen = codes "cannot open"
-log_text unlogged.InUse = codes "in use by another program"
-log_text unlogged.CannotRead = codes "cannot read"
-log_text unlogged.NotALog = codes "not a log"
-log_text (unlogged.OtherSettings setting) = setting_text setting
-log_text unlogged.CannotWrite = codes "cannot write"
-log_text unlogged.Changed = codes "changed by another program"
-log_text unlogged.CannotMakeNew = codes "cannot create the new log, which must not exist"
-log_text unlogged.CannotWriteNew = codes "cannot write the new log"
 
 -- why the folder with this name has no report, or no saved web
 abbrev pub site_text : List ℕ → SiteFault → List ℕ

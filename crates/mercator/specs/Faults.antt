@@ -12,8 +12,11 @@ use Rattle.crawl_session.specs.declared.serving.ServeError.{ServeError}
 use Rattle.crawl_session.specs.declared.serving.ServeError.TheVariants as serving
 use Rattle.mercator.specs.declared.commands.fault.Fault.{Fault}
 use Rattle.mercator.specs.declared.commands.fault.Fault.TheVariants as wrong
-use Rattle.mercator.specs.declared.commands.log_file.LogFault.{LogFault}
-use Rattle.mercator.specs.declared.commands.log_file.LogFault.TheVariants as unlogged
+use Rattle.session_log.specs.Faults.{status_of_log}
+use Rattle.session_log.specs.declared.fault.LogFault.{LogFault}
+use Rattle.session_log.specs.declared.fault.LogFault.TheVariants as unlogged
+use Rattle.session_log.specs.declared.fault.LoggedFault.{LoggedFault}
+use Rattle.session_log.specs.declared.fault.LoggedFault.TheVariants as ends
 use Rattle.mercator.specs.declared.commands.input.Unread.{Unread}
 use Rattle.mercator.specs.declared.commands.input.Unread.TheVariants as unread
 use Rattle.crawl_run.specs.Crawls.{is_incomplete}
@@ -64,6 +67,14 @@ of_session serving.CannotRead = wrong.CannotRead
 of_session serving.CannotWrite = wrong.CannotWrite
 of_session serving.NoMemory = wrong.NoMemory
 
+abbrev pub of_log : LogFault → Fault
+of_log unlogged.NoMemory = wrong.NoMemory
+of_log why = wrong.Log why
+
+abbrev pub of_logged : LoggedFault → Fault
+of_logged (ends.Log why) = of_log why
+of_logged (ends.Session why) = of_session why
+
 -- the error for a crawl that failed so, because of this
 abbrev pub of_crawl_by : CrawlError → CrawlFailure → Fault
 of_crawl_by crawl.NoMemory failure = wrong.NoMemory
@@ -77,11 +88,6 @@ abbrev pub of_site : SiteFault → Fault
 of_site (unsited.Crawl failure) = of_crawl failure
 of_site unsited.NoMemory = wrong.NoMemory
 of_site fault = wrong.Site fault
-
--- the exit status for an error of a log: 5 if another program uses it, otherwise 1
-abbrev pub status_of_log : LogFault → ℕ
-status_of_log unlogged.InUse = 5
-status_of_log why = 1
 
 -- the exit status for an error: 2 if a crawl is incomplete, that of a log's error, otherwise 1
 abbrev pub status_of_fault : Fault → ℕ

@@ -1,11 +1,9 @@
-pub mod Compaction
 pub mod Ending
 pub mod FaultText
 pub mod Faults
 pub mod Input
 pub mod KeyLine
 pub mod Limits
-pub mod LogFile
 pub mod Plans
 pub mod Told
 pub mod WebCrawl

@@ -1,16 +1,18 @@
 -- What a command line asks for.
-use Rattle.std.specs.Prelude.{ℕ, ◌<◌, ◌≤◌, ◌*◌, ◌≡◌, ◌⊎◌, ◌&&◌, ◌||◌, Bool, true, false, not, List, [], ◌∷◌, codes, length, if◌then◌else◌, Option, Some, None, IsSome, String, string_bytes}
+use Rattle.std.specs.Prelude.{ℕ, ◌≤◌, ◌≡◌, ◌⊎◌, ◌&&◌, ◌||◌, Bool, true, false, not, List, [], ◌∷◌, codes, length, if◌then◌else◌, Option, Some, None, IsSome, String, Vec, string_bytes}
 use Rattle.std.specs.declared.alloc.Global.{Global}
 use Rattle.std.specs.List.{list_all}
 use Rattle.std.specs.Str.{bytes_eq, chars}
-use Rattle.crawl_core.specs.Limits.{queue_limit}
 use Rattle.crawl_limits.specs.Limits.{worker_limit, AreLimits}
 use Rattle.crawl_keys.specs.HostFilter.{is_good}
+use Rattle.session_log.specs.Plans.{IsSessionPlan}
 use Rattle.shown_text.specs.Shown.{is_visible_or_lf}
 use Rattle.mercator.specs.declared.commands.fault.Fault.{Fault}
 use Rattle.mercator.specs.declared.commands.fault.Fault.TheVariants as fault
+use Rattle.mercator.specs.WebCrawl.{CrawlPlan}
+use Rattle.mercator.specs.declared.commands.planned.CrawlOptions.{CrawlOptions}
+use Rattle.mercator.specs.declared.commands.planned.CrawlPlan.{CrawlPlan as Fields}
 use Rattle.mercator.specs.declared.commands.planned.Plan.{Plan}
-use Rattle.mercator.specs.declared.commands.planned.SessionPlan.{SessionPlan}
 use Rattle.mercator.specs.declared.commands.planned.Plan.TheVariants as asks
 use Rattle.mercator.specs.declared.commands.words.PlanError.{PlanError}
 use Rattle.mercator.specs.declared.commands.words.PlanError.TheVariants as wrong
@@ -24,28 +26,19 @@ abbrev pub lists_input : Option (String Global) → Bool
 lists_input None = false
 lists_input (Some file) = is_input (string_bytes file)
 
--- the number of queues of all parts, if each part has this many
-abbrev pub all_queues : ℕ → Option (ℕ × ℕ) → ℕ
-all_queues workers None = workers
-all_queues workers (Some p) = workers * p.1
+-- the fields of a plan for a crawl, together
+abbrev pub crawl_of : ℕ → ℕ → Bool → String Global → Vec (String Global) Global → CrawlOptions → CrawlPlan
+crawl_of workers max queues file seeds options = record { workers = workers; max = max; queues = queues; file = file; seeds = seeds; options = options }
 
-abbrev pub queues_of : SessionPlan → ℕ
-queues_of asked = all_queues asked.workers asked.part
-
--- the number of the part is below the number of parts
-abbrev pub IsPartOf : Option (ℕ × ℕ) → Type 0
-IsPartOf None = Unit {0}
-IsPartOf (Some p) = p.0 < p.1
-
--- the numbers of a session are within the limits of a frontier, and the number of all queues within that of its parts together
-abbrev pub IsSessionPlan : SessionPlan → Type 0
-IsSessionPlan asked = AreLimits asked.workers asked.max × ((queues_of asked ≤ queue_limit) × IsPartOf asked.part)
+-- what a function gets of them
+abbrev pub plan_of : Fields → CrawlPlan
+plan_of crawl = crawl_of crawl.workers crawl.max crawl.queues crawl.file.now crawl.seeds.now crawl.options.now
 
 -- its numbers are within the limits of a frontier; a crawl has a seed or a file of seeds, and not both of its files are the
 -- standard input
 abbrev pub IsWithinLimits : Plan → Type 0
-IsWithinLimits (asks.Crawl crawl) =
-    AreLimits crawl.workers crawl.max × (IsSome crawl.listed ⊎ (1 ≤ length crawl.seeds.items)) × ((is_input (string_bytes crawl.file) && lists_input crawl.listed) ≡ false)
+IsWithinLimits (asks.Crawl workers max queues file seeds options) =
+    AreLimits workers max × (IsSome options.listed ⊎ (1 ≤ length seeds.items)) × ((is_input (string_bytes file) && lists_input options.listed) ≡ false)
 IsWithinLimits (asks.Site options) = Unit {0}
 IsWithinLimits (asks.Check options ignores) = (1 ≤ options.workers) × (options.workers ≤ worker_limit)
 IsWithinLimits (asks.Key url workers) = (1 ≤ workers) × (workers ≤ worker_limit)
@@ -79,7 +72,7 @@ known_ignores (Some file) = None
 
 -- the FILE of a plan; a key and a compaction have none, and a session reads the standard input
 abbrev pub file_of : Plan → List ℕ
-file_of (asks.Crawl crawl) = string_bytes crawl.file
+file_of (asks.Crawl workers max queues file seeds options) = string_bytes file
 file_of (asks.Site options) = string_bytes options.folder
 file_of (asks.Check options ignores) = string_bytes options.site.folder
 file_of (asks.Key url workers) = []
@@ -96,7 +89,7 @@ listed_or (Some listed) file = string_bytes listed
 -- the file that an error of a plan is about: the file of seeds or the ignore list if that cannot be read, the log if that cannot be
 -- used, else FILE
 abbrev pub told_file : Plan → Fault → List ℕ
-told_file (asks.Crawl crawl) fault.CannotReadSeeds = listed_or crawl.listed (string_bytes crawl.file)
+told_file (asks.Crawl workers max queues file seeds options) fault.CannotReadSeeds = listed_or options.listed (string_bytes file)
 told_file (asks.Check options ignores) fault.CannotReadIgnores = listed_or ignores (string_bytes options.site.folder)
 told_file (asks.ServeLog asked) (fault.Log why) = string_bytes asked.file
 told_file (asks.Compact log new) (fault.Log why) = string_bytes log.file
@@ -112,9 +105,13 @@ abbrev pub is_bad_suffix : Option (String Global) → Bool
 is_bad_suffix None = false
 is_bad_suffix (Some suffix) = not (is_good (string_bytes suffix))
 
+-- one of the files of a crawl is the standard input, and the suffix is not bad
+abbrev pub reads_files : CrawlPlan → Bool
+reads_files crawl = not (is_bad_suffix crawl.options.within) && (is_input (string_bytes crawl.file) || lists_input crawl.options.listed)
+
 -- the command reads the standard input: it is a session, or one of its files is the standard input; and the suffix is not bad
 abbrev pub reads_input : Plan → Bool
-reads_input (asks.Crawl crawl) = not (is_bad_suffix crawl.within) && (is_input (string_bytes crawl.file) || lists_input crawl.listed)
+reads_input (asks.Crawl workers max queues file seeds options) = reads_files (crawl_of workers max queues file seeds options)
 reads_input (asks.Site options) = false
 reads_input (asks.Check options ignores) = false
 reads_input (asks.Key url workers) = false
@@ -132,5 +129,5 @@ has_notices plan = false
 
 -- the command reports the first affected URL of an incomplete crawl
 abbrev pub explains : Plan → Bool
-explains (asks.Crawl crawl) = crawl.explain
+explains (asks.Crawl workers max queues file seeds options) = options.explain
 explains plan = false

@@ -8,29 +8,29 @@ use Rattle.mercator.specs.FaultText.{fault_line, more_lines, torn_line}
 use Rattle.mercator.specs.Faults.{status_of_fault}
 use Rattle.mercator.specs.KeyLine.{IsKeyLine}
 use Rattle.mercator.specs.Limits.{most_input_bytes}
-use Rattle.mercator.specs.Plans.{IsVisible, explains, has_notices, is_bad_suffix, is_input, known_bytes, known_ignores, known_seeds, queues_of, suffixes_of, told_file}
+use Rattle.mercator.specs.Plans.{IsVisible, crawl_of, explains, has_notices, is_bad_suffix, is_input, known_bytes, known_ignores, known_seeds, suffixes_of, told_file}
 use Rattle.crawl_replay.specs.Replay.{IsReplay}
 use Rattle.crawl_replay.specs.Script.{script_of}
 use Rattle.crawl_session.specs.Answers.{answer_lines}
 use Rattle.crawl_session.specs.Frontiers.{start}
 use Rattle.crawl_session.specs.Sessions.{answers, session_text, state_after}
 use Rattle.crawl_session.specs.Settings.{Settings}
-use Rattle.crawl_session.specs.declared.part.Part.{Part}
 use Rattle.std.specs.Str.Lines.{lines}
 use Rattle.mercator_site.specs.Ends.{IsFolderCheck}
 use Rattle.mercator_site.specs.Faults.{IsSiteIncomplete}
 use Rattle.mercator_site.specs.declared.options.CheckOptions.{CheckOptions}
 use Rattle.saved_site.specs.Below.{IsWebAt}
 use Rattle.saved_site.specs.Meaning.{IsSiteWeb}
-use Rattle.mercator.specs.WebCrawl.{IsBegun, IsCrawlText, IsUnbegun}
-use Rattle.mercator.specs.declared.commands.planned.CrawlPlan.{CrawlPlan}
+use Rattle.session_log.specs.Plans.{queues_of}
+use Rattle.session_log.specs.Plans as session
+use Rattle.session_log.specs.declared.fault.LogFault.TheVariants as unlogged
+use Rattle.session_log.specs.declared.plan.SessionPlan.{SessionPlan}
+use Rattle.mercator.specs.WebCrawl.{CrawlPlan, IsBegun, IsCrawlText, IsUnbegun}
 use Rattle.mercator.specs.declared.commands.planned.Plan.{Plan}
-use Rattle.mercator.specs.declared.commands.planned.SessionPlan.{SessionPlan}
 use Rattle.mercator.specs.declared.commands.planned.Plan.TheVariants as asks
 use Rattle.mercator.specs.declared.commands.words.PlanError.{PlanError}
 use Rattle.mercator.specs.declared.commands.words.PlanError.TheVariants as unplanned
 use Rattle.mercator.specs.declared.commands.fault.Fault.{Fault}
-use Rattle.mercator.specs.declared.commands.log_file.LogFault.TheVariants as unlogged
 use Rattle.mercator.specs.declared.commands.fault.Fault.TheVariants as wrong
 
 -- P holds for some bytes that the file can have: the known ones, if they are known, and no more than the limit
@@ -42,22 +42,17 @@ pub record OfFile (known : Option (List ℕ)) (P : List ℕ → Type 0) : Type 0
 
 -- P holds for some bytes that the two files of a crawl can have: those of the saved web, and those of the file of seeds
 abbrev pub OfFiles : CrawlPlan → Option (List ℕ) → (List ℕ → List ℕ → Type 0) → Type 0
-OfFiles crawl input P = OfFile (known_bytes (string_bytes crawl.file) input) (λ bytes. OfFile (known_seeds crawl.listed input) (λ seeds. P bytes seeds))
+OfFiles crawl input P = OfFile (known_bytes (string_bytes crawl.file) input) (λ bytes. OfFile (known_seeds crawl.options.listed input) (λ seeds. P bytes seeds))
 
 -- these can be the bytes of the two files
 pub record AreFiles (crawl : CrawlPlan) (input : Option (List ℕ)) (bytes seeds : List ℕ) : Type 0 where
   pub read : IfSome (known_bytes (string_bytes crawl.file) input) (λ known. bytes ≡ known)
   pub few : length bytes ≤ most_input_bytes
-  pub read_seeds : IfSome (known_seeds crawl.listed input) (λ known. seeds ≡ known)
+  pub read_seeds : IfSome (known_seeds crawl.options.listed input) (λ known. seeds ≡ known)
   pub few_seeds : length seeds ≤ most_input_bytes
 
--- the part with this many queues whose log has this identity
-abbrev pub part_of : ℕ → List ℕ → Option (ℕ × ℕ) → Option Part
-part_of queues identity None = None
-part_of queues identity (Some p) = Some (record { number = p.0; queues = queues; identity = identity })
-
 abbrev pub settings_of : SessionPlan → List ℕ → Settings
-settings_of asked identity = record { workers = queues_of asked; suffixes = suffixes_of asked.within; part = part_of asked.workers identity asked.part }
+settings_of asked identity = session.settings_of asked (suffixes_of asked.within) identity
 
 -- of a part without a log
 abbrev pub no_identity : List ℕ
@@ -83,11 +78,15 @@ pub record GoesOn (asked : SessionPlan) (input : Option (List ℕ)) (text : List
 abbrev pub IsChecked : CheckOptions → Option (String Global) → Bool → List ℕ → Type 0
 IsChecked options ignores broken text = OfFile (known_ignores ignores) (λ list. IsFolderCheck options list broken text)
 
+-- the text is the output of a crawl
+abbrev pub IsToldCrawl : CrawlPlan → Option (List ℕ) → List ℕ → Type 0
+IsToldCrawl crawl input text =
+    (is_bad_suffix crawl.options.within ≡ false)
+    × OfFiles crawl input (λ bytes list. IsBegun bytes list (map string_bytes crawl.seeds.items) × IsCrawlText crawl.workers crawl bytes list (map string_bytes crawl.seeds.items) (suffixes_of crawl.options.within) text)
+
 -- the text is the output of the plan; for a check, of one that found nothing broken
 abbrev pub IsTold : Plan → Option (List ℕ) → List ℕ → Type 0
-IsTold (asks.Crawl crawl) input text =
-    (is_bad_suffix crawl.within ≡ false)
-    × OfFiles crawl input (λ bytes list. IsBegun bytes list (map string_bytes crawl.seeds.items) × IsCrawlText crawl.workers crawl bytes list (map string_bytes crawl.seeds.items) (suffixes_of crawl.within) text)
+IsTold (asks.Crawl workers max queues file seeds options) input text = IsToldCrawl (crawl_of workers max queues file seeds options) input text
 IsTold (asks.Site options) input text = IsSiteWeb text × IsWebAt (string_bytes options.base) text
 IsTold (asks.Check options ignores) input text = IsChecked options ignores false text
 IsTold (asks.Key url workers) input text = IsKeyLine (string_bytes url) workers text
@@ -111,12 +110,12 @@ FailsReplay file input _ = ⊥
 -- why a crawl fails, in this order: the suffix is bad; the FILE cannot be read; the file of seeds cannot be read; the saved web or
 -- a seed is refused, there is no seed, or the crawl is incomplete. Memory may run out at any time
 abbrev pub FailsCrawl : CrawlPlan → Option (List ℕ) → Fault → Type 0
-FailsCrawl crawl input wrong.BadSuffix = is_bad_suffix crawl.within ≡ true
-FailsCrawl crawl input wrong.CannotRead = is_bad_suffix crawl.within ≡ false
-FailsCrawl crawl input wrong.CannotReadSeeds = (is_bad_suffix crawl.within ≡ false) × IsSome crawl.listed
+FailsCrawl crawl input wrong.BadSuffix = is_bad_suffix crawl.options.within ≡ true
+FailsCrawl crawl input wrong.CannotRead = is_bad_suffix crawl.options.within ≡ false
+FailsCrawl crawl input wrong.CannotReadSeeds = (is_bad_suffix crawl.options.within ≡ false) × IsSome crawl.options.listed
 FailsCrawl crawl input wrong.NoMemory = Unit {0}
 FailsCrawl crawl input fault =
-    (is_bad_suffix crawl.within ≡ false) × OfFiles crawl input (λ bytes list. IsUnbegun crawl.workers crawl.max bytes list (map string_bytes crawl.seeds.items) (suffixes_of crawl.within) fault)
+    (is_bad_suffix crawl.options.within ≡ false) × OfFiles crawl input (λ bytes list. IsUnbegun crawl.workers crawl.max bytes list (map string_bytes crawl.seeds.items) (suffixes_of crawl.options.within) fault)
 
 -- why a key is not printed: the text has no canonical URL, with this error; or memory runs out
 abbrev pub FailsKey : List ℕ → Fault → Type 0
@@ -134,6 +133,7 @@ FailsSession within _ = ⊥
 -- runs out
 abbrev pub FailsLog : Option (String Global) → Fault → Type 0
 FailsLog within wrong.BadSuffix = is_bad_suffix within ≡ true
+FailsLog within (wrong.Log unlogged.NoMemory) = ⊥
 FailsLog within (wrong.Log fault) = is_bad_suffix within ≡ false
 FailsLog within wrong.NoMemory = Unit {0}
 FailsLog within _ = ⊥
@@ -154,7 +154,7 @@ BreaksOff plan fault = ⊥
 
 -- the plan's command fails with this error before it writes
 abbrev pub Fails : Plan → Option (List ℕ) → Fault → Type 0
-Fails (asks.Crawl crawl) input fault = FailsCrawl crawl input fault
+Fails (asks.Crawl workers max queues file seeds options) input fault = FailsCrawl (crawl_of workers max queues file seeds options) input fault
 Fails (asks.Site options) input fault = status_of_fault fault ≡ 1
 Fails (asks.Check options ignores) input fault = status_of_fault fault ≡ 2 → IsSiteIncomplete options
 Fails (asks.Key url workers) input fault = FailsKey (string_bytes url) fault
@@ -166,7 +166,8 @@ Fails (asks.Compact log new) input fault = FailsLog log.session.within fault
 -- the command cannot have an output: the suffix is bad; the FILE is known and no script; the URL has no canonical URL; or, for all
 -- bytes that the files of a crawl can have, there is no saved web, a seed has no canonical URL, or there is no seed
 abbrev pub CannotTell : Plan → Option (List ℕ) → Type 0
-CannotTell (asks.Crawl crawl) input = (is_bad_suffix crawl.within ≡ true) ⊎ (OfFiles crawl input (λ bytes list. IsBegun bytes list (map string_bytes crawl.seeds.items)) → ⊥)
+CannotTell (asks.Crawl workers max queues file seeds options) input =
+    (is_bad_suffix options.within ≡ true) ⊎ (OfFiles (crawl_of workers max queues file seeds options) input (λ bytes list. IsBegun bytes list (map string_bytes seeds.items)) → ⊥)
 CannotTell (asks.Site options) input = ⊥
 CannotTell (asks.Check options ignores) input = ⊥
 CannotTell (asks.Key url workers) input = IsErr (canonical (string_bytes url))
@@ -177,7 +178,8 @@ CannotTell (asks.Compact log new) input = is_bad_suffix log.session.within ≡ t
 
 -- only a crawl can be incomplete: one of a saved web, from at least one seed, whose seeds have canonical URLs; or that of a check
 abbrev pub MayLose : Plan → Option (List ℕ) → Type 0
-MayLose (asks.Crawl crawl) input = (is_bad_suffix crawl.within ≡ false) × OfFiles crawl input (λ bytes list. IsBegun bytes list (map string_bytes crawl.seeds.items))
+MayLose (asks.Crawl workers max queues file seeds options) input =
+    (is_bad_suffix options.within ≡ false) × OfFiles (crawl_of workers max queues file seeds options) input (λ bytes list. IsBegun bytes list (map string_bytes seeds.items))
 MayLose (asks.Check options ignores) input = IsSiteIncomplete options
 MayLose _ input = ⊥
 
@@ -230,16 +232,20 @@ pub record EndsByFault (plan : Plan) (ended : ℕ) (input err_old err_new : Opti
 
 -- both crawls print the same sections, in the same form
 pub record AskForOneReport (crawl other : CrawlPlan) : Type 0 where
-  pub parts : crawl.parts ≡ other.parts
-  pub json : crawl.json ≡ other.json
+  pub parts : crawl.options.parts ≡ other.options.parts
+  pub json : crawl.options.json ≡ other.options.json
 
--- both plans crawl the standard input, from the same seeds of the command line and within the same suffix, and print the same
+-- both crawl the standard input, from the same seeds of the command line and within the same suffix, and print the same
 -- sections. If they print the counts of queues, they have the same number of workers
-abbrev pub AskForOneText : Plan → Plan → Type 0
-AskForOneText (asks.Crawl crawl) (asks.Crawl other) =
-    (is_input (string_bytes crawl.file) ≡ true) × (is_input (string_bytes other.file) ≡ true) × (crawl.listed ≡ None) × (other.listed ≡ None)
-    × (map string_bytes crawl.seeds.items ≡ map string_bytes other.seeds.items) × (suffixes_of crawl.within ≡ suffixes_of other.within)
+abbrev pub AskForOneCrawl : CrawlPlan → CrawlPlan → Type 0
+AskForOneCrawl crawl other =
+    (is_input (string_bytes crawl.file) ≡ true) × (is_input (string_bytes other.file) ≡ true) × (crawl.options.listed ≡ None) × (other.options.listed ≡ None)
+    × (map string_bytes crawl.seeds.items ≡ map string_bytes other.seeds.items) × (suffixes_of crawl.options.within ≡ suffixes_of other.options.within)
     × AskForOneReport crawl other × (crawl.queues ≡ other.queues) × (crawl.queues ≡ true → crawl.workers ≡ other.workers)
+
+-- both plans are for such crawls
+abbrev pub AskForOneText : Plan → Plan → Type 0
+AskForOneText (asks.Crawl workers max queues file seeds options) (asks.Crawl others most counts from those settings) = AskForOneCrawl (crawl_of workers max queues file seeds options) (crawl_of others most counts from those settings)
 AskForOneText _ _ = ⊥
 
 -- what is wrong with arguments is reported: the writer for errors gained a beginning of the text, which cannot control a terminal

@@ -1,5 +1,6 @@
 -- A crawl of a saved web, from its bytes to the report.
-use Rattle.std.specs.Prelude.{◌≡◌, ℕ, ◌+◌, Bool, false, if◌then◌else◌, List, [], ◌∷◌, ◌++◌, ◌≤◌, length, map, Ok, Err, IsOk}
+use Rattle.std.specs.Prelude.{◌≡◌, ℕ, ◌+◌, Bool, false, if◌then◌else◌, List, [], ◌∷◌, ◌++◌, ◌≤◌, length, map, Ok, Err, IsOk, String, Vec}
+use Rattle.std.specs.declared.alloc.Global.{Global}
 use Rattle.std.specs.Cmp.Lexicographic.{slice_cmp}
 use Rattle.std.specs.List.{flat_map}
 use Rattle.std.specs.List.Sorted.{IsPermutation, IsSortedByKey}
@@ -18,7 +19,7 @@ use Rattle.crawl_keys.specs.declared.error.KeyError.{KeyError}
 use Rattle.saved_web.specs.WebFaults.{IsSound, IsWebFault}
 use Rattle.mercator.specs.declared.commands.fault.Fault.{Fault}
 use Rattle.mercator.specs.declared.commands.fault.Fault.TheVariants as wrong
-use Rattle.mercator.specs.declared.commands.planned.CrawlPlan.{CrawlPlan}
+use Rattle.mercator.specs.declared.commands.planned.CrawlOptions.{CrawlOptions}
 use Rattle.crawl_certificate.specs.Certificate.{IsCrawl, result_urls}
 use Rattle.crawl_keys.specs.HostFilter.{allows}
 use Rattle.crawl_run.specs.Crawls.{AreCounts, ComesIn, CrawlFails, IsJudgedAt}
@@ -28,6 +29,15 @@ use Rattle.crawl_run.specs.declared.whole_crawl.Crawled.{Crawled}
 use Rattle.crawl_run.specs.declared.failure.CrawlFailure.{CrawlFailure}
 use Rattle.crawl_run.specs.declared.settings.Mode.{Mode}
 use Rattle.crawl_pages.specs.declared.page.PageResult.{PageResult}
+
+-- what the plan of a crawl asks for
+pub record CrawlPlan : Type 0 where
+  pub workers : ℕ
+  pub max : ℕ
+  pub queues : Bool
+  pub file : String Global
+  pub seeds : Vec (String Global) Global
+  pub options : CrawlOptions
 
 -- these are the canonical URLs of the texts
 abbrev pub AreSeeds : List (List ℕ) → List (List ℕ) → Type 0
@@ -134,7 +144,7 @@ pub record AreUnreached (known suffixes : List (List ℕ)) (pages : List PageRes
 -- the text of pages, counts and unreached pages, with the sections that the plan asks for
 abbrev pub printed_with : CrawlPlan → List PageResult → List ℕ → List (List ℕ) → List ℕ
 printed_with plan pages counts unreached =
-    flat_map (printed_line plan.json) (rows_with plan.parts pages (if plan.queues then counts else []) unreached)
+    flat_map (printed_line plan.options.json) (rows_with plan.options.parts pages (if plan.queues then counts else []) unreached)
 
 -- the text has the pages and counts of a crawl; among the URLs `known` are the pages that no result has
 pub record IsTextOf (plan : CrawlPlan) (known suffixes : List (List ℕ)) (pages : List PageResult) (counts text : List ℕ) : Type 0 where
@@ -148,7 +158,7 @@ pub record IsCrawlText (workers : ℕ) (plan : CrawlPlan) (bytes listed : List �
   pub crawl : IsSiteCrawl bytes listed texts suffixes pages
   pub counts : List ℕ
   pub counted : AreCounts workers (result_urls pages) counts
-  pub told : IsTextOf plan (asked_pages plan.parts (lines bytes)) suffixes pages counts text
+  pub told : IsTextOf plan (asked_pages plan.options.parts (lines bytes)) suffixes pages counts text
 
 -- ---- the text of a crawl that asks for no more than the lines of queues and of sources
 
@@ -162,5 +172,5 @@ pub record IsPlainText (workers : ℕ) (with_queues with_sources : Bool) (bytes 
 
 -- no more is requested
 pub record IsPlain (with_sources : Bool) (plan : CrawlPlan) : Type 0 where
-  pub parts : plan.parts ≡ plain_parts with_sources
-  pub json : plan.json ≡ false
+  pub parts : plan.options.parts ≡ plain_parts with_sources
+  pub json : plan.options.json ≡ false

@@ -13,42 +13,33 @@ ghost use Rattle.mercator.specs.declared.commands.fault.Fault.TheVariants as wro
 
 mod arguments;
 mod command_line;
-mod compacting;
 mod crawl_text;
 mod fault;
 mod fault_text;
 mod folder;
 mod folder_words;
 mod input;
-mod log_file;
-mod log_settings;
-mod new_log;
-mod opening;
 mod planned;
 mod platform;
 mod report_words;
-mod resuming;
-mod serving;
+mod sessions;
 mod source;
 mod web_crawl;
 mod web_report;
-mod window;
 mod words;
 mod writing;
 
 use crate::key::key_line;
-use compacting::compact_log;
 use crawl_replay::replay_text;
 use crawl_run::Observe;
 pub use fault::Fault;
 use folder::{run_check, run_site};
 pub use input::{InputLimits, Unread, read_input};
-use log_file::LockFile;
-pub use log_file::NoLocks;
+use planned::CrawlPlan;
 pub use planned::Plan;
 pub use platform::Platform;
-use resuming::serve_log;
-use serving::serve_plan;
+use session_log::LockFile;
+use sessions::{compact_log, serve_log, serve_plan};
 use source::read_file;
 use std::alloc::Global;
 use std::fs::Files;
@@ -219,8 +210,23 @@ fn run<
     ensures noted { MayNote plan.now (E.contents err.old) (E.contents err.new) }
 {
     match plan {
-        Plan::Crawl(crawl) => {
-            let parts = report_of_plan(platform, alloc, crawl, input)?;
+        Plan::Crawl {
+            workers,
+            max,
+            queues,
+            file,
+            seeds,
+            options,
+        } => {
+            let crawl = CrawlPlan {
+                workers: *workers,
+                max: *max,
+                queues: *queues,
+                file,
+                seeds,
+                options,
+            };
+            let parts = report_of_plan(platform, alloc, &crawl, input)?;
             end_by_parts(out, &parts)?;
             Ok(false)
         }

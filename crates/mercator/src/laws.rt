@@ -3,8 +3,7 @@
 ghost use Rattle.std.specs.Prelude.{◌≡◌, ℕ, List, Some, Bool};
 ghost use Rattle.crawl_pages.specs.declared.page.PageResult.{PageResult};
 ghost use Rattle.mercator.specs.Told.{AskForOneText, Gains};
-ghost use Rattle.mercator.specs.WebCrawl.{IsCrawlReport, IsCrawlText, IsPlain, IsPlainText, IsSiteCrawl};
-ghost use Rattle.mercator.specs.declared.commands.planned.CrawlPlan.{CrawlPlan};
+ghost use Rattle.mercator.specs.WebCrawl.{CrawlPlan, IsCrawlReport, IsCrawlText, IsPlain, IsPlainText, IsSiteCrawl};
 ghost use Rattle.mercator.specs.declared.commands.planned.Plan.{Plan};
 
 // Laws of the crates below.

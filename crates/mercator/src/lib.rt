@@ -15,7 +15,7 @@ pub mod laws;
 
 /// Parts of the commands that only tests call.
 pub mod testing {
-    pub use crate::commands::{InputLimits, NoLocks, Unread, fault_line, read_input};
+    pub use crate::commands::{InputLimits, Unread, fault_line, read_input};
 }
 
 /// Runs of the workers of a frontier.

@@ -1,6 +1,7 @@
 //! The report of a crawl as text, in consecutive chunks.
 ghost use Rattle.std.specs.Prelude.{◌≡◌, [], IfOk, if◌then◌else◌};
 ghost use Rattle.crawl_report.specs.Printing.{joined};
+ghost use Rattle.mercator.specs.Plans.{plan_of};
 ghost use Rattle.mercator.specs.WebCrawl.{IsTextOf};
 
 use crate::commands::planned::CrawlPlan;
@@ -16,15 +17,15 @@ use std::thread::Threads;
 ///
 /// # Errors
 /// Only if there is not enough memory.
-pub fn crawl_text<R: Threads + Sync>(
+pub(in crate::commands) fn crawl_text<R: Threads + Sync>(
     rt: &R,
     alloc: Global,
-    crawl: &CrawlPlan,
+    crawl: &CrawlPlan<'_>,
     settings: &CrawlSettings<'_>,
     crawled: &Crawled,
     urls: &[CanonUrl],
 ) -> Result<Vec<Vec<u8>>, NoMemory>
-    ensures { IfOk result (λ parts. IsTextOf crawl.now urls.now settings.now.filter.now crawled.now.result crawled.now.counts.items (joined parts.items)) }
+    ensures { IfOk result (λ parts. IsTextOf (plan_of crawl.now) urls.now settings.now.filter.now crawled.now.result crawled.now.counts.items (joined parts.items)) }
 {
     let pages = crawled.result.pages();
     let unseen = unreached(alloc, settings.filter, pages, urls)?;
@@ -32,9 +33,15 @@ pub fn crawl_text<R: Threads + Sync>(
         pages,
         queues: asked_counts(crawl.queues, &crawled.counts),
         unreached: &unseen,
-        parts: crawl.parts,
+        parts: crawl.options.parts,
     };
-    print_in_parts(rt, alloc, &report, crawl.json, settings.has_threads())
+    print_in_parts(
+        rt,
+        alloc,
+        &report,
+        crawl.options.json,
+        settings.has_threads(),
+    )
 }
 
 /// Returns the counts of the queues if the report has them, and otherwise none.

@@ -1,16 +1,16 @@
 //! Why a command failed.
 ghost use Rattle.std.specs.Prelude.{◌≡◌, ◌≤◌};
-ghost use Rattle.mercator.specs.Faults.{of_script, of_seeds, of_web, of_url, of_crawl, of_filter, of_site};
+ghost use Rattle.mercator.specs.Faults.{of_script, of_seeds, of_web, of_url, of_crawl, of_filter, of_log, of_site};
 ghost use Rattle.mercator.specs.declared.commands.fault.Fault.TheVariants as wrong;
 
 use crate::commands::input::Unread;
-use crate::commands::log_file::LogFault;
 use crawl_keys::{FilterError, KeyError};
 use crawl_replay::ScriptError;
 use crawl_run::{CrawlError, CrawlFailure};
 use crawl_sources::SeedsFault;
 use mercator_site::SiteFault;
 use saved_web::WebError;
+use session_log::LogFault;
 use std::alloc::{AllocError, AllocFailed};
 
 /// Why a command failed.
@@ -50,7 +50,7 @@ pub enum Fault {
     BadSuffix,
     /// A write or a flush failed.
     CannotWrite,
-    /// The log cannot be used.
+    /// The log cannot be used. The reason is never that memory ran out.
     Log(LogFault),
     /// Out of memory. The other variants never hold this reason.
     NoMemory,
@@ -171,6 +171,17 @@ impl From<SiteFault> for Fault {
             SiteFault::Crawl(failure) => Fault::from(failure),
             SiteFault::NoMemory => Fault::NoMemory,
             _ => Fault::Site(fault),
+        }
+    }
+}
+
+impl From<LogFault> for Fault {
+    ghost from_gives = { λ why fault. fault ≡ of_log why };
+
+    fn from(fault: LogFault) -> Fault {
+        match fault {
+            LogFault::NoMemory => Fault::NoMemory,
+            _ => Fault::Log(fault),
         }
     }
 }

@@ -1,9 +1,8 @@
 //! The texts of errors.
 ghost use Rattle.std.specs.Prelude.{◌≡◌, ◌++◌, Some, codes};
-ghost use Rattle.mercator.specs.FaultText.{fault_text, line_text, words_text, log_text, setting_text, web_text, seeds_text, script_text, crawl_text, finish_text, cert_text, site_text};
+ghost use Rattle.mercator.specs.FaultText.{fault_text, line_text, words_text, web_text, seeds_text, script_text, crawl_text, finish_text, cert_text, site_text};
 
 use crate::commands::fault::Fault;
-use crate::commands::log_file::{LogFault, Setting};
 use crawl_certificate::CertError;
 use crawl_frontier::FinishError;
 use crawl_replay::ScriptError;
@@ -66,8 +65,8 @@ impl fmt::Display for FaultText<'_> {
             }
             .fmt(f),
             Fault::Log(fault) => {
-                let (file, text) = (self.file, LogText(*fault));
-                write!(f, "log {file}: {text}")
+                let (file, fault) = (self.file, *fault);
+                write!(f, "log {file}: {fault}")
             }
         }
     }
@@ -180,49 +179,6 @@ fn cert_words(fault: CertError) -> Words
         CertError::Unfounded => alone("unfounded URL"),
         CertError::Twice => alone("fetched twice"),
         CertError::NoMemory => alone("out of memory"),
-    }
-}
-
-/// The text of an error of a log.
-#[derive(Clone, Copy)]
-struct LogText(LogFault);
-
-impl fmt::Display for LogText {
-    ghost output = { λ told. Some (log_text told.0) };
-
-    fn fmt<W: fmt::Write>(&self, f: &mut fmt::Formatter<W>) -> fmt::Result {
-        match self.0 {
-            LogFault::CannotOpen => f.write_str("cannot open"),
-            LogFault::InUse => f.write_str("in use by another program"),
-            LogFault::CannotRead => f.write_str("cannot read"),
-            LogFault::NotALog => f.write_str("not a log"),
-            LogFault::OtherSettings(setting) => SettingText(setting).fmt(f),
-            LogFault::CannotWrite => f.write_str("cannot write"),
-            LogFault::Changed => f.write_str("changed by another program"),
-            LogFault::CannotMakeNew => {
-                f.write_str("cannot create the new log, which must not exist")
-            }
-            LogFault::CannotWriteNew => f.write_str("cannot write the new log"),
-        }
-    }
-}
-
-/// The text of a setting of a log that is not that of the command line.
-#[derive(Clone, Copy)]
-struct SettingText(Setting);
-
-impl fmt::Display for SettingText {
-    ghost output = { λ told. Some (setting_text told.0) };
-
-    fn fmt<W: fmt::Write>(&self, f: &mut fmt::Formatter<W>) -> fmt::Result {
-        match self.0 {
-            Setting::Part(number, parts) => write!(f, "made with --part {number}/{parts}"),
-            Setting::NoPart => f.write_str("made without --part"),
-            Setting::Within => f.write_str("made with another --within: see its first line"),
-            Setting::NoWithin => f.write_str("made without --within"),
-            Setting::Workers(workers) => write!(f, "made with --workers {workers}"),
-            Setting::MaxPending(max) => write!(f, "made with --max-pending {max}"),
-        }
     }
 }
 

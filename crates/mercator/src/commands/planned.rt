@@ -5,6 +5,7 @@ ghost use Rattle.mercator.specs.Plans.{IsWithinLimits, explains, file_of, listed
 use crate::commands::fault::Fault;
 use crawl_report::Parts;
 use mercator_site::{CheckForm, CheckOptions, ReportOptions, SiteOptions};
+use session_log::{LogPlan, SessionPlan};
 
 /// What the arguments of a command line ask for.
 ///
@@ -26,7 +27,20 @@ use mercator_site::{CheckForm, CheckOptions, ReportOptions, SiteOptions};
 #[derive(Drop)]
 pub enum Plan {
     /// `crawl`: print the report of a crawl of a saved web.
-    Crawl(CrawlPlan),
+    Crawl {
+        /// The number of workers, each with its own queue: 1 to 512.
+        workers: u32,
+        /// The most URLs that are waiting or in progress at a time: 1 to 2^40.
+        max: u64,
+        /// Whether the number of URLs of each queue follows the report.
+        queues: bool,
+        /// The file of the saved web; `-` is the input.
+        file: String,
+        /// The seeds on the command line, which come after those of a file of seeds.
+        seeds: Vec<String>,
+        /// The other options.
+        options: CrawlOptions,
+    },
     /// `site`: print a folder as a saved web.
     Site(SiteOptions),
     /// `check`: print the report of the broken links of a folder.
@@ -61,19 +75,9 @@ pub enum Plan {
     },
 }
 
-/// The options of a crawl.
+/// The other options of a crawl.
 #[derive(Drop)]
-pub struct CrawlPlan {
-    /// The number of workers, each with its own queue: 1 to 512.
-    pub workers: u32,
-    /// The most URLs that are waiting or in progress at a time: 1 to 2^40.
-    pub max: u64,
-    /// Whether the number of URLs of each queue follows the report.
-    pub queues: bool,
-    /// The file of the saved web; `-` is the input.
-    pub file: String,
-    /// The seeds on the command line, which come after those of a file of seeds.
-    pub seeds: Vec<String>,
+pub struct CrawlOptions {
     /// The suffix of the hosts to crawl; without one, all hosts.
     pub within: Option<String>,
     /// The file of seeds, if there is one; `-` is the input.
@@ -88,30 +92,15 @@ pub struct CrawlPlan {
     pub progress: bool,
 }
 
-/// The options of a session.
-#[derive(Drop)]
-pub struct SessionPlan {
-    /// The number of workers, each with its own queue: 1 to 512. All parts together have at most 2^20.
+/// The fields of a [`Plan::Crawl`], which functions take whole.
+#[derive(Clone, Copy)]
+pub(in crate::commands) struct CrawlPlan<'a> {
     pub workers: u32,
-    /// The most URLs that are waiting or in progress at a time: 1 to 2^40.
     pub max: u64,
-    /// The suffix of the hosts to accept; without one, all hosts.
-    pub within: Option<String>,
-    /// The number of this part of a crawl, from 0, and the number of parts.
-    pub part: Option<(u32, u32)>,
-}
-
-/// A session with a log.
-#[derive(Drop)]
-pub struct LogPlan {
-    /// The options of the session.
-    pub session: SessionPlan,
-    /// The name of the log.
-    pub file: String,
-    /// Whether the log is synced to disk before each answer.
-    pub sync: bool,
-    /// The most seconds to wait for another program that uses the log.
-    pub wait: u64,
+    pub queues: bool,
+    pub file: &'a String,
+    pub seeds: &'a Vec<String>,
+    pub options: &'a CrawlOptions,
 }
 
 impl Plan {
@@ -120,8 +109,7 @@ impl Plan {
         ensures { result.now ≡ file_of self.now }
     {
         match self {
-            Plan::Crawl(crawl) => crawl.file.as_str(),
-            Plan::Replay { file } => file.as_str(),
+            Plan::Crawl { file, .. } | Plan::Replay { file } => file.as_str(),
             Plan::Site(options) => options.folder.as_str(),
             Plan::Check { options, .. } => options.site.folder.as_str(),
             Plan::Key { .. } => "",
@@ -156,7 +144,7 @@ impl Plan {
         ensures { result ≡ explains self.now }
     {
         match self {
-            Plan::Crawl(crawl) => crawl.explain,
+            Plan::Crawl { options, .. } => options.explain,
             _ => false,
         }
     }
@@ -167,8 +155,8 @@ impl Plan {
         ensures { result.now ≡ told_file self.now fault.now }
     {
         match (self, fault) {
-            (Plan::Crawl(crawl), Fault::CannotReadSeeds) => {
-                listed_or(&crawl.listed, crawl.file.as_str())
+            (Plan::Crawl { file, options, .. }, Fault::CannotReadSeeds) => {
+                listed_or(&options.listed, file.as_str())
             }
             (Plan::Check { options, ignores }, Fault::CannotReadIgnores) => {
                 listed_or(ignores, options.site.folder.as_str())

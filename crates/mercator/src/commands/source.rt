@@ -1,7 +1,7 @@
 //! Reads the files of a command.
 ghost use Rattle.std.specs.Prelude.{◌≡◌, ◌≤◌, ◌⊎◌, ◌&&◌, ◌||◌, string_bytes, vec_len, false, IfOk, IfErr, IfSome, IsSome};
 ghost use Rattle.mercator.specs.Limits.{most_input_bytes};
-ghost use Rattle.mercator.specs.Plans.{is_bad_suffix, is_input, known_bytes, known_seeds, lists_input};
+ghost use Rattle.mercator.specs.Plans.{is_bad_suffix, is_input, known_bytes, known_seeds, lists_input, plan_of};
 ghost use Rattle.mercator.specs.Told.{AreFiles, FailsCrawl};
 ghost use Rattle.mercator.specs.declared.commands.fault.Fault.TheVariants as wrong;
 
@@ -16,19 +16,19 @@ use std::io::Read;
 ///
 /// # Errors
 /// `CannotRead`, `CannotReadSeeds`, `NoMemory`.
-pub fn read_files<R: Files, I: Read>(
+pub(in crate::commands) fn read_files<R: Files, I: Read>(
     rt: &R,
     alloc: Global,
-    crawl: &CrawlPlan,
+    crawl: &CrawlPlan<'_>,
     input: &mut I,
 ) -> Result<(Vec<u8>, Vec<u8>), Fault>
-    requires one_input { (is_input (string_bytes crawl.now.file) && lists_input crawl.now.listed) ≡ false }
-    ensures files { IfOk result (λ files. AreFiles crawl.now (I.remaining input.old) files.0.items files.1.items) }
-    ensures fault { is_bad_suffix crawl.now.within ≡ false → IfErr result (FailsCrawl crawl.now (I.remaining input.old)) }
-    ensures unread { (is_input (string_bytes crawl.now.file) || lists_input crawl.now.listed) ≡ false → input.new ≡ input.old }
+    requires one_input { (is_input (string_bytes crawl.now.file.now) && lists_input crawl.now.options.now.listed) ≡ false }
+    ensures files { IfOk result (λ files. AreFiles (plan_of crawl.now) (I.remaining input.old) files.0.items files.1.items) }
+    ensures fault { is_bad_suffix crawl.now.options.now.within ≡ false → IfErr result (FailsCrawl (plan_of crawl.now) (I.remaining input.old)) }
+    ensures unread { (is_input (string_bytes crawl.now.file.now) || lists_input crawl.now.options.now.listed) ≡ false → input.new ≡ input.old }
 {
     let bytes = read_file(rt, alloc, crawl.file.as_str(), input)?;
-    let list = read_list(rt, alloc, &crawl.listed, input)?;
+    let list = read_list(rt, alloc, &crawl.options.listed, input)?;
     Ok((bytes, list))
 }
 

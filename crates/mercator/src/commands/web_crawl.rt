@@ -11,10 +11,9 @@ ghost use Rattle.crawl_run.specs.Losses.{IsLost};
 ghost use Rattle.saved_web.specs.KnownPages.{page_at, urls_of};
 ghost use Rattle.saved_web.specs.SavedWeb.{page_of, page_urls};
 ghost use Rattle.saved_web.specs.WebFaults.{IsSound, IsWebRefusal};
-ghost use Rattle.mercator.specs.Plans.{is_input, lists_input, reads_input, suffixes_of};
-ghost use Rattle.mercator.specs.Told.{Fails, IsTold};
+ghost use Rattle.mercator.specs.Plans.{is_input, lists_input, plan_of, reads_files, suffixes_of};
+ghost use Rattle.mercator.specs.Told.{FailsCrawl, IsToldCrawl};
 ghost use Rattle.mercator.specs.WebCrawl.{AreAllSeeds, AreSeeds, IsBegun, IsFound, IsSeedFault, IsUnbegun, IsUnread, asked_pages};
-ghost use Rattle.mercator.specs.declared.commands.planned.Plan.TheVariants as asks;
 
 use crate::commands::crawl_text::crawl_text;
 use crate::commands::fault::Fault;
@@ -47,15 +46,15 @@ pub(in crate::commands) fn report_of_plan<
 >(
     platform: &Platform<'_, R, L, V>,
     alloc: Global,
-    crawl: &CrawlPlan,
+    crawl: &CrawlPlan<'_>,
     input: &mut I,
 ) -> Result<Vec<Vec<u8>>, Fault>
-    requires one_input { (is_input (string_bytes crawl.now.file) && lists_input crawl.now.listed) ≡ false }
-    ensures text { IfOk result (λ parts. IsTold (asks.Crawl crawl.now) (I.remaining input.old) (joined parts.items)) }
-    ensures fault { IfErr result (Fails (asks.Crawl crawl.now) (I.remaining input.old)) }
-    ensures unread { reads_input (asks.Crawl crawl.now) ≡ false → input.new ≡ input.old }
+    requires one_input { (is_input (string_bytes crawl.now.file.now) && lists_input crawl.now.options.now.listed) ≡ false }
+    ensures text { IfOk result (λ parts. IsToldCrawl (plan_of crawl.now) (I.remaining input.old) (joined parts.items)) }
+    ensures fault { IfErr result (FailsCrawl (plan_of crawl.now) (I.remaining input.old)) }
+    ensures unread { reads_files (plan_of crawl.now) ≡ false → input.new ≡ input.old }
 {
-    let filter = filter_of(alloc, &crawl.within)?;
+    let filter = filter_of(alloc, &crawl.options.within)?;
     let files = read_files(platform.rt, alloc, crawl, input)?;
     let settings = CrawlSettings {
         workers: crawl.workers,
@@ -93,22 +92,22 @@ pub(in crate::commands) fn filter_of(
 fn crawl_files<R: Threads + Wait + Sync, L, V: Observe + Sync>(
     platform: &Platform<'_, R, L, V>,
     alloc: Global,
-    crawl: &CrawlPlan,
+    crawl: &CrawlPlan<'_>,
     settings: &CrawlSettings<'_>,
     files: (Vec<u8>, Vec<u8>),
 ) -> Result<(Crawled, Vec<CanonUrl>), Fault>
-    ensures found { IfOk result (λ r. IsFound settings.now.workers files.0.items files.1.items (map string_bytes crawl.now.seeds.items) settings.now.filter.now r.0) }
-    ensures begun { IfOk result (λ _. IsBegun files.0.items files.1.items (map string_bytes crawl.now.seeds.items)) }
-    ensures urls { IfOk result (λ r. r.1.items ≡ asked_pages crawl.now.parts (lines files.0.items)) }
-    ensures refused { IfErr result (IsUnbegun settings.now.workers settings.now.max_pending files.0.items files.1.items (map string_bytes crawl.now.seeds.items) settings.now.filter.now) }
+    ensures found { IfOk result (λ r. IsFound settings.now.workers files.0.items files.1.items (map string_bytes crawl.now.seeds.now.items) settings.now.filter.now r.0) }
+    ensures begun { IfOk result (λ _. IsBegun files.0.items files.1.items (map string_bytes crawl.now.seeds.now.items)) }
+    ensures urls { IfOk result (λ r. r.1.items ≡ asked_pages crawl.now.options.now.parts (lines files.0.items)) }
+    ensures refused { IfErr result (IsUnbegun settings.now.workers settings.now.max_pending files.0.items files.1.items (map string_bytes crawl.now.seeds.now.items) settings.now.filter.now) }
 {
     let (bytes, list) = files;
     let in_threads = settings.has_threads();
-    let (web, seeds) = read_site(platform.rt, alloc, in_threads, &bytes, &list, &crawl.seeds)?;
+    let (web, seeds) = read_site(platform.rt, alloc, in_threads, &bytes, &list, crawl.seeds)?;
     if seeds.is_empty() {
         return Err(Fault::NoSeed);
     }
-    let observer = if crawl.progress {
+    let observer = if crawl.options.progress {
         platform.observer
     } else {
         None
@@ -116,7 +115,7 @@ fn crawl_files<R: Threads + Wait + Sync, L, V: Observe + Sync>(
     let source = WebInThreads::new(platform.rt, alloc, &web, in_threads);
     let crawled = crawl_source(platform.rt, alloc, &source, observer, settings, &seeds)?;
     drop(source);
-    let urls = asked_pages(alloc, crawl.parts, &web)?;
+    let urls = asked_pages(alloc, crawl.options.parts, &web)?;
     Ok((crawled, urls))
 }
 

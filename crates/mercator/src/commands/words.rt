@@ -2,19 +2,21 @@
 ghost use Rattle.std.specs.Prelude.{◌≡◌, ◌*◌, ◌<◌, ◌≤◌, IfOk, IfErr, IfSome, string_bytes};
 ghost use Rattle.crawl_core.specs.Limits.{queue_limit};
 ghost use Rattle.crawl_limits.specs.Limits.{worker_limit, pending_limit};
-ghost use Rattle.mercator.specs.Plans.{IsPartOf, IsSessionPlan, IsShown, IsVisible, IsWithinLimits, all_queues, lists_input};
+ghost use Rattle.session_log.specs.Plans.{IsPartOf, IsSessionPlan, all_queues};
+ghost use Rattle.mercator.specs.Plans.{IsShown, IsVisible, IsWithinLimits, lists_input};
 ghost use Rattle.mercator.specs.declared.commands.words.PlanError.TheVariants as wrong;
 
 use crate::commands::arguments::{value_of, values_of};
 use crate::commands::command_line::{self, command_line};
 use crate::commands::folder_words::{check_options, site_options};
-use crate::commands::planned::{CrawlPlan, LogPlan, Plan, SessionPlan};
+use crate::commands::planned::{CrawlOptions, Plan};
 use crate::commands::report_words::parts_of;
 use clap::ArgMatches;
 use clap::error::ErrorKind;
 use crawl_core::QUEUE_LIMIT;
 use crawl_limits::{PENDING_LIMIT, WORKER_LIMIT};
 use crawl_replay::number32;
+use session_log::{LogPlan, SessionPlan};
 use shown_text::laws::shown_text_has_no_hidden_character;
 use shown_text::shown_lines;
 use std::alloc::{AllocError, AllocFailed, Global};
@@ -183,19 +185,21 @@ fn crawl_of(alloc: Global, found: &ArgMatches<'_>) -> Result<Plan, PlanError>
     if file == "-" && is_input(&listed) {
         return Err(two_inputs(alloc)?);
     }
-    Ok(Plan::Crawl(CrawlPlan {
+    Ok(Plan::Crawl {
         workers,
         max,
         queues: found.get_flag("queues"),
         file: String::from_str(alloc, file)?,
         seeds,
-        within: value_of(alloc, found, "within")?,
-        listed,
-        parts: parts_of(found),
-        json: found.get_flag("json"),
-        explain: found.get_flag("explain"),
-        progress: found.get_flag("progress"),
-    }))
+        options: CrawlOptions {
+            within: value_of(alloc, found, "within")?,
+            listed,
+            parts: parts_of(found),
+            json: found.get_flag("json"),
+            explain: found.get_flag("explain"),
+            progress: found.get_flag("progress"),
+        },
+    })
 }
 
 /// Returns the plan of `key`. The URL is not parsed yet.

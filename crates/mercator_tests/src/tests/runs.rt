@@ -1,7 +1,7 @@
 //! Runs of the program by its arguments, with a reader and writers that may fail.
 use crawl_run::Unobserved;
-use mercator::testing::NoLocks;
 use mercator::{Platform, run_words};
+use session_log::testing::NoLocks;
 use std::alloc::{AllocError, Global};
 use std::fs::Files;
 use std::io::{self, ErrorKind, Read, Write};

@@ -1,33 +1,34 @@
 use Rattle.std.proofs.lemmas.Result.{err_from_is_err_and}
 use Rattle.crawl_report.specs.Printing.{joined}
+use Rattle.mercator.specs.Plans.{plan_of}
 use Rattle.mercator.proofs.PlanTexts.{fails_in_files, filter_is, reads_neither, told_of}
 use Rattle.mercator.proofs.commands.web_crawl.report_of_plan.Goals as goal
 
 pub returns-clause-text : goal.returns-clause-text
 returns-clause-text g c =
-    let crawl = c.args.crawl.now in
+    let crawl = plan_of c.args.crawl.now in
     let files = c.in_ok-files.files in
     told_of crawl (g.I.Read.remaining c.args.input.now) files.0.items files.1.items c.in_ok-filter.filter c.in_ok-crawled.urls.items c.in_ok-crawled.crawled (joined c.in_ok-parts.parts.items)
-    (filter_is crawl.within _ c.in_ok-filter.ensures) c.in_ok-files.ensures.files c.in_ok-crawled.ensures.begun c.in_ok-crawled.ensures.found c.in_ok-crawled.ensures.urls
+    (filter_is crawl.options.within _ c.in_ok-filter.ensures) c.in_ok-files.ensures.files c.in_ok-crawled.ensures.begun c.in_ok-crawled.ensures.found c.in_ok-crawled.ensures.urls
     (rw c.deref.ensures.value at c.in_ok-parts.ensures)
 
 pub returns-in_err-files-clause-fault : goal.returns-in_err-files-clause-fault
 returns-in_err-files-clause-fault g c =
     let r = c.from_residual-in_err-files in
     let p = err_from_is_err_and r.result r.ensures.1 in
-    rw (p.1, p.2) (c.in_err-files.ensures.fault (filter_is c.args.crawl.now.within _ c.in_ok-filter.ensures).0)
+    rw (p.1, p.2) (c.in_err-files.ensures.fault (filter_is c.args.crawl.now.options.now.within _ c.in_ok-filter.ensures).0)
 
 pub returns-in_err-crawled-clause-fault : goal.returns-in_err-crawled-clause-fault
 returns-in_err-crawled-clause-fault g c =
     let r = c.from_residual-in_err-crawled in
     let p = err_from_is_err_and r.result r.ensures.1 in
-    let crawl = c.args.crawl.now in
+    let crawl = plan_of c.args.crawl.now in
     let files = c.in_ok-files.files in
     rw (p.1, p.2) (fails_in_files crawl (g.I.Read.remaining c.args.input.now) files.0.items files.1.items c.in_ok-filter.filter c.in_err-crawled.field-0.0
-    (filter_is crawl.within _ c.in_ok-filter.ensures) c.in_ok-files.ensures.files c.in_err-crawled.ensures.refused)
+    (filter_is crawl.options.within _ c.in_ok-filter.ensures) c.in_ok-files.ensures.files c.in_err-crawled.ensures.refused)
 
 pub returns-clause-unread : goal.returns-clause-unread
-returns-clause-unread g c = λ no. c.read_files.ensures.unread (reads_neither _ _ (filter_is c.args.crawl.now.within _ c.in_ok-filter.ensures).0 no)
+returns-clause-unread g c = λ no. c.read_files.ensures.unread (reads_neither _ _ (filter_is c.args.crawl.now.options.now.within _ c.in_ok-filter.ensures).0 no)
 
 pub returns-in_err-parts-clause-unread : goal.returns-in_err-parts-clause-unread
-returns-in_err-parts-clause-unread g c = λ no. c.read_files.ensures.unread (reads_neither _ _ (filter_is c.args.crawl.now.within _ c.in_ok-filter.ensures).0 no)
+returns-in_err-parts-clause-unread g c = λ no. c.read_files.ensures.unread (reads_neither _ _ (filter_is c.args.crawl.now.options.now.within _ c.in_ok-filter.ensures).0 no)

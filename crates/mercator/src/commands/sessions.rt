@@ -1,0 +1,196 @@
+//! The frontier as a co-process, with or without a log.
+ghost use Rattle.std.specs.Prelude.{◌≡◌, ℕ, List, Option, true, false, string_bytes, IfOk, IfErr, IsErr, OnOk};
+ghost use Rattle.std.specs.Str.Lines.{lines};
+ghost use Rattle.crawl_session.specs.Frontiers.{Shows, start};
+ghost use Rattle.crawl_session.specs.Logs.{Reruns};
+ghost use Rattle.session_log.specs.LogFile.{IsUseFault};
+ghost use Rattle.session_log.specs.Plans.{IsSessionPlan, queues_of};
+ghost use Rattle.mercator.specs.Ending.{Begins};
+ghost use Rattle.mercator.specs.FaultText.{torn_line};
+ghost use Rattle.mercator.specs.Faults.{of_logged, of_session, status_of_fault};
+ghost use Rattle.mercator.specs.Plans.{is_bad_suffix};
+ghost use Rattle.mercator.specs.Told.{EndsBy, Fails, FailsLog, Gains, settings_of};
+ghost use Rattle.mercator.specs.declared.commands.planned.Plan.TheVariants as asks;
+
+use crate::commands::fault::Fault;
+use crate::commands::platform::Platform;
+use crate::commands::web_crawl::filter_of;
+use crate::commands::writing::begin;
+use crawl_session::{ServeError, Session, serve};
+use session_log::{
+    LockFile, Log, LogFault, LogPlan, LoggedFault, OpenedLog, SessionPlan, compact, resume,
+    serve_logged,
+};
+use shown_text::shown;
+use std::alloc::{AllocError, Global};
+use std::fs::{Files, OpenFile};
+use std::io::{Read, Seek, Write};
+
+/// The identity of a part without a log.
+const NO_IDENTITY: &str = "none";
+
+impl From<ServeError> for Fault {
+    ghost from_gives = { λ why fault. fault ≡ of_session why };
+
+    fn from(why: ServeError) -> Fault {
+        match why {
+            ServeError::CannotRead => Fault::CannotRead,
+            ServeError::CannotWrite => Fault::CannotWrite,
+            ServeError::NoMemory => Fault::NoMemory,
+        }
+    }
+}
+
+impl From<LoggedFault> for Fault {
+    ghost from_gives = { λ why fault. fault ≡ of_logged why };
+
+    fn from(why: LoggedFault) -> Fault {
+        match why {
+            LoggedFault::Log(why) => Fault::from(why),
+            LoggedFault::Session(why) => Fault::from(why),
+        }
+    }
+}
+
+/// Answers the requests of the input to its end.
+///
+/// # Errors
+/// `BadSuffix`. `CannotRead` and `CannotWrite`; what was written before them stays. `NoMemory`.
+pub fn serve_plan<I: Read, O: Write>(
+    alloc: Global,
+    plan: &SessionPlan,
+    input: &mut I,
+    out: &mut O,
+) -> Result<(), Fault>
+    requires { IsSessionPlan plan.now }
+    ensures done { IfOk result (λ _. Gains (asks.Serve plan.now) (I.remaining input.old) (O.contents out.old) (O.contents out.new)) }
+    ensures fault { IfErr result (λ fault. EndsBy (asks.Serve plan.now) (I.remaining input.old) fault (out.new ≡ out.old)) }
+    ensures refused { is_bad_suffix plan.now.within ≡ true → IsErr result × (out.new ≡ out.old) }
+    ensures plain { IfErr result (λ fault. status_of_fault fault ≡ 1) }
+    ensures unread { is_bad_suffix plan.now.within ≡ true → input.new ≡ input.old }
+{
+    let filter = filter_of(alloc, &plan.within)?;
+    let mut session = plan.session(alloc, filter, NO_IDENTITY)?;
+    serve(alloc, &mut session, input, out)?;
+    Ok(())
+}
+
+/// Resumes from the log, and answers the requests of the input to its end. Each line is appended to the log before it is
+/// answered.
+///
+/// # Errors
+/// `BadSuffix`. `Log`; the log may have lost an incomplete last line, and what was appended before stays.
+/// `CannotRead` and `CannotWrite`; what was written before them stays. `NoMemory`.
+pub fn serve_log<R: Files, L: LockFile<R::File>, V, I: Read, O: Write, E: Write>(
+    platform: &Platform<'_, R, L, V>,
+    alloc: Global,
+    plan: &LogPlan,
+    input: &mut I,
+    out: &mut O,
+    err: &mut E,
+) -> Result<(), Fault>
+    requires { IsSessionPlan plan.now.session }
+    ensures done { IfOk result (λ _. Gains (asks.ServeLog plan.now) (I.remaining input.old) (O.contents out.old) (O.contents out.new)) }
+    ensures fault { IfErr result (λ fault. EndsBy (asks.ServeLog plan.now) (I.remaining input.old) fault (out.new ≡ out.old)) }
+    ensures refused { is_bad_suffix plan.now.session.within ≡ true → IsErr result × (out.new ≡ out.old) }
+    ensures complete { IfErr result (λ fault. status_of_fault fault ≡ 2 → ⊥) }
+    ensures suffix { is_bad_suffix plan.now.session.within ≡ true → IfErr result (λ fault. status_of_fault fault ≡ 1) }
+    ensures in_use { IfErr result (λ fault. status_of_fault fault ≡ 5 → (input.new ≡ input.old) × (out.new ≡ out.old) × (err.new ≡ err.old)) }
+    ensures unread { is_bad_suffix plan.now.session.within ≡ true → input.new ≡ input.old }
+    ensures noted { Begins (E.contents err.old) (E.contents err.new) (torn_line (string_bytes plan.now.file)) }
+{
+    let (opened, mut session) = open_session(platform, alloc, plan, true)?;
+    let log = resume_noted(platform.rt, alloc, plan, opened, &mut session, err)?;
+    let syncs = plan.session.part.is_some();
+    serve_logged(alloc, &mut session, log, syncs, input, out)?;
+    Ok(())
+}
+
+/// Writes a compacted copy of the log, with only the requests that are needed, to a new file. The log does not change.
+///
+/// # Errors
+/// `BadSuffix`. `Log` if the log cannot be used, or if the new file exists or cannot be written. `NoMemory`. An error leaves no
+/// new file.
+pub fn compact_log<R: Files, L: LockFile<R::File>, V>(
+    platform: &Platform<'_, R, L, V>,
+    alloc: Global,
+    plan: &LogPlan,
+    new: &String,
+) -> Result<(), Fault>
+    requires { IsSessionPlan plan.now.session }
+    ensures done { IfOk result (λ _. (input out : Option (List ℕ)) → Gains (asks.Compact plan.now new.now) input out out) }
+    ensures fault { IfErr result (λ fault. (input : Option (List ℕ)) → Fails (asks.Compact plan.now new.now) input fault) }
+    ensures refused { is_bad_suffix plan.now.session.within ≡ true → IsErr result }
+    ensures complete { IfErr result (λ fault. status_of_fault fault ≡ 2 → ⊥) }
+    ensures suffix { is_bad_suffix plan.now.session.within ≡ true → IfErr result (λ fault. status_of_fault fault ≡ 1) }
+{
+    let (mut log, mut session) = open_session(platform, alloc, plan, false)?;
+    compact(platform.rt, alloc, &mut session, &mut log, new.as_str())?;
+    Ok(())
+}
+
+/// Opens the log and creates the session of its plan. If `makes`, a file that does not exist is created. A bad suffix opens no
+/// log.
+///
+/// # Errors
+/// `BadSuffix`; `Log`; `NoMemory`.
+fn open_session<R: Files, L: LockFile<R::File>, V>(
+    platform: &Platform<'_, R, L, V>,
+    alloc: Global,
+    plan: &LogPlan,
+    makes: bool,
+) -> Result<(OpenedLog<R::File>, Session), Fault>
+    requires { IsSessionPlan plan.now.session }
+    ensures suffix { IfOk result (λ _. is_bad_suffix plan.now.session.within ≡ false) }
+    ensures start { IfOk result (λ r. Shows r.1.core (start (queues_of plan.now.session) plan.now.session.max)) }
+    ensures settings { IfOk result (λ r. (identity : List ℕ) × (r.1.settings ≡ settings_of plan.now.session identity)) }
+    ensures fault { IfErr result (FailsLog plan.now.session.within) }
+{
+    let filter = filter_of(alloc, &plan.session.within)?;
+    Ok(session_log::open_session(platform.rt, platform.locks, alloc, plan, filter, makes)?)
+}
+
+/// Runs the requests of the log, and returns the log, ready to be appended to. If its last line has no end, that is removed before,
+/// and reported.
+fn resume_noted<'p, R: Files, F: Read + Seek + Write + OpenFile + Drop, E: Write>(
+    rt: &'p R,
+    alloc: Global,
+    plan: &LogPlan,
+    opened: OpenedLog<F>,
+    session: &mut Session,
+    err: &mut E,
+) -> Result<Log<'p, F, R>, LogFault>
+    ensures resumed { OnOk result ((bytes : List ℕ) × Reruns session.old (lines bytes) session.new) }
+    ensures noted { Begins (E.contents err.old) (E.contents err.new) (torn_line (string_bytes plan.now.file)) }
+    ensures fault { IfErr result IsUseFault }
+{
+    note_cut(alloc, &opened, plan.file.as_str(), err)?;
+    resume(rt, alloc, plan, opened, session)
+}
+
+/// Removes the last line of the log if it has no end, and reports that.
+fn note_cut<F: OpenFile, E: Write>(
+    alloc: Global,
+    opened: &OpenedLog<F>,
+    name: &str,
+    err: &mut E,
+) -> Result<(), LogFault>
+    ensures noted { Begins (E.contents err.old) (E.contents err.new) (torn_line name.now) }
+    ensures fault { IfErr result IsUseFault }
+{
+    if opened.cut()? {
+        let line = torn_line(alloc, name)?;
+        begin(err, line.as_bytes());
+    }
+    Ok(())
+}
+
+/// Returns the line that reports the removal of an incomplete last line. Hidden characters of the log's name are escaped.
+fn torn_line(alloc: Global, name: &str) -> Result<String, AllocError>
+    ensures { IfOk result (λ line. string_bytes line ≡ torn_line name.now) }
+{
+    let name = shown(alloc, name)?;
+    let mut line = String::new(alloc);
+    writeln!(line, "mercator: log {name}: incomplete last line removed")?;
+    Ok(line)
+}

@@ -1,0 +1,34 @@
+-- The errors of a log: their exit statuses and texts.
+use Rattle.std.specs.Prelude.{ℕ, List, ◌++◌, codes}
+use Rattle.std.specs.Fmt.{decimal}
+use Rattle.session_log.specs.declared.fault.LogFault.{LogFault}
+use Rattle.session_log.specs.declared.fault.LogFault.TheVariants as unlogged
+use Rattle.session_log.specs.declared.fault.Setting.{Setting}
+use Rattle.session_log.specs.declared.fault.Setting.TheVariants as other
+
+-- the exit status for an error of a log: 5 if another program uses it, otherwise 1
+abbrev pub status_of_log : LogFault → ℕ
+status_of_log unlogged.InUse = 5
+status_of_log why = 1
+
+-- the setting of a log that is not that of the command line
+abbrev pub setting_text : Setting → List ℕ
+setting_text (other.Part number parts) = codes "made with --part " ++ decimal number ++ codes "/" ++ decimal parts
+setting_text other.NoPart = codes "made without --part"
+setting_text other.Within = codes "made with another --within: see its first line"
+setting_text other.NoWithin = codes "made without --within"
+setting_text (other.Workers workers) = codes "made with --workers " ++ decimal workers
+setting_text (other.MaxPending max) = codes "made with --max-pending " ++ decimal max
+
+-- why a log cannot be used
+abbrev pub log_text : LogFault → List ℕ
+log_text unlogged.CannotOpen = codes "cannot open"
+log_text unlogged.InUse = codes "in use by another program"
+log_text unlogged.CannotRead = codes "cannot read"
+log_text unlogged.NotALog = codes "not a log"
+log_text (unlogged.OtherSettings setting) = setting_text setting
+log_text unlogged.CannotWrite = codes "cannot write"
+log_text unlogged.Changed = codes "changed by another program"
+log_text unlogged.CannotMakeNew = codes "cannot create the new log, which must not exist"
+log_text unlogged.CannotWriteNew = codes "cannot write the new log"
+log_text unlogged.NoMemory = codes "out of memory"

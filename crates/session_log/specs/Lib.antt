@@ -1,0 +1,4 @@
+pub mod Compaction
+pub mod Faults
+pub mod LogFile
+pub mod Plans

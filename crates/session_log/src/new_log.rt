@@ -1,0 +1,64 @@
+//! The file of a compacted log. It gets its name when it is whole, because a session resumes from any beginning of a log.
+
+use crate::fault::LogFault;
+use std::alloc::Global;
+use std::fs::{self, File, Files, OpenFile};
+use std::io::{self, ErrorKind};
+
+/// How many temporary names a new log may have. A name remains in use if its compaction was killed.
+const NAME_LIMIT: u32 = 9;
+
+/// Creates the file of a new log under a temporary name in the same folder, and returns both.
+///
+/// # Errors
+/// `CannotMakeNew` if there is a file with the name of the new log, or if no temporary file can be created. `NoMemory`.
+pub fn create_partial<R: Files>(
+    rt: &R,
+    alloc: Global,
+    new: &str,
+) -> Result<(String, R::File), LogFault> {
+    if fs::symlink_metadata(rt, new).is_ok() {
+        return Err(LogFault::CannotMakeNew);
+    }
+    for number in 1..=NAME_LIMIT {
+        let partial = format!(in alloc; "{new}.partial-{number}")?;
+        match File::create_new(rt, partial.as_str()) {
+            Ok(file) => return Ok((partial, file)),
+            Err(why) if why.kind() == ErrorKind::AlreadyExists => {}
+            Err(_) => return Err(LogFault::CannotMakeNew),
+        }
+    }
+    Err(LogFault::CannotMakeNew)
+}
+
+/// Gives the new log its name instead of the temporary one, and syncs its folder to disk. An error leaves neither name.
+///
+/// # Errors
+/// `CannotMakeNew` if a file has the name of the new log, or if it cannot be given. `CannotWriteNew` if the sync fails.
+pub fn publish<R: Files>(rt: &R, partial: &str, new: &str) -> Result<(), LogFault> {
+    // Unlike a rename, a link never replaces a file.
+    let linked = fs::hard_link(rt, partial, new);
+    let _ = fs::remove_file(rt, partial);
+    if linked.is_err() {
+        return Err(LogFault::CannotMakeNew);
+    }
+    if sync_folder(rt, folder_of(new)).is_err() {
+        let _ = fs::remove_file(rt, new);
+        return Err(LogFault::CannotWriteNew);
+    }
+    Ok(())
+}
+
+/// Syncs the names in a folder to disk.
+fn sync_folder<R: Files>(rt: &R, folder: &str) -> io::Result<()> {
+    fs::open(rt, folder)?.sync_all()
+}
+
+/// Returns the folder of a file.
+fn folder_of(name: &str) -> &str {
+    match name.rsplit_once('/') {
+        Some(("", _)) => "/",
+        Some((folder, _)) => folder,
+        None => ".",
+    }
+}

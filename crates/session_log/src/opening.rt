@@ -1,0 +1,340 @@
+//! Opens the file of a log.
+ghost use Rattle.std.specs.Prelude.{◌≡◌, ℕ, List, IfErr, IfOk};
+ghost use Rattle.crawl_session.specs.Frontiers.{Shows, start};
+ghost use Rattle.session_log.specs.LogFile.{IsUseFault};
+ghost use Rattle.session_log.specs.Plans.{IsSessionPlan, queues_of, settings_of};
+
+use crate::fault::LogFault;
+use crate::lock_file::LockFile;
+use crate::log_settings::fault_of_head;
+use crate::plan::{LogPlan, SessionPlan};
+use crate::window::READ_SIZE;
+use crawl_keys::Filter;
+use crawl_replay::Header;
+use crawl_session::{Session, settings_line, start_text, whole_len};
+use std::alloc::{AllocError, Global};
+use std::fs::{self, Files, OpenFile, OpenOptions};
+use std::io::{self, Read, Seek, SeekFrom};
+use std::os::unix::fs::MetadataExt;
+use std::time::Duration;
+
+/// How often a log may be replaced by another file until it is locked.
+const OPENING_LIMIT: u32 = 9;
+
+/// The number of digits of an identity.
+const DIGITS: usize = 32;
+
+/// How the first line of a log may begin.
+const STARTS: &[&str] = &["workers ", "within ", "part "];
+
+/// The largest number of bytes in [`STARTS`].
+const START_LEN: usize = 8;
+
+/// The file of a log, locked by this process.
+#[derive(Drop)]
+pub struct OpenedLog<F> {
+    /// The file.
+    pub(crate) file: F,
+    /// The first line of the log, with its LF. The file may have only a beginning of it, or nothing.
+    pub(crate) first: String,
+    /// The identity in the first line, if the log is that of a part.
+    pub(crate) identity: String,
+    /// The length of the whole lines of the file; 0 if the first line is not whole.
+    pub(crate) whole: u64,
+    /// The length of the file.
+    pub(crate) len: u64,
+}
+
+impl<F: OpenFile> OpenedLog<F> {
+    /// Removes the last line of the log if it has no end. Returns whether it did.
+    ///
+    /// # Errors
+    /// `CannotWrite`.
+    pub fn cut(&self) -> Result<bool, LogFault>
+        ensures { IfErr result IsUseFault }
+    {
+        if self.len <= self.whole {
+            return Ok(false);
+        }
+        if self.file.set_len(self.whole).is_err() {
+            return Err(LogFault::CannotWrite);
+        }
+        Ok(true)
+    }
+}
+
+/// Opens the log and creates the session of its plan, with the filter of its suffix. If `makes`, a file that does not exist is
+/// created.
+///
+/// # Errors
+/// `CannotOpen`, `InUse`; `NotALog` or `OtherSettings` if the log begins otherwise than the plan says; `CannotRead`, `NoMemory`.
+pub fn open_session<R: Files, L: LockFile<R::File>>(
+    rt: &R,
+    locks: &L,
+    alloc: Global,
+    plan: &LogPlan,
+    filter: Filter,
+    makes: bool,
+) -> Result<(OpenedLog<R::File>, Session), LogFault>
+    requires { IsSessionPlan plan.now.session }
+    ensures start { IfOk result (λ r. Shows r.1.core (start (queues_of plan.now.session) plan.now.session.max)) }
+    ensures settings { IfOk result (λ r. (identity : List ℕ) × (r.1.settings ≡ settings_of plan.now.session filter identity)) }
+{
+    let opened = open_log(rt, locks, alloc, plan, makes)?;
+    let session = plan
+        .session
+        .session(alloc, filter, opened.identity.as_str())?;
+    Ok((opened, session))
+}
+
+/// Opens the file of the log, which must begin as the plan says.
+///
+/// # Errors
+/// `CannotOpen`, `InUse`; `NotALog` or `OtherSettings` if it begins otherwise; `CannotRead`, `NoMemory`.
+fn open_log<R: Files, L: LockFile<R::File>>(
+    rt: &R,
+    locks: &L,
+    alloc: Global,
+    plan: &LogPlan,
+    makes: bool,
+) -> Result<OpenedLog<R::File>, LogFault> {
+    let mut file = open_file(rt, locks, plan, makes)?;
+    check_start(alloc, &mut file)?;
+    let Some(identity) = identity_of(rt, alloc, plan.session.part, &mut file)? else {
+        return Err(unlike(alloc, &mut file, &plan.session)?);
+    };
+    let first = first_line_of(alloc, plan, identity.as_str())?;
+    let Some((whole, len)) = measure(alloc, &mut file, first.as_bytes())? else {
+        return Err(unlike(alloc, &mut file, &plan.session)?);
+    };
+    Ok(OpenedLog {
+        file,
+        first,
+        identity,
+        whole,
+        len,
+    })
+}
+
+/// Opens and locks the file that has the name of the log when it is locked. If another file has the name then, that is opened,
+/// within the same time.
+///
+/// # Errors
+/// `CannotOpen`; `InUse`, also if the name leads to another file each time.
+fn open_file<R: Files, L: LockFile<R::File>>(
+    rt: &R,
+    locks: &L,
+    plan: &LogPlan,
+    makes: bool,
+) -> Result<R::File, LogFault> {
+    let name = plan.file.as_str();
+    let mut limit = Duration::from_secs(plan.wait);
+    for _opening in 0..OPENING_LIMIT {
+        let opened = OpenOptions::new()
+            .read(true)
+            .append(makes)
+            .create(makes)
+            .open(rt, name);
+        let Ok(file) = opened else {
+            return Err(LogFault::CannotOpen);
+        };
+        match locks.lock_within(&file, limit) {
+            Ok(Some(left)) => limit = left,
+            Ok(None) => return Err(LogFault::InUse),
+            Err(_) => return Err(LogFault::CannotOpen),
+        }
+        if has_name(rt, &file, name) {
+            return Ok(file);
+        }
+    }
+    Err(LogFault::InUse)
+}
+
+/// Returns whether the name leads to this file.
+fn has_name<R: Files>(rt: &R, file: &R::File, name: &str) -> bool {
+    let (Ok(own), Ok(named)) = (file.metadata(), fs::metadata(rt, name)) else {
+        return false;
+    };
+    own.dev() == named.dev() && own.ino() == named.ino()
+}
+
+/// Checks that the file begins like a log, whatever its options, or is shorter.
+///
+/// # Errors
+/// `NotALog`, `CannotRead`, `NoMemory`.
+fn check_start<F: Read + Seek>(alloc: Global, file: &mut F) -> Result<(), LogFault> {
+    let (start, _len) = read_head(alloc, file, START_LEN)?;
+    if begins_a_log(&start) {
+        Ok(())
+    } else {
+        Err(LogFault::NotALog)
+    }
+}
+
+/// Returns the beginning of the file, of at most `limit` bytes, and the length of the file.
+fn read_head<F: Read + Seek>(
+    alloc: Global,
+    file: &mut F,
+    limit: usize,
+) -> Result<(Vec<u8>, u64), LogFault> {
+    let len = file.seek(SeekFrom::End(0))?;
+    let count = len.min(limit as u64) as usize;
+    let mut head = vec![in alloc; 0u8; count]?;
+    file.seek(SeekFrom::Start(0))?;
+    file.read_exact(&mut head)?;
+    Ok((head, len))
+}
+
+/// Returns whether one of [`STARTS`] begins with these bytes, or these bytes with it.
+fn begins_a_log(bytes: &[u8]) -> bool {
+    for start in STARTS {
+        let start = start.as_bytes();
+        let count = start.len().min(bytes.len());
+        if bytes[..count] == start[..count] {
+            return true;
+        }
+    }
+    false
+}
+
+/// Returns the identity of the log of a part: the digits in its first line, completed by random ones. Returns `None` if other
+/// characters are there, and no digits if the log is not one of a part.
+fn identity_of<R: Files, F: Read + Seek>(
+    rt: &R,
+    alloc: Global,
+    part: Option<(u32, u32)>,
+    file: &mut F,
+) -> Result<Option<String>, LogFault> {
+    let Some(part) = part else {
+        return Ok(Some(String::new(alloc)));
+    };
+    let mut digits = drawn_digits(rt)?;
+    let begin = identity_start(alloc, part)?.len() as u64;
+    let len = file.seek(SeekFrom::End(0))?;
+    let there = len.saturating_sub(begin).min(DIGITS as u64) as usize;
+    file.seek(SeekFrom::Start(begin))?;
+    file.read_exact(&mut digits[..there])?;
+    Ok(text_of_digits(alloc, &digits)?)
+}
+
+/// Returns the text before the identity.
+fn identity_start(alloc: Global, part: (u32, u32)) -> Result<String, AllocError> {
+    let mut text = start_text(alloc, Some(part), None)?;
+    text.push_str("identity ")?;
+    Ok(text)
+}
+
+/// Returns random digits from the system.
+fn drawn_digits<R: Files>(rt: &R) -> Result<[u8; DIGITS], LogFault> {
+    let mut drawn = [0u8; DIGITS];
+    let Ok(mut source) = fs::open(rt, "/dev/urandom") else {
+        return Err(LogFault::CannotRead);
+    };
+    if source.read_exact(&mut drawn).is_err() {
+        return Err(LogFault::CannotRead);
+    }
+    for byte in drawn.iter_mut() {
+        *byte = digit(*byte);
+    }
+    Ok(drawn)
+}
+
+/// Returns the hexadecimal digit of the low four bits.
+fn digit(byte: u8) -> u8 {
+    match byte & 15 {
+        low @ 0..=9 => b'0' + low,
+        low => b'a' + (low - 10),
+    }
+}
+
+/// Returns the text of these digits, or `None` if one is not hexadecimal.
+fn text_of_digits(alloc: Global, digits: &[u8]) -> Result<Option<String>, AllocError> {
+    let mut text = String::new(alloc);
+    for digit in digits {
+        match digit {
+            b'0'..=b'9' | b'a'..=b'f' => text.push(char::from(*digit))?,
+            _ => return Ok(None),
+        }
+    }
+    Ok(Some(text))
+}
+
+/// Returns the first line of the log, with its LF.
+fn first_line_of(alloc: Global, plan: &LogPlan, identity: &str) -> Result<String, AllocError> {
+    let session = &plan.session;
+    let header = Header {
+        workers: session.workers,
+        max: session.max,
+    };
+    let mut line = match session.part {
+        Some(part) => start_text(alloc, Some(part), Some(identity))?,
+        None => String::new(alloc),
+    };
+    let settings = match &session.within {
+        Some(suffix) => settings_line(alloc, &header, &[suffix.as_str()])?,
+        None => settings_line(alloc, &header, &[])?,
+    };
+    line.push_str(settings.as_str())?;
+    line.push('\n')?;
+    Ok(line)
+}
+
+/// Returns the length of the whole lines of the log, and the length of the file. If the first line is not whole, the log has no
+/// whole line. Returns `None` if the log begins otherwise.
+///
+/// # Errors
+/// `CannotRead`, `NoMemory`.
+fn measure<F: Read + Seek>(
+    alloc: Global,
+    file: &mut F,
+    first: &[u8],
+) -> Result<Option<(u64, u64)>, LogFault> {
+    let (head, len) = read_head(alloc, file, first.len())?;
+    if !first.starts_with(&head) {
+        return Ok(None);
+    }
+    if head.len() < first.len() {
+        return Ok(Some((0, len)));
+    }
+    let mut buffer = vec![in alloc; 0u8; READ_SIZE]?;
+    let whole = whole_end(file, head.len() as u64, len, &mut buffer)?;
+    Ok(Some((whole, len)))
+}
+
+/// Returns why a log that begins otherwise than the plan says is not the log of the plan.
+///
+/// # Errors
+/// `CannotRead`, `NoMemory`.
+fn unlike<F: Read + Seek>(
+    alloc: Global,
+    file: &mut F,
+    plan: &SessionPlan,
+) -> Result<LogFault, LogFault> {
+    let (head, _len) = read_head(alloc, file, READ_SIZE)?;
+    Ok(fault_of_head(alloc, &head, plan)?)
+}
+
+/// Returns the end of the last whole line after `from`; `from` if there is none.
+fn whole_end<F: Read + Seek>(
+    file: &mut F,
+    from: u64,
+    len: u64,
+    buffer: &mut [u8],
+) -> io::Result<u64> {
+    let mut end = len;
+    for _turn in 0..u64::MAX {
+        if end <= from || buffer.is_empty() {
+            return Ok(from);
+        }
+        let count = (end - from).min(buffer.len() as u64) as usize;
+        let start = end - count as u64;
+        file.seek(SeekFrom::Start(start))?;
+        file.read_exact(&mut buffer[..count])?;
+        let whole = whole_len(&buffer[..count]);
+        if 0 < whole {
+            return Ok(start + whole as u64);
+        }
+        end = start;
+    }
+    Ok(from)
+}

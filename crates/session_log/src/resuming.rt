@@ -1,0 +1,91 @@
+//! A session that resumes from its log.
+ghost use Rattle.std.specs.Prelude.{◌≡◌, ℕ, List, IfOk, IfErr, OnOk};
+ghost use Rattle.std.specs.Str.Lines.{lines};
+ghost use Rattle.crawl_session.specs.Input.{ServesInput};
+ghost use Rattle.crawl_session.specs.Logs.{Reruns};
+ghost use Rattle.session_log.specs.LogFile.{IsBreak, IsUseFault};
+
+use crate::fault::{LogFault, LoggedFault};
+use crate::log_file::{Log, LogPlace, LoggedInput};
+use crate::opening::OpenedLog;
+use crate::plan::LogPlan;
+use crawl_session::{ServeError, Session, serve};
+use std::alloc::Global;
+use std::fs::{Files, OpenFile};
+use std::io::{self, Read, Seek, SeekFrom, Write};
+
+/// Runs the requests of the log, and returns the log, ready to be appended to. Its last line must be whole.
+///
+/// # Errors
+/// `CannotRead`, `NoMemory`; `CannotWrite` or `Changed` if the log has no whole line, and its first line cannot be appended.
+pub fn resume<'p, R: Files, F: Read + Seek + Write + OpenFile + Drop>(
+    rt: &'p R,
+    alloc: Global,
+    plan: &LogPlan,
+    opened: OpenedLog<F>,
+    session: &mut Session,
+) -> Result<Log<'p, F, R>, LogFault>
+    ensures resumed { OnOk result ((bytes : List ℕ) × Reruns session.old (lines bytes) session.new) }
+    ensures fault { IfErr result IsUseFault }
+{
+    let OpenedLog {
+        mut file,
+        first,
+        identity: _,
+        whole,
+        len: _,
+    } = opened;
+    let first = first.as_bytes();
+    rerun_file(alloc, session, &mut file, whole, first.len())?;
+    let place = LogPlace::new(rt, plan.file.clone()?, &file)?;
+    let mut log = Log::new(file, place, whole, plan.sync);
+    if whole == 0 && log.append(first, &[]).is_err() {
+        return Err(log.fault());
+    }
+    Ok(log)
+}
+
+/// Runs the requests in the lines after the first one, and drops their answers. There are none if the log has no whole line.
+fn rerun_file<F: Read + Seek>(
+    alloc: Global,
+    session: &mut Session,
+    file: &mut F,
+    whole: u64,
+    first: usize,
+) -> Result<(), LogFault>
+    ensures resumed { OnOk result ((bytes : List ℕ) × Reruns session.old (lines bytes) session.new) }
+    ensures fault { IfErr result IsUseFault }
+{
+    if whole == 0 {
+        return Ok(());
+    }
+    file.seek(SeekFrom::Start(first as u64))?;
+    match serve(alloc, session, file, &mut io::sink()) {
+        Ok(()) => Ok(()),
+        Err(ServeError::NoMemory) => Err(LogFault::NoMemory),
+        Err(_) => Err(LogFault::CannotRead),
+    }
+}
+
+/// Answers the requests of the input to its end. Each line is appended to the log before it is answered. If `syncs`, the log is
+/// synced to disk before a `sync` is answered.
+///
+/// # Errors
+/// `Session`; what was written before it stays. `Log` with `CannotWrite` or `Changed`.
+pub fn serve_logged<F: Write + OpenFile + Drop, R: Files, I: Read, O: Write>(
+    alloc: Global,
+    session: &mut Session,
+    log: Log<'_, F, R>,
+    syncs: bool,
+    input: &mut I,
+    out: &mut O,
+) -> Result<(), LoggedFault>
+    ensures served { IfOk result (λ _. ServesInput session.old (I.remaining input.old) (O.contents out.old) (O.contents out.new) session.new) }
+    ensures fault { IfErr result IsBreak }
+{
+    let mut logged = LoggedInput::new(alloc, input, log, syncs)?;
+    match serve(alloc, session, &mut logged, out) {
+        Ok(()) => Ok(()),
+        Err(why) => Err(logged.fault_of(why)),
+    }
+}
