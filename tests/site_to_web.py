@@ -707,6 +707,8 @@ class Documents(Converting):
     def test_styles_are_read_with_the_option(self) -> None:
         document = '<div style="background: url(x)"><style>@import "y"; /* url(n) */</style><a href="z">'
         self.assertEqual(self.links(document, "--styles"), ["link x", "link y", "link z"])
+        document = """<style>@import"a";@import/*'n'*/'b';@imports 'n';c:url(d/*e);f:'/*';g:url(h) "url(n)"</style>"""
+        self.assertEqual(self.links(document, "--styles"), ["link a", "link b", "link d/*e", "link h"])
         self.put("s.css", '@import "t.css"; a { background: url( "u v.png" ) }')
         self.assertEqual(self.converted("--styles")["http://a.test/s.css"], ["link t.css", "link u v.png"])
         self.assertEqual(self.converted()["http://a.test/s.css"], [])

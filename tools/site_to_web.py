@@ -402,8 +402,9 @@ DESCRIPTORS = re.compile(r"(?:\([^)]*\)?|[^,(])*")
 REFRESH = re.compile(
     r"""\s*[0-9.]*(?:\s*[;,]\s*|\s+)(?:url\s*=\s*)?(?:"([^"]*)|'([^']*)|(.*))""", re.A | re.I | re.S
 )
-STYLE_URL = re.compile(
-    r"""(?:url\(\s*|@import\s+)(?:"([^"]*)"|'([^']*)'|(?<=\()\s*([^"'()\s]+))""", re.A | re.I
+STYLE_TEXT = re.compile(
+    r"""/\*.*?(?:\*/|\Z)|(?:@import(?:\s|/\*.*?(?:\*/|\Z))*)?(?:"([^"]*)"|'([^']*)')|url\(\s*(?:"([^"]*)"|'([^']*)'|([^"'()\s]+))""",
+    re.A | re.I | re.S,
 )
 
 
@@ -458,9 +459,8 @@ def candidates(text: str) -> list[str]:
 
 
 def links_of_style(text: str) -> list[str]:
-    """Return the texts of url() and @import in a style sheet."""
-    text = re.sub(r"/\*.*?(?:\*/|\Z)", "", text, flags=re.S)
-    return ["".join(found) for found in STYLE_URL.findall(text)]
+    """Return the texts of url() and @import in a style sheet. Comments and other texts in quotes are passed over."""
+    return ["".join(filter(None, found.groups())) for found in STYLE_TEXT.finditer(text) if found[0][0] in "@uU"]
 
 
 def is_link(tag: str, name: str, found: dict[str, str]) -> bool:

@@ -62,7 +62,7 @@ PIECES = [
     "<a\n href=gone14.html\n>", "\u65e5\u672c<img src=gone15.png>", "<!doctype html>", "<![CDATA[<a href=gone16.html>]]>", "\t<a href=gone17.html>",
     "<a href=http://other.test/a>", "<img src=HTTP://Other.test:80/a#b><a href='//other.test/'>", "<a href=https://docs.test.org/?a&amp;b>",
     "<a href=https://docs.test/x><a href=http://www.docs.test/>", "<a href=http://docs.test:8080/x><a href=http://docs.tes/>",
-    "<a href=http://me@docs.test/x><a href=//docs.test.org/>", "<a href=http://docs.test:80/gone18.html>",
+    "<a href=http://me@docs.test/x><a href=//docs.test.org/>", "<a href=http://docs.test:80/gone18.html>", "<a href><a href id=w><a\nhref = ><img src=''>",
 ]
 TARGETS = [
     ".", "..", "sub", "sub/", "./a", "../site", "../site/sub", "../site/a.html", "a.html", "index.html", "linked", "gone", "../site2", "../site2/in.html",

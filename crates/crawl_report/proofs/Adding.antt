@@ -1,30 +1,12 @@
 -- Lines that are printed after each other.
-use Rattle.std.proofs.Common.{◌≡◌, ℕ, ◌+◌, ◌<◌, ◌≤◌, List, [], ◌∷◌, ◌++◌, length, map, take, get_or, Result, Ok, Err, IfOk, append-nil, refl, sym, ap, subst, ◌∙◌, arith}
-use Rattle.std.proofs.lemmas.List.{append_assoc, map-append, map_more, take_more, take_all, length-take-le}
-use Rattle.std.proofs.lemmas.List.Concat.{flat_map-append}
-use Rattle.std.specs.Borrow.{Bor}
-use Rattle.std.specs.List.{enumerate_from, flat_map}
-use Rattle.crawl_pages.specs.declared.page.PageResult.{PageResult}
-use Rattle.crawl_report.specs.Json.{printed_line}
+use Rattle.crawl_report.proofs.Prelude.{common_steps, ◌≡◌, ℕ, ◌+◌, ◌<◌, ◌≤◌, List, [], ◌∷◌, ◌++◌, length, map, take, get_or, Result, IfOk, append-nil, refl, sym, ap, subst, ◌∙◌, arith, append_assoc, map-append, map_more, take_more, take_all, length-take-le, flat_map-append, Bor, enumerate_from, flat_map, PageResult, printed_line, Line, Adds, bytes_of, is_json, pointed, Out, pointed_more}
 use Rattle.crawl_report.specs.Lines as line
-use Rattle.crawl_report.specs.Lines.{Line}
-use Rattle.crawl_report.specs.Printing.{Adds, bytes_of, is_json}
-use Rattle.crawl_sources.specs.Tallies.{pointed}
-use Rattle.crawl_report.specs.declared.out.Out.{Out}
-use Rattle.crawl_sources.proofs.Counts.{pointed_more}
 
 pub adds_none : (out : Out) → Adds out out []
 adds_none out = record { same = refl; added = sym (append-nil (bytes_of out)) }
 
 pub adds_both : (out mid more : Out) (xs ys : List Line) → Adds out mid xs → Adds mid more ys → Adds out more (xs ++ ys)
-adds_both out mid more xs ys p q = record {
-  same = q.same ∙ p.same;
-  added =
-      q.added
-      ∙ (λ i. p.added i ++ flat_map (printed_line (p.same i)) ys)
-      ∙ append_assoc (bytes_of out) (flat_map (printed_line (is_json out)) xs) (flat_map (printed_line (is_json out)) ys)
-      ∙ ap (λ t. bytes_of out ++ t) (sym (flat_map-append (printed_line (is_json out)) xs ys));
-}
+adds_both out mid more xs ys p q = grind (arith, append_assoc, flat_map-append)
 
 -- the same lines in other words
 pub adds_same : (out more : Out) (xs ys : List Line) → xs ≡ ys → Adds out more xs → Adds out more ys
@@ -36,8 +18,7 @@ adds_nothing out mid more xs p q = adds_same out more _ _ (append-nil xs) (adds_
 
 -- a line more, for one element more
 pub line_more : {X : Type 0} (f : X → Line) (out mid more : Out) (xs : List X) (k : ℕ) (x : X) → k < length xs → x ≡ get_or xs k x → Adds out mid (map f (take k xs)) → Adds mid more (f x ∷ []) → Adds out more (map f (take (k + 1) xs))
-line_more f out mid more xs k x below at p q =
-    adds_same out more _ _ (ap (λ y. map f (take k xs) ++ f y ∷ []) at ∙ sym (map_more f xs k x below)) (adds_both out mid more (map f (take k xs)) (f x ∷ []) p q)
+line_more f out mid more xs k x below at p q = grind (arith, common_steps, adds_same, map_more, adds_both)
 
 -- all elements were looked at
 pub lines_all : {X : Type 0} (lines : List X → List Line) (out more : Out) (xs : List X) (k : ℕ) → length xs ≤ k → Adds out more (lines (take k xs)) → Adds out more (lines xs)
@@ -50,39 +31,24 @@ numbered_push n [] x = ap (λ m. (m, x) ∷ []) (omega arith)
 numbered_push n (y ∷ ys) x = ap (λ l. (n, y) ∷ l) (numbered_push (n + 1) ys x ∙ ap (λ m. enumerate_from (n + 1) ys ++ (m, x) ∷ []) (omega arith))
 
 pub queue_more : (out mid more : Out) (counts : List ℕ) (k d : ℕ) → k < length counts → Adds out mid (map (λ x. line.queue x.0 x.1) (enumerate_from 0 (take k counts))) → Adds mid more (line.queue k (get_or counts k d) ∷ []) → Adds out more (map (λ x. line.queue x.0 x.1) (enumerate_from 0 (take (k + 1) counts)))
-queue_more out mid more counts k d below p q =
-    let f : ℕ × ℕ → Line = λ x. line.queue x.0 x.1 in
-    let count = get_or counts k d in
-    let long : 0 + length (take k counts) ≡ k = omega (arith, length-take-le k counts (omega (arith, below))) in
-    let next : enumerate_from 0 (take (k + 1) counts) ≡ enumerate_from 0 (take k counts) ++ (k, count) ∷ [] =
-    ap (enumerate_from 0) (take_more counts k d below)
-    ∙ numbered_push 0 (take k counts) count ∙ ap (λ m. enumerate_from 0 (take k counts) ++ (m, count) ∷ []) long in
-    adds_same out more _ _ (sym (map-append f (enumerate_from 0 (take k counts)) ((k, count) ∷ [])) ∙ ap (map f) (sym next))
-    (adds_both out mid more (map f (enumerate_from 0 (take k counts))) (line.queue k count ∷ []) p q)
+queue_more out mid more counts k d below p q = grind (arith, common_steps, length-take-le, take_more, numbered_push, adds_same, map-append, adds_both)
 
 -- ---- what is referred to
 
 pub pointed_line_at : {X : Type 0} (f : X → Line) (out mid more : Out) (xs : List (Bor X)) (k : ℕ) (d : Bor X) → k < length xs → Adds out mid (map f (pointed (take k xs))) → Adds mid more (f (get_or xs k d).now ∷ []) → Adds out more (map f (pointed (take (k + 1) xs)))
-pointed_line_at {X} f out mid more xs k d below p q =
-    adds_same out more _ _ (sym (map-append f (pointed (take k xs)) ((get_or xs k d).now ∷ [])) ∙ ap (map f) (sym (map_more (λ (y : Bor X). y.now) xs k d below)))
-    (adds_both out mid more (map f (pointed (take k xs))) (f (get_or xs k d).now ∷ []) p q)
+pointed_line_at {X} f out mid more xs k d below p q = grind (arith, common_steps, adds_same, map-append, map_more, adds_both)
 
 -- ---- a whole report
 
 -- the lines after those of the results
 pub rest_printed : (b c d e : Out) (queues parts : List Line) (sum : Line)
     → Adds b c (sum ∷ []) → Adds c d queues → Adds d e parts → bytes_of e ≡ bytes_of b ++ flat_map (printed_line (is_json b)) ((sum ∷ queues) ++ parts)
-rest_printed b c d e queues parts sum of_sum of_queues of_parts =
-    (adds_both b d e (sum ∷ queues) parts (adds_both b c d (sum ∷ []) queues of_sum of_queues) of_parts).added
+rest_printed b c d e queues parts sum of_sum of_queues of_parts = grind (arith, common_steps, adds_both)
 
 -- lines more, for one result more
 pub told_more : (f : PageResult → List Line) (out mid more : Out) (xs : List (Bor PageResult)) (k : ℕ) (x : Bor PageResult) → k < length xs → x ≡ get_or xs k x → Adds out mid (flat_map f (pointed (take k xs))) → Adds mid more (f x.now) → Adds out more (flat_map f (pointed (take (k + 1) xs)))
-told_more f out mid more xs k x below at p q =
-    adds_same out more _ _
-    (ap (λ t. flat_map f (pointed (take k xs)) ++ t) (sym (append-nil (f x.now))) ∙ sym (flat_map-append f (pointed (take k xs)) (x.now ∷ [])) ∙ ap (flat_map f) (sym (pointed_more xs k x below at)))
-    (adds_both out mid more (flat_map f (pointed (take k xs))) (f x.now) p q)
+told_more f out mid more xs k x below at p q = grind (arith, common_steps, adds_same, append-nil, flat_map-append, pointed_more, adds_both)
 
 -- what was printed first, and then more
 pub then_more : {E : Type 0} (result : Result Out E) (out mid : Out) (xs ys zs : List Line) → Adds out mid xs → xs ++ ys ≡ zs → IfOk result (λ more. Adds mid more ys) → IfOk result (λ more. Adds out more zs)
-then_more (Ok more) out mid xs ys zs before same after = adds_same out more (xs ++ ys) zs same (adds_both out mid more xs ys before after)
-then_more (Err e) out mid xs ys zs before same after = tt
+then_more result out mid xs ys zs before same after = grind (arith, adds_same, adds_both)

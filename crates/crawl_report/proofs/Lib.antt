@@ -1,6 +1,5 @@
-pub mod Numbers
+pub mod Prelude
 pub mod Format
-pub mod Counts
 pub mod Adding
 pub mod Printed
 pub mod Sets

@@ -1,21 +1,7 @@
 -- Texts have one ascending order.
-use Rattle.std.proofs.Common.{◌≡◌, ℕ, suc, ◌+◌, ◌<◌, Bool, List, [], ◌∷◌, length, map, get_or, refl, sym, ap, subst, ◌∙◌, arith, if◌then◌else◌, inl, inr}
+use Rattle.crawl_report.proofs.Prelude.{◌≡◌, ℕ, suc, ◌+◌, ◌<◌, Bool, List, [], ◌∷◌, length, map, get_or, refl, sym, ap, subst, ◌∙◌, arith, if◌then◌else◌, inl, inr, cases_Bool, get_or-map, length-map, sum_by-IsPermutation, bytes_eq-Decides, slice_cmp, sum_by, IsPermutation, IsSortedByKey, is_lt, nat_cmp, bytes_eq, results_by_url-alone, filter-kept, filter-dropped, results_at, results_by_url, Missing, PageResult}
 use Rattle.std.proofs.Math.ListN.{replicate}
-use Rattle.std.proofs.lemmas.Bool.{cases_Bool}
-use Rattle.std.proofs.lemmas.List.{get_or-map, length-map}
-use Rattle.std.proofs.lemmas.List.Sorted.{sum_by-IsPermutation}
 use Rattle.std.proofs.lemmas.List.Sums.{sum_by-cons}
-use Rattle.std.proofs.lemmas.Slice.Eq.{bytes_eq-Decides}
-use Rattle.std.specs.Cmp.Lexicographic.{slice_cmp}
-use Rattle.std.specs.List.{sum_by}
-use Rattle.std.specs.List.Sorted.{IsPermutation, IsSortedByKey}
-use Rattle.std.specs.Ordering.{is_lt, nat_cmp}
-use Rattle.std.specs.Str.{bytes_eq}
-use Rattle.crawl_pages.proofs.OrderLaws.{results_by_url-alone}
-use Rattle.crawl_pages.proofs.StableSort.{filter-kept, filter-dropped}
-use Rattle.crawl_pages.specs.ResultOrder.{results_at, results_by_url}
-use Rattle.crawl_pages.specs.declared.page.Page.TheVariants.{Missing}
-use Rattle.crawl_pages.specs.declared.page.PageResult.{PageResult}
 
 -- a result at a URL
 abbrev at : List ℕ → PageResult
@@ -60,8 +46,7 @@ copies url (own ∷ more) =
     ]
 
 same_copies : (url : List ℕ) (urls own : List (List ℕ)) → IsPermutation urls own → results_at url (map at own) ≡ results_at url (map at urls)
-same_copies url urls own same =
-    copies url own ∙ ap (λ n. replicate n (at url)) (sum_by-IsPermutation (λ own. if bytes_eq own url then 1 else 0) urls own same) ∙ sym (copies url urls)
+same_copies url urls own same = grind (arith, copies, replicate, sum_by-IsPermutation)
 
 in_order : (urls own : List (List ℕ)) → IsPermutation urls own → IsSortedByKey (λ url. url) (slice_cmp nat_cmp) own → map at own ≡ results_by_url (map at urls)
 in_order urls own same sorted = results_by_url-alone (map at urls) (map at own) (record { ascends = sorted_results own sorted; keeps = λ url. same_copies url urls own same })

@@ -1,16 +1,12 @@
 -- Chunks of lines, and what they are together.
-use Rattle.std.proofs.Common.{◌≡◌, ℕ, Bool, Global, List, [], ◌∷◌, ◌++◌, Vec, append-nil, sym, ap, ◌∙◌}
-use Rattle.std.proofs.lemmas.List.{append_assoc, map-append}
-use Rattle.std.proofs.lemmas.List.Concat.{flat_map-append}
-use Rattle.std.specs.List.{flat_map}
-use Rattle.crawl_pages.specs.declared.page.PageResult.{PageResult}
-use Rattle.crawl_report.specs.Json.{printed_line}
-use Rattle.crawl_report.specs.Lines.{Line}
-use Rattle.crawl_report.specs.Printing.{Adds, bytes_of, is_json, joined}
-use Rattle.crawl_report.specs.Rows.{page_line, part_lines, result_lines, rows_behind, printed, total_of, queue_lines}
-use Rattle.crawl_sources.specs.Tallies.{pointed}
-use Rattle.crawl_report.specs.declared.out.Out.{Out}
+use Rattle.crawl_report.proofs.Prelude.{◌≡◌, ℕ, Bool, Global, List, [], ◌∷◌, ◌++◌, Vec, append-nil, ap, ◌∙◌, arith, suc, ◌+◌, ◌^◌, ◌<◌, ◌≤◌, false, cond, ◌==◌, ◌%◌, length, drop, get_or, Some, option_and_then, decimal, refl, length-append, append_assoc, map-append, drop_all, flat_map-append, flat_map, prefix_len, PageResult, printed_line, Line, Adds, bytes_of, is_json, joined, result_lines, rows_behind, printed, Out, common_steps, ne_eqb, le-leb, and_from}
 use Rattle.crawl_report.specs.declared.report.Report.{Report}
+use lib.ListN.{get_or-append}
+use Rattle.std.proofs.lemmas.Fmt.{decimal_is_IsNumeral_wide, decimal_by_steps_wide, decimal_digit}
+use Rattle.std.proofs.lemmas.Str.Parse.{digit_at}
+use Rattle.std.specs.Char.{is_ascii_digit}
+use Rattle.json.specs.Word.{head, after_whole, after_fraction, after_exponent, after_number}
+use Rattle.json.specs.Print.{IsNumber}
 
 -- what is printed after nothing
 pub printed_alone : (json : Bool) (lines : List Line) (empty out : Out) → bytes_of empty ≡ [] → is_json empty ≡ json → Adds empty out lines → bytes_of out ≡ flat_map (printed_line json) lines
@@ -18,11 +14,7 @@ printed_alone json lines empty out none kind adds = adds.added ∙ (λ i. none i
 
 -- the results, and what follows them
 pub whole_report : (json : Bool) (report : Report) (front back : List ℕ) → front ≡ flat_map (printed_line json) (result_lines report.pages.now) → back ≡ flat_map (printed_line json) (rows_behind report) → front ++ back ≡ printed json report
-whole_report json report front back of_results of_rest =
-    let pages = report.pages.now in
-    (λ i. of_results i ++ of_rest i)
-    ∙ sym (flat_map-append (printed_line json) (result_lines pages) (rows_behind report))
-    ∙ ap (flat_map (printed_line json)) (sym (append_assoc (result_lines pages) (total_of pages ∷ queue_lines report.queues.now) (part_lines report.parts pages (pointed report.unreached.now))))
+whole_report json report front back of_results of_rest = grind (arith, flat_map-append, append_assoc)
 
 -- ---- parts
 
@@ -34,9 +26,30 @@ joined_push parts part = flat_map-append (λ (p : Vec ℕ Global). p.items) part
 pub put_together : (json : Bool) (xs ys : List (Vec ℕ Global)) (front back pages : List PageResult) → front ++ back ≡ pages
     → joined xs ≡ flat_map (printed_line json) (result_lines front) → joined ys ≡ flat_map (printed_line json) (result_lines back)
     → joined (xs ++ ys) ≡ flat_map (printed_line json) (result_lines pages)
-put_together json xs ys front back pages parts of_front of_back =
-    flat_map-append (λ (p : Vec ℕ Global). p.items) xs ys
-    ∙ (λ i. of_front i ++ of_back i)
-    ∙ sym (flat_map-append (printed_line json) (result_lines front) (result_lines back))
-    ∙ ap (flat_map (printed_line json)) (sym (map-append (λ (r : PageResult). page_line r.url r.page) front back))
-    ∙ ap (λ ps. flat_map (printed_line json) (result_lines ps)) parts
+put_together json xs ys front back pages parts of_front of_back = grind (arith, flat_map-append, map-append)
+
+-- What `decimal` writes is a number of JSON, of up to 128 bits
+
+all_digits : (ds : List ℕ) → ((i : ℕ) → i < length ds → (48 ≤ get_or ds i 0) × (get_or ds i 0 ≤ 57)) → prefix_len is_ascii_digit ds ≡ length ds
+all_digits [] h = refl
+all_digits (d ∷ ds) h =
+    let first = h 0 (omega arith) in
+    let rest = all_digits ds (λ i l. h (suc i) (omega arith)) in
+    ap (λ b. cond b (1 + prefix_len is_ascii_digit ds) 0) (and_from _ _ (le-leb 48 d first.0) (le-leb d 57 first.1)) ∙ omega arith
+
+whole_digits : (ds : List ℕ) → 48 < get_or ds 0 0 → prefix_len is_ascii_digit ds ≡ length ds → (after_whole ds ≡ Some []) × ((head ds == 45) ≡ false)
+whole_digits ds first all = grind (arith, common_steps, ne_eqb, drop_all)
+
+first_decimal : (n : ℕ) → 0 < n → n < 10 ^ 64 → 48 < get_or (decimal n) 0 0
+first_decimal n some small = (decimal_by_steps_wide (λ m ds. (0 < length ds) × (0 < m → 48 < get_or ds 0 0)) (λ m l. (omega arith, λ a. omega arith))
+    (λ m ds l h. (omega (arith, length-append ds ((48 + m % 10) ∷ [])), λ a. omega (arith, get_or-append ds ((48 + m % 10) ∷ []) 0 0 h.0, h.1 (omega arith)))) n small).1 some
+
+whole_decimal : (n : ℕ) → n < 10 ^ 64 → (after_whole (decimal n) ≡ Some []) × ((head (decimal n) == 45) ≡ false)
+whole_decimal n h = grind (arith, common_steps, decimal_digit, whole_digits, first_decimal, all_digits, digit_at, decimal_is_IsNumeral_wide)
+
+pub decimal_IsNumber : (n : ℕ) → n < 10 ^ 64 → IsNumber (decimal n)
+unfolding after_number
+decimal_IsNumber n h =
+    let w = whole_decimal n h in
+    ap (λ o. option_and_then after_exponent (option_and_then after_fraction o))
+    (ap (λ b. after_whole (cond b (drop 1 (decimal n)) (decimal n))) w.1 ∙ w.0)

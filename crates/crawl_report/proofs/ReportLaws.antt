@@ -1,22 +1,7 @@
 -- Which lists of results have one report.
-use Rattle.std.proofs.Common.{◌≡◌, ◌≢◌, ℕ, zero, suc, ◌<◌, ◌↔◌, Bool, true, false, cond, List, [], ◌∷◌, ◌++◌, length, get_or, map, AllPairs, Contains, refl, sym, ap, ◌∙◌, arith, inl, inr, suc-le-suc, zero-le}
-use Rattle.std.proofs.lemmas.Bool.{cases_Bool}
-use Rattle.std.specs.Cmp.Lexicographic.{nat_list_eq_equiv}
-use Rattle.std.specs.List.{flat_map}
-use Rattle.std.specs.List.Sorted.{IsPermutation}
-use Rattle.std.specs.Str.{bytes_eq}
-use Rattle.std.proofs.lemmas.List.Sorted.{length_permutation, sum_by-IsPermutation, Contains-permutation, IsPermutation-sym, IsPermutation-map}
-use Rattle.std.proofs.lemmas.List.{get_or-map, length-map}
+use Rattle.crawl_report.proofs.Prelude.{◌≡◌, ◌≢◌, ℕ, zero, suc, ◌<◌, ◌↔◌, Bool, false, cond, List, [], ◌∷◌, ◌++◌, length, get_or, map, AllPairs, Contains, refl, sym, ap, ◌∙◌, arith, inl, inr, suc-le-suc, zero-le, cases_Bool, nat_list_eq_equiv, flat_map, IsPermutation, bytes_eq, length_permutation, sum_by-IsPermutation, Contains-permutation, IsPermutation-sym, IsPermutation-map, get_or-map, length-map, bytes_eq-Decides, is_found, is_missing, is_moved, Missing, PageResult, is_before, results_by_url, results_at, HasEachUrlOnce, before_ranks, results_at-results_by_url, results_by_url-alone, filter-kept, filter-dropped, sorted-stable_sort, IsPermutation-stable_sort, result_line, total_line, report}
 use Rattle.std.proofs.lemmas.Map.Keys.{IsDistinct-IsPermutation}
 use Rattle.std.proofs.lemmas.Map.Made.{AllPairs-from_IsDistinct, IsDistinct-from_AllPairs}
-use Rattle.std.proofs.lemmas.Slice.Eq.{bytes_eq-Decides}
-use Rattle.crawl_pages.specs.Pages.{is_found, is_missing, is_moved}
-use Rattle.crawl_pages.specs.declared.page.Page.TheVariants.{Missing}
-use Rattle.crawl_pages.specs.declared.page.PageResult.{PageResult}
-use Rattle.crawl_pages.specs.ResultOrder.{is_before, results_by_url, results_at, HasEachUrlOnce}
-use Rattle.crawl_pages.proofs.OrderLaws.{before_ranks, results_at-results_by_url, results_by_url-alone}
-use Rattle.crawl_pages.proofs.StableSort.{filter-kept, filter-dropped, sorted-stable_sort, IsPermutation-stable_sort}
-use Rattle.crawl_report.specs.ReportText.{result_line, total_line, report}
 
 -- ---- the report is that of its order
 
@@ -56,12 +41,8 @@ found url (r ∷ rs) one more e =
           ((suc later.0.0, suc-le-suc later.0.1, later.0.2), later.1)
     ]
 
-refuted : (b : Bool) → (b ≡ true → ⊥) → b ≡ false
-refuted true never = absurd (never refl)
-refuted false never = refl
-
 differs : (url other : List ℕ) → url ≢ other → bytes_eq url other ≡ false
-differs url other apart = refuted _ (λ e. apart ((bytes_eq-Decides url other).0 e))
+differs url other apart = grind (arith, bytes_eq-Decides)
 
 nowhere : (url : List ℕ) (results : List PageResult) → ((k : ℕ) (d : PageResult) → k < length results → (get_or results k d).url ≢ url) → results_at url results ≡ []
 nowhere url [] apart = refl

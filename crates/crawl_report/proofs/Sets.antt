@@ -1,14 +1,7 @@
 -- Sets of URLs.
-use Rattle.std.proofs.Common.{◌≡◌, ℕ, zero, suc, ◌+◌, ◌<◌, Bool, ◌&&◌, not, List, [], ◌∷◌, length, filter, get_or, refl, sym, subst, ◌∙◌, arith}
-use Rattle.std.specs.Borrow.{Bor}
+use Rattle.crawl_report.proofs.Prelude.{◌≡◌, ℕ, zero, suc, ◌+◌, ◌<◌, Bool, ◌&&◌, not, List, [], ◌∷◌, length, filter, get_or, refl, sym, subst, ◌∙◌, arith, true, false, map, Option, Some, ap, if◌then◌else◌, Bor, slice_cmp, IsSortedBy, IsSortedByKey, nat_cmp, is_lt, PageResult, pointed, Count, IsCount, IsTally, has_result, is_in, is_unreached, length_pointed, sources_of, from_line, lines_at}
 use Rattle.std.specs.BTreeSet as sorted
-use Rattle.std.specs.Cmp.Lexicographic.{slice_cmp}
-use Rattle.std.specs.List.Sorted.{IsSortedBy, IsSortedByKey}
-use Rattle.std.specs.Ordering.{nat_cmp, is_lt}
-use Rattle.crawl_pages.specs.declared.page.PageResult.{PageResult}
-use Rattle.crawl_sources.specs.Tallies.{pointed}
-use Rattle.crawl_report.specs.Unreached.{has_result, is_in, is_unreached}
-use Rattle.crawl_sources.proofs.Counts.{length_pointed}
+use Rattle.crawl_report.specs.Lines as line
 
 -- what is not in the set of the results' URLs
 pub unseen_unreached : (allowed : List ℕ → Bool) (results : List PageResult) (seen : sorted.BTreeSet (List ℕ)) → ((url : List ℕ) → is_in seen url ≡ has_result results url) → (urls : List (List ℕ)) → filter (λ url. allowed url && not (is_in seen url)) urls ≡ filter (is_unreached allowed results) urls
@@ -28,3 +21,19 @@ sorted_pointed urls ascends k d low below =
     (λ i. is_lt (slice_cmp nat_cmp (a.1 i) (b.1 i)))
     ∙ sym (λ i. is_lt (slice_cmp nat_cmp (a.2 a.0 i).now (b.2 a.0 i).now))
     ∙ ascends k a.0 low within
+
+-- The lines of what is counted of a URL
+
+pub lines_counted : (all : Bool) (results : List PageResult) (url : List ℕ) (o : Option Count) (c : Count) → o ≡ Some c → IsTally all results url o → line.from c.count c.page url ∷ map (λ page. line.link page url) c.all ≡ lines_at all results url
+lines_counted all results url o c is k =
+    let kept : IsCount all results url c = subst (IsTally all results url) is k in
+    (λ i. line.from (kept.count i) (kept.page i) url ∷ map (λ page. line.link page url) (kept.kept i))
+    ∙ ap (λ ls. from_line results url ∷ ls) (links_kept all (sources_of results url))
+  where
+    links_of_all : (rs : List PageResult) → map (λ page. line.link page url) (map (λ r. r.url) rs) ≡ map (λ r. line.link r.url url) rs
+    links_of_all [] = refl
+    links_of_all (r ∷ rs) = ap (λ ls. line.link r.url url ∷ ls) (links_of_all rs)
+
+    links_kept : (b : Bool) (rs : List PageResult) → map (λ page. line.link page url) (if b then map (λ r. r.url) rs else []) ≡ (if b then map (λ r. line.link r.url url) rs else [])
+    links_kept true rs = links_of_all rs
+    links_kept false rs = refl

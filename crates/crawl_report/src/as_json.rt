@@ -40,6 +40,7 @@ pub fn put_text_or_null(out: &mut Writer, name: &str, text: Option<&str>) -> Res
 }
 
 /// Writes a member whose value is a number.
+#[tactic(auto, using(crate::proofs::Printed::decimal_IsNumber))]
 pub fn put_count(out: &mut Writer, name: &str, count: u128) -> Result<(), NoMemory>
     ensures tokens { OnOk result (out.new.tokens ≡ out.old.tokens ++ key name.now ∷ number (decimal count) ∷ []) }
     ensures before { out.new.before ≡ out.old.before }

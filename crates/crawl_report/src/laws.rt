@@ -10,6 +10,7 @@ ghost use Rattle.crawl_report.specs.Today.{told_text, text_with};
 
 /// If results ascend, the text of a report with results, queues and sources is the report of the results, then a line for
 /// each queue, and then the sources of what is missing.
+#[tactic(auto, using(crate::proofs::Format::text_same))]
 pub fn text_is_the_format()
     ensures { (with_queues with_sources : Bool) (pages : List PageResult) (counts : List ℕ) → IsSortedByKey (λ r. r.url) (slice_cmp nat_cmp) pages → text_with with_queues with_sources pages counts ≡ told_text with_queues with_sources pages counts }
 {}
@@ -20,6 +21,7 @@ pub fn one_order()
 {}
 
 /// Results of different URLs may come in any order: the report is the same.
+#[tactic(auto, using(crate::proofs::ReportLaws::report_across, crate::proofs::ReportLaws::report_same))]
 pub fn any_order_of_arrival()
     // If the results of each URL come in the same order in both.
     ensures across { (results others : List PageResult) → ((url : List ℕ) → results_at url results ≡ results_at url others) → report results ≡ report others }

@@ -31,6 +31,7 @@ pub fn report_text(alloc: Global, results: &[PageResult]) -> Result<Vec<u8>, NoM
 }
 
 /// Prints a line for each of these results.
+#[tactic(auto, using(crate::proofs::Adding::adds_none, crate::proofs::Adding::pointed_line_at, crate::proofs::Adding::adds_same, crate::proofs::Adding::lines_all))]
 fn with_each(mut out: Out, results: &[&PageResult]) -> Result<Out, NoMemory>
     ensures { IfOk result (λ more. Adds out more (result_lines (pointed results.now))) }
 {

@@ -29,6 +29,7 @@ const BESIDE: usize = 16;
 ///
 /// # Errors
 /// Only out of memory. If a thread cannot be started, the thread that would have started it prints its chunk.
+#[tactic(auto, using(crate::proofs::Printed::joined_push, crate::proofs::Printed::whole_report))]
 pub fn print_in_parts<R: Threads + Sync>(
     rt: &R,
     alloc: Global,
@@ -45,6 +46,7 @@ pub fn print_in_parts<R: Threads + Sync>(
 }
 
 /// Returns all lines except those of the results.
+#[tactic(auto, using(crate::proofs::Adding::rest_printed, crate::proofs::Adding::adds_same))]
 fn rest_of(alloc: Global, report: &Report<'_>, json: bool) -> Result<Vec<u8>, NoMemory>
     ensures { IfOk result (λ text. text.items ≡ flat_map (printed_line json) (rows_behind report.now)) }
 {
@@ -140,6 +142,7 @@ fn count_moved(pages: &[PageResult]) -> usize
 }
 
 /// Returns what is printed, followed by a line for each queue. The queues are numbered from 0.
+#[tactic(auto, using(crate::proofs::Adding::adds_none, crate::proofs::Adding::lines_all))]
 pub(crate) fn with_queues(mut out: Out, counts: &[u64]) -> Result<Out, NoMemory>
     ensures { IfOk result (λ more. Adds out more (queue_lines counts.now)) }
 {

@@ -64,6 +64,7 @@ fn lines_of_part<R: Threads + Sync>(
 }
 
 /// Returns a line for each result, in one chunk.
+#[tactic(auto, using(crate::proofs::Printed::joined_push, crate::proofs::Printed::printed_alone))]
 fn lines_alone(alloc: Global, json: bool, pages: &[PageResult]) -> Result<Vec<Vec<u8>>, NoMemory>
     ensures { IfOk result (λ parts. joined parts.items ≡ flat_map (printed_line json) (result_lines pages.now)) }
 {

@@ -1,26 +1,16 @@
 -- What is kept of a URL while the links to it are counted.
-use Rattle.std.proofs.lemmas.Bool.Decides.{nat_tests}
+use Rattle.crawl_sources.proofs.Prelude.{◌≡◌, ℕ, zero, suc, ◌+◌, ◌<◌, Bool, true, false, ◌||◌, cond, List, [], ◌∷◌, ◌++◌, length, take, get_or, Option, Some, None, IsSome, refl, sym, ap, ◌∙◌, subst, arith, append-nil, length-append, le-ltb, if◌then◌else◌, cases_Bool, cond-true, cond-false, lt-ltb, map_more, map-append, filter-append, list_any, option_map, bytes_eq, PageResult, pointed, Count, none_counted, counted, Tallies, count_of, IsTally}
 use Rattle.std.proofs.lemmas.Grind.{common_steps}
-use Rattle.std.proofs.Common.{◌≡◌, ℕ, zero, suc, ◌+◌, ◌<◌, Bool, true, false, ◌||◌, cond, List, [], ◌∷◌, ◌++◌, length, take, get_or, Option, Some, None, IsSome, refl, sym, ap, ◌∙◌, subst, arith, append-nil, length-append, le-ltb, if◌then◌else◌}
 use Rattle.std.proofs.Math.Bool.{or-false}
-use Rattle.std.proofs.lemmas.Bool.{cases_Bool, cond-true, cond-false, lt-ltb}
-use Rattle.std.proofs.lemmas.List.{map_more, map-append}
-use Rattle.std.proofs.lemmas.List.Elements.{filter-append}
 use Rattle.std.proofs.lemmas.List.Folds.{list_any-append, list_any_at}
 use Rattle.std.proofs.lemmas.List.Sums.{fold-append}
 use Rattle.std.proofs.lemmas.Slice.Eq.{bytes_eq-Decides}
 use Rattle.std.specs.Borrow.{Bor}
 use Rattle.std.specs.BTreeMap as tree
 use Rattle.std.specs.BTreeSet as sets
-use Rattle.std.specs.List.{list_any}
-use Rattle.std.specs.Option.{option_map}
-use Rattle.std.specs.Str.{bytes_eq}
 use Rattle.hash_order.specs.HashOrder.{by_hash, by_hash_ties}
 use Rattle.crawl_pages.specs.Pages.{links_of}
-use Rattle.crawl_pages.specs.declared.page.PageResult.{PageResult}
 use Rattle.crawl_pages.proofs.StableSort.{filter-kept, filter-dropped}
-use Rattle.crawl_sources.specs.Sources.{links_to}
-use Rattle.crawl_sources.specs.Tallies.{pointed, Count, none_counted, counted, Tallies, count_of, IsCount, IsTally}
 
 -- ---- lists
 
@@ -29,7 +19,7 @@ any_push p xs x = list_any-append p xs (x ∷ []) ∙ ap (λ b. list_any p xs ||
 
 -- the elements up to an index, and the one at it
 pub pointed_more : {X : Type 0} (xs : List (Bor X)) (i : ℕ) (x : Bor X) → i < length xs → x ≡ get_or xs i x → pointed (take (i + 1) xs) ≡ pointed (take i xs) ++ x.now ∷ []
-pointed_more xs i x below at = grind (arith, nat_tests, common_steps, map_more)
+pointed_more xs i x below at = grind (arith, common_steps, map_more)
 
 pub get_pointed : {X : Type 0} (xs : List (Bor X)) (k : ℕ) (d : Bor X) → get_or (pointed xs) k d.now ≡ (get_or xs k d).now
 get_pointed [] k d = refl
@@ -94,11 +84,8 @@ none_put old new rs r key v text value updates url known =
 counted_once : (all : Bool) (n : ℕ) (url : List ℕ) (c : Count) → counted all n url (counted all n url c) ≡ counted all n url c
 counted_once all n url c = grind (arith, cases_Bool, cond-true, cond-false, le-ltb)
 
-either_link : (all a b : Bool) (n : ℕ) (url : List ℕ) (o : Option Count) → option_map (λ c. if b then counted all n url c else c) (option_map (λ c. if a then counted all n url c else c) o) ≡ option_map (λ c. if a || b then counted all n url c else c) o
-either_link all a b n url o = grind (arith, counted_once)
-
 pub link_more : (all : Bool) (links : List (List ℕ)) (link : List ℕ) (n : ℕ) (page url : List ℕ) (o mid new : Option Count) → mid ≡ option_map (λ c. if list_any (λ own. bytes_eq own url) links then counted all n page c else c) o → new ≡ option_map (λ c. if bytes_eq link url then counted all n page c else c) mid → new ≡ option_map (λ c. if list_any (λ own. bytes_eq own url) (links ++ link ∷ []) then counted all n page c else c) o
-link_more all links link n page url o mid new before after = grind (arith, either_link, any_push)
+link_more all links link n page url o mid new before after = grind (arith, any_push, counted_once)
 
 -- ---- one more result
 
@@ -106,11 +93,8 @@ link_more all links link n page url o mid new before after = grind (arith, eithe
 one_more : (all : Bool) (own before after : List (List ℕ)) (url : List ℕ) → own ≡ (if all then before else []) → after ≡ before ++ url ∷ [] → (if all then own ++ url ∷ [] else own) ≡ (if all then after else [])
 one_more all own before after url is more = grind arith
 
-count_more : (all b : Bool) (results : List PageResult) (r : PageResult) (url : List ℕ) (c : Count) (n : ℕ) → links_to url r ≡ b → n ≡ length results + 1 → IsCount all results url c → IsCount all (results ++ r ∷ []) url (if b then counted all n r.url c else c)
-count_more all b results r url c n links numbered k = grind (arith, filter-append, filter-kept, lt-ltb, cond-true, length-append, fold-append, map-append, one_more, filter-dropped, append-nil)
-
 pub tally_more : (all : Bool) (results : List PageResult) (r : PageResult) (links : List (List ℕ)) (page url : List ℕ) (n : ℕ) (old new : Option Count) → links ≡ links_of r.page → page ≡ r.url → n ≡ length results + 1 → new ≡ option_map (λ c. if list_any (λ link. bytes_eq link url) links then counted all n page c else c) old → IsTally all results url old → IsTally all (results ++ r ∷ []) url new
-tally_more all results r links page url n old new those own numbered is k = grind (arith, count_more)
+tally_more all results r links page url n old new those own numbered is k = grind (arith, filter-append, filter-kept, lt-ltb, cond-true, length-append, fold-append, map-append, one_more, filter-dropped, append-nil)
 
 pub kept_some : (f : Count → Count) (old new : Option Count) → new ≡ option_map f old → IsSome old → IsSome new
 kept_some f old new is some = grind arith

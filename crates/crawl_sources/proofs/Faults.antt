@@ -1,9 +1,7 @@
 -- The first error of lines, as a relation.
-use Rattle.std.proofs.Common.{◌≡◌, ℕ, ◌+◌, List, [], ◌∷◌, ◌++◌, length, Option, Some, None, refl, sym, ap, ◌∙◌, arith, append_assoc, append-nil, length-append}
-use Rattle.std.specs.Option.{option_or}
+use Rattle.crawl_sources.proofs.Prelude.{◌≡◌, ℕ, ◌+◌, List, [], ◌∷◌, ◌++◌, length, Option, Some, None, refl, sym, ap, ◌∙◌, arith, append_assoc, append-nil, length-append, option_or, line_fault, first_fault}
 use Rattle.text_lines.specs.LeastFault.{SoundAfter, IsLeastFault}
 use Rattle.crawl_sources.specs.SeedFaults.{fault_after}
-use Rattle.crawl_sources.specs.Seeds.{line_fault, first_fault}
 use Rattle.crawl_sources.specs.declared.seeds.SeedsFault.{SeedsFault}
 
 none_first : (o later : Option SeedsFault) → option_or o later ≡ None → (o ≡ None) × (later ≡ None)

@@ -1,12 +1,9 @@
 -- The least of texts.
-use Rattle.std.proofs.Common.{◌≡◌, ◌⊎◌, inl, inr, ℕ, zero, suc, Bool, true, false, List, [], ◌∷◌, fold, Some, None, refl, sym, ap, ◌∙◌, subst, suc-le-suc, zero-le}
-use Rattle.std.proofs.lemmas.Bool.{cases_Bool, cond-true, cond-false}
+use Rattle.crawl_sources.proofs.Prelude.{◌≡◌, ◌⊎◌, inl, inr, ℕ, zero, suc, Bool, true, false, List, [], ◌∷◌, fold, Some, None, refl, sym, ap, ◌∙◌, subst, suc-le-suc, zero-le, cases_Bool, cond-true, cond-false, All-nil, All-cons, All, Contains}
 use Rattle.std.proofs.lemmas.Cmp.{nat_list_cmp_total}
-use Rattle.std.proofs.lemmas.List.Elements.{All-nil, All-cons}
 use Rattle.std.proofs.lemmas.List.Sorted.{ranks_by}
 use Rattle.std.specs.Cmp.{IsStrictWeakOrder}
 use Rattle.std.specs.Cmp.Lexicographic.{slice_cmp}
-use Rattle.std.specs.List.{All, Contains}
 use Rattle.std.specs.Ordering.{is_lt, nat_cmp}
 use Rattle.crawl_sources.specs.Sources.{lesser, least_with, least}
 

@@ -10,6 +10,7 @@ ghost use Rattle.crawl_sources.specs.Sources.{least};
 ghost use Rattle.crawl_sources.specs.declared.seeds.SeedsFault.{SeedsFault};
 
 /// The least of texts is one of them, and none of them is less; there is none only if there is no text.
+#[tactic(auto, using(crate::proofs::Least::least_among, crate::proofs::Least::least_below, crate::proofs::Least::least_none))]
 pub fn least_text()
     ensures among { (texts : List (List ℕ)) (text : List ℕ) → least texts ≡ Some text → Contains texts text }
     ensures below { (texts : List (List ℕ)) (text : List ℕ) → least texts ≡ Some text → All (λ t. is_lt (slice_cmp nat_cmp t text) ≡ false) texts }
@@ -18,6 +19,7 @@ pub fn least_text()
 
 /// The error of a seeds file is that of its first line that fails a check, and there the first check; if there is none, no
 /// line fails one.
+#[tactic(auto, using(crate::proofs::Faults::least_fault, crate::proofs::Faults::sound_lines))]
 pub fn first_fault_is_least()
     ensures fault { (lines : List (List ℕ)) (fault : SeedsFault) → first_fault 1 lines ≡ Some fault → IsLeastFault fault_after lines fault }
     ensures sound { (lines : List (List ℕ)) → first_fault 1 lines ≡ None → SoundAfter fault_after [] lines }

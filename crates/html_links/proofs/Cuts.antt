@@ -1,16 +1,8 @@
 -- The runs that the code cuts by a length are `front` and `behind`.
-use Rattle.std.proofs.lemmas.Bool.Decides.{nat_tests}
-use Rattle.std.proofs.lemmas.Grind.{common_steps}
-use Rattle.std.proofs.Common.{◌≡◌, ℕ, zero, suc, ◌+◌, ◌-◌, ◌==◌, ⊎_elim, slice_index, subst, Option, Bool, true, false, not, cond, List, [], ◌∷◌, length, take, drop, get_or, Some, None, refl, ap, sym, ◌∙◌, arith}
-use Rattle.std.specs.Prelude.{MatchOption, IfSome}
-use Rattle.std.specs.List.{prefix_len, position_or_len, take_while}
+use Rattle.html_links.proofs.Prelude.{common_steps, ◌≡◌, ℕ, zero, suc, ◌+◌, ◌-◌, ◌==◌, ⊎_elim, slice_index, subst, Option, Bool, true, false, not, cond, List, [], ◌∷◌, length, take, drop, get_or, Some, None, refl, ap, sym, ◌∙◌, arith, MatchOption, IfSome, prefix_len, position_or_len, take_while, position_or_len_is, take_rest, drop_all, eqb-true, cases_eq, false_from_ne_true, front, behind, in_name, BeginsName, name_front, name_behind}
 use Rattle.std.proofs.lemmas.List.Folds.{length-prefix_len}
-use Rattle.std.proofs.lemmas.List.Sums.{position_or_len_is}
-use Rattle.std.proofs.lemmas.List.{take_rest, drop_all}
-use Rattle.std.proofs.lemmas.Bool.{eqb-true, cases_eq, false_from_ne_true}
 use Rattle.std.proofs.Math.Seq.{drop-cons}
 use Rattle.memchr.specs.Find.{IsFirstByte, is_byte, Nowhere, NoneBefore, Passes, places_from, places, TakesFirst}
-use Rattle.html_links.specs.Shown.{front, behind, in_name, BeginsName, name_front, name_behind}
 
 pub if_some : {T : Type 0} (o : Option T) (P : Type 0) (Q : T → Type 0) → MatchOption o P Q → IfSome o Q
 if_some o P Q is = grind arith
@@ -44,7 +36,7 @@ tail_behind c rest n = let more : 1 + n ≡ suc n = omega arith in rw more refl
 -- a name, by the length of what follows its first byte
 pub name_cut : (bytes : List ℕ) (n : ℕ) → BeginsName bytes → n ≡ length (take_while in_name (take (length bytes - 1) (drop 1 bytes))) →
     (take (1 + n) bytes ≡ name_front bytes) × (drop (1 + n) bytes ≡ name_behind bytes)
-name_cut bytes n begins len = grind (arith, nat_tests, common_steps, take_rest, tail_front, front_cut, tail_behind, behind_cut)
+name_cut bytes n begins len = grind (arith, common_steps, take_rest, tail_front, front_cut, tail_behind, behind_cut)
 
 -- the first byte that passes a test, by its position
 pub first_cut : (test : ℕ → Bool) (bytes : List ℕ) (end : ℕ) → IsFirstByte test bytes (Some end) →

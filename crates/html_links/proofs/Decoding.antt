@@ -1,13 +1,6 @@
 -- The machine of character references over runs of bytes.
-use Rattle.std.proofs.lemmas.Bool.Decides.{nat_tests}
-use Rattle.std.proofs.lemmas.Grind.{common_steps}
-use Rattle.std.proofs.Common.{◌≡◌, ℕ, ◌==◌, ◌||◌, Bool, true, false, not, cond, List, [], ◌∷◌, ◌++◌, None, Some, ◌<◌, ◌≤◌, length, refl, ap, sym, ◌∙◌, append_assoc, append-nil, arith}
-use Rattle.std.proofs.lemmas.Bool.{cond-true, cond-false}
-use Rattle.std.specs.Char.{is_ascii_alphanumeric, encode_utf8}
-use Rattle.html_links.specs.Shown.{front, behind, Stopped}
-use Rattle.html_links.specs.Names.{named}
+use Rattle.html_links.proofs.Prelude.{common_steps, ◌≡◌, ℕ, ◌==◌, Bool, true, false, cond, List, [], ◌∷◌, ◌++◌, None, Some, ◌<◌, ◌≤◌, length, refl, ap, sym, ◌∙◌, append_assoc, append-nil, arith, cond-true, cond-false, is_ascii_alphanumeric, encode_utf8, front, behind, Stopped, named, is_plain}
 use Rattle.html_links.specs.References.{Text, Reference, Name, Next, Go, text_step, closed_at, name_text, name_end, step, follow, read}
-use Rattle.html_links.specs.Decoding.{is_plain}
 use Rattle.html_links.proofs.Jumps.{shorter}
 use Rattle.html_links.proofs.Sources.{front_all}
 
@@ -20,23 +13,16 @@ abbrev text_if : Bool → Bool → List ℕ → ℕ → Next
 text_if amp nul before c = cond amp (Go before Reference) (cond nul (Go (before ++ encode_utf8 65533) Text) (Go (before ++ c ∷ []) Text))
 
 behind_if : (amp nul : Bool) (before : List ℕ) (c : ℕ) (rest : List ℕ) → on rest (text_if amp nul before c) ≡ before ++ on rest (text_if amp nul [] c)
-behind_if amp nul before c rest = grind (arith, nat_tests, common_steps)
+behind_if amp nul before c rest = grind (arith, common_steps)
 
 pub text_behind : (before : List ℕ) (c : ℕ) (rest : List ℕ) → on rest (text_step before c) ≡ before ++ read Text (c ∷ rest)
 text_behind before c rest = behind_if (c == 38) (c == 0) before c rest
 
 -- runs of plain bytes
 
-plain_if : (amp nul : Bool) (c : ℕ) → not (amp || nul) ≡ true → text_if amp nul [] c ≡ Go (c ∷ []) Text
-plain_if amp nul c is = grind arith
-
-mark_at : (b : Bool) (c : ℕ) (rest some more : List ℕ) → (b ≡ true → step Text c ≡ Go (c ∷ []) Text) → read Text rest ≡ some ++ read Text more →
-    read Text (c ∷ rest) ≡ cond b (c ∷ some) [] ++ read Text (cond b more (c ∷ rest))
-mark_at b c rest some more stays later = grind arith
-
 pub to_mark : (bytes : List ℕ) → read Text bytes ≡ front is_plain bytes ++ read Text (behind is_plain bytes)
 to_mark [] = refl
-to_mark (c ∷ rest) = mark_at (is_plain c) c rest (front is_plain rest) (behind is_plain rest) (plain_if (c == 38) (c == 0) c) (to_mark rest)
+to_mark (c ∷ rest) = grind (arith, to_mark rest)
 
 pub plain_text : (value : List ℕ) → behind is_plain value ≡ [] → read Text value ≡ value
 plain_text value none = to_mark value ∙ ap (λ more. front is_plain value ++ read Text more) none ∙ append-nil (front is_plain value) ∙ front_all is_plain value none
@@ -52,7 +38,7 @@ decoded_all old new rest plain marked all some more written none so_far = grind 
 
 pub decoded_more : (old new last rest plain marked text more all : List ℕ) → plain ≡ front is_plain rest → marked ≡ behind is_plain rest → new ≡ old ++ plain →
     read Text marked ≡ text ++ read Text more → last ≡ new ++ text → old ++ read Text rest ≡ all → last ++ read Text more ≡ all
-decoded_more old new last rest plain marked text more all some left written reads wrote so_far = grind (arith, nat_tests, common_steps, text_cut)
+decoded_more old new last rest plain marked text more all some left written reads wrote so_far = grind (arith, common_steps, text_cut)
 
 pub mark_less : (rest marked more : List ℕ) → marked ≡ behind is_plain rest → length more < length marked → length more < length rest
 mark_less rest marked more cut less = grind (arith, shorter)
@@ -82,7 +68,7 @@ pub closed_name : (name rest last text : List ℕ) → rest ≡ 59 ∷ last → 
 closed_name name rest last text is found = ap (read (Name name)) is ∙ ap (λ o. on last (closed_at name o)) (sym found)
 
 pub closed_itself : (name rest last : List ℕ) → rest ≡ 59 ∷ last → None ≡ named true name → read (Name name) rest ≡ (38 ∷ name) ++ read Text rest
-closed_itself name rest last is none = grind (arith, nat_tests, common_steps, text_behind)
+closed_itself name rest last is none = grind (arith, common_steps, text_behind)
 
 -- one before `=`
 pub name_equals : (name rest last : List ℕ) → rest ≡ 61 ∷ last → read (Name name) rest ≡ (38 ∷ name) ++ read Text rest
@@ -91,4 +77,4 @@ name_equals name rest last is = ap (read (Name name)) is ∙ text_behind (38 ∷
 -- and one before anything else
 pub open_name : (name rest : List ℕ) → Stopped is_ascii_alphanumeric rest → Stopped (λ c. c == 59) rest → Stopped (λ c. c == 61) rest →
     read (Name name) rest ≡ name_text name ++ read Text rest
-open_name name rest letter semicolon equals = grind (arith, nat_tests, common_steps, append-nil, cond-false, text_behind)
+open_name name rest letter semicolon equals = grind (arith, common_steps, append-nil, cond-false, text_behind)

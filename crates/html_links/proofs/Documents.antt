@@ -1,21 +1,10 @@
 -- The document's machine over runs, over a whole tag and over a whole comment.
-use Rattle.std.proofs.lemmas.Bool.Decides.{nat_tests}
-use Rattle.std.proofs.lemmas.Grind.{common_steps}
-use Rattle.std.proofs.Common.{◌≡◌, ℕ, ◌+◌, ◌-◌, ◌<◌, ◌≤◌, ◌==◌, Bool, true, false, not, cond, List, [], ◌∷◌, ◌++◌, length, take, drop, map, Option, None, Some, refl, ap, sym, ◌∙◌, arith, append_assoc, append-nil}
-use Rattle.std.proofs.lemmas.Bool.{cond-false, not-true}
-use Rattle.std.specs.Prelude.{codes}
-use Rattle.std.specs.List.{take_while}
-use Rattle.std.proofs.lemmas.List.{take_rest, map-append}
-use Rattle.std.proofs.lemmas.Slice.Eq.{bytes_eq-Decides}
-use Rattle.html_links.specs.declared.bytes.Class.{Class}
-use Rattle.html_links.specs.declared.bytes.Class.TheVariants.{Space, Slash, Greater}
+use Rattle.html_links.proofs.Prelude.{common_steps, ◌≡◌, ℕ, ◌+◌, ◌-◌, ◌<◌, ◌≤◌, ◌==◌, Bool, true, false, not, cond, List, [], ◌∷◌, ◌++◌, length, take, drop, map, Option, None, Some, refl, ap, sym, ◌∙◌, arith, append_assoc, append-nil, cond-false, not-true, codes, take_while, take_rest, map-append, bytes_eq-Decides, Class, Space, Slash, Greater, Attribute, Tag, class_of, lower, BeforeName, tag_of, front, behind, in_tag_name, led_front, led_behind, rest_of, read_rest, ended_rest, RestLeaves, start_tag_at, Bor}
+use Rattle.html_links.specs.Comments.{mark_of, bytes_at}
 use Rattle.html_links.specs.declared.document.Opening.TheVariants as opening
-use Rattle.html_links.specs.Tags.{Attribute, Tag, class_of, lower, BeforeName, tag_of}
 use Rattle.html_links.specs.Tags as tags
-use Rattle.html_links.specs.Comments.{mark_of}
 use Rattle.html_links.specs.Comments as comments
 use Rattle.html_links.specs.RawText as raw
-use Rattle.html_links.specs.Shown.{front, behind, Stopped}
 use Rattle.html_links.specs.declared.document.Content.TheVariants as content
 use Rattle.html_links.specs.declared.script.State as code
 use Rattle.html_links.specs.declared.script.State.TheVariants as script
@@ -23,30 +12,23 @@ use Rattle.html_links.specs.declared.script.Next as nexts
 use Rattle.html_links.specs.declared.script.Next.TheVariants as next
 use Rattle.html_links.specs.Script as scripts
 use Rattle.html_links.proofs.Scripts.{left}
-use Rattle.html_links.specs.Document.{State, Data, TagOpen, EndTagOpen, TagName, InTag, MarkupDeclaration, Bogus, InComment, InRaw, behind_start, behind_tag, content_of, raw_step, InScript, InPlain, script_step, Next, Go, StartTag, Token, Start, TemplateEnd, is_template, end_tag, start_tags, tags_of, emitted, open_step, end_open_step, opening_of, name_step, tag_step, comment_step, step, follow, read}
-use Rattle.html_links.specs.Markup.{in_tag_name, led_front, led_behind, rest_of, read_rest, ended_rest, RestLeaves, start_tag_at}
+use Rattle.html_links.specs.Document.{State, Data, TagOpen, EndTagOpen, TagName, InTag, Bogus, InComment, InRaw, behind_start, behind_tag, content_of, raw_step, InScript, InPlain, script_step, Next, Go, StartTag, Token, Start, is_template, end_tag, start_tags, tags_of, emitted, open_step, end_open_step, opening_of, name_step, tag_step, comment_step, step, follow, read}
 use Rattle.html_links.specs.declared.document.StartTagAt.{StartTagAt}
-use Rattle.std.specs.Borrow.{Bor}
-use Rattle.html_links.specs.Comments.{bytes_at, comment_rest}
 use Rattle.html_links.proofs.Cuts.{front_cut, behind_cut, tail_front, tail_behind}
 use Rattle.html_links.proofs.Jumps.{stopped, shorter}
-use Rattle.html_links.proofs.Dashing.{comment_less}
 
 pub led_cut : (test : ℕ → Bool) (bytes : List ℕ) (n : ℕ) → 0 < length bytes → n ≡ length (take_while test (take (length bytes - 1) (drop 1 bytes))) →
     (take (1 + n) bytes ≡ led_front test bytes) × (drop (1 + n) bytes ≡ led_behind test bytes)
-led_cut test bytes n some len = grind (arith, nat_tests, common_steps, take_rest, tail_front, front_cut, tail_behind, behind_cut)
+led_cut test bytes n some len = grind (arith, common_steps, take_rest, tail_front, front_cut, tail_behind, behind_cut)
 
 pub led_shorter : (test : ℕ → Bool) (bytes : List ℕ) → length (led_behind test bytes) ≤ length bytes
 led_shorter test bytes = grind (arith, shorter)
 
 -- while it stays in a state, it jumps
 
-jump_at : (here : State) (b : Bool) (c : ℕ) (rest more : List ℕ) → (b ≡ true → step here c ≡ Go here) → read here rest ≡ read here more → read here (c ∷ rest) ≡ read here (cond b more (c ∷ rest))
-jump_at here b c rest more stays later = grind arith
-
 jump : (here : State) (test : ℕ → Bool) → ((c : ℕ) → test c ≡ true → step here c ≡ Go here) → (bytes : List ℕ) → read here bytes ≡ read here (behind test bytes)
 jump here test stays [] = refl
-jump here test stays (c ∷ rest) = jump_at here (test c) c rest (behind test rest) (stays c) (jump here test stays rest)
+jump here test stays (c ∷ rest) = grind (arith, jump here test stays rest)
 
 to_less : (bytes : List ℕ) → read Data bytes ≡ read Data (behind (λ c. not (c == 60)) bytes)
 to_less = jump Data (λ c. not (c == 60)) (λ c e. cond-false (c == 60) (Go TagOpen) (Go Data) (not-true (c == 60) e))
@@ -95,13 +77,10 @@ name_jump ends name [] = refl
 name_jump ends name (c ∷ rest) =
     name_jump_at ends (in_tag_name c) name c rest (front in_tag_name rest) (behind in_tag_name rest) (λ e. name_stays (class_of c) ends name c e) (name_jump ends (name ++ lower c ∷ []) rest)
 
-name_stopped : (ends : Bool) (name bytes : List ℕ) → Stopped in_tag_name bytes → read (TagName ends name) bytes ≡ read (InTag ends name BeforeName []) bytes
-name_stopped ends name bytes stops = grind (arith, name_ends)
-
 -- from a state whose step at a letter begins a name
 pub read_tag_name : (here : State) (ends : Bool) (bytes : List ℕ) (first : ℕ) (more name rest : List ℕ) → bytes ≡ first ∷ more → step here first ≡ Go (TagName ends (lower first ∷ [])) →
     name ≡ led_front in_tag_name bytes → rest ≡ led_behind in_tag_name bytes → read here bytes ≡ read (InTag ends (map lower name) BeforeName []) rest
-read_tag_name here ends bytes first more name rest is begins front_is behind_is = grind (arith, name_jump, name_stopped, stopped)
+read_tag_name here ends bytes first more name rest is begins front_is behind_is = grind (arith, name_jump, stopped, name_ends)
 
 pub letter_opens : (first : ℕ) → opening.Letter ≡ opening_of first → step TagOpen first ≡ Go (TagName false (lower first ∷ []))
 letter_opens first letter = ap (λ k. open_step k first) (sym letter)
@@ -137,16 +116,7 @@ pub in_comment : (s : comments.State) (bytes : List ℕ) → read (InComment s) 
 in_comment s [] = refl
 in_comment s (c ∷ rest) = in_comment_at (comments.step s (mark_of c)) rest (λ s. in_comment s rest)
 
-bytes_read : (r : Option (Bor (List ℕ))) → comment_then (bytes_at r) ≡ read_rest r
-bytes_read r = grind arith
-
-pub read_comment : (bytes dashed text : List ℕ) (r : Option (Bor (List ℕ))) → bytes ≡ 45 ∷ dashed → dashed ≡ 45 ∷ text → bytes_at r ≡ comment_rest text → read MarkupDeclaration bytes ≡ read_rest r
-read_comment bytes dashed text r one two ends = grind (arith, in_comment, bytes_read)
-
 -- the bytes after it are fewer
-
-pub comment_leaves : (r : Option (Bor (List ℕ))) (bytes dashed text : List ℕ) → bytes ≡ 45 ∷ dashed → dashed ≡ 45 ∷ text → bytes_at r ≡ comment_rest text → RestLeaves r bytes
-comment_leaves r bytes dashed text one two ends = grind (arith, comment_less)
 
 tag_less_at : (next : tags.Next) (rest : List ℕ) (t : Tag) → ((s : tags.State) (all : List Attribute) → tags.run s all rest ≡ Some t → length t.rest < length rest) →
     tags.follow next (λ s all. tags.run s all rest) rest ≡ Some t → length t.rest < length rest + 1
@@ -162,12 +132,9 @@ tag_less s all (c ∷ rest) t e =
 pub nothing_more : (found whole : List StartTag) (rest : List ℕ) → found ++ tags_of rest ≡ whole → read Data rest ≡ [] → found ≡ whole
 nothing_more found whole rest inv none = sym (append-nil found) ∙ ap (λ more. found ++ start_tags more) (sym none) ∙ inv
 
-pub goes_on : (found whole : List StartTag) (rest left : List ℕ) → found ++ tags_of rest ≡ whole → tags_of rest ≡ tags_of left → found ++ tags_of left ≡ whole
-goes_on found whole rest left inv same = ap (λ more. found ++ more) (sym same) ∙ inv
-
 pub one_more : (items new : List StartTagAt) (one : StartTagAt) (whole : List StartTag) (more : List Token) (rest : List ℕ) → map start_tag_at items ++ tags_of rest ≡ whole → new ≡ items ++ one ∷ [] →
     read Data rest ≡ Start (start_tag_at one) ∷ more → map start_tag_at new ++ start_tags more ≡ whole
-one_more items new one whole more rest inv pushed same = grind (arith, nat_tests, common_steps, map-append)
+one_more items new one whole more rest inv pushed same = grind (arith, common_steps, map-append)
 
 pub last_one : (found whole : List StartTag) (more : List Token) → found ++ start_tags more ≡ whole → more ≡ [] → found ≡ whole
 last_one found whole more inv none = sym (append-nil found) ∙ ap (λ m. found ++ start_tags m) (sym none) ∙ inv
@@ -175,16 +142,13 @@ last_one found whole more inv none = sym (append-nil found) ∙ ap (λ m. found 
 pub end_then : (name : List ℕ) (o : Option Tag) (left : List ℕ) → Some left ≡ rest_of o → tag_then true name o ≡ end_tag name ++ read Data left
 end_then name o left e = grind (arith, left)
 
-end_none : (name : List ℕ) (o : Option Tag) → None ≡ rest_of o → tag_then true name o ≡ []
-end_none name o e = grind arith
-
 pub read_end_tag : (rest opened name more left : List ℕ) → 60 ∷ opened ≡ behind (λ c. not (c == 60)) rest → read TagOpen opened ≡ read (InTag true name BeforeName []) more → Some left ≡ rest_of (tag_of more) →
     read Data rest ≡ end_tag name ++ read Data left
 read_end_tag rest opened name more left cut reads ends = read_less rest opened cut ∙ reads ∙ in_tag true name BeforeName [] more ∙ end_then name (tag_of more) left ends
 
 pub read_open_end_tag : (rest opened name more : List ℕ) → 60 ∷ opened ≡ behind (λ c. not (c == 60)) rest → read TagOpen opened ≡ read (InTag true name BeforeName []) more → None ≡ rest_of (tag_of more) →
     read Data rest ≡ []
-read_open_end_tag rest opened name more cut reads ends = read_less rest opened cut ∙ reads ∙ in_tag true name BeforeName [] more ∙ end_none name (tag_of more) ends
+read_open_end_tag rest opened name more cut reads ends = grind (arith, read_less, in_tag)
 
 pub read_start_tag : (rest opened name more : List ℕ) (t : Tag) → 60 ∷ opened ≡ behind (λ c. not (c == 60)) rest → read TagOpen opened ≡ read (InTag false name BeforeName []) more → Some t ≡ tag_of more →
     read Data rest ≡ Start (record { name = name; attributes = t.attributes; self_closing = t.self_closing }) ∷ read (behind_tag false name) t.rest
@@ -229,9 +193,6 @@ raw_left name s [] here e = absurd (cc)
 raw_left name s (c ∷ rest) here e =
     let le : length here ≤ length rest + 1 = raw_left_at name c (raw.step name s c) rest here (λ s e. raw_left name s rest here e) e in omega arith
 
-pub raw_named : (name : List ℕ) → content.Raw ≡ content_of (map lower name) → 0 < length name
-raw_named name e = grind (arith, nat_tests, common_steps)
-
 pub to_markup : (name bytes : List ℕ) → content.Markup ≡ content_of name → read (behind_tag false name) bytes ≡ read Data bytes
 to_markup name bytes e = ap (λ k. read (behind_start k name) bytes) (sym e)
 
@@ -253,14 +214,8 @@ in_script : (s : code.State) (bytes : List ℕ) → read (InScript s) bytes ≡ 
 in_script s [] = refl
 in_script s (c ∷ rest) = in_script_at c (scripts.step s c) rest (λ s. in_script s rest)
 
-pub to_script : (name bytes : List ℕ) → content.Script ≡ content_of name → read (behind_tag false name) bytes ≡ read (InScript script.Text) bytes
-to_script name bytes e = ap (λ k. read (behind_start k name) bytes) (sym e)
-
-end_rest : (name : List ℕ) (o : Option Tag) (r : Option (Bor (List ℕ))) → bytes_at r ≡ rest_of o → tag_then true name o ≡ ended_rest name r
-end_rest name o r e = grind (arith, end_none, end_then)
-
 pub read_raw : (name bytes more : List ℕ) (r : Option (Bor (List ℕ))) → Some more ≡ raw.run name raw.Text bytes → bytes_at r ≡ rest_of (tag_of more) → read (InRaw name raw.Text) bytes ≡ ended_rest name r
-read_raw name bytes more r ends tag_ends = in_raw name raw.Text bytes ∙ ap (raw_then name) (sym ends) ∙ in_tag true name BeforeName [] more ∙ end_rest name (tag_of more) r tag_ends
+read_raw name bytes more r ends tag_ends = grind (arith, in_raw, in_tag, end_then)
 
 pub read_open_raw : (name bytes : List ℕ) → None ≡ raw.run name raw.Text bytes → read (InRaw name raw.Text) bytes ≡ []
 read_open_raw name bytes ends = in_raw name raw.Text bytes ∙ ap (raw_then name) (sym ends)
@@ -277,26 +232,13 @@ raw_leaves name bytes more (Some left) ends tag_ends =
 pub not_ended : (name : List ℕ) (r : Option (Bor (List ℕ))) → is_template name ≡ false → ended_rest name r ≡ read_rest r
 not_ended name r other = grind arith
 
-raw_at : (name : List ℕ) (b : Bool) → b ≡ is_template name → content.Raw ≡ content_of name → b ≡ false
-raw_at name b e raw = grind (arith, bytes_eq-Decides)
-
 pub no_template : (name : List ℕ) → content.Raw ≡ content_of name → is_template name ≡ false
-no_template name raw = raw_at name (is_template name) refl raw
-
-script_rest : (r : Option (Bor (List ℕ))) → ended_rest (codes "script") r ≡ read_rest r
-script_rest r = grind arith
-
-start_tags_end : (b : Bool) (more : List Token) → start_tags (cond b (TemplateEnd ∷ []) [] ++ more) ≡ start_tags more
-start_tags_end b more = grind arith
-
--- an end tag is no start tag
-pub end_tags : (name : List ℕ) (more : List Token) → start_tags (end_tag name ++ more) ≡ start_tags more
-end_tags name more = start_tags_end (is_template name) more
+no_template name raw = grind (arith, bytes_eq-Decides)
 
 -- a whole script
 
 pub read_script : (bytes more : List ℕ) (r : Option (Bor (List ℕ))) → Some more ≡ scripts.run script.Text bytes → bytes_at r ≡ rest_of (tag_of more) → read (InScript script.Text) bytes ≡ read_rest r
-read_script bytes more r ends tag_ends = grind (arith, in_script, in_tag, end_rest, script_rest)
+read_script bytes more r ends tag_ends = grind (arith, in_script, in_tag, end_then)
 
 pub read_open_script : (bytes : List ℕ) → None ≡ scripts.run script.Text bytes → read (InScript script.Text) bytes ≡ []
 read_open_script bytes ends = in_script script.Text bytes ∙ ap (raw_then (codes "script")) (sym ends)

@@ -1,53 +1,37 @@
 -- The machine over runs of bytes: a run on which it stays in a state is one jump.
-use Rattle.std.proofs.Common.{◌≡◌, ℕ, ◌+◌, ◌<◌, ◌≤◌, ◌==◌, Bool, true, false, not, cond, List, [], ◌∷◌, ◌++◌, length, map, reverse, Option, None, Some, refl, ap, sym, ◌∙◌, arith, append_assoc, append-nil, subst, codes}
-use Rattle.html_links.specs.declared.bytes.Class.{Class}
-use Rattle.html_links.specs.declared.bytes.Class.TheVariants.{Space, Slash, Greater, Equals, Quote, Apostrophe, Other}
-use Rattle.html_links.specs.Tags.{Attribute, State, BeforeName, Name, AfterName, BeforeValue, DoubleQuoted, SingleQuoted, Unquoted, AfterQuoted, SelfClosing, Go, Tag, step, start, to_name, to_value, lower, class_of, run, follow}
-use Rattle.html_links.specs.Shown.{front, behind, is_space, in_name, in_unquoted, begins, BeginsName, name_front, name_behind, Stopped}
+use Rattle.html_links.proofs.Prelude.{◌≡◌, ℕ, ◌+◌, ◌<◌, ◌≤◌, ◌==◌, Bool, true, false, not, List, [], ◌∷◌, ◌++◌, length, map, reverse, None, Some, refl, ap, sym, ◌∙◌, arith, append_assoc, append-nil, subst, codes, Class, Space, Slash, Greater, Equals, Quote, Apostrophe, front, behind, is_space, in_name, in_unquoted, begins, BeginsName, name_front, name_behind, Stopped, Leaves}
+use Rattle.html_links.specs.Tags.{Attribute, State, BeforeName, Name, AfterName, BeforeValue, DoubleQuoted, SingleQuoted, Unquoted, AfterQuoted, SelfClosing, Go, step, start, to_name, to_value, lower, class_of, run, follow}
+use Rattle.html_links.specs.declared.tag.Piece.{Piece}
+use Rattle.html_links.specs.declared.tag.Piece.TheVariants as piece
 
 -- what each byte of a run does, one after another
 abbrev written : (ℕ → List Attribute → List Attribute) → List Attribute → List ℕ → List Attribute
 written write all [] = all
 written write all (c ∷ rest) = written write (write c all) rest
 
-jump_at : (s : State) (write : ℕ → List Attribute → List Attribute) (b : Bool) (c : ℕ) (all : List Attribute) (rest some more : List ℕ) →
-    (b ≡ true → step s (class_of c) c all ≡ Go s (write c all)) →
-    run s (write c all) rest ≡ run s (written write (write c all) some) more →
-    run s all (c ∷ rest) ≡ run s (written write all (cond b (c ∷ some) [])) (cond b more (c ∷ rest))
-jump_at s write true c all rest some more stays later = ap (λ n. follow n (λ state all. run state all rest) rest) (stays refl) ∙ later
-jump_at s write false c all rest some more stays later = refl
-
 -- while it stays in s over bytes that pass a test, it jumps over them
 pub jump : (s : State) (test : ℕ → Bool) (write : ℕ → List Attribute → List Attribute) →
     ((c : ℕ) (all : List Attribute) → test c ≡ true → step s (class_of c) c all ≡ Go s (write c all)) →
     (all : List Attribute) (bytes : List ℕ) → run s all bytes ≡ run s (written write all (front test bytes)) (behind test bytes)
 jump s test write stays all [] = refl
-jump s test write stays all (c ∷ rest) =
-    jump_at s write (test c) c all rest (front test rest) (behind test rest) (stays c all) (jump s test write stays (write c all) rest)
+jump s test write stays all (c ∷ rest) = grind (arith, stays, jump s test write stays (write c all) rest)
 
 -- two states that do the same at the first byte
 pub same_at : (s t : State) (c : ℕ) (rest : List ℕ) (all : List Attribute) → step s (class_of c) c all ≡ step t (class_of c) c all → run s all (c ∷ rest) ≡ run t all (c ∷ rest)
 same_at s t c rest all same = ap (λ n. follow n (λ state all. run state all rest) rest) same
 
--- the first byte after a run does not pass
-stopped_at : (test : ℕ → Bool) (b : Bool) (c : ℕ) (rest more : List ℕ) → test c ≡ b → Stopped test more → Stopped test (cond b more (c ∷ rest))
-stopped_at test b c rest more is later = grind arith
-
 pub stopped : (test : ℕ → Bool) (bytes : List ℕ) → Stopped test (behind test bytes)
 stopped test [] = tt
-stopped test (c ∷ rest) = stopped_at test (test c) c rest (behind test rest) refl (stopped test rest)
+stopped test (c ∷ rest) = grind (arith, stopped test rest)
 
 -- two states that do the same at each byte that ends a run
 pub same_stopped : (s t : State) (test : ℕ → Bool) → ((c : ℕ) (all : List Attribute) → test c ≡ false → step s (class_of c) c all ≡ step t (class_of c) c all) →
     (all : List Attribute) (bytes : List ℕ) → Stopped test bytes → run s all bytes ≡ run t all bytes
 same_stopped s t test same all bytes ends = grind (arith, same_at)
 
-shorter_at : (b : Bool) (c : ℕ) (rest more : List ℕ) → length more ≤ length rest → length (cond b more (c ∷ rest)) ≤ length (c ∷ rest)
-shorter_at b c rest more le = grind arith
-
 pub shorter : (test : ℕ → Bool) (bytes : List ℕ) → length (behind test bytes) ≤ length bytes
 shorter test [] = omega arith
-shorter test (c ∷ rest) = shorter_at (test c) c rest (behind test rest) (shorter test rest)
+shorter test (c ∷ rest) = grind (arith, shorter test rest)
 
 -- white space
 
@@ -115,32 +99,17 @@ name_shorter bytes begins = grind (arith, shorter)
 
 -- the class of a byte determines the byte
 
-abbrev chain : Bool → Bool → Bool → Bool → Bool → Bool → Class
-chain space slash greater equals quote apostrophe = cond space Space (cond slash Slash (cond greater Greater (cond equals Equals (cond quote Quote (cond apostrophe Apostrophe Other)))))
-
-greater_by : (b1 b2 b3 b4 b5 b6 : Bool) → chain b1 b2 b3 b4 b5 b6 ≡ Greater → b3 ≡ true
-greater_by b1 b2 b3 b4 b5 b6 e = grind arith
-
-equals_by : (b1 b2 b3 b4 b5 b6 : Bool) → chain b1 b2 b3 b4 b5 b6 ≡ Equals → b4 ≡ true
-equals_by b1 b2 b3 b4 b5 b6 e = grind arith
-
-quote_by : (b1 b2 b3 b4 b5 b6 : Bool) → chain b1 b2 b3 b4 b5 b6 ≡ Quote → b5 ≡ true
-quote_by b1 b2 b3 b4 b5 b6 e = grind arith
-
-apostrophe_by : (b1 b2 b3 b4 b5 b6 : Bool) → chain b1 b2 b3 b4 b5 b6 ≡ Apostrophe → b6 ≡ true
-apostrophe_by b1 b2 b3 b4 b5 b6 e = grind arith
-
 other_greater : (c : ℕ) → (c == 62) ≡ false → class_of c ≡ Greater → ⊥
-other_greater c other is = let e : (c == 62) ≡ true = greater_by _ _ _ (c == 61) (c == 34) (c == 39) is in absurd (cc)
+other_greater c other is = grind arith
 
 other_equals : (c : ℕ) → (c == 61) ≡ false → class_of c ≡ Equals → ⊥
-other_equals c other is = let e : (c == 61) ≡ true = equals_by _ _ (c == 62) _ (c == 34) (c == 39) is in absurd (cc)
+other_equals c other is = grind arith
 
 other_quote : (c : ℕ) → not (c == 34) ≡ true → class_of c ≡ Quote → ⊥
-other_quote c other is = let e : (c == 34) ≡ true = quote_by _ _ (c == 62) (c == 61) _ (c == 39) is in absurd (cc)
+other_quote c other is = grind arith
 
 other_apostrophe : (c : ℕ) → not (c == 39) ≡ true → class_of c ≡ Apostrophe → ⊥
-other_apostrophe c other is = let e : (c == 39) ≡ true = apostrophe_by _ _ (c == 62) (c == 61) (c == 34) _ is in absurd (cc)
+other_apostrophe c other is = grind arith
 
 -- the first byte
 
@@ -168,12 +137,9 @@ value_written : (name value : List ℕ) (all : List Attribute) (run : List ℕ) 
 value_written name value all [] = ap (λ v. record { name = name; value = v } ∷ all) (sym (append-nil value))
 value_written name value all (c ∷ rest) = value_written name (value ++ c ∷ []) all rest ∙ ap (λ v. record { name = name; value = v } ∷ all) (append_assoc value (c ∷ []) rest)
 
-after_quoted : (k : Class) (c : ℕ) (all : List Attribute) → step AfterQuoted k c all ≡ step BeforeName k c all
-after_quoted k c all = grind arith
-
 read_after_quoted : (all : List Attribute) (bytes : List ℕ) → run AfterQuoted all bytes ≡ run BeforeName all bytes
 read_after_quoted all [] = refl
-read_after_quoted all (c ∷ rest) = same_at AfterQuoted BeforeName c rest all (after_quoted (class_of c) c all)
+read_after_quoted all (c ∷ rest) = grind (arith, same_at)
 
 double_stays : (k : Class) (c : ℕ) (all : List Attribute) → (k ≡ Quote → ⊥) → step DoubleQuoted k c all ≡ Go DoubleQuoted (to_value c all)
 double_stays k c all quote = grind arith
@@ -253,11 +219,6 @@ read_unquoted name bytes first more value rest is space greater quote apostrophe
     ∙ ap (λ v. run BeforeName (record { name = name; value = v } ∷ all) (behind in_unquoted bytes)) (sym cut)
     ∙ ap (run BeforeName _) (sym end)
 
--- an attribute with a value, from its name on
-pub read_equals : (bytes zs more : List ℕ) → BeginsName bytes → zs ≡ behind is_space (name_behind bytes) → zs ≡ 61 ∷ more → (all : List Attribute) →
-    run BeforeName all bytes ≡ run BeforeValue (record { name = map lower (name_front bytes); value = [] } ∷ all) (behind is_space more)
-read_equals bytes zs more begins skipped is all = grind (arith, read_name, skip_before_value)
-
 -- an `="` right after a name
 
 stays : (bytes rest more : List ℕ) → rest ≡ name_behind bytes → rest ≡ 61 ∷ 34 ∷ more → rest ≡ behind is_space (name_behind bytes)
@@ -265,9 +226,7 @@ stays bytes rest more cut is = is ∙ sym (ap (behind is_space) is) ∙ ap (behi
 
 pub read_quote : (bytes name rest more : List ℕ) → BeginsName bytes → name ≡ name_front bytes → rest ≡ name_behind bytes → rest ≡ 61 ∷ 34 ∷ more → (all : List Attribute) →
     run BeforeName all bytes ≡ run BeforeValue (record { name = map lower name; value = [] } ∷ all) (34 ∷ more)
-read_quote bytes name rest more begins named cut is all =
-    read_equals bytes rest (34 ∷ more) begins (stays bytes rest more cut is) is all
-    ∙ ap (λ (n : List ℕ). run BeforeValue (record { name = map lower n; value = [] } ∷ all) (34 ∷ more)) (sym named)
+read_quote bytes name rest more begins named cut is all = grind (arith, stays, read_name, skip_before_value)
 
 pub quote_within : (bytes rest more : List ℕ) → BeginsName bytes → rest ≡ name_behind bytes → rest ≡ 61 ∷ 34 ∷ more → length more ≤ length bytes
 quote_within bytes rest more begins cut is = grind (arith, stays, name_shorter)
@@ -278,30 +237,13 @@ pub read_class : (bytes more : List ℕ) → bytes ≡ codes " class=" ++ 34 ∷
     run BeforeName all bytes ≡ run BeforeValue (record { name = map lower (codes "class"); value = [] } ∷ all) (34 ∷ more)
 read_class bytes more is all = ap (run BeforeName all) is
 
-pub class_within : (bytes more : List ℕ) → bytes ≡ codes " class=" ++ 34 ∷ more → length more ≤ length bytes
-class_within bytes more is = grind arith
-
 -- the same for a `href`
-
-pub read_href : (bytes more : List ℕ) → bytes ≡ codes " href=" ++ 34 ∷ more → (all : List Attribute) →
-    run BeforeName all bytes ≡ run BeforeValue (record { name = map lower (codes "href"); value = [] } ∷ all) (34 ∷ more)
-read_href bytes more is all = ap (run BeforeName all) is
-
-pub href_within : (bytes more : List ℕ) → bytes ≡ codes " href=" ++ 34 ∷ more → length more ≤ length bytes
-href_within bytes more is = grind arith
 
 pub read_bare : (bytes zs : List ℕ) → BeginsName bytes → zs ≡ behind is_space (name_behind bytes) → Stopped is_space zs → Stopped (λ c. c == 61) zs → (all : List Attribute) →
     run BeforeName all bytes ≡ run BeforeName (record { name = map lower (name_front bytes); value = [] } ∷ all) zs
 read_bare bytes zs begins skipped space equals all = grind (arith, read_name, read_no_value)
 
 -- the pieces at the first byte that is no white space
-
-pub read_end : (bytes zs : List ℕ) → zs ≡ behind is_space bytes → zs ≡ [] → (all : List Attribute) → run BeforeName all bytes ≡ None
-read_end bytes zs skipped is all = skip_before_name all bytes ∙ ap (run BeforeName all) (sym skipped ∙ is)
-
-pub read_greater : (bytes zs : List ℕ) (first : ℕ) (more : List ℕ) → zs ≡ behind is_space bytes → zs ≡ first ∷ more → Greater ≡ class_of first → (all : List Attribute) →
-    run BeforeName all bytes ≡ Some (record { attributes = reverse all; self_closing = false; rest = more })
-read_greater bytes zs first more skipped is greater all = grind (arith, skip_before_name, at_class)
 
 to_slash : (bytes zs : List ℕ) (first : ℕ) (more : List ℕ) → zs ≡ behind is_space bytes → zs ≡ first ∷ more → Slash ≡ class_of first → (all : List Attribute) →
     run BeforeName all bytes ≡ run SelfClosing all more
@@ -315,12 +257,7 @@ pub read_slash_alone : (bytes zs : List ℕ) (first : ℕ) (more : List ℕ) →
     run BeforeName all bytes ≡ run BeforeName all more
 read_slash_alone bytes zs first more skipped is slash alone all = to_slash bytes zs first more skipped is slash all ∙ read_slash all more alone
 
-pub read_attribute : (bytes zs : List ℕ) (P : Option Tag) → zs ≡ behind is_space bytes → (all : List Attribute) → run BeforeName all zs ≡ P → run BeforeName all bytes ≡ P
-read_attribute bytes zs P skipped all reads = skip_before_name all bytes ∙ ap (run BeforeName all) (sym skipped) ∙ reads
+-- What is left of a tag, and the attributes so far
 
-pub piece_shorter : (bytes zs : List ℕ) (first : ℕ) (more : List ℕ) → zs ≡ behind is_space bytes → zs ≡ first ∷ more → length more < length bytes
-piece_shorter bytes zs first more skipped is =
-    let a : length zs ≡ length (behind is_space bytes) = ap length skipped in
-    let b : length zs ≡ length (first ∷ more) = ap length is in
-    let le : length (behind is_space bytes) ≤ length bytes = shorter is_space bytes in
-    omega arith
+pub leaves_less : (p : Piece) (n m : ℕ) → n ≤ m → Leaves p n → Leaves p m
+leaves_less p n m le less = grind arith

@@ -1,13 +1,10 @@
 -- A byte among the first, by the mask of one load, and after them.
-use Rattle.std.proofs.Common.{◌≡◌, ℕ, ◌+◌, ◌-◌, ◌%◌, ◌^◌, ◌<◌, ◌≤◌, eqb, Bool, true, false, not, cond, List, [], ◌∷◌, map, length, get_or, take, drop, None, Some, refl, sym, ap, ◌∙◌, subst, arith, inl, inr}
-use Rattle.std.specs.List.{prefix_len, position_or_len}
-use Rattle.std.specs.Simd.Lanes.{mask_l, top}
-use Rattle.std.proofs.lemmas.Bool.{false≢true, not-true, not-false, cases_eq, cases_lt, eq-eqb, ne_eqb, cond-true, cond-false}
-use Rattle.std.proofs.lemmas.Simd.{map-map, mask_l-mod, leading_from_mask_l, trailing_mask_l}
-use Rattle.std.proofs.lemmas.List.{length-map, length-take-le, length-drop, get_or-take, get_or-drop}
-use Rattle.std.proofs.lemmas.List.Sums.{prefix_len_passes, prefix_len_stops}
-use Rattle.memchr.specs.Find.{IsFirstByte, Passes, is_byte}
+use Rattle.html_links.proofs.Prelude.{◌≡◌, ℕ, ◌+◌, ◌-◌, ◌%◌, ◌^◌, ◌<◌, ◌≤◌, eqb, Bool, true, false, not, cond, List, [], ◌∷◌, map, length, get_or, take, drop, None, Some, refl, sym, ap, ◌∙◌, subst, arith, inl, inr, bit_or, ◌||◌, ap₂, prefix_len, position_or_len, false≢true, not-true, not-false, cases_eq, cases_lt, eq-eqb, ne_eqb, cond-true, cond-false, eqb-true, map-map, mask_l-mod, leading_from_mask_l, trailing_mask_l, length-map, length-take-le, length-drop, get_or-take, get_or-drop, prefix_len_passes, prefix_len_stops, IsFirstByte, Passes, is_byte, is_mark}
+use Rattle.std.specs.Simd.Lanes.{mask_l, top, zip2}
 use Rattle.html_links.specs.Near.{first_set}
+use Rattle.html_links.specs.References.{text_of}
+use Rattle.html_links.proofs.Cuts.{no_first}
+use Rattle.html_links.proofs.Decoding.{plain_text}
 
 first_is : (p : ℕ → Bool) (v : List ℕ) (n : ℕ) → length v ≡ n → n ≤ 64 → first_set (mask_l (map p v)) n ≡ prefix_len (λ x. not (p x)) v
 first_is p v n long few = grind (arith, cases_eq, cond-true, eq-eqb, leading_from_mask_l, cond-false, ne_eqb, trailing_mask_l)
@@ -40,12 +37,7 @@ passes_none test bytes n k before inside =
     subst (λ (x : ℕ). test x ≡ false) (get_or-take n bytes k 0 inside) (not-true _ (prefix_len_passes (λ (x : ℕ). not (test x)) (take n bytes) k 0 before))
 
 pub near_first : (test : ℕ → Bool) (bytes : List ℕ) (n r : ℕ) → n ≤ length bytes → r ≡ position_or_len test (take n bytes) → r < n → IsFirstByte test bytes (Some r)
-near_first test bytes n r room is inside =
-    let long : length (take n bytes) ≡ n = length-take-le n bytes room in
-    let within : position_or_len test (take n bytes) < length (take n bytes) = omega arith in
-    let here : test (get_or bytes r 0) ≡ true =
-    subst (λ (x : ℕ). test x ≡ true) (ap (λ (k : ℕ). get_or (take n bytes) k 0) (sym is) ∙ get_or-take n bytes r 0 inside) (not-false _ (prefix_len_stops (λ (x : ℕ). not (test x)) (take n bytes) 0 within)) in
-    (record { low = omega arith; high = omega arith; before = λ k low high. λ (p : Passes test bytes k). false≢true (sym (passes_none test bytes n k (omega arith) (omega arith)) ∙ p) }, here)
+near_first test bytes n r room is inside = grind (arith, length-take-le, get_or-take, not-false, prefix_len_stops, false≢true, not-true, prefix_len_passes)
 
 -- none among the first, and none of those after them
 module _ (test : ℕ → Bool) (bytes : List ℕ) (n r : ℕ) (is : r ≡ position_or_len test (take n bytes)) (all : n ≤ r) where
@@ -74,3 +66,45 @@ module _ (test : ℕ → Bool) (bytes : List ℕ) (n r : ℕ) (is : r ≡ positi
   far_none nowhere =
       let long = length-drop n bytes in
       λ j low below. λ (p : Passes test bytes j). fails_at j (λ late. nowhere (j - n) (omega arith) (omega arith)) p
+
+-- Marks among the bytes of a value, by lanes
+
+zip2-map : (h : ℕ → ℕ → ℕ) (f g : ℕ → ℕ) (xs : List ℕ) → zip2 h (map f xs) (map g xs) ≡ map (λ x. h (f x) (g x)) xs
+zip2-map h f g [] = refl
+zip2-map h f g (x ∷ xs) = ap (λ r. h (f x) (g x) ∷ r) (zip2-map h f g xs)
+
+-- a byte's lane once both tests are joined
+abbrev joint : ℕ → ℕ
+joint x = bit_or (lane 38 x) (lane 0 x)
+
+top_joint : (a b : Bool) → top 7 (bit_or (cond a 255 0) (cond b 255 0)) ≡ (a || b)
+top_joint a b = grind arith
+
+pub none_marked : (bytes a b : List ℕ) → 16 ≤ length bytes → a ≡ map (lane 38) (take 16 bytes) → b ≡ map (lane 0) (take 16 bytes) →
+    not (eqb (mask_l (map (top 7) (zip2 bit_or a b)) % 2 ^ 64) 0) ≡ false → position_or_len is_mark (take 16 bytes) ≡ 16
+none_marked bytes a b room ands nuls none =
+    let long : length (take 16 bytes) ≡ 16 = length-take-le 16 bytes room in
+    let few : length (map (λ (x : ℕ). top 7 (joint x)) (take 16 bytes)) ≤ 64 = omega (arith, length-map (take 16 bytes) (λ (x : ℕ). top 7 (joint x)), long) in
+    let lanes : zip2 bit_or a b ≡ map joint (take 16 bytes) = ap₂ (zip2 bit_or) ands nuls ∙ zip2-map bit_or (lane 38) (lane 0) (take 16 bytes) in
+    let mask : mask_l (map (top 7) (zip2 bit_or a b)) % 2 ^ 64 ≡ mask_l (map (λ (x : ℕ). top 7 (joint x)) (take 16 bytes)) =
+    ap (λ (l : List ℕ). mask_l (map (top 7) l) % 2 ^ 64) lanes ∙ ap (λ (ms : List Bool). mask_l ms % 2 ^ 64) (map-map (top 7) joint (take 16 bytes))
+    ∙ mask_l-mod (map (λ (x : ℕ). top 7 (joint x)) (take 16 bytes)) 64 few in
+    let zero : mask_l (map (λ (x : ℕ). top 7 (joint x)) (take 16 bytes)) ≡ 0 = sym mask ∙ eqb-true _ _ (not-false _ none) in
+    sym (prefix_same (λ (x : ℕ). not (top 7 (joint x))) (λ (x : ℕ). not (is_mark x)) (λ (x : ℕ). ap not (top_joint (eqb x 38) (eqb x 0))) (take 16 bytes))
+    ∙ leading_from_mask_l (λ (x : ℕ). top 7 (joint x)) (take 16 bytes) zero ∙ long
+
+pub marks_more : (value : List ℕ) (at : ℕ) → ((k : ℕ) → k < at → is_mark (get_or value k 0) ≡ false) → position_or_len is_mark (take 16 (drop at value)) ≡ 16 →
+    (k : ℕ) → k < at + 16 → is_mark (get_or value k 0) ≡ false
+marks_more value at before none k below =
+    elim (cases_lt k at) [
+      | inl early ↦ before k early
+      | inr late ↦
+          let back : at + (k - at) ≡ k = omega arith in
+          subst (λ (x : ℕ). is_mark x ≡ false) (get_or-drop at value (k - at) 0 ∙ ap (λ (i : ℕ). get_or value i 0) back)
+          (passes_none is_mark (drop at value) 16 (k - at) (omega (arith, none)) (omega arith))
+    ]
+
+pub itself : (value : List ℕ) → ((k : ℕ) → k < length value → is_mark (get_or value k 0) ≡ false) → text_of value ≡ value
+itself value none =
+    let nowhere : IsFirstByte is_mark value None = λ k low high. λ (p : Passes is_mark value k). false≢true (sym (none k high) ∙ p) in
+    plain_text value (no_first is_mark value nowhere)

@@ -1,27 +1,30 @@
--- What a reader of links passes has none.
-use Rattle.std.proofs.Common.{◌≡◌, ◌∙◌, ◌<◌, ◌≤◌, ◌==◌, sym, ap, refl, arith, ℕ, Bool, true, false, not, cond, ◌&&◌, List, [], ◌∷◌, ◌++◌, length, map, Option, None, Some}
-use Rattle.std.proofs.lemmas.Bool.{not-true, or_from}
-use Rattle.std.specs.Prelude.{codes}
-use Rattle.std.specs.Str.{bytes_eq}
-use Rattle.std.proofs.lemmas.Slice.Eq.{bytes_eq-Decides}
+-- What a reader of links sees, tag by tag, and the tags that it passes because they have no links.
+use Rattle.html_links.proofs.Prelude.{◌≡◌, ◌∙◌, ◌<◌, ◌≤◌, sym, ap, refl, arith, ℕ, Bool, true, false, cond, List, [], ◌∷◌, ◌++◌, length, map, Some, None, not-true, or_from, codes, bytes_eq, bytes_eq-Decides, lower, tag_of, BeforeName, may_be, element_of, wanted_of, is_usual, Wanted, Data, InTag, Token, TemplateEnd, is_template, end_tag, content_of, read, behind_tag, Values, tag_with, values_in, Seen, seen_with, seen_within, seen_in, opened, links_in, ids_in, base_in, Element}
 use Rattle.html_links.specs.declared.element.Element.TheVariants as element
 use Rattle.html_links.specs.declared.element.TheConstants.{LENGTHS}
 use Rattle.html_links.specs.declared.document.Content.TheVariants as content
-use Rattle.html_links.specs.declared.next_tag.Step.{Step}
 use Rattle.html_links.specs.declared.next_tag.Step.TheVariants as step
 use Rattle.html_links.specs.declared.reader.Form.TheVariants as form
-use Rattle.html_links.specs.Tags.{lower, tag_of, BeforeName}
-use Rattle.html_links.specs.Lengths.{may_be}
-use Rattle.html_links.specs.Elements.{element_of, wanted_of, is_usual}
-use Rattle.html_links.specs.Document.{Data, TagOpen, InTag, Token, TemplateEnd, is_template, end_tag, content_of, read}
-use Rattle.html_links.specs.Shown.{behind}
-use Rattle.html_links.specs.Values.{Values, tag_with, values_in}
-use Rattle.html_links.specs.Seen.{Seen, seen_with, seen_within, seen_in}
-use Rattle.html_links.specs.Links.{links_in, ids_in, base_in}
-use Rattle.html_links.specs.Passed.{is_absent, name_nothing, styled_in, Has, Steps, StepsTag}
-use Rattle.html_links.proofs.Documents.{to_markup, read_less, cut_shorter}
-use Rattle.html_links.proofs.Telling.{other_name, otherwise, no_text}
-use Rattle.html_links.proofs.Seeing.{seen_start}
+use Rattle.html_links.specs.Passed.{name_nothing, styled_in, Has}
+use Rattle.html_links.proofs.Documents.{to_markup, in_tag, tag_less}
+use Rattle.html_links.proofs.Telling.{other_name, otherwise}
+
+-- a tag, and what is seen of the tags after it
+abbrev pub with_contents : Seen → List Token → List Seen
+with_contents seen more = seen ∷ seen_within (opened seen) more
+
+-- a start tag whose values were found
+pub seen_start : (name bytes : List ℕ) (element : Element) (w : Wanted) (v : Values) (text : List ℕ) (more : List Token) → element ≡ element_of name → w ≡ wanted_of element →
+    Some (tag_with v text) ≡ values_in w (tag_of bytes) → read (behind_tag false name) text ≡ more →
+    seen_within 0 (read (InTag false name BeforeName []) bytes) ≡ with_contents (seen_with name element v) more
+seen_start name bytes element w v text more is wants found behind = grind (arith, in_tag)
+
+-- one that does not end
+pub open_start : (name bytes : List ℕ) (w : Wanted) → None ≡ values_in w (tag_of bytes) → seen_within 0 (read (InTag false name BeforeName []) bytes) ≡ []
+open_start name bytes w found = grind (arith, in_tag)
+
+pub text_less : (w : Wanted) (v : Values) (text bytes : List ℕ) → Some (tag_with v text) ≡ values_in w (tag_of bytes) → length text < length bytes
+text_less w v text bytes found = grind (arith, tag_less)
 
 -- names that no element has that names documents or has text
 
@@ -32,7 +35,7 @@ pub usual_element : (name : List ℕ) → is_usual name ≡ true → element_of 
 usual_element name usual = grind (arith, usual_not, otherwise, or_from)
 
 pub usual_content : (name : List ℕ) → is_usual name ≡ true → content_of (map lower name) ≡ content.Markup
-usual_content name usual = no_text LENGTHS name (refl, refl, refl, refl, refl, refl, refl, refl, refl) (not-true (may_be LENGTHS name) usual)
+usual_content name usual = grind (arith, not-true, other_name, otherwise, or_from)
 
 -- such a tag as it is seen
 
@@ -59,14 +62,8 @@ has_same all some same = record { links = ap links_in same; ids = ap ids_in same
 pub has_then : (all some less : List Seen) → Has all some → Has some less → Has all less
 has_then all some less first then = grind arith
 
-absent_is : (value : Option (List ℕ)) → is_absent value ≡ true → value ≡ None
-absent_is value e = grind arith
-
-both : (a b : Bool) → (a && b) ≡ true → (a ≡ true) × (b ≡ true)
-both a b e = grind arith
-
 pub passed : (name : List ℕ) (v : Values) (rest : List Seen) → is_usual name ≡ true → name_nothing v ≡ true → Has (seen_with (map lower name) element.Other v ∷ rest) rest
-passed name v rest usual nothing = grind (arith, both, absent_is, usual_not)
+passed name v rest usual nothing = grind (arith, other_name, not-true)
 
 -- what is sought in the bytes is in the rest of them
 pub record Sought (bytes rest : List ℕ) : Type 0 where
@@ -80,10 +77,6 @@ sought_all bytes = record { has = has_same (seen_in bytes) (seen_in bytes) refl;
 pub sought_on : (bytes rest more : List ℕ) → Sought bytes rest → Has (seen_in rest) (seen_in more) → length more < length rest → Sought bytes more
 sought_on bytes rest more so_far has less = record { has = has_then (seen_in bytes) (seen_in rest) (seen_in more) so_far.has has; left = omega (arith, so_far.left) }
 
--- bytes that are read as those after them
-pub passes : (rest more : List ℕ) → read Data rest ≡ read Data more → Has (seen_in rest) (seen_in more)
-passes rest more reads = has_same (seen_in rest) (seen_in more) (ap (seen_within 0) reads)
-
 end_seen : (b : Bool) (more : List Token) → seen_within 0 (cond b (TemplateEnd ∷ []) [] ++ more) ≡ seen_within 0 more
 end_seen b more = grind arith
 
@@ -96,8 +89,3 @@ pub passes_tag : (name more last : List ℕ) (v : Values) → is_usual name ≡ 
     Has (seen_within 0 (read (InTag false (map lower name) BeforeName []) more)) (seen_in last)
 passes_tag name more last v usual nothing found =
     has_then _ (seen_with (map lower name) element.Other v ∷ seen_in last) (seen_in last) (has_same _ _ (usual_seen name more last v usual found)) (passed name v (seen_in last) usual nothing)
-
--- from a start tag on, after the `<` before it
-pub steps_from : (s : Step) (v : Values) (rest opened name more : List ℕ) → 60 ∷ opened ≡ behind (λ c. not (c == 60)) rest →
-    read TagOpen opened ≡ read (InTag false (map lower name) BeforeName []) more → length more ≤ length opened → StepsTag s v name more → Steps s v rest (seen_in rest)
-steps_from s v rest opened name more cut reads le steps = grind (arith, cut_shorter, has_then, has_same, read_less)

@@ -1,22 +1,11 @@
 -- The machine of raw text over runs.
-use Rattle.std.proofs.lemmas.Bool.Decides.{nat_tests}
-use Rattle.std.proofs.lemmas.Grind.{common_steps}
-use Rattle.std.proofs.Common.{◌≡◌, ℕ, ◌<◌, ◌≤◌, ◌==◌, ◌&&◌, Bool, true, false, not, cond, List, [], ◌∷◌, ◌++◌, length, map, Option, None, Some, refl, ap, sym, ◌∙◌, arith, append-nil}
-use Rattle.std.proofs.lemmas.Bool.{cond-false, not-true}
-use Rattle.std.specs.Char.{to_ascii_lowercase}
-use Rattle.std.specs.Str.{bytes_eq}
-use Rattle.html_links.specs.Tags.{class_of}
-use Rattle.html_links.specs.Shown.{front, behind, Stopped}
-use Rattle.html_links.specs.Tags.{is_letter}
-use Rattle.html_links.specs.RawText.{Text, LessThan, EndTagOpen, EndTagName, Next, Go, Ends, text_step, ends_name, step, follow, run, ends_at}
+use Rattle.html_links.proofs.Prelude.{common_steps, ◌≡◌, ℕ, ◌<◌, ◌≤◌, ◌==◌, ◌&&◌, Bool, false, not, cond, List, [], ◌∷◌, ◌++◌, length, map, Option, None, Some, refl, ap, sym, ◌∙◌, arith, append-nil, cond-false, not-true, to_ascii_lowercase, bytes_eq, class_of, is_letter, front, behind, Stopped}
+use Rattle.html_links.specs.RawText.{Text, LessThan, EndTagOpen, EndTagName, Next, Go, Ends, text_step, ends_name, follow, run, ends_at}
 use Rattle.html_links.proofs.Jumps.{stopped, shorter}
-
-text_at : (name : List ℕ) (b : Bool) (c : ℕ) (rest more : List ℕ) → (b ≡ true → step name Text c ≡ Go Text) → run name Text rest ≡ run name Text more → run name Text (c ∷ rest) ≡ run name Text (cond b more (c ∷ rest))
-text_at name b c rest more stays later = grind arith
 
 to_less : (name bytes : List ℕ) → run name Text bytes ≡ run name Text (behind (λ c. not (c == 60)) bytes)
 to_less name [] = refl
-to_less name (c ∷ rest) = text_at name (not (c == 60)) c rest (behind (λ c. not (c == 60)) rest) (λ e. cond-false (c == 60) (Go LessThan) (Go Text) (not-true (c == 60) e)) (to_less name rest)
+to_less name (c ∷ rest) = grind (arith, cond-false, not-true, to_less name rest)
 
 pub read_less : (name bytes opened : List ℕ) → 60 ∷ opened ≡ behind (λ c. not (c == 60)) bytes → run name Text bytes ≡ run name LessThan opened
 read_less name bytes opened cut = to_less name bytes ∙ ap (run name Text) (sym cut)
@@ -29,13 +18,10 @@ no_slash name bytes slash = grind (arith, cond-false)
 
 -- the letters of an end tag's name
 
-abbrev named : List ℕ → List ℕ → List ℕ → Next → Next → Bool → Bool → Next
-named name so_far rest go text letter ends = cond letter go (cond ends (cond (bytes_eq so_far name) Ends text) text)
-
 letters_at : (name so_far : List ℕ) (b : Bool) (c : ℕ) (rest some more : List ℕ) → is_letter c ≡ b →
     run name (EndTagName (so_far ++ to_ascii_lowercase c ∷ [])) rest ≡ run name (EndTagName ((so_far ++ to_ascii_lowercase c ∷ []) ++ map to_ascii_lowercase some)) more →
     run name (EndTagName so_far) (c ∷ rest) ≡ run name (EndTagName (so_far ++ map to_ascii_lowercase (cond b (c ∷ some) []))) (cond b more (c ∷ rest))
-letters_at name so_far b c rest some more letter later = grind (arith, nat_tests, common_steps, append-nil)
+letters_at name so_far b c rest some more letter later = grind (arith, common_steps, append-nil)
 
 letters : (name so_far bytes : List ℕ) → run name (EndTagName so_far) bytes ≡ run name (EndTagName (so_far ++ map to_ascii_lowercase (front is_letter bytes))) (behind is_letter bytes)
 letters name so_far [] = refl
@@ -61,13 +47,9 @@ none_found : (name : List ℕ) (c : ℕ) (rest : List ℕ) → 0 < length name �
 none_found [] c rest some = absurd (omega arith)
 none_found (d ∷ name) c rest some = and_false (ends_name (class_of c)) (Some (c ∷ rest)) (run (d ∷ name) Text (c ∷ rest))
 
-opened_at : (name : List ℕ) (b : Bool) (c : ℕ) (rest : List ℕ) → 0 < length name → is_letter c ≡ b →
-    run name EndTagOpen (c ∷ rest) ≡ decided name (cond b (c ∷ front is_letter rest) []) (cond b (behind is_letter rest) (c ∷ rest))
-opened_at name b c rest some letter = grind (arith, letters, ended, stopped, none_found)
-
 opened_end : (name bytes : List ℕ) → 0 < length name → run name EndTagOpen bytes ≡ decided name (front is_letter bytes) (behind is_letter bytes)
 opened_end name [] some = refl
-opened_end name (c ∷ rest) some = opened_at name (is_letter c) c rest some refl
+opened_end name (c ∷ rest) some = grind (arith, letters, ended, stopped, none_found)
 
 pub read_end : (name opened slashed found more : List ℕ) (b : Bool) → 0 < length name → opened ≡ 47 ∷ slashed → found ≡ front is_letter slashed → more ≡ behind is_letter slashed →
     (ends_at more && bytes_eq (map to_ascii_lowercase found) name) ≡ b → run name LessThan opened ≡ cond b (Some more) (run name Text more)

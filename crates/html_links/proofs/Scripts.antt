@@ -1,20 +1,15 @@
 -- The machine of a script's text, and its first state over a run.
-use Rattle.std.proofs.Common.{◌≡◌, ℕ, ◌+◌, ◌<◌, ◌≤◌, ◌==◌, Bool, true, not, cond, List, [], ◌∷◌, length, None, Some, refl, ap, sym, ◌∙◌, arith}
-use Rattle.std.proofs.lemmas.Bool.{cond-false, not-true}
+use Rattle.html_links.proofs.Prelude.{◌≡◌, ℕ, ◌+◌, ◌<◌, ◌≤◌, ◌==◌, not, List, [], ◌∷◌, length, None, Some, refl, ap, sym, ◌∙◌, arith, cond-false, not-true, behind}
 use Rattle.html_links.specs.declared.script.State.{State}
 use Rattle.html_links.specs.declared.script.State.TheVariants.{Text, LessThan}
 use Rattle.html_links.specs.declared.script.Next.{Next}
 use Rattle.html_links.specs.declared.script.Next.TheVariants.{Go, Ends}
-use Rattle.html_links.specs.Shown.{behind}
 use Rattle.html_links.specs.Script.{step, follow, run}
 use Rattle.html_links.proofs.Jumps.{shorter}
 
-text_at : (b : Bool) (c : ℕ) (rest more : List ℕ) → (b ≡ true → step Text c ≡ Go Text) → run Text rest ≡ run Text more → run Text (c ∷ rest) ≡ run Text (cond b more (c ∷ rest))
-text_at b c rest more stays later = grind arith
-
 to_less : (bytes : List ℕ) → run Text bytes ≡ run Text (behind (λ c. not (c == 60)) bytes)
 to_less [] = refl
-to_less (c ∷ rest) = text_at (not (c == 60)) c rest (behind (λ c. not (c == 60)) rest) (λ e. cond-false (c == 60) (Go LessThan) (Go Text) (not-true (c == 60) e)) (to_less rest)
+to_less (c ∷ rest) = grind (arith, cond-false, not-true, to_less rest)
 
 pub read_less : (bytes opened : List ℕ) → 60 ∷ opened ≡ behind (λ c. not (c == 60)) bytes → run Text bytes ≡ run LessThan opened
 read_less bytes opened cut = to_less bytes ∙ ap (run Text) (sym cut)

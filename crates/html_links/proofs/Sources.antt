@@ -1,9 +1,7 @@
 -- The candidates of a `srcset` over runs of bytes.
-use Rattle.std.proofs.Common.{◌≡◌, ℕ, ◌+◌, ◌<◌, ◌≤◌, ◌==◌, ◌||◌, Bool, true, false, not, cond, List, [], ◌∷◌, ◌++◌, length, refl, ap, sym, ◌∙◌, arith, append_assoc, append-nil}
-use Rattle.std.proofs.lemmas.Bool.{eqb-true, eqb-false, false_from_ne_true, cond-true, cond-false, not-false, not-true}
-use Rattle.html_links.specs.Shown.{front, behind, is_space, Stopped}
+use Rattle.html_links.proofs.Prelude.{◌≡◌, ℕ, ◌+◌, ◌<◌, ◌≤◌, ◌==◌, ◌||◌, Bool, true, false, not, cond, List, [], ◌∷◌, ◌++◌, length, refl, ap, sym, ◌∙◌, arith, append_assoc, append-nil, eqb-true, eqb-false, false_from_ne_true, cond-true, cond-false, not-false, not-true, front, behind, is_space, Stopped}
 use Rattle.html_links.proofs.Jumps.{stopped, shorter}
-use Rattle.html_links.specs.Candidates.{Between, Url, Descriptors, Next, Go, are_commas, without_commas, is_between, is_unspaced, behind_url, behind_shorter, step, at_end, follow, read, candidates_of}
+use Rattle.html_links.specs.Candidates.{Between, Url, Next, Go, are_commas, without_commas, is_between, is_unspaced, behind_url, behind_shorter, step, follow, read, candidates_of}
 
 abbrev on : List ℕ → Next → List (List ℕ)
 on rest next = follow next (λ s. read s rest)
@@ -24,13 +22,9 @@ front_all test (c ∷ rest) none = all_at (test c) c rest (front test rest) (beh
 
 -- between candidates
 
-between_at : (b : Bool) (c : ℕ) (rest more : List ℕ) → (b ≡ true → step Between c ≡ Go [] Between) → read Between rest ≡ read Between more → read Between (c ∷ rest) ≡ read Between (cond b more (c ∷ rest))
-between_at true c rest more stays later = ap (on rest) (stays refl) ∙ later
-between_at false c rest more stays later = refl
-
 pub between_run : (bytes : List ℕ) → read Between bytes ≡ read Between (behind is_between bytes)
 between_run [] = refl
-between_run (c ∷ rest) = between_at (is_between c) c rest (behind is_between rest) (cond-true (is_between c) (Go [] Between) (Go [] (Url (c ∷ [])))) (between_run rest)
+between_run (c ∷ rest) = grind (arith, cond-true, between_run rest)
 
 -- a URL
 
@@ -59,30 +53,10 @@ start_at false c rest some more isnt steps later = ap (on rest) steps ∙ later
 pub start_url : (start : List ℕ) → Stopped is_between start → 0 < length (front is_unspaced start) → read Between start ≡ read (Url (front is_unspaced start)) (behind is_unspaced start)
 start_url start stop some = grind (arith, start_at, either, cond-false, url_run)
 
--- if there is no byte, there is no candidate
-pub no_url : (start : List ℕ) → Stopped is_between start → length (front is_unspaced start) ≡ 0 → read Between start ≡ []
-no_url start stop none = grind (arith, either)
-
 -- white space after a URL
 
-space_not : (c n : ℕ) → is_space n ≡ false → is_space c ≡ true → (c == n) ≡ false
-space_not c n isnt space = false_from_ne_true (c == n) (λ e. let is : c ≡ n = eqb-true c n e in let same : is_space c ≡ is_space n = ap is_space is in absurd (cc))
-
-space_between : (c : ℕ) (rest : List ℕ) → is_space c ≡ true → read Between (c ∷ rest) ≡ read Between rest
-space_between c rest space = ap (on rest) (cond-true (is_between c) (Go [] Between) (Go [] (Url (c ∷ []))) (ap (λ b. b || c == 44) space))
-
-space_descriptors : (c : ℕ) (rest : List ℕ) → is_space c ≡ true → read (Descriptors false) (c ∷ rest) ≡ read (Descriptors false) rest
-space_descriptors c rest space = grind (arith, cond-false, space_not)
-
-behind_at : (b : Bool) (c : ℕ) (rest : List ℕ) → is_space c ≡ true → read (cond b Between (Descriptors false)) rest ≡ read (cond b Between (Descriptors false)) (c ∷ rest)
-behind_at true c rest space = sym (space_between c rest space)
-behind_at false c rest space = sym (space_descriptors c rest space)
-
-none_at : (b : Bool) → at_end (cond b Between (Descriptors false)) ≡ []
-none_at b = grind arith
-
 pub url_end : (url more : List ℕ) → Stopped is_unspaced more → read (Url url) more ≡ without_commas url ∷ read (behind_url url) more
-url_end url more stop = grind (arith, none_at, not-false, cond-true, behind_at)
+url_end url more stop = grind (arith, not-false, cond-true, cond-false, false_from_ne_true, eqb-true)
 
 -- commas at the end
 
@@ -105,7 +79,7 @@ no_comma (c ∷ rest) x other = ap (λ b. cond b [] (c ∷ without_commas (rest 
 -- one candidate
 
 pub no_candidate : (bytes start word : List ℕ) → start ≡ behind is_between bytes → Stopped is_between start → word ≡ front is_unspaced start → (length word == 0) ≡ true → candidates_of bytes ≡ []
-no_candidate bytes start word cut stop some none = between_run bytes ∙ ap (read Between) (sym cut) ∙ no_url start stop (ap length (sym some) ∙ eqb-true (length word) 0 none)
+no_candidate bytes start word cut stop some none = grind (arith, between_run, eqb-true, either)
 
 pub one_candidate : (bytes start word more url left : List ℕ) → start ≡ behind is_between bytes → Stopped is_between start → word ≡ front is_unspaced start → more ≡ behind is_unspaced start →
     (length word == 0) ≡ false → url ≡ without_commas word → read (behind_shorter url word) more ≡ read Between left → candidates_of bytes ≡ url ∷ candidates_of left

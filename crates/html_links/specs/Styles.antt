@@ -1,46 +1,8 @@
 -- The texts of `url()` and `@import` in a style sheet, by patterns: a word in any case with a text in quotes after it,
--- or, after `url(`, a text without quotes, parentheses and white space.
-use Rattle.std.specs.Prelude.{ℕ, zero, suc, ◌==◌, ◌||◌, ◌&&◌, nat_le, not, Bool, if◌then◌else◌, List, [], ◌∷◌, ◌++◌, length, Option, None, Some}
+-- or, after `url(`, a text without quotes, parentheses and white space. Comments and other texts in quotes name nothing.
+use Rattle.std.specs.Prelude.{ℕ, zero, suc, ◌==◌, ◌||◌, ◌&&◌, nat_le, not, Bool, true, false, if◌then◌else◌, List, [], ◌∷◌, length, Option, None, Some}
 use Rattle.html_links.specs.Shown.{front, behind}
 use Rattle.html_links.specs.Refresh.{behind_letter, and_then, is_quote}
-
--- In text, after a `/` there, in a comment, or after a `*` there.
-pub data State : Type 0 where
-  Text : State
-  Slash : State
-  Comment : State
-  Star : State
-
--- some bytes outside of comments, and the state after them
-pub data Next : Type 0 where
-  Go : List ℕ → State → Next
-
-abbrev pub step : State → ℕ → Next
-step Text c = if c == 47 then Go [] Slash else Go (c ∷ []) Text
-step Slash c =
-    if c == 42 then Go [] Comment
-    else if c == 47 then Go (47 ∷ []) Slash
-    else Go (47 ∷ c ∷ []) Text
-step Comment c = if c == 42 then Go [] Star else Go [] Comment
-step Star c =
-    if c == 47 then Go [] Text
-    else if c == 42 then Go [] Star
-    else Go [] Comment
-
-abbrev pub at_end : State → List ℕ
-at_end Slash = 47 ∷ []
-at_end _ = []
-
-abbrev pub follow : Next → (State → List ℕ) → List ℕ
-follow (Go some state) on = some ++ on state
-
-abbrev pub read : State → List ℕ → List ℕ
-read state [] = at_end state
-read state (c ∷ rest) = follow (step state c) (λ state. read state rest)
-
--- the text without its comments
-abbrev pub without_comments : List ℕ → List ℕ
-without_comments text = read Text text
 
 -- white space with the vertical tab
 abbrev pub is_wide_space : ℕ → Bool
@@ -91,31 +53,50 @@ behind_import bytes =
     and_then (behind_letter 64 bytes) (λ bytes. and_then (behind_letter 105 bytes) (λ bytes. and_then (behind_letter 109 bytes) (λ bytes. and_then (behind_letter 112 bytes)
     (λ bytes. and_then (behind_letter 111 bytes) (λ bytes. and_then (behind_letter 114 bytes) (behind_letter 116))))))
 
-abbrev pub spaced : List ℕ → Option Found
-spaced [] = None
-spaced (c ∷ rest) = if is_wide_space c then quoted (behind is_wide_space rest) else None
+-- after the `/*` of a comment
+abbrev pub opened : List ℕ → Option (List ℕ)
+opened bytes = and_then (behind_letter 47 bytes) (behind_letter 42)
 
-abbrev pub found_behind : Option (List ℕ) → Option (List ℕ) → Option Found
-found_behind (Some inner) other = in_brackets inner
-found_behind None (Some inner) = spaced inner
-found_behind None None = None
+-- after a comment, of which the last byte so far was a `*` or not
+abbrev pub behind_comment : Bool → List ℕ → List ℕ
+behind_comment starred [] = []
+behind_comment starred (c ∷ rest) = if starred && c == 47 then rest else behind_comment (c == 42) rest
 
--- the URL with whose word the bytes begin
-abbrev pub found_at : List ℕ → Option Found
-found_at bytes = found_behind (behind_url bytes) (behind_import bytes)
+abbrev pub found_behind : Option (List ℕ) → Bool → List ℕ → Option Found
+found_behind (Some inner) imports bytes = in_brackets inner
+found_behind None imports bytes = if imports then quoted bytes else None
 
-abbrev pub urls_after : Option Found → List ℕ → (List ℕ → List (List ℕ)) → List (List ℕ)
-urls_after None rest on = on rest
-urls_after (Some f) rest on = f.url ∷ on f.rest
+-- the URL with which the bytes begin, if a text in quotes there is that of an `@import` or not
+abbrev pub found_at : Bool → List ℕ → Option Found
+found_at imports bytes = found_behind (behind_url bytes) imports bytes
 
--- at each byte that is in no URL before it, of the given number of bytes
-abbrev pub urls_within : ℕ → List ℕ → List (List ℕ)
-urls_within zero bytes = []
-urls_within (suc n) [] = []
-urls_within (suc n) (c ∷ rest) = urls_after (found_at (c ∷ rest)) rest (λ rest. urls_within n rest)
+-- after one byte: white space may be between an `@import` and its text
+abbrev pub pass_byte : Bool → List ℕ → List ℕ × Bool
+pass_byte imports [] = ([], false)
+pass_byte imports (c ∷ rest) = (rest, imports && is_wide_space c)
 
-abbrev pub urls_of : List ℕ → List (List ℕ)
-urls_of bytes = urls_within (length bytes) bytes
+abbrev pub passed : Bool → List ℕ → Option (List ℕ) → Option Found → Option (List ℕ) → List ℕ × Bool
+passed imports bytes (Some comment) text word = (behind_comment false comment, imports)
+passed imports bytes None (Some text) word = (text.rest, false)
+passed imports bytes None None (Some rest) = (rest, true)
+passed imports bytes None None None = pass_byte imports bytes
+
+-- the bytes after those at the front that name no URL, and whether a text in quotes there is that of an `@import`
+abbrev pub pass : Bool → List ℕ → List ℕ × Bool
+pass imports bytes = passed imports bytes (opened bytes) (quoted bytes) (behind_import bytes)
+
+abbrev pub urls_after : Option Found → List ℕ × Bool → (Bool → List ℕ → List (List ℕ)) → List (List ℕ)
+urls_after None left on = on left.1 left.0
+urls_after (Some f) left on = f.url ∷ on false f.rest
+
+-- the URLs one after another, of the given number of bytes
+abbrev pub urls_within : ℕ → Bool → List ℕ → List (List ℕ)
+urls_within zero imports bytes = []
+urls_within (suc n) imports [] = []
+urls_within (suc n) imports (c ∷ rest) = urls_after (found_at imports (c ∷ rest)) (pass imports (c ∷ rest)) (λ imports bytes. urls_within n imports bytes)
+
+abbrev pub urls_of : Bool → List ℕ → List (List ℕ)
+urls_of imports bytes = urls_within (length bytes) imports bytes
 
 abbrev pub style_links_of : List ℕ → List (List ℕ)
-style_links_of text = urls_of (without_comments text)
+style_links_of text = urls_of false text

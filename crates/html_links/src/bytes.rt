@@ -110,6 +110,7 @@ pub(crate) fn behind_byte(byte: u8, bytes: &[u8]) -> Option<&[u8]>
 }
 
 /// The bytes after the white space at the front, if there is any.
+#[tactic(auto, using(std::proofs::lemmas::List::take_rest, crate::proofs::Cuts::behind_cut, crate::proofs::Jumps::stopped))]
 pub(crate) fn skip_space(bytes: &[u8]) -> &[u8]
     ensures skipped { result.now ≡ behind is_space bytes.now }
     ensures stopped { Stopped is_space result.now }
@@ -118,6 +119,7 @@ pub(crate) fn skip_space(bytes: &[u8]) -> &[u8]
 }
 
 /// The name of the attribute that begins here, and the bytes after it. An `=` is part of the name only as its first byte.
+#[tactic(auto, using(crate::proofs::Cuts::name_cut))]
 pub(crate) fn split_name(bytes: &[u8]) -> (&[u8], &[u8])
     requires { BeginsName bytes.now }
     ensures name { result.0.now ≡ name_front bytes.now }
@@ -127,6 +129,7 @@ pub(crate) fn split_name(bytes: &[u8]) -> (&[u8], &[u8])
 }
 
 /// A value without quotes, which may be empty, and the bytes from the white space or `>` that ends it.
+#[tactic(auto, using(crate::proofs::Cuts::front_cut, crate::proofs::Cuts::behind_cut))]
 pub(crate) fn split_unquoted(bytes: &[u8]) -> (&[u8], &[u8])
     ensures value { result.0.now ≡ front in_unquoted bytes.now }
     ensures rest { result.1.now ≡ behind in_unquoted bytes.now }
@@ -136,6 +139,7 @@ pub(crate) fn split_unquoted(bytes: &[u8]) -> (&[u8], &[u8])
 
 /// The bytes before the first such quote, and those after it.
 #[inline(always)]
+#[tactic(auto, using(std::proofs::lemmas::List::take_rest, crate::proofs::Cuts::quote_cut, crate::proofs::Cuts::no_quote))]
 pub(crate) fn split_quoted(quote: u8, bytes: &[u8]) -> Option<(&[u8], &[u8])>
     ensures { MatchOption result (behind (λ c. not (c == quote)) bytes.now ≡ [])
         (λ x. (x.0.now ≡ front (λ c. not (c == quote)) bytes.now) × (quote ∷ x.1.now ≡ behind (λ c. not (c == quote)) bytes.now)) }
@@ -148,6 +152,7 @@ pub(crate) fn split_quoted(quote: u8, bytes: &[u8]) -> Option<(&[u8], &[u8])>
 
 /// The bytes after the first such byte, which may be far.
 #[inline(always)]
+#[tactic(auto, using(std::proofs::lemmas::List::take_rest, crate::proofs::Cuts::quote_cut, crate::proofs::Cuts::no_quote))]
 pub(crate) fn behind_first(byte: u8, bytes: &[u8]) -> Option<&[u8]>
     ensures { MatchOption result (behind (λ c. not (c == byte)) bytes.now ≡ []) (λ rest. byte ∷ rest.now ≡ behind (λ c. not (c == byte)) bytes.now) }
 {

@@ -9,6 +9,7 @@ use crate::bytes::{behind_byte, split_quoted};
 
 /// The bytes after a comment, from those after its `<!--`. `None` if the comment does not end.
 #[inline(always)]
+#[tactic(auto, using(std::proofs::lemmas::List::take_rest, crate::proofs::Dashing::behind_left, crate::proofs::Dashing::no_left))]
 pub fn after_comment(bytes: &[u8]) -> Option<&[u8]>
     ensures { bytes_at result ≡ comment_rest bytes.now }
 {
@@ -20,6 +21,7 @@ pub fn after_comment(bytes: &[u8]) -> Option<&[u8]>
 
 /// The number of bytes after the comment. This function is not inlined, and its result is in registers.
 #[inline(never)]
+#[tactic(auto, using(crate::proofs::Dashing::comment_less))]
 fn comment_left(bytes: &[u8]) -> Option<usize>
     ensures left { result ≡ option_map length (comment_rest bytes.now) }
     ensures within { IfSome result (λ left. left ≤ length bytes.now) }
@@ -47,6 +49,7 @@ fn behind_comment(bytes: &[u8]) -> Option<&[u8]>
 }
 
 /// The bytes after a comment, from those left of it in the Standard's comment state. `None` if the comment does not end.
+#[tactic(auto, using(crate::proofs::Dashing::read_no_dash, crate::proofs::Dashing::read_dash, crate::proofs::Dashing::dash_shorter))]
 fn in_comment(bytes: &[u8]) -> Option<&[u8]>
     ensures { bytes_at result ≡ run Comment bytes.now }
 {
@@ -63,6 +66,7 @@ fn in_comment(bytes: &[u8]) -> Option<&[u8]>
 }
 
 /// The bytes after the comment if it ends after this dash, and otherwise those that are left of it.
+#[tactic(auto, using(crate::proofs::Dashing::left_behind))]
 fn after_dash(bytes: &[u8]) -> Result<&[u8], &[u8]>
     ensures ends { Dashed result bytes.now }
     ensures leaves { LeavesRest result bytes.now }
@@ -91,6 +95,7 @@ fn dash_len(bytes: &[u8]) -> usize
 }
 
 /// The bytes from the first one that is not a `-`.
+#[tactic(auto, using(std::proofs::lemmas::List::take_rest, crate::proofs::Cuts::behind_cut, crate::proofs::Jumps::stopped))]
 fn skip_dashes(bytes: &[u8]) -> &[u8]
     ensures skipped { result.now ≡ behind (λ c. c == 45) bytes.now }
     ensures stopped { Stopped (λ c. c == 45) result.now }

@@ -81,6 +81,7 @@ fn tag_name_len(bytes: &[u8]) -> usize
 
 /// The name of a tag, and the bytes after it. There must be a first byte, and it is part of the name whatever it is.
 #[inline(always)]
+#[tactic(auto, using(crate::proofs::Documents::led_cut))]
 fn split_tag_name(bytes: &[u8]) -> (&[u8], &[u8])
     requires { 0 < length bytes.now }
     ensures name { result.0.now ≡ led_front in_tag_name bytes.now }
@@ -92,6 +93,7 @@ fn split_tag_name(bytes: &[u8]) -> (&[u8], &[u8])
 /// The bytes after what is read as a comment. The functions that this one and the next call return their results in registers,
 /// so no tag pays for them.
 #[inline(always)]
+#[tactic(auto, using(crate::proofs::Documents::read_bogus, crate::proofs::Documents::cut_shorter, crate::proofs::Documents::read_open_bogus))]
 fn after_bogus(bytes: &[u8]) -> Option<&[u8]>
     ensures reads { read Bogus bytes.now ≡ read_rest result }
     ensures leaves { RestLeaves result bytes.now }
@@ -119,6 +121,7 @@ fn after_declaration(bytes: &[u8]) -> Option<&[u8]>
 
 /// What follows a `</`: an end tag if the first byte is a letter, and otherwise what is read as a comment, to the first `>`.
 #[inline(always)]
+#[tactic(auto, using(crate::proofs::Documents::led_shorter))]
 fn after_end_open(bytes: &[u8]) -> Markup<'_>
     ensures reads { MarkupEnds result bytes.now }
     ensures leaves { MarkupLeaves result bytes.now }
@@ -148,6 +151,7 @@ fn other(rest: Option<&[u8]>) -> Markup<'_>
 
 /// What follows a `<`. It is inlined, so its result stays in registers.
 #[inline(always)]
+#[tactic(auto, using(crate::proofs::Documents::led_shorter))]
 pub(crate) fn next_markup(bytes: &[u8]) -> Markup<'_>
     ensures reads { MarkupReads result bytes.now }
     ensures leaves { MarkupLeaves result bytes.now }
@@ -229,6 +233,7 @@ fn content_of(name: &[u8]) -> Content
 }
 
 /// The bytes after an element whose text is raw, from those after its start tag.
+#[tactic(auto, using(crate::proofs::Documents::read_raw, crate::proofs::Documents::raw_leaves, crate::proofs::Documents::read_open_raw))]
 fn after_raw<'a>(name: &[u8], bytes: &'a [u8]) -> Option<&'a [u8]>
     requires { 0 < length name.now }
     ensures reads { read (raw_content (map lower name.now)) bytes.now ≡ ended_rest (map lower name.now) result }
@@ -241,6 +246,7 @@ fn after_raw<'a>(name: &[u8], bytes: &'a [u8]) -> Option<&'a [u8]>
 }
 
 /// The bytes after a script, from those after its start tag.
+#[tactic(auto, using(crate::proofs::Documents::script_leaves, crate::proofs::Documents::read_open_script))]
 fn after_whole_script(bytes: &[u8]) -> Option<&[u8]>
     ensures reads { read script_content bytes.now ≡ read_rest result }
     ensures leaves { RestLeaves result bytes.now }

@@ -40,6 +40,7 @@ fn part_of(bytes: &[u8], start: usize, end: usize) -> &[u8]
 }
 
 /// The byte index in `ROWS` at which this list begins. For 256, it is the end of the last list, and for a greater number 0.
+#[tactic(auto, unfolding(crate::specs::Names::start_at))]
 fn start_at(index: usize) -> usize
     ensures { result ≡ start_at index }
 {
@@ -47,6 +48,7 @@ fn start_at(index: usize) -> usize
 }
 
 /// The rows of this list, each with a space after it. There are 256 lists.
+#[tactic(auto, unfolding(crate::specs::Names::list_at))]
 fn list_at(index: usize) -> &'static [u8]
     requires { index < 256 }
     ensures { result.now ≡ list_at index }

@@ -52,6 +52,7 @@ pub(crate) fn near_byte(byte: u8, bytes: &[u8]) -> Option<usize>
 
 /// The first index of a byte. The program has the search once, and its result is in registers.
 #[inline(never)]
+#[tactic(auto, using(crate::proofs::Cuts::first_byte))]
 pub(crate) fn find_byte(byte: u8, bytes: &[u8]) -> Option<usize>
     ensures { IsFirstByte (is_byte byte) bytes.now result }
 {

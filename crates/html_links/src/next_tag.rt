@@ -39,6 +39,7 @@ enum Step<'a> {
 
 /// The first start tag that begins in these bytes, ends, and may name something, and its values that are read.
 #[inline(always)]
+#[tactic(auto, using(crate::proofs::Passing::sought_all, crate::proofs::Passing::sought_on, crate::proofs::Passing::has_then))]
 pub(crate) fn next_tag<'a>(bytes: &'a [u8], values: &mut Values<'a>) -> Option<NextTag<'a>>
     ensures finds { Finds result (values_at values.new) (seen_in bytes.now) }
     ensures leaves { LeavesTag result bytes.now }
@@ -153,6 +154,7 @@ fn usual_values<'a>(bytes: &'a [u8], values: &mut Values<'a>) -> Option<&'a [u8]
 /// The start tag of an `a`. This function and the next are not inlined, so the values stay in the caller's memory, and are
 /// written only when one is found.
 #[inline(never)]
+#[tactic(auto, using(crate::proofs::Passing::has_same, crate::proofs::Passing::open_start))]
 fn anchor_tag<'a>(name: &'a [u8], bytes: &'a [u8], values: &mut Values<'a>) -> Step<'a>
     requires { bytes_eq (map lower name.now) (codes "a") ≡ true }
     ensures { StepsTag result (values_at values.new) name.now bytes.now }
@@ -171,6 +173,7 @@ fn anchor_tag<'a>(name: &'a [u8], bytes: &'a [u8], values: &mut Values<'a>) -> S
 
 /// The start tag of an element that may name documents or have text.
 #[inline(never)]
+#[tactic(auto, using(crate::proofs::Passing::has_same, crate::proofs::Passing::open_start))]
 fn wanted_tag<'a>(name: &'a [u8], bytes: &'a [u8], values: &mut Values<'a>) -> Step<'a>
     ensures { StepsTag result (values_at values.new) name.now bytes.now }
 {
@@ -197,6 +200,7 @@ fn wanted_tag<'a>(name: &'a [u8], bytes: &'a [u8], values: &mut Values<'a>) -> S
 }
 
 /// The bytes after the contents of an element if these have no tags of the page, and otherwise the bytes after its start tag.
+#[tactic(auto, using(crate::proofs::Templates::none_within, crate::proofs::Templates::rest_leaves))]
 fn after_contents<'a>(
     name: &[u8],
     element: Element,

@@ -4,6 +4,7 @@ ghost use Rattle.html_links.specs.Values.{values_at};
 ghost use Rattle.html_links.specs.Links.{links_of, links_with, base_of};
 ghost use Rattle.html_links.specs.Reads.{base_at};
 
+use crate::bytes::is_space;
 use crate::found::Values;
 use crate::links::{Links, PlacedLinks};
 use crate::next_tag::{NextTag, next_tag};
@@ -70,11 +71,30 @@ fn begin<L: PlacedLinks>(
     }
 }
 
-/// The number of bytes from a value to the end, if `left` bytes are after its attribute. A value in quotes has one after it.
+/// The number of bytes from a value to the end, if `left` bytes are after its attribute.
 fn value_left(inside: &[u8], value: &[u8], left: usize) -> usize {
-    let end = inside.len().saturating_sub(left);
-    let before = end.saturating_sub(value.len()).saturating_sub(2);
-    let quoted = value.is_empty() || matches!(inside.get(before), Some(b'"' | b'\''));
+    let attribute = &inside[..inside.len().saturating_sub(left)];
+    if value.is_empty() {
+        return left.saturating_add(empty_left(attribute));
+    }
+    let before = attribute
+        .len()
+        .saturating_sub(value.len())
+        .saturating_sub(2);
+    let quoted = matches!(attribute.get(before), Some(b'"' | b'\''));
     left.saturating_add(value.len())
         .saturating_add(usize::from(quoted))
+}
+
+/// The number of bytes from an empty value to the end of its attribute: its closing quote, or the white space after a name
+/// without a value.
+fn empty_left(attribute: &[u8]) -> usize {
+    let Some(last) = attribute.iter().rposition(|&byte| !is_space(byte)) else {
+        return 0;
+    };
+    match attribute.get(last) {
+        Some(b'=') => 0,
+        Some(b'"' | b'\'') => 1,
+        _ => attribute.len().saturating_sub(last).saturating_sub(1),
+    }
 }

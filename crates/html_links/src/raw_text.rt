@@ -24,6 +24,7 @@ fn letters_len(bytes: &[u8]) -> usize
 }
 
 /// The ASCII letters at the front, and the bytes after them.
+#[tactic(auto, using(crate::proofs::Cuts::front_cut, crate::proofs::Cuts::behind_cut))]
 fn split_letters(bytes: &[u8]) -> (&[u8], &[u8])
     ensures letters { result.0.now ≡ front is_letter bytes.now }
     ensures rest { result.1.now ≡ behind is_letter bytes.now }

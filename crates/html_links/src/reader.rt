@@ -52,7 +52,7 @@ pub fn read_links<L: Links>(
     let mut rest = document;
     'tags: while let Some(tag) = next_tag(rest, &mut values) {
         if styles {
-            push_styles(alloc, tag, &values, &mut decoded, links)?;
+            push_styles(tag, &values, &mut decoded, links)?;
         }
         push_values(tag.element, &values, &mut decoded, links)?;
         take_base(alloc, &mut base, tag.element, &values)?;
@@ -121,7 +121,6 @@ fn push_anchor<I: Links>(
 
 /// Passes on the links of a tag's `style`, and those of a style sheet after the tag.
 fn push_styles<L: Links>(
-    alloc: Global,
     tag: NextTag<'_>,
     values: &Values<'_>,
     decoded: &mut Vec<u8>,
@@ -130,10 +129,10 @@ fn push_styles<L: Links>(
     if let Some(style) = values.style {
         decoded.clear();
         decode(style, decoded)?;
-        style_links(alloc, decoded.as_slice(), links)?;
+        style_links(decoded.as_slice(), links)?;
     }
     if same_name(tag.name, b"style") {
-        style_links(alloc, raw_text(b"style", tag.text), links)?;
+        style_links(raw_text(b"style", tag.text), links)?;
     }
     Ok(())
 }
@@ -456,6 +455,7 @@ fn is_link_type(word: &[u8]) -> bool
 }
 
 /// Whether some keyword of a `rel` makes a link to a document.
+#[tactic(auto, using(crate::proofs::Linking::found_type, crate::proofs::Linking::last_word, crate::proofs::Linking::next_word))]
 fn has_link_type(rel: &[u8]) -> bool
     ensures { result ≡ types_behind [] rel.now }
 {

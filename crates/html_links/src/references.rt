@@ -25,6 +25,7 @@ pub(crate) enum Decoded<'a> {
 }
 
 /// Whether the value is not its own text: it has an `&` or a NUL. The last bytes are looked at with some before them.
+#[tactic(auto, using(crate::proofs::Nearness::marks_more, std::proofs::lemmas::List::take_rest, crate::proofs::Nearness::itself))]
 pub(crate) fn is_coded(value: &[u8]) -> bool
     ensures { result ≡ false → text_of value.now ≡ value.now }
 {
@@ -54,6 +55,7 @@ fn has_mark(value: &[u8]) -> bool
 
 /// Whether an `&` or a NUL is among the first bytes.
 #[inline(always)]
+#[tactic(auto, using(crate::proofs::Nearness::none_marked, std::proofs::lemmas::Simd::zip2_splat))]
 fn is_marked(bytes: &[u8]) -> bool
     requires { LANES ≤ length bytes.now }
     ensures { result ≡ false → position_or_len is_mark (take LANES bytes.now) ≡ LANES }
@@ -76,6 +78,7 @@ fn split_plain(bytes: &[u8]) -> (&[u8], &[u8])
 }
 
 /// Appends the text of a value: its references read, each NUL as U+FFFD.
+#[tactic(auto, using(crate::proofs::Decoding::mark_less))]
 pub(crate) fn decode(value: &[u8], out: &mut Vec<u8>) -> Result<(), AllocError>
     ensures { OnOk result (out.new.items ≡ out.old.items ++ text_of value.now) }
 {
@@ -266,6 +269,7 @@ fn name_len(bytes: &[u8]) -> usize
 }
 
 /// The ASCII letters and digits at the front, and the bytes after them.
+#[tactic(auto, using(crate::proofs::Cuts::front_cut, crate::proofs::Cuts::behind_cut, crate::proofs::Jumps::stopped))]
 fn split_name(bytes: &[u8]) -> (&[u8], &[u8])
     ensures name { result.0.now ≡ front is_ascii_alphanumeric bytes.now }
     ensures rest { result.1.now ≡ behind is_ascii_alphanumeric bytes.now }
@@ -275,6 +279,7 @@ fn split_name(bytes: &[u8]) -> (&[u8], &[u8])
 }
 
 /// What an `&` before a name means.
+#[tactic(auto, using(crate::proofs::Decoding::read_name, crate::proofs::Decoding::name_less))]
 fn name(bytes: &[u8]) -> (Decoded<'_>, &[u8])
     ensures reads { Decodes (Name []) bytes.now result.0 result.1.now }
     ensures leaves { length result.1.now ≤ length bytes.now }
@@ -287,6 +292,7 @@ fn name(bytes: &[u8]) -> (Decoded<'_>, &[u8])
 }
 
 /// What an `&` and a name mean if a `;` is after the name.
+#[tactic(auto, using(crate::proofs::Decoding::closed_name, crate::proofs::Decoding::closed_itself))]
 fn closed_name<'a>(name: &'a [u8], rest: &'a [u8], last: &'a [u8]) -> (Decoded<'a>, &'a [u8])
     requires { rest.now ≡ 59 ∷ last.now }
     ensures reads { Decodes (Name name.now) rest.now result.0 result.1.now }
@@ -299,6 +305,7 @@ fn closed_name<'a>(name: &'a [u8], rest: &'a [u8], last: &'a [u8]) -> (Decoded<'
 }
 
 /// What an `&` and a name mean if no `;` is after the name.
+#[tactic(auto, using(crate::proofs::Decoding::name_equals, crate::proofs::Decoding::open_name))]
 fn open_name<'a>(name: &'a [u8], rest: &'a [u8]) -> (Decoded<'a>, &'a [u8])
     requires letter { Stopped is_ascii_alphanumeric rest.now }
     requires semicolon { Stopped (λ c. c == 59) rest.now }

@@ -49,6 +49,7 @@ fn time_len(bytes: &[u8]) -> usize
 }
 
 /// The bytes after the digits and full stops at the front.
+#[tactic(auto, using(std::proofs::lemmas::List::take_rest, crate::proofs::Cuts::behind_cut))]
 fn skip_time(bytes: &[u8]) -> &[u8]
     ensures { result.now ≡ behind in_time bytes.now }
 {

@@ -23,6 +23,7 @@ fn between_len(bytes: &[u8]) -> usize
 }
 
 /// The bytes from the start of the next candidate. They are empty if no candidate follows.
+#[tactic(auto, using(std::proofs::lemmas::List::take_rest, crate::proofs::Cuts::behind_cut, crate::proofs::Jumps::stopped))]
 fn skip_between(bytes: &[u8]) -> &[u8]
     ensures skipped { result.now ≡ behind is_between bytes.now }
     ensures stopped { Stopped is_between result.now }
@@ -45,6 +46,7 @@ fn unspaced_len(bytes: &[u8]) -> usize
 }
 
 /// The bytes before the first white space, and those from it on.
+#[tactic(auto, using(crate::proofs::Cuts::front_cut, crate::proofs::Cuts::behind_cut))]
 pub(crate) fn split_unspaced(bytes: &[u8]) -> (&[u8], &[u8])
     ensures word { result.0.now ≡ front is_unspaced bytes.now }
     ensures rest { result.1.now ≡ behind is_unspaced bytes.now }
@@ -53,6 +55,7 @@ pub(crate) fn split_unspaced(bytes: &[u8]) -> (&[u8], &[u8])
 }
 
 /// The bytes before a comma at the end.
+#[tactic(auto, using(crate::proofs::Sources::kept))]
 fn before_comma(url: &[u8]) -> Option<&[u8]>
     ensures { MatchOption result (without_commas url.now ≡ url.now) (λ front. url.now ≡ front.now ++ 44 ∷ []) }
 {
@@ -63,6 +66,7 @@ fn before_comma(url: &[u8]) -> Option<&[u8]>
 }
 
 /// The URL of a candidate without the commas at its end.
+#[tactic(auto, using(crate::proofs::Sources::one_comma))]
 fn without_commas(url: &[u8]) -> &[u8]
     ensures { result.now ≡ without_commas url.now }
 {
@@ -108,6 +112,7 @@ fn behind_descriptors<'a>(url: &[u8], candidate: &[u8], bytes: &'a [u8]) -> &'a 
 }
 
 /// The next URL, and the bytes after its candidate.
+#[tactic(auto, using(crate::proofs::Sources::no_candidate, crate::proofs::Sources::one_candidate, crate::proofs::Sources::candidate_less))]
 fn next_candidate(bytes: &[u8]) -> Option<(&[u8], &[u8])>
     ensures gives { MatchOption result (candidates_of bytes.now ≡ []) (λ x. candidates_of bytes.now ≡ x.0.now ∷ candidates_of x.1.now) }
     ensures leaves { MatchOption result (candidates_of bytes.now ≡ []) (λ x. length x.1.now < length bytes.now) }

@@ -1,88 +1,22 @@
 //! The documents that a style sheet names.
-ghost use Rattle.std.specs.Prelude.{◌≡◌, ◌==◌, ◌≤◌, ◌<◌, ◌∷◌, ◌++◌, [], length, false, OnOk, IfSome, MatchOption};
+ghost use Rattle.std.specs.Prelude.{◌≡◌, ◌<◌, ◌∷◌, ◌++◌, [], length, false, OnOk, MatchOption};
 ghost use Rattle.std.specs.List.{take_while};
 ghost use Rattle.html_links.specs.Comments.{bytes_at};
-ghost use Rattle.html_links.specs.Shown.{front, behind, Stopped};
-ghost use Rattle.html_links.specs.Styles.{Comment, Text, read, without_comments, is_wide_space, in_plain, closed, quoted, plain, in_brackets, behind_url, behind_import, spaced, found_at, urls_of, style_links_of};
+ghost use Rattle.html_links.specs.Shown.{front, behind};
+ghost use Rattle.html_links.specs.Styles.{is_wide_space, in_plain, quoted, plain, in_brackets, behind_url, behind_import, opened, behind_comment, found_at, pass_byte, pass, urls_of, style_links_of};
 ghost use Rattle.html_links.specs.Styled.{found_bytes, FoundLeaves};
 
 use crate::Links;
 use crate::bytes::{behind_byte, parts, split_quoted};
 use crate::refresh::{behind_letter, is_quote};
-use std::alloc::{AllocError, Global};
+use std::alloc::AllocError;
 
-/// Passes on the texts of `url()` and `@import` in a style sheet or a style.
+/// Passes on the texts of `url()` and `@import` in a style sheet or a style, in order.
 ///
 /// # Errors
 /// If an allocation fails.
-pub fn style_links<L: Links>(alloc: Global, text: &[u8], links: &mut L) -> Result<(), AllocError>
+pub fn style_links<L: Links>(text: &[u8], links: &mut L) -> Result<(), AllocError>
     ensures { OnOk result (L.texts links.new ≡ L.texts links.old ++ style_links_of text.now) }
-{
-    if !has_comment(text) {
-        return push_urls(text, links);
-    }
-    let mut bare = Vec::new(alloc);
-    push_bare(text, &mut bare)?;
-    push_urls(bare.as_slice(), links)
-}
-
-/// Whether the text has a `/*`, also in quotes. If it has none, it is already without comments.
-fn has_comment(text: &[u8]) -> bool
-    ensures { result ≡ false → without_comments text.now ≡ text.now }
-{
-    let mut rest = text;
-    'slashes: loop {
-        let Some((_, slashed)) = split_quoted(b'/', rest) else {
-            return false;
-        };
-        match behind_byte(b'*', slashed) {
-            Some(_) => return true,
-            None => rest = slashed,
-        }
-    }
-}
-
-/// Appends the text without its comments.
-fn push_bare(text: &[u8], out: &mut Vec<u8>) -> Result<(), AllocError>
-    ensures { OnOk result (out.new.items ≡ out.old.items ++ without_comments text.now) }
-{
-    let mut rest = text;
-    'slashes: loop {
-        let Some((plain, slashed)) = split_quoted(b'/', rest) else {
-            out.extend_from_slice(rest)?;
-            return Ok(());
-        };
-        out.extend_from_slice(plain)?;
-        match behind_byte(b'*', slashed) {
-            Some(comment) => rest = behind_comment(comment),
-            None => {
-                out.push(b'/')?;
-                rest = slashed;
-            }
-        }
-    }
-}
-
-/// The bytes after a comment, from those after its `/*`.
-fn behind_comment(text: &[u8]) -> &[u8]
-    ensures reads { read Comment text.now ≡ read Text result.now }
-    ensures leaves { length result.now ≤ length text.now }
-{
-    let mut rest = text;
-    'stars: loop {
-        let Some((_, starred)) = split_quoted(b'*', rest) else {
-            return &[];
-        };
-        match behind_byte(b'/', starred) {
-            Some(more) => return more,
-            None => rest = starred,
-        }
-    }
-}
-
-/// Passes on the URLs of a style sheet from which the comments were removed, in order.
-fn push_urls<L: Links>(text: &[u8], links: &mut L) -> Result<(), AllocError>
-    ensures { OnOk result (L.texts links.new ≡ L.texts links.old ++ urls_of text.now) }
 {
     let mut rest = text;
     'urls: while let Some((url, more)) = next_url(rest) {
@@ -94,31 +28,86 @@ fn push_urls<L: Links>(text: &[u8], links: &mut L) -> Result<(), AllocError>
 
 /// The next URL, and the bytes after it.
 fn next_url(bytes: &[u8]) -> Option<(&[u8], &[u8])>
-    ensures gives { MatchOption result (urls_of bytes.now ≡ []) (λ x. urls_of bytes.now ≡ x.0.now ∷ urls_of x.1.now) }
+    ensures gives { MatchOption result (style_links_of bytes.now ≡ []) (λ x. style_links_of bytes.now ≡ x.0.now ∷ style_links_of x.1.now) }
     ensures leaves { FoundLeaves result bytes.now }
 {
     let mut rest = bytes;
+    let mut imports = false;
     'places: loop {
-        let Some((_, more)) = parts(rest) else {
+        let Some((_, _)) = parts(rest) else {
             return None;
         };
-        match found_at(rest) {
+        match found_at(imports, rest) {
             Some((url, left)) => return Some((url, left)),
-            None => rest = more,
+            None => {
+                let (left, more) = pass(imports, rest);
+                rest = left;
+                imports = more;
+            }
         }
     }
 }
 
-/// The URL with whose word the bytes begin, and the bytes after it.
-fn found_at(bytes: &[u8]) -> Option<(&[u8], &[u8])>
-    ensures { found_bytes result ≡ found_at bytes.now }
+/// The URL with which the bytes begin, and the bytes after it. A text in quotes is a URL only if an `@import` is before it.
+fn found_at(imports: bool, bytes: &[u8]) -> Option<(&[u8], &[u8])>
+    ensures { found_bytes result ≡ found_at imports bytes.now }
 {
-    if let Some(inner) = behind_url(bytes) {
-        return in_brackets(inner);
+    match behind_url(bytes) {
+        Some(inner) => in_brackets(inner),
+        None => { if imports { quoted(bytes) } else { None } }
+    }
+}
+
+/// The bytes after those at the front that name no URL, and whether an `@import` is before them.
+fn pass(imports: bool, bytes: &[u8]) -> (&[u8], bool)
+    ensures { (result.0.now, result.1) ≡ pass imports bytes.now }
+{
+    if let Some(comment) = opened(bytes) {
+        return (behind_comment(comment), imports);
+    }
+    if let Some((_, rest)) = quoted(bytes) {
+        return (rest, false);
     }
     match behind_import(bytes) {
-        Some(inner) => spaced(inner),
+        Some(rest) => (rest, true),
+        None => pass_byte(imports, bytes),
+    }
+}
+
+/// The bytes after the first, and whether an `@import` is before them. Only white space may be between it and its text.
+fn pass_byte(imports: bool, bytes: &[u8]) -> (&[u8], bool)
+    ensures { (result.0.now, result.1) ≡ pass_byte imports bytes.now }
+{
+    match parts(bytes) {
+        Some((first, rest)) => (rest, imports && is_wide_space(first)),
+        None => (bytes, false),
+    }
+}
+
+/// The bytes after a `/*` at the front. `None` if it is not there.
+fn opened(bytes: &[u8]) -> Option<&[u8]>
+    ensures { bytes_at result ≡ opened bytes.now }
+{
+    match behind_letter(b'/', bytes) {
+        Some(rest) => behind_letter(b'*', rest),
         None => None,
+    }
+}
+
+/// The bytes after a comment, from those after its `/*`.
+#[tactic(auto, using(crate::proofs::Styling::no_star))]
+fn behind_comment(text: &[u8]) -> &[u8]
+    ensures { result.now ≡ behind_comment false text.now }
+{
+    let mut rest = text;
+    'stars: loop {
+        let Some((_, starred)) = split_quoted(b'*', rest) else {
+            return &[];
+        };
+        match behind_byte(b'/', starred) {
+            Some(more) => return more,
+            None => rest = starred,
+        }
     }
 }
 
@@ -174,20 +163,6 @@ fn in_brackets(bytes: &[u8]) -> Option<(&[u8], &[u8])>
     }
 }
 
-/// The URL in quotes after an `@import`, and the bytes after it. `None` if there is no white space before the quote.
-fn spaced(bytes: &[u8]) -> Option<(&[u8], &[u8])>
-    ensures { found_bytes result ≡ spaced bytes.now }
-{
-    let Some((first, more)) = parts(bytes) else {
-        return None;
-    };
-    if is_wide_space(first) {
-        quoted(skip_wide_space(more))
-    } else {
-        None
-    }
-}
-
 /// The bytes between quotes at the front, and those after them.
 fn quoted(bytes: &[u8]) -> Option<(&[u8], &[u8])>
     ensures { found_bytes result ≡ quoted bytes.now }
@@ -231,6 +206,7 @@ fn wide_len(bytes: &[u8]) -> usize
 }
 
 /// The bytes after the white space at the front, including vertical tabs.
+#[tactic(auto, using(std::proofs::lemmas::List::take_rest, crate::proofs::Cuts::behind_cut))]
 fn skip_wide_space(bytes: &[u8]) -> &[u8]
     ensures { result.now ≡ behind is_wide_space bytes.now }
 {
@@ -252,6 +228,7 @@ fn plain_len(bytes: &[u8]) -> usize
 }
 
 /// The URL without quotes at the front, which may be empty, and the bytes after it.
+#[tactic(auto, using(crate::proofs::Cuts::front_cut, crate::proofs::Cuts::behind_cut))]
 fn split_plain(bytes: &[u8]) -> (&[u8], &[u8])
     ensures url { result.0.now ≡ front in_plain bytes.now }
     ensures rest { result.1.now ≡ behind in_plain bytes.now }

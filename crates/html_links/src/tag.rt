@@ -45,6 +45,7 @@ fn behind_quote(bytes: &[u8]) -> Option<&[u8]>
 
 /// The bytes after the `class="` that follows the name in most tags.
 #[inline(always)]
+#[tactic(auto, using(crate::proofs::Cuts::if_some, std::proofs::lemmas::Slice::Eq::strip_prefix_is))]
 pub(crate) fn behind_class(bytes: &[u8]) -> Option<&[u8]>
     ensures { IfSome result (λ more. bytes.now ≡ codes " class=" ++ 34 ∷ more.now) }
 {
@@ -53,6 +54,7 @@ pub(crate) fn behind_class(bytes: &[u8]) -> Option<&[u8]>
 
 /// The bytes after the `href="` of a link.
 #[inline(always)]
+#[tactic(auto, using(crate::proofs::Cuts::if_some, std::proofs::lemmas::Slice::Eq::strip_prefix_is))]
 fn behind_href(bytes: &[u8]) -> Option<&[u8]>
     ensures { IfSome result (λ more. bytes.now ≡ codes " href=" ++ 34 ∷ more.now) }
 {
@@ -61,6 +63,7 @@ fn behind_href(bytes: &[u8]) -> Option<&[u8]>
 
 /// An attribute, from the bytes after the first quote of its value.
 #[inline(always)]
+#[tactic(auto, using(crate::proofs::Documents::cut_shorter))]
 fn quoted<'a>(name: &'a [u8], bytes: &'a [u8]) -> Piece<'a>
     ensures reads { ReadsValue result name.now (34 ∷ bytes.now) }
     ensures leaves { Leaves result (length bytes.now) }

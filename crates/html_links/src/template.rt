@@ -22,6 +22,7 @@ enum Inner<'a> {
 /// The bytes after the end tag of a template, from those after its start tag. Its contents may have templates. `None` if the
 /// template is not closed.
 #[inline(never)]
+#[tactic(auto, using(crate::proofs::Templates::one_more, crate::proofs::Templates::one_less))]
 pub(crate) fn after_template(bytes: &[u8]) -> Option<&[u8]>
     ensures reads { seen_within 1 (read Data bytes.now) ≡ seen_rest result }
     ensures leaves { RestLeaves result bytes.now }
@@ -64,6 +65,7 @@ fn next_inner(bytes: &[u8]) -> Inner<'_>
 }
 
 /// A start tag, from the bytes after its name.
+#[tactic(auto, using(crate::proofs::Templates::open_within, crate::proofs::Documents::tag_rest_less))]
 fn inner_start<'a>(name: &[u8], bytes: &'a [u8]) -> Inner<'a>
     ensures reads { TagReads result false name.now bytes.now }
     ensures leaves { InnerLeaves result bytes.now }
@@ -84,6 +86,7 @@ fn inner_start<'a>(name: &[u8], bytes: &'a [u8]) -> Inner<'a>
 }
 
 /// An end tag, from the bytes after its name.
+#[tactic(auto, using(crate::proofs::Templates::open_within, crate::proofs::Documents::tag_rest_less))]
 fn inner_end<'a>(name: &[u8], bytes: &'a [u8]) -> Inner<'a>
     ensures reads { TagReads result true name.now bytes.now }
     ensures leaves { InnerLeaves result bytes.now }

@@ -21,6 +21,7 @@ pub fn with_moved(out: Out, pages: &[PageResult], moved: bool) -> Result<Out, No
 }
 
 /// Prints a line for each page that moved, with the URL to which it moved, if it has one.
+#[tactic(auto, using(crate::proofs::Adding::adds_none, crate::proofs::Adding::lines_all))]
 fn with_targets(mut out: Out, pages: &[PageResult]) -> Result<Out, NoMemory>
     ensures { IfOk result (λ more. Adds out more (moved_lines true pages.now)) }
 {

@@ -97,6 +97,7 @@ fn with_tally(out: Out, tally: &Tally<'_>, url: &str) -> Result<Out, NoMemory>
 }
 
 /// Prints a line for each of these pages, which link to the URL.
+#[tactic(auto, using(crate::proofs::Adding::adds_none, crate::proofs::Adding::pointed_line_at, crate::proofs::Adding::adds_same, crate::proofs::Adding::lines_all))]
 fn with_links(mut out: Out, pages: &[&str], url: &str) -> Result<Out, NoMemory>
     ensures { IfOk result (λ more. Adds out more (map (λ page. line.link page url.now) (pointed pages.now))) }
 {

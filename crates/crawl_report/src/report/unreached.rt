@@ -10,6 +10,7 @@ use crawl_keys::CanonUrl;
 use crawl_pages::NoMemory;
 
 /// Prints a line for each of these URLs.
+#[tactic(auto, using(crate::proofs::Adding::adds_none, crate::proofs::Adding::pointed_line_at, crate::proofs::Adding::adds_same, crate::proofs::Adding::lines_all))]
 pub fn with_unreached(mut out: Out, urls: &[&CanonUrl]) -> Result<Out, NoMemory>
     ensures { IfOk result (λ more. Adds out more (map line.unreached (pointed urls.now))) }
 {

@@ -26,6 +26,10 @@ const ROWS: &[(&str, &str)] = &[
         "b|c|d|",
     ),
     ("<style>url(a</style><a href=b>", "a|b|"),
+    (
+        "<style>@import\"a\";@import/*'n'*/'b';@imports 'n';c:url(d/*e);f:'/*';g:url(h) \"url(n)\"</style>",
+        "a|b|d/*e|h|",
+    ),
 ];
 
 /// The text after the link, if the text begins with it.

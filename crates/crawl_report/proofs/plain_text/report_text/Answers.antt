@@ -1,8 +1,4 @@
-use Rattle.std.proofs.Common.{[], ◌∷◌, ◌++◌, ap, ◌∙◌}
-use Rattle.crawl_pages.specs.ResultOrder.{results_by_url}
-use Rattle.crawl_report.specs.Lines.{Line}
-use Rattle.crawl_report.specs.Rows.{result_lines, total_of}
-use Rattle.crawl_sources.specs.Tallies.{pointed}
+use Rattle.crawl_report.proofs.Prelude.{[], ◌∷◌, ◌++◌, ap, ◌∙◌, results_by_url, Line, result_lines, total_of, pointed}
 use Rattle.crawl_report.proofs.Adding.{adds_both, adds_same}
 use Rattle.crawl_report.proofs.Format.{report_lines}
 use Rattle.crawl_report.proofs.Printed.{printed_alone}

@@ -1,7 +1,4 @@
-use Rattle.std.proofs.Common.{take}
-use Rattle.crawl_report.specs.Printing.{Adds}
-use Rattle.crawl_report.specs.Rows.{result_lines}
-use Rattle.crawl_sources.specs.Tallies.{pointed}
+use Rattle.crawl_report.proofs.Prelude.{take, Adds, result_lines, pointed}
 use Rattle.crawl_report.proofs.plain_text.with_each.Given as goal
 
 abbrev pub invariant-loop-one : goal.invariant-loop-one

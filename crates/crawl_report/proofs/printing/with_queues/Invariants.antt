@@ -1,5 +1,4 @@
-use Rattle.std.proofs.Common.{take}
-use Rattle.crawl_report.specs.Printing.{Adds}
+use Rattle.crawl_report.proofs.Prelude.{take, Adds}
 use Rattle.crawl_report.specs.Rows.{queue_lines}
 use Rattle.crawl_report.proofs.printing.with_queues.Given as goal
 

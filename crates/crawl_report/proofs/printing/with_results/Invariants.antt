@@ -1,6 +1,4 @@
-use Rattle.std.proofs.Common.{take}
-use Rattle.crawl_report.specs.Printing.{Adds}
-use Rattle.crawl_report.specs.Rows.{result_lines}
+use Rattle.crawl_report.proofs.Prelude.{take, Adds, result_lines}
 use Rattle.crawl_report.proofs.printing.with_results.Given as goal
 
 abbrev pub invariant-loop-index : goal.invariant-loop-index

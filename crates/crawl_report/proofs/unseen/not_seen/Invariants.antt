@@ -1,7 +1,4 @@
-use Rattle.std.proofs.Common.{◌≡◌, take}
-use Rattle.crawl_keys.specs.HostFilter.{allows}
-use Rattle.crawl_sources.specs.Tallies.{pointed}
-use Rattle.crawl_report.specs.Unreached.{unseen_of}
+use Rattle.crawl_report.proofs.Prelude.{◌≡◌, take, allows, pointed, unseen_of}
 use Rattle.crawl_report.proofs.unseen.not_seen.Given as goal
 
 abbrev pub invariant-loop-url : goal.invariant-loop-url

@@ -1,11 +1,4 @@
-use Rattle.std.proofs.Common.{ℕ, List, subst, ◌∙◌, rules}
-use Rattle.std.proofs.lemmas.List.Sorted.{answers_always, ranks_by, IsPermutation-map}
-use Rattle.std.specs.Borrow.{Bor}
-use Rattle.std.specs.Cmp.Lexicographic.{slice_cmp, nat_list_cmp_total}
-use Rattle.std.specs.List.Sorted.{IsPermutation}
-use Rattle.std.specs.Ordering.{nat_cmp, is_lt}
-use Rattle.crawl_keys.specs.HostFilter.{allows}
-use Rattle.crawl_sources.specs.Tallies.{pointed}
+use Rattle.crawl_report.proofs.Prelude.{ℕ, List, subst, ◌∙◌, rules, answers_always, ranks_by, IsPermutation-map, Bor, slice_cmp, nat_list_cmp_total, IsPermutation, nat_cmp, is_lt, allows, pointed}
 use Rattle.crawl_report.proofs.Sets.{sorted_pointed, unseen_unreached}
 use Rattle.crawl_report.proofs.unseen.unreached.Goals as goal
 

@@ -1,9 +1,4 @@
-use Rattle.std.proofs.Common.{◌||◌, [], ◌∷◌, ◌++◌, take, sym, ap, ◌∙◌}
-use Rattle.std.proofs.lemmas.List.{take_more}
-use Rattle.std.specs.Str.{bytes_eq}
-use Rattle.crawl_pages.specs.declared.page.PageResult.{PageResult}
-use Rattle.crawl_report.specs.Unreached.{has_result}
-use Rattle.crawl_sources.proofs.Counts.{any_push, set_put}
+use Rattle.crawl_report.proofs.Prelude.{◌||◌, [], ◌∷◌, ◌++◌, take, sym, ap, ◌∙◌, take_more, bytes_eq, PageResult, has_result, any_push, set_put}
 use Rattle.crawl_report.proofs.unseen.urls_of.Goals as goal
 
 pub loop-one-preserved : goal.loop-one-preserved

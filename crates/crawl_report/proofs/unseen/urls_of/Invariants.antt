@@ -1,5 +1,4 @@
-use Rattle.std.proofs.Common.{◌≡◌, ℕ, List, take}
-use Rattle.crawl_report.specs.Unreached.{has_result, is_in}
+use Rattle.crawl_report.proofs.Prelude.{◌≡◌, ℕ, List, take, has_result, is_in}
 use Rattle.crawl_report.proofs.unseen.urls_of.Given as goal
 
 abbrev pub invariant-loop-one : goal.invariant-loop-one

@@ -1,7 +1,4 @@
-use Rattle.std.proofs.Common.{◌≡◌, ℕ, List, sym, subst, rules, if◌then◌else◌}
-use Rattle.std.specs.Option.{option_map}
-use Rattle.std.specs.Str.{bytes_eq}
-use Rattle.crawl_sources.specs.Tallies.{counted, count_of}
+use Rattle.crawl_sources.proofs.Prelude.{◌≡◌, ℕ, List, sym, subst, rules, if◌then◌else◌, option_map, bytes_eq, counted, count_of}
 use Rattle.crawl_sources.proofs.Counts.{count_put}
 use Rattle.crawl_sources.proofs.counting.count_link.Goals as goal
 

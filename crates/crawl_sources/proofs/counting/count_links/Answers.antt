@@ -1,9 +1,4 @@
-use Rattle.std.proofs.Common.{◌≡◌, ℕ, List, [], ◌∷◌, ◌++◌, take, sym, ap, subst, ◌∙◌, if◌then◌else◌}
-use Rattle.std.proofs.lemmas.List.{take_more}
-use Rattle.std.specs.List.{list_any}
-use Rattle.std.specs.Option.{option_map}
-use Rattle.std.specs.Str.{bytes_eq}
-use Rattle.crawl_sources.specs.Tallies.{counted, count_of}
+use Rattle.crawl_sources.proofs.Prelude.{◌≡◌, ℕ, List, [], ◌∷◌, ◌++◌, take, sym, ap, subst, ◌∙◌, if◌then◌else◌, take_more, list_any, option_map, bytes_eq, counted, count_of}
 use Rattle.crawl_sources.proofs.Counts.{link_more}
 use Rattle.crawl_sources.proofs.counting.count_links.Goals as goal
 

@@ -1,8 +1,4 @@
-use Rattle.std.proofs.Common.{◌≡◌, ℕ, List, take, if◌then◌else◌}
-use Rattle.std.specs.List.{list_any}
-use Rattle.std.specs.Option.{option_map}
-use Rattle.std.specs.Str.{bytes_eq}
-use Rattle.crawl_sources.specs.Tallies.{counted, count_of}
+use Rattle.crawl_sources.proofs.Prelude.{◌≡◌, ℕ, List, take, if◌then◌else◌, list_any, option_map, bytes_eq, counted, count_of}
 use Rattle.crawl_sources.proofs.counting.count_links.Given as goal
 
 abbrev pub invariant-loop-link : goal.invariant-loop-link

@@ -1,5 +1,4 @@
-use Rattle.std.proofs.Common.{◌≡◌, ℕ, List, [], take, IsSome}
-use Rattle.crawl_sources.specs.Tallies.{count_of, IsTally}
+use Rattle.crawl_sources.proofs.Prelude.{◌≡◌, ℕ, List, [], take, IsSome, count_of, IsTally}
 use Rattle.crawl_sources.proofs.counting.count_results.Given as goal
 
 abbrev pub invariant-loop-one : goal.invariant-loop-one

@@ -1,8 +1,4 @@
-use Rattle.std.proofs.Common.{◌≡◌, ℕ, List, take, Some, None, if◌then◌else◌}
-use Rattle.std.specs.List.{list_any}
-use Rattle.std.specs.Str.{bytes_eq}
-use Rattle.crawl_pages.specs.declared.page.PageResult.{PageResult}
-use Rattle.crawl_sources.specs.Tallies.{pointed, count_of, none_counted}
+use Rattle.crawl_sources.proofs.Prelude.{◌≡◌, ℕ, List, take, Some, None, if◌then◌else◌, list_any, bytes_eq, PageResult, pointed, count_of, none_counted}
 use Rattle.crawl_sources.proofs.counting.no_tallies.Given as goal
 
 abbrev pub invariant-loop-one : goal.invariant-loop-one

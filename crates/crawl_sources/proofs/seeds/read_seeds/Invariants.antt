@@ -1,7 +1,5 @@
-use Rattle.std.proofs.Common.{◌≡◌, ◌+◌, ◌≤◌, ◌++◌, length}
-use Rattle.std.specs.List.{filter_map}
+use Rattle.crawl_sources.proofs.Prelude.{◌≡◌, ◌+◌, ◌≤◌, ◌++◌, length, filter_map, first_fault, seed_url}
 use Rattle.std.specs.Str.Lines.{lines}
-use Rattle.crawl_sources.specs.Seeds.{first_fault, seed_url}
 use Rattle.crawl_sources.proofs.seeds.read_seeds.Given as goal
 
 abbrev pub invariant-loop-line : goal.invariant-loop-line

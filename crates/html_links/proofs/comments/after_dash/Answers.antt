@@ -1,6 +1,6 @@
-use Rattle.std.proofs.Common.{◌∙◌, ap, arith}
+use Rattle.std.proofs.Common.{◌∙◌, ap}
 use Rattle.html_links.specs.Comments.{End, EndBang, run}
-use Rattle.html_links.proofs.Dashing.{to_end, left_behind, no_end, no_bang_end}
+use Rattle.html_links.proofs.Dashing.{to_end, no_end, no_bang_end}
 use Rattle.html_links.proofs.comments.after_dash.Goals as goal
 
 pub returns-in-Some-behind_byte-clause-ends : goal.returns-in-Some-behind_byte-clause-ends
@@ -12,9 +12,6 @@ returns-in_default-behind_byte-2-clause-ends c =
     to_end c.args.bytes.now c.in-Some.dashed.now c.skip_dashes-more.result.now c.in-Some.ensures c.skip_dashes-more.ensures.skipped
     ∙ no_end c.skip_dashes-more.result.now c.skip_dashes-more.ensures.stopped c.in_default-behind_byte.ensures c.in_default-behind_byte-2.ensures
 
-pub returns-in_default-behind_byte-2-clause-leaves : goal.returns-in_default-behind_byte-2-clause-leaves
-returns-in_default-behind_byte-2-clause-leaves c = grind (arith, left_behind)
-
 pub returns-in-Some-behind_byte-3-clause-ends : goal.returns-in-Some-behind_byte-3-clause-ends
 returns-in-Some-behind_byte-3-clause-ends c =
     to_end c.args.bytes.now c.in-Some.dashed.now c.skip_dashes-more.result.now c.in-Some.ensures c.skip_dashes-more.ensures.skipped
@@ -24,6 +21,3 @@ pub returns-in-None-clause-ends : goal.returns-in-None-clause-ends
 returns-in-None-clause-ends c =
     to_end c.args.bytes.now c.in-Some.dashed.now c.skip_dashes-more.result.now c.in-Some.ensures c.skip_dashes-more.ensures.skipped
     ∙ ap (run End) c.in-Some-behind_byte-2.ensures ∙ no_bang_end c.in-Some-behind_byte-2.banged.now c.in-None.ensures
-
-pub returns-in-None-clause-leaves : goal.returns-in-None-clause-leaves
-returns-in-None-clause-leaves c = grind (arith, left_behind)

@@ -1,10 +1,10 @@
-use Rattle.html_links.proofs.Documents.{read_comment, comment_leaves}
+use native.Mathlib.Omega.{arith}
+use Rattle.html_links.proofs.Documents.{in_comment}
 use Rattle.html_links.proofs.document.after_declaration.Goals as goal
+use Rattle.html_links.proofs.Dashing.{comment_less}
 
 pub returns-in-Some-behind_byte-clause-reads : goal.returns-in-Some-behind_byte-clause-reads
-returns-in-Some-behind_byte-clause-reads c =
-    read_comment c.args.bytes.now c.in-Some.dashed.now c.in-Some-behind_byte.text.now c.after_comment.result c.in-Some.ensures c.in-Some-behind_byte.ensures c.after_comment.ensures
+returns-in-Some-behind_byte-clause-reads c = grind (arith, in_comment)
 
 pub returns-in-Some-behind_byte-clause-leaves : goal.returns-in-Some-behind_byte-clause-leaves
-returns-in-Some-behind_byte-clause-leaves c =
-    comment_leaves c.after_comment.result c.args.bytes.now c.in-Some.dashed.now c.in-Some-behind_byte.text.now c.in-Some.ensures c.in-Some-behind_byte.ensures c.after_comment.ensures
+returns-in-Some-behind_byte-clause-leaves c = grind (arith, comment_less)

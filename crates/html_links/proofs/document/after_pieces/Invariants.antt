@@ -1,5 +1,4 @@
-use Rattle.std.proofs.Common.{◌≡◌, List, length, []}
-use Rattle.html_links.specs.Tags.{Attribute, run, BeforeName}
+use Rattle.html_links.proofs.Prelude.{◌≡◌, List, length, [], Attribute, run, BeforeName}
 use Rattle.html_links.proofs.document.after_pieces.Given as goal
 
 -- the tag ends where the rest of it ends, after some attributes

@@ -1,13 +1,8 @@
-use Rattle.html_links.specs.Document.{TagOpen}
-use Rattle.html_links.specs.Markup.{in_tag_name}
-use Rattle.std.proofs.Common.{false}
-use Rattle.html_links.proofs.Documents.{read_tag_name, letter_opens, led_shorter}
+use Rattle.html_links.proofs.Prelude.{TagOpen, false}
+use Rattle.html_links.proofs.Documents.{read_tag_name, letter_opens}
 use Rattle.html_links.proofs.document.next_markup.Goals as goal
 
 pub returns-in-Letter-clause-reads : goal.returns-in-Letter-clause-reads
 returns-in-Letter-clause-reads c =
     read_tag_name TagOpen false c.args.bytes.now c.in-Some.first c.in-Some.more.now c.split_tag_name.result.0.now c.split_tag_name.result.1.now
     c.in-Some.ensures (letter_opens c.in-Some.first c.in-Letter.ensures) c.split_tag_name.ensures.name c.split_tag_name.ensures.rest
-
-pub returns-in-Letter-clause-leaves : goal.returns-in-Letter-clause-leaves
-returns-in-Letter-clause-leaves c = rw c.split_tag_name.ensures.rest (led_shorter in_tag_name c.args.bytes.now)

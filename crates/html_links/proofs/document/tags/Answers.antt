@@ -1,40 +1,31 @@
-use Rattle.std.proofs.lemmas.Bool.Decides.{nat_tests}
-use Rattle.std.proofs.lemmas.Grind.{common_steps}
-use Rattle.std.proofs.Common.{◌∷◌, ◌∙◌, ◌<◌, ap, arith, length, map, sym}
-use Rattle.html_links.specs.Tags.{lower}
-use Rattle.html_links.specs.Document.{Data, Start, read, start_tags, tags_of}
-use Rattle.html_links.specs.Shown.{tag_at}
-use Rattle.html_links.specs.Markup.{start_tag_at}
-use Rattle.html_links.proofs.Documents.{nothing_more, goes_on, one_more, last_one, read_text, read_less, end_tags, read_end_tag, read_open_end_tag, read_start_tag, read_open_start_tag, start_less, end_less, cut_shorter}
+use Rattle.html_links.proofs.Prelude.{common_steps, ◌∷◌, ◌∙◌, ◌<◌, ap, arith, length, map, sym, lower, Start, tags_of, tag_at, start_tag_at}
+use Rattle.html_links.proofs.Documents.{end_then, tag_less, in_tag, nothing_more, one_more, last_one, read_text, read_less, read_open_end_tag, read_start_tag, read_open_start_tag, start_less, cut_shorter}
 use Rattle.html_links.proofs.document.tags.Goals as goal
+use Rattle.html_links.proofs.Scripts.{left}
 
 pub returns-in_default : goal.returns-in_default
 returns-in_default c = nothing_more (map start_tag_at c.markup.tags.items) (tags_of c.args.bytes.now) c.markup.rest.now c.markup.invariant (read_text c.markup.rest.now c.in_default.ensures)
 
 pub returns-in-Unfinished : goal.returns-in-Unfinished
-returns-in-Unfinished c = grind (arith, nat_tests, common_steps, nothing_more, read_less)
+returns-in-Unfinished c = grind (arith, common_steps, nothing_more, read_less)
 
 pub markup-preserved : goal.markup-preserved
-markup-preserved c = grind (arith, goes_on, read_less)
+markup-preserved c = grind (arith, read_less)
 
 pub markup-smaller : goal.markup-smaller
 markup-smaller c = grind (arith, cut_shorter)
 
 pub returns-in_default-after_tag : goal.returns-in_default-after_tag
-returns-in_default-after_tag c = grind (arith, nat_tests, common_steps, nothing_more, read_open_end_tag)
+returns-in_default-after_tag c = grind (arith, common_steps, nothing_more, read_open_end_tag)
 
 pub markup-preserved-in-End : goal.markup-preserved-in-End
-markup-preserved-in-End c =
-    goes_on (map start_tag_at c.markup.tags.items) (tags_of c.args.bytes.now) c.markup.rest.now c.in-Some-after_tag.last.now c.markup.invariant
-    (ap start_tags (read_end_tag c.markup.rest.now c.in-Some.opened.now _ c.in-End.more.now c.in-Some-after_tag.last.now c.in-Some.ensures.1 c.in-End.ensures.reads c.in-Some-after_tag.ensures)
-    ∙ end_tags (map lower c.in-End.field-0.now) (read Data c.in-Some-after_tag.last.now))
+markup-preserved-in-End c = grind (arith, read_less, in_tag, end_then, left)
 
 pub markup-smaller-in-End : goal.markup-smaller-in-End
-markup-smaller-in-End c =
-    end_less c.markup.rest.now c.in-Some.opened.now c.in-End.more.now c.in-Some-after_tag.last.now c.in-Some.ensures.1 c.in-End.ensures.leaves c.in-Some-after_tag.ensures
+markup-smaller-in-End c = grind (arith, cut_shorter, left, tag_less)
 
 pub returns-in_default-2 : goal.returns-in_default-2
-returns-in_default-2 c = grind (arith, nat_tests, common_steps, nothing_more, read_open_start_tag)
+returns-in_default-2 c = grind (arith, common_steps, nothing_more, read_open_start_tag)
 
 pub markup-smaller-in-Start : goal.markup-smaller-in-Start
 markup-smaller-in-Start c =

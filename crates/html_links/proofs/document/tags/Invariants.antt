@@ -1,6 +1,4 @@
-use Rattle.std.proofs.Common.{◌≡◌, ◌++◌, map, length}
-use Rattle.html_links.specs.Document.{tags_of}
-use Rattle.html_links.specs.Markup.{start_tag_at}
+use Rattle.html_links.proofs.Prelude.{◌≡◌, ◌++◌, map, length, tags_of, start_tag_at}
 use Rattle.html_links.proofs.document.tags.Given as goal
 
 -- the tags so far and those of what is left are those of the whole

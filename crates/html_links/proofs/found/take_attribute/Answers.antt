@@ -1,10 +1,6 @@
-use Rattle.std.proofs.Common.{◌∙◌, sym}
-use Rattle.html_links.specs.Values.{values_at}
-use Rattle.html_links.proofs.Wanting.{not_wanted}
+use Rattle.html_links.proofs.Prelude.{◌∙◌, sym, values_at}
+use Rattle.html_links.proofs.Telling.{not_wanted}
 use Rattle.html_links.proofs.found.take_attribute.Goals as goal
-
-pub take_link-requires : goal.take_link-requires
-take_link-requires c = (c.is_link.ensures c.if-is_link.true).1
 
 pub returns-then-not-may_be : goal.returns-then-not-may_be
 returns-then-not-may_be c =

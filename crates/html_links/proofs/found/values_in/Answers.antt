@@ -1,12 +1,6 @@
-use Rattle.std.proofs.Common.{[], refl}
-use Rattle.html_links.specs.Shown.{attribute_at}
-use Rattle.html_links.specs.Elements.{wanted_of}
-use Rattle.html_links.specs.Values.{values_at}
+use Rattle.html_links.proofs.Prelude.{attribute_at, wanted_of, values_at}
 use Rattle.html_links.proofs.Reading.{one_more}
 use Rattle.html_links.proofs.found.values_in.Goals as goal
-
-pub pieces-init : goal.pieces-init
-pieces-init c = record { all = []; reads = refl; values = c.clear.ensures }
 
 pub pieces-preserved-in-Attribute : goal.pieces-preserved-in-Attribute
 pieces-preserved-in-Attribute c =

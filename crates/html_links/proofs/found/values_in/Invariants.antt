@@ -1,6 +1,4 @@
-use Rattle.std.proofs.Common.{length}
-use Rattle.html_links.specs.Elements.{wanted_of}
-use Rattle.html_links.specs.Values.{values_at}
+use Rattle.html_links.proofs.Prelude.{length, wanted_of, values_at}
 use Rattle.html_links.proofs.Reading.{Reading}
 use Rattle.html_links.proofs.found.values_in.Given as goal
 

@@ -1,10 +1,7 @@
-use Rattle.std.proofs.Common.{rules, tests, ◌==◌, ◌+◌, List, ℕ, Some, length, drop, ap, sym, ◌∙◌}
+use Rattle.html_links.proofs.Prelude.{rules, tests, ◌==◌, ◌+◌, List, ℕ, Some, length, drop, ap, sym, ◌∙◌, find, slice_split, take_rest, counts, list_at}
 use Rattle.std.specs.Option.{option_map}
-use Rattle.std.specs.List.{find, slice_split}
-use Rattle.std.proofs.lemmas.List.{take_rest}
 use Rattle.std.proofs.lemmas.Iterator.Search.{find_from_yields_List}
 use Rattle.std.proofs.lemmas.Iterator.Splits.{YieldsList-from_slice_split}
-use Rattle.html_links.specs.Names.{counts, list_at}
 use Rattle.html_links.proofs.names.named.Goals as goal
 
 pub returns-in_default : goal.returns-in_default

@@ -1,6 +1,4 @@
-use Rattle.std.proofs.Common.{None, Some, arith, subst}
-use Rattle.std.proofs.lemmas.List.{take_rest}
-use Rattle.memchr.specs.Find.{IsFirstByte, is_byte}
+use Rattle.html_links.proofs.Prelude.{None, Some, arith, subst, take_rest, IsFirstByte, is_byte}
 use Rattle.html_links.proofs.Nearness.{near_first, far_first, far_none}
 use Rattle.html_links.proofs.near.near_byte.Goals as goal
 

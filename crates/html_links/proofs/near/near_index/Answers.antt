@@ -1,6 +1,4 @@
-use Rattle.std.proofs.Common.{take}
-use Rattle.std.proofs.lemmas.List.{length-take-le}
-use Rattle.std.proofs.lemmas.Simd.{zip2_splat}
+use Rattle.html_links.proofs.Prelude.{take, length-take-le, zip2_splat}
 use Rattle.html_links.proofs.Nearness.{near_place}
 use Rattle.html_links.proofs.near.near_index.Goals as goal
 

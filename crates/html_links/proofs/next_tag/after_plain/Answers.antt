@@ -1,13 +1,5 @@
-use Rattle.std.proofs.Common.{ap, sym}
-use Rattle.html_links.specs.declared.element.Element.TheVariants.{Other}
-use Rattle.html_links.specs.Tags.{tag_of}
-use Rattle.html_links.specs.Elements.{wanted_of}
-use Rattle.html_links.specs.Values.{values_in}
 use Rattle.html_links.proofs.Reading.{plain_class}
 use Rattle.html_links.proofs.next_tag.after_plain.Goals as goal
-
-pub returns-in-Some : goal.returns-in-Some
-returns-in-Some c = sym (ap (λ bytes. values_in (wanted_of Other) (tag_of bytes)) c.in-Some.ensures)
 
 pub returns-in-Some-split_quoted : goal.returns-in-Some-split_quoted
 returns-in-Some-split_quoted c =

@@ -1,10 +1,5 @@
-use Rattle.std.proofs.Common.{◌∙◌, [], map, refl, sym}
-use Rattle.html_links.specs.declared.element.Element.TheVariants.{Other}
-use Rattle.html_links.specs.Tags.{lower}
-use Rattle.html_links.specs.Elements.{wanted_of}
-use Rattle.html_links.specs.Values.{values_at, no_values}
-use Rattle.html_links.proofs.Seeing.{open_start, text_less}
-use Rattle.html_links.proofs.Passing.{has_same, passes_tag, usual_seen}
+use Rattle.html_links.proofs.Prelude.{◌∙◌, [], map, refl, sym, Other, lower, wanted_of, values_at, no_values}
+use Rattle.html_links.proofs.Passing.{open_start, text_less, has_same, passes_tag, usual_seen}
 use Rattle.html_links.proofs.next_tag.usual_tag.Goals as goal
 
 pub returns-in-Some : goal.returns-in-Some

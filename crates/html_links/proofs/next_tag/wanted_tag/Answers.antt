@@ -1,14 +1,6 @@
-use Rattle.std.proofs.Common.{◌∙◌, ◌∷◌, ◌<◌, ap, arith, length, map, refl, []}
-use Rattle.html_links.specs.Tags.{lower}
-use Rattle.html_links.specs.Elements.{wanted_of}
-use Rattle.html_links.specs.Values.{values_at}
-use Rattle.html_links.specs.Seen.{seen_with}
-use Rattle.html_links.proofs.Seeing.{seen_start, open_start, text_less}
-use Rattle.html_links.proofs.Passing.{has_same}
+use Rattle.html_links.proofs.Prelude.{◌∙◌, ◌∷◌, ◌<◌, ap, arith, length, map, refl, lower, wanted_of, values_at, seen_with}
+use Rattle.html_links.proofs.Passing.{seen_start, text_less, has_same}
 use Rattle.html_links.proofs.next_tag.wanted_tag.Goals as goal
-
-pub returns-in_default : goal.returns-in_default
-returns-in_default c = has_same _ [] (open_start (map lower c.args.name.now) c.args.bytes.now (wanted_of c.element_of-element.result) c.in_default.ensures)
 
 pub returns-in-Some-after_contents : goal.returns-in-Some-after_contents
 returns-in-Some-after_contents c =

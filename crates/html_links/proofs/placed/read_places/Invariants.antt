@@ -1,7 +1,4 @@
-use Rattle.std.proofs.Common.{◌≡◌, ◌++◌, length}
-use Rattle.html_links.specs.Seen.{seen_in}
-use Rattle.html_links.specs.Links.{links_in, links_of, base_in, base_of, or_later}
-use Rattle.html_links.specs.Reads.{base_at}
+use Rattle.html_links.proofs.Prelude.{◌≡◌, ◌++◌, length, seen_in, links_in, links_of, base_in, base_of, or_later, base_at}
 use Rattle.html_links.proofs.placed.read_places.Given as goal
 
 -- the links so far and those of what is left are the whole, and so is the base

@@ -1,6 +1,4 @@
-use Rattle.std.proofs.Common.{◌∙◌, ◌<◌, length, map, sym, true, false, ℕ, List}
-use Rattle.std.proofs.lemmas.List.{length-map}
-use Rattle.std.specs.Char.{to_ascii_lowercase}
+use Rattle.html_links.proofs.Prelude.{◌∙◌, ◌<◌, length, map, sym, true, false, ℕ, List, length-map, to_ascii_lowercase}
 use Rattle.html_links.proofs.RawTexts.{read_less, read_no_less, no_slash, read_end, raw_less, opened_less}
 use Rattle.html_links.proofs.raw_text.after_raw_text.Goals as goal
 

@@ -1,5 +1,4 @@
-use Rattle.std.proofs.Common.{◌≡◌, length, map}
-use Rattle.std.specs.Char.{to_ascii_lowercase}
+use Rattle.html_links.proofs.Prelude.{◌≡◌, length, map, to_ascii_lowercase}
 use Rattle.html_links.specs.RawText.{run, Text}
 use Rattle.html_links.proofs.raw_text.after_raw_text.Given as goal
 

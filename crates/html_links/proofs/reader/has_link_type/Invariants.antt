@@ -1,5 +1,4 @@
-use Rattle.std.proofs.Common.{◌≡◌, [], length}
-use Rattle.html_links.specs.Links.{types_behind}
+use Rattle.html_links.proofs.Prelude.{◌≡◌, [], length, types_behind}
 use Rattle.html_links.proofs.reader.has_link_type.Given as goal
 
 abbrev pub invariant-words : goal.invariant-words

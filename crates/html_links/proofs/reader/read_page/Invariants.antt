@@ -1,7 +1,4 @@
-use Rattle.std.proofs.Common.{◌≡◌, ◌++◌, length}
-use Rattle.html_links.specs.Seen.{seen_in}
-use Rattle.html_links.specs.Links.{links_in, links_of, ids_in, ids_of, base_in, base_of, or_later}
-use Rattle.html_links.specs.Reads.{base_at}
+use Rattle.html_links.proofs.Prelude.{◌≡◌, ◌++◌, length, seen_in, links_in, links_of, ids_in, ids_of, base_in, base_of, or_later, base_at}
 use Rattle.html_links.proofs.reader.read_page.Given as goal
 
 -- the links and ids so far and those of what is left are the whole, and so is the base

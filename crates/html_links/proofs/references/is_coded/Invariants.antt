@@ -1,5 +1,4 @@
-use Rattle.std.proofs.Common.{◌≡◌, ◌<◌, ◌-◌, ℕ, false, get_or, length}
-use Rattle.html_links.specs.Decoding.{is_mark}
+use Rattle.html_links.proofs.Prelude.{◌≡◌, ◌<◌, ◌-◌, ℕ, false, get_or, length, is_mark}
 use Rattle.html_links.proofs.references.is_coded.Given as goal
 
 -- there was no mark so far

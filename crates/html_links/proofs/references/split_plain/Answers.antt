@@ -1,5 +1,4 @@
-use Rattle.std.proofs.Common.{◌==◌, ◌||◌, ◌∙◌, sym}
-use Rattle.html_links.specs.Decoding.{is_plain}
+use Rattle.html_links.proofs.Prelude.{◌==◌, ◌||◌, ◌∙◌, sym, is_plain}
 use Rattle.html_links.proofs.Cuts.{first_cut, no_first}
 use Rattle.html_links.proofs.Sources.{front_all}
 use Rattle.html_links.proofs.references.split_plain.Goals as goal

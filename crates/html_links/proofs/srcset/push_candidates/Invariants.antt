@@ -1,5 +1,4 @@
-use Rattle.std.proofs.Common.{◌≡◌, ◌++◌, length}
-use Rattle.html_links.specs.Candidates.{candidates_of}
+use Rattle.html_links.proofs.Prelude.{◌≡◌, ◌++◌, length, candidates_of}
 use Rattle.html_links.proofs.srcset.push_candidates.Given as goal
 
 -- the texts so far and those of what is left are the whole

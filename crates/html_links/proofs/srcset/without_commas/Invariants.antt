@@ -1,5 +1,4 @@
-use Rattle.std.proofs.Common.{◌≡◌, length}
-use Rattle.html_links.specs.Candidates.{without_commas}
+use Rattle.html_links.proofs.Prelude.{◌≡◌, length, without_commas}
 use Rattle.html_links.proofs.srcset.without_commas.Given as goal
 
 abbrev pub invariant-commas : goal.invariant-commas

@@ -1,6 +1,5 @@
 use native.Mathlib.Omega.{arith}
-use Rattle.html_links.proofs.Jumps.{read_equals, read_bare, read_quote, quote_within, name_shorter}
-use Rattle.html_links.proofs.Loops.{leaves_less, value_leaves}
+use Rattle.html_links.proofs.Jumps.{skip_before_value, read_name, shorter, read_bare, read_quote, quote_within, name_shorter, leaves_less}
 use Rattle.html_links.proofs.tag.attribute.Goals as goal
 
 pub returns-in-Some-clause-reads : goal.returns-in-Some-clause-reads
@@ -10,7 +9,7 @@ pub returns-in-Some-clause-leaves : goal.returns-in-Some-clause-leaves
 returns-in-Some-clause-leaves c = grind (arith, leaves_less, quote_within)
 
 pub returns-in-Some-behind_byte-clause-reads : goal.returns-in-Some-behind_byte-clause-reads
-returns-in-Some-behind_byte-clause-reads c = grind (arith, read_equals)
+returns-in-Some-behind_byte-clause-reads c = grind (arith, read_name, skip_before_value)
 
 pub returns-in-None-clause-reads : goal.returns-in-None-clause-reads
 returns-in-None-clause-reads c = grind (arith, read_bare)
@@ -19,4 +18,4 @@ pub returns-in-None-clause-leaves : goal.returns-in-None-clause-leaves
 returns-in-None-clause-leaves c = grind (arith, name_shorter)
 
 pub returns-in-Some-behind_byte-clause-leaves : goal.returns-in-Some-behind_byte-clause-leaves
-returns-in-Some-behind_byte-clause-leaves c = grind (arith, value_leaves, name_shorter)
+returns-in-Some-behind_byte-clause-leaves c = grind (arith, name_shorter, shorter, leaves_less)

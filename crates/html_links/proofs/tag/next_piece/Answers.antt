@@ -1,17 +1,12 @@
-use native.Mathlib.Omega.{arith}
-use Rattle.std.proofs.Common.{◌∙◌}
-use Rattle.html_links.proofs.Jumps.{read_class, class_within, read_href, href_within}
-use Rattle.html_links.proofs.Loops.{leaves_less}
+use Rattle.std.proofs.Common.{◌∙◌, arith}
+use Rattle.html_links.proofs.Jumps.{read_class, leaves_less}
 use Rattle.html_links.proofs.tag.next_piece.Goals as goal
 
 pub returns-in-Some-clause-reads : goal.returns-in-Some-clause-reads
 returns-in-Some-clause-reads c = λ all. read_class c.args.bytes.now c.in-Some.more.now c.in-Some.ensures all ∙ c.quoted.ensures.reads all
 
 pub returns-in-Some-clause-leaves : goal.returns-in-Some-clause-leaves
-returns-in-Some-clause-leaves c = grind (arith, leaves_less, class_within)
-
-pub returns-in-Some-behind_href-clause-reads : goal.returns-in-Some-behind_href-clause-reads
-returns-in-Some-behind_href-clause-reads c = λ all. read_href c.args.bytes.now c.in-Some-behind_href.more.now c.in-Some-behind_href.ensures all ∙ c.quoted-in-Some-behind_href.ensures.reads all
+returns-in-Some-clause-leaves c = grind (arith, leaves_less)
 
 pub returns-in-Some-behind_href-clause-leaves : goal.returns-in-Some-behind_href-clause-leaves
-returns-in-Some-behind_href-clause-leaves c = grind (arith, leaves_less, href_within)
+returns-in-Some-behind_href-clause-leaves c = grind (arith, leaves_less)

@@ -1,6 +1,4 @@
-use Rattle.std.proofs.Common.{◌≡◌, length, map, reverse, []}
-use Rattle.html_links.specs.Tags.{run, BeforeName}
-use Rattle.html_links.specs.Shown.{attribute_at}
+use Rattle.html_links.proofs.Prelude.{◌≡◌, length, map, reverse, [], run, BeforeName, attribute_at}
 use Rattle.html_links.proofs.tag.read_tag.Given as goal
 
 -- what is left gives, after the attributes so far, what the whole gives

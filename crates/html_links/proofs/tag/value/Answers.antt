@@ -1,6 +1,4 @@
-use Rattle.std.proofs.Common.{◌∙◌, ◌≤◌, ◌==◌, arith, length, map, not}
-use Rattle.html_links.specs.Tags.{lower}
-use Rattle.html_links.specs.Shown.{in_unquoted}
+use Rattle.html_links.proofs.Prelude.{◌∙◌, ◌≤◌, ◌==◌, arith, length, map, not, lower, in_unquoted}
 use Rattle.html_links.proofs.Jumps.{read_double, read_open_double, read_single, read_open_single, read_unquoted, quoted_shorter, shorter}
 use Rattle.html_links.proofs.tag.value.Goals as goal
 

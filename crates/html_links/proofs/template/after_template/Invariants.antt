@@ -1,6 +1,4 @@
-use Rattle.std.proofs.Common.{◌≡◌, ◌≤◌, ◌+◌, length, suc}
-use Rattle.html_links.specs.Document.{read, Data}
-use Rattle.html_links.specs.Seen.{seen_within}
+use Rattle.html_links.proofs.Prelude.{◌≡◌, ◌≤◌, ◌+◌, length, suc, read, Data, seen_within}
 use Rattle.html_links.proofs.template.after_template.Given as goal
 
 -- what is left, with the templates that are open, is read as the whole is

@@ -1,6 +1,4 @@
-use Rattle.std.proofs.Common.{take, true}
-use Rattle.crawl_report.specs.Printing.{Adds}
-use Rattle.crawl_report.specs.Rows.{moved_lines}
+use Rattle.crawl_report.proofs.Prelude.{take, true, Adds, moved_lines}
 use Rattle.crawl_report.proofs.report.moved.with_targets.Given as goal
 
 abbrev pub invariant-loop-one : goal.invariant-loop-one

@@ -1,7 +1,6 @@
-use Rattle.std.proofs.Common.{[], ◌∷◌, map}
+use Rattle.crawl_report.proofs.Prelude.{[], ◌∷◌, map, pointed}
 use Rattle.std.specs.Option.{option_map}
 use Rattle.crawl_report.specs.Lines as line
-use Rattle.crawl_sources.specs.Tallies.{pointed}
 use Rattle.crawl_report.proofs.Adding.{then_more}
 use Rattle.crawl_report.proofs.report.referrers.with_tally.Goals as goal
 

@@ -1,13 +1,7 @@
-use Rattle.std.proofs.Common.{◌∷◌, map, ap, ◌∙◌}
-use Rattle.std.proofs.lemmas.List.{take_all}
-use Rattle.std.specs.List.{flat_map}
-use Rattle.crawl_pages.specs.declared.page.PageResult.{PageResult}
-use Rattle.crawl_sources.specs.Tallies.{pointed, count_of}
-use Rattle.crawl_sources.proofs.Counts.{url_among}
+use Rattle.crawl_report.proofs.Prelude.{◌∷◌, map, ap, ◌∙◌, take_all, flat_map, PageResult, pointed, count_of, url_among, lines_at}
 use Rattle.crawl_report.specs.Lines as line
-use Rattle.crawl_report.specs.Rows.{lines_at}
 use Rattle.crawl_report.proofs.Adding.{adds_none, adds_same, told_more}
-use Rattle.crawl_report.proofs.Counts.{lines_counted}
+use Rattle.crawl_report.proofs.Sets.{lines_counted}
 use Rattle.crawl_report.proofs.report.referrers.with_told.Goals as goal
 
 pub tally_of-tally-requires : goal.tally_of-tally-requires

@@ -1,9 +1,4 @@
-use Rattle.std.proofs.Common.{ℕ, List, take}
-use Rattle.std.specs.List.{flat_map}
-use Rattle.crawl_pages.specs.declared.page.PageResult.{PageResult}
-use Rattle.crawl_report.specs.Printing.{Adds}
-use Rattle.crawl_report.specs.Rows.{lines_at}
-use Rattle.crawl_sources.specs.Tallies.{pointed, count_of, IsTally}
+use Rattle.crawl_report.proofs.Prelude.{ℕ, List, take, flat_map, PageResult, Adds, lines_at, pointed, count_of, IsTally}
 use Rattle.crawl_report.proofs.report.referrers.with_told.Given as goal
 
 abbrev pub invariant-loop-one : goal.invariant-loop-one
