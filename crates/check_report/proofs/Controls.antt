@@ -1,5 +1,5 @@
 -- No control character is left in an escaped text.
-use Rattle.check_report.proofs.Prelude.{◌≡◌, ℕ, ◌+◌, ◌/◌, ◌%◌, ◌≤◌, ◌==◌, true, false, ◌&&◌, not, List, [], ◌∷◌, ◌++◌, codes, nat_lt, chars, IsUtf8, refl, arith, and_parts, both_ways, cond_both, eqb-true, false_from_ne_true, leb-true, ltb-true, ne_eqb, nat_tests, flat_map, list_all, escape_of, is_hidden, is_printed, is_visible, shown_char, data_char, escaped, escaped_char, has_no_c1, is_c1, Escape}
+use Rattle.check_report.proofs.Prelude.{◌≡◌, ℕ, ◌+◌, ◌/◌, ◌%◌, ◌==◌, true, false, ◌&&◌, not, List, [], ◌∷◌, ◌++◌, codes, nat_lt, chars, IsUtf8, refl, arith, and_parts, both_ways, cond_both, eqb-true, false_from_ne_true, leb-true, ltb-true, ne_eqb, flat_map, list_all, escape_of, is_hidden, is_printed, is_visible, shown_char, data_char, escaped, escaped_char, has_no_c1, is_c1, Escape}
 use Rattle.std.specs.Char.{encode_utf8}
 use Rattle.shown_text.proofs.Visible.{Passes, ascii_from, char_visible, each_passes, escape_passes, is_low, low_passes, passes_ascii, passes_text, shown_char_printed}
 use Rattle.check_report.specs.declared.escape.Escape.TheVariants as escape
@@ -70,12 +70,9 @@ unfolding is_low
 ascii_apart [] low = λ rest none. none
 ascii_apart (b ∷ bs) low = grind (arith, and_parts, is_low, ltb-true, other_first, ascii_apart bs)
 
-c1_hidden : (c : ℕ) → 128 ≤ c → c ≤ 159 → is_hidden c ≡ true
-c1_hidden c low high = grind (arith, nat_tests)
-
 -- the two bytes of a character that is not hidden are no C1 control
 two_apart : (c : ℕ) → is_hidden c ≡ false → ((192 + c / 64 == 194) && is_c1 (128 + c % 64)) ≡ false
-two_apart c seen = grind (arith, false_from_ne_true, and_parts, eqb-true, leb-true, both_ways, c1_hidden)
+two_apart c seen = grind (arith, false_from_ne_true, and_parts, eqb-true, leb-true, both_ways)
 
 next_first : (n : ℕ) (rest : List ℕ) → has_no_c1 rest ≡ true → has_no_c1 ((128 + n % 64) ∷ rest) ≡ true
 next_first n rest none = other_first (128 + n % 64) rest (λ e. omega arith) none

@@ -27,14 +27,11 @@ html_stays : (c : ℕ) → IsOrdinary c → html_char c ≡ shown_char c
 unfolding encode_utf8
 html_stays c plain = grind (arith, apart)
 
-char_stays : (how : Escape) (c : ℕ) → IsOrdinary c → escaped_char how c ≡ shown_char c
-char_stays how c plain = grind (arith, data_stays, property_stays, html_stays)
-
 -- ---- a run of ordinary bytes
 
 run_stays : (how : Escape) (cs : List ℕ) → list_all is_ordinary (encode_utf8_all cs) ≡ true → flat_map (escaped_char how) cs ≡ flat_map shown_char cs
 run_stays how [] plain = refl
-run_stays how (c ∷ cs) plain = grind (arith, and_parts, list_all-append, char_stays, run_stays how cs)
+run_stays how (c ∷ cs) plain = grind (arith, and_parts, list_all-append, run_stays how cs, data_stays, property_stays, html_stays)
 
 ordinary_run : (how : Escape) (run : List ℕ) → IsUtf8 run → list_all is_ordinary run ≡ true → escaped how run ≡ shown run
 ordinary_run how run utf8 plain = run_stays how (chars run) (ap (list_all is_ordinary) (encodes-chars run utf8) ∙ plain)

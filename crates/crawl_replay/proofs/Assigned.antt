@@ -1,11 +1,5 @@
 -- What the admission at a place names.
-use Rattle.std.proofs.Common.{◌≡◌, ℕ, zero, suc, List, [], ◌∷◌, slice_get, Some, Result, IfOk, subst, arith}
-use Rattle.std.specs.List.{AllByRecursion}
-use Rattle.std.proofs.lemmas.List.Elements.{recursion_from_All}
-use Rattle.crawl_core.specs.declared.event.Event.{Event}
-use Rattle.crawl_replay.specs.Assignment.{IsPlaced, IsAssigned, AreAddressed}
-use Rattle.crawl_replay.specs.declared.script.Script.{Script}
-use Rattle.crawl_replay.specs.declared.script.error.ScriptError.{ScriptError}
+use Rattle.crawl_replay.proofs.Prelude.{◌≡◌, ℕ, zero, suc, List, [], ◌∷◌, slice_get, Some, Result, IfOk, subst, arith, AllByRecursion, recursion_from_All, Event, IsPlaced, IsAssigned, AreAddressed, Script, ScriptError}
 
 pub all_at : {X : Type 0} (P : X → Type 0) (xs : List X) (i : ℕ) (x : X) → AllByRecursion P xs → slice_get xs i ≡ Some x → P x
 all_at P [] i x all at = absurd (cc)

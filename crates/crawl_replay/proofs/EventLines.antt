@@ -1,19 +1,8 @@
 -- What a line after the first says, in the words of the format.
-use Rattle.std.proofs.Common.{◌≡◌, ◌⊎◌, ℕ, Bool, true, List, ◌∷◌, ◌++◌, Option, Some, None, Result, Ok, Err, refl, sym, ap, subst, ◌∙◌, codes, inl, arith}
-use Rattle.std.specs.Prelude.{ok_or, option_and_then}
-use Rattle.std.specs.Bool.{if◌then◌else◌}
+use Rattle.crawl_replay.proofs.Prelude.{common_steps, ◌≡◌, ◌⊎◌, ℕ, Bool, true, List, ◌∷◌, ◌++◌, Option, Some, None, Result, Ok, Err, refl, sym, ap, ◌∙◌, codes, inl, arith, ok_or, option_and_then, if◌then◌else◌, bytes_eq, bytes_eq-Decides, Event, Look, Enter, Admit, Back, EndSeeds, Take, Done, Close, at_space, number_of, address_from, admit_at, admit_parts, admit_with, plain_event, numbered_event, event_from, event_of, IsNumber, IsNumbered, IsAdmit, IsBadAdmission, IsEventLine, ScriptError}
 use Rattle.std.specs.Option.{option_map}
-use Rattle.std.specs.Str.{bytes_eq}
-use Rattle.std.proofs.lemmas.Slice.Eq.{bytes_eq-Decides}
-use Rattle.crawl_core.specs.declared.event.Event.{Event}
-use Rattle.crawl_core.specs.declared.event.Event.TheVariants.{Look, Enter, Admit, Back, EndSeeds, Take, Done, Close}
 use Rattle.crawl_keys.specs.CanonicalText.{canonical}
 use Rattle.crawl_keys.specs.declared.error.KeyError.{KeyError}
-use Rattle.text_lines.specs.Fields.{at_space}
-use Rattle.crawl_replay.specs.Numbers.{number_of}
-use Rattle.crawl_replay.specs.Script.{address_from, admit_at, admit_parts, admit_with, plain_event, numbered_event, event_from, event_of}
-use Rattle.crawl_replay.specs.ScriptLines.{IsNumber, IsNumbered, IsAdmit, IsBadAdmission, IsEventLine}
-use Rattle.crawl_replay.specs.declared.script.error.ScriptError.{ScriptError}
 use Rattle.crawl_replay.specs.declared.script.error.ScriptError.TheVariants.{BadLine, BadUrl}
 use Rattle.crawl_replay.proofs.NumberText.{number_is, number_of_is, at_space-joined, at_space-number, joined-at_space}
 
@@ -24,12 +13,7 @@ by_number : (build : ℕ → Event) (found : Option ℕ) (event : Event) → opt
 by_number build found event e = grind arith
 
 numbered_line : (workers bits : ℕ) (build : ℕ → Event) (word : List ℕ) → ((value : ℕ) (line : List ℕ) → IsNumbered word bits value line → IsEventLine workers (build value) line) → (first number line : List ℕ) (event : Event) → line ≡ first ++ 32 ∷ number → bytes_eq first word ≡ true → option_map build (number_of bits number) ≡ Some event → IsEventLine workers event line
-numbered_line workers bits build word says first number line event split is_word e =
-    let found = by_number build (number_of bits number) event e in
-    let same : first ≡ word = (bytes_eq-Decides first word).0 is_word in
-    let written : line ≡ word ++ 32 ∷ number = split ∙ ap (λ w. w ++ 32 ∷ number) same in
-    let there : IsNumbered word bits found.0 line = record { number = number; written = written; valued = number_is bits number found.0 found.1 } in
-    subst (λ x. IsEventLine workers x line) found.2 (says found.0 line there)
+numbered_line workers bits build word says first number line event split is_word e = grind (arith, common_steps, by_number, bytes_eq-Decides, number_is)
 
 -- the first word that fits, or a later one
 by_word : {A : Type 0} (b : Bool) (first second : Option A) (x : A) (P : Type 0) → (b ≡ true → first ≡ Some x → P) → (second ≡ Some x → P) → (if b then first else second) ≡ Some x → P
@@ -45,12 +29,7 @@ numbered_sound workers first number line event split e =
     (λ none. absurd (cc)))))) e
 
 plain_sound : (workers : ℕ) (line : List ℕ) (event : Event) → plain_event line ≡ Some event → IsEventLine workers event line
-plain_sound workers line event e =
-    by_word (bytes_eq line (codes "endseeds")) _ _ event (IsEventLine workers event line)
-    (λ is same. let seeds : EndSeeds ≡ event = cc in subst (λ x. IsEventLine workers x line) seeds ((bytes_eq-Decides line (codes "endseeds")).0 is))
-    (by_word (bytes_eq line (codes "close")) _ _ event (IsEventLine workers event line)
-    (λ is same. let closes : Close ≡ event = cc in subst (λ x. IsEventLine workers x line) closes ((bytes_eq-Decides line (codes "close")).0 is))
-    (λ none. absurd (cc))) e
+plain_sound workers line event e = grind (arith, by_word, bytes_eq-Decides)
 
 -- what an admission has after its first space
 parts_by_number : (found : Option ℕ) (address : List ℕ) (q : ℕ × List ℕ) → option_map (λ sender. (sender, address)) found ≡ Some q → (found ≡ Some q.0) × (address ≡ q.1)

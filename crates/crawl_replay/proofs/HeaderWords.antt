@@ -1,18 +1,5 @@
 -- What the first line of a script says is what the format says of it.
-use Rattle.std.proofs.Common.{◌≡◌, ℕ, Bool, true, ◌&&◌, List, ◌∷◌, ◌++◌, Option, Some, None, Result, Ok, Err, refl, sym, ap, subst, ◌∙◌, codes, ok_or, option_and_then, arith}
-use Rattle.std.specs.Bool.{if◌then◌else◌}
-use Rattle.std.specs.Str.{bytes_eq}
-use Rattle.std.proofs.lemmas.Bool.{le-leb, and_parts}
-use Rattle.std.proofs.lemmas.Slice.Eq.{bytes_eq-Decides}
-use Rattle.crawl_limits.specs.Limits.{AreLimits, worker_limit, pending_limit}
-use Rattle.text_lines.specs.Lines.{text_of}
-use Rattle.text_lines.specs.Fields.{at_space}
-use Rattle.text_lines.specs.declared.lines.LineError.{LineError}
-use Rattle.crawl_replay.specs.Numbers.{number_of}
-use Rattle.crawl_replay.specs.Script.{is_within, header_of, header_in, with_text}
-use Rattle.crawl_replay.specs.ScriptLines.{IsLineText, IsHeaderLine, HeaderSays}
-use Rattle.crawl_replay.specs.declared.script.header.Header.{Header}
-use Rattle.crawl_replay.specs.declared.script.error.ScriptError.{ScriptError}
+use Rattle.crawl_replay.proofs.Prelude.{◌≡◌, ℕ, Bool, true, ◌&&◌, List, ◌∷◌, ◌++◌, Option, Some, None, Result, Ok, Err, refl, sym, ap, subst, ◌∙◌, codes, ok_or, option_and_then, arith, if◌then◌else◌, bytes_eq, le-leb, and_parts, bytes_eq-Decides, AreLimits, worker_limit, pending_limit, text_of, at_space, LineError, number_of, is_within, header_of, header_in, with_text, IsLineText, IsHeaderLine, HeaderSays, Header, ScriptError}
 use Rattle.crawl_replay.specs.declared.script.error.ScriptError.TheVariants as wrong
 use Rattle.crawl_replay.proofs.NumberText.{number_is, number_of_is, at_space-joined, at_space-number, joined-at_space}
 use Rattle.crawl_replay.proofs.LineWords.{TextStands, text_stands, text_of-text, text_of-too_long, text_of-not_text}

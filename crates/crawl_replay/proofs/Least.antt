@@ -1,15 +1,8 @@
 -- A script's error is that of the first of its lines that has one.
-use Rattle.std.proofs.Common.{◌≡◌, ◌⊎◌, ℕ, ◌+◌, List, [], ◌∷◌, ◌++◌, length, Option, Some, None, Result, Ok, Err, IfErr, refl, ap, subst, ◌∙◌, arith, inl, inr, append-nil, append_assoc, length-append}
-use Rattle.std.specs.Result.{result_err}
-use Rattle.std.specs.Str.Lines.{lines}
-use Rattle.crawl_core.specs.declared.event.Event.{Event}
+use Rattle.crawl_replay.proofs.Prelude.{◌≡◌, ◌⊎◌, ℕ, ◌+◌, List, [], ◌∷◌, ◌++◌, length, Option, Some, Result, Ok, Err, IfErr, refl, ap, subst, ◌∙◌, arith, append-nil, append_assoc, length-append, result_err, lines, Event, Script, Header, ScriptError, script_of, script_in, header_in, said_by, said_from, least_fault, events_in, unless_fault, with_events, with_header}
 use Rattle.crawl_keys.specs.Outcome.{Gives}
 use Rattle.text_lines.specs.LeastFault.{SoundAfter, IsLeastFault}
-use Rattle.crawl_replay.specs.declared.script.Script.{Script}
-use Rattle.crawl_replay.specs.declared.script.header.Header.{Header}
-use Rattle.crawl_replay.specs.declared.script.error.ScriptError.{ScriptError}
 use Rattle.crawl_replay.specs.declared.script.error.ScriptError.TheVariants as wrong
-use Rattle.crawl_replay.specs.Script.{script_of, script_in, header_in, said_by, said_from, least_fault, events_in, unless_fault, with_events, with_header}
 use Rattle.crawl_replay.specs.ScriptContent.{content}
 use Rattle.crawl_replay.specs.LeastFault.{fault_after, IsScriptFault}
 
@@ -51,8 +44,7 @@ found_behind header read earlier number (line ∷ more) fault is_header place fa
     (found_behind header read (earlier ++ line ∷ []) (number + 1) more fault is_header (omega (arith, place, length-append earlier (line ∷ []))))
 
 found_in : (o : Option ScriptError) (events : List Event) (header : Header) (fault : ScriptError) → with_events header (unless_fault o events) ≡ Err fault → o ≡ Some fault
-found_in None events header fault e = absurd (cc)
-found_in (Some found) events header fault e = cc
+found_in o events header fault e = grind arith
 
 at_header : (line : List ℕ) (more : List (List ℕ)) (fault : ScriptError) (read : Result Header ScriptError) → header_in line ≡ read → with_header read more ≡ Err fault → IsLeastFault fault_after (line ∷ more) fault
 at_header line more fault (Err found) e fails = record {
@@ -74,10 +66,7 @@ at_header line more fault (Ok header) e fails =
     }
 
 pub least : (lines : List (List ℕ)) (fault : ScriptError) → script_in lines ≡ Err fault → IsScriptFault lines fault
-least [] fault fails = cc
-least (line ∷ more) fault fails = at_header line more fault (header_in line) refl fails
+least lines fault fails = grind (arith, at_header)
 
 pub least_of_script : (bytes : List ℕ) (read : Result Script ScriptError) → Gives wrong.NoMemory content read (script_of bytes) → IfErr read (λ fault. IsScriptFault (lines bytes) fault ⊎ (fault ≡ wrong.NoMemory))
-least_of_script bytes (Ok script) gives = tt
-least_of_script bytes (Err fault) (inl defined) = inl (least (lines bytes) fault defined)
-least_of_script bytes (Err fault) (inr memory) = inr memory
+least_of_script bytes read gives = grind (arith, least)

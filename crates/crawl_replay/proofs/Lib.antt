@@ -1,9 +1,8 @@
+pub mod Prelude
 pub mod Assigned
 pub mod EventLines
 pub mod HeaderWords
 pub mod Least
 pub mod LineWords
 pub mod NumberText
-pub mod ReadLines
-pub mod ReadNumbers
 pub mod ScriptWords

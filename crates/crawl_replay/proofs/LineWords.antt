@@ -1,17 +1,7 @@
 -- What a line of a script says is what the format says of it.
-use Rattle.std.proofs.Common.{◌≡◌, ◌≢◌, ℕ, ◌<◌, ◌≤◌, Bool, false, List, [], length, nat_eq, nat_lt, Option, Some, None, Result, Ok, Err, refl, sym, ap, subst, ◌∙◌, arith, lt-ltb, ltb-true}
-use Rattle.std.specs.Bool.{if◌then◌else◌}
-use Rattle.std.specs.Str.{IsUtf8, is_utf8}
+use Rattle.crawl_replay.proofs.Prelude.{◌≡◌, ◌≢◌, ℕ, ◌<◌, ◌≤◌, Bool, false, List, [], length, nat_eq, nat_lt, Option, Some, None, Result, Ok, Err, refl, sym, ap, subst, ◌∙◌, arith, lt-ltb, ltb-true, ◌+◌, ◌∷◌, ◌++◌, append_assoc, if◌then◌else◌, IsUtf8, is_utf8, nat_tests, Event, line_limit, text_of, LineError, event_of, said_by, some_event, with_text, events_of, unless_fault, IsLineText, IsEventLine, IsBadAdmission, LineSays, ScriptError}
 use Rattle.std.proofs.lemmas.Str.{IsUtf8-from_is_utf8, is_utf8-from_IsUtf8, IsUtf8-nil}
-use Rattle.std.proofs.lemmas.Bool.Decides.{nat_tests}
-use Rattle.crawl_core.specs.declared.event.Event.{Event}
-use Rattle.crawl_limits.specs.Limits.{line_limit}
-use Rattle.text_lines.specs.Lines.{text_of}
-use Rattle.text_lines.specs.declared.lines.LineError.{LineError}
 use Rattle.text_lines.specs.declared.lines.LineError.TheVariants as without
-use Rattle.crawl_replay.specs.Script.{event_of, said_by, some_event, with_text}
-use Rattle.crawl_replay.specs.ScriptLines.{IsLineText, IsEventLine, IsBadAdmission, LineSays}
-use Rattle.crawl_replay.specs.declared.script.error.ScriptError.{ScriptError}
 use Rattle.crawl_replay.specs.declared.script.error.ScriptError.TheVariants as wrong
 use Rattle.crawl_replay.proofs.EventLines.{Stands, stands, event_said, bad_url_said}
 
@@ -62,11 +52,8 @@ line_by_event workers number line said text some is there = grind (arith, event_
 line_by_text : (workers number : ℕ) (line : List ℕ) → IsLineText line → LineSays workers number line (some_said workers number line)
 line_by_text workers number line text = grind (arith, not_empty, line_by_event, stands)
 
-line_by : (workers number : ℕ) (line : List ℕ) (read : Result (List ℕ) LineError) → TextStands number line read → LineSays workers number line (with_text read (some_said workers number))
-line_by workers number line read there = grind (arith, line_by_text)
-
 line_stands : (workers number : ℕ) (line : List ℕ) → LineSays workers number line (said_by workers number line)
-line_stands workers number line = line_by workers number line (text_of number line) (text_stands number line)
+line_stands workers number line = grind (arith, line_by_text, text_by_length)
 
 -- an event line is not empty
 never_empty : (workers number : ℕ) (line : List ℕ) (said : Result Event ScriptError) → event_of workers number line ≡ said → (said ≡ Err (wrong.BadLine number) → ⊥) → line ≢ []
@@ -98,3 +85,17 @@ line_said workers number line (Err wrong.NoMemory) there = absurd there
 
 pub line_means : (workers number : ℕ) (line : List ℕ) (said : Result (Option Event) ScriptError) → (said_by workers number line ≡ said → LineSays workers number line said) × (LineSays workers number line said → said_by workers number line ≡ said)
 line_means workers number line said = (λ is. subst (LineSays workers number line) is (line_stands workers number line), line_said workers number line said)
+
+-- What the lines of a script say, when they are read one by one
+
+-- the events read so far, and after them those of the lines that are left
+abbrev pub behind : List Event → Result (List Event) ScriptError → Result (List Event) ScriptError
+behind front (Ok events) = Ok (front ++ events)
+behind front (Err fault) = Err fault
+
+put : (front events : List Event) (event : Event) (fault : Option ScriptError) → behind front (unless_fault fault (event ∷ events)) ≡ behind (front ++ event ∷ []) (unless_fault fault events)
+put front events event fault = grind (arith, append_assoc)
+
+-- the first line that is left says an event
+pub read_event : (workers : ℕ) (front : List Event) (number : ℕ) (left : List (List ℕ)) (line : List ℕ) (more : List (List ℕ)) (event : Event) (all : Result (List Event) ScriptError) → left ≡ line ∷ more → said_by workers number line ≡ Ok (Some event) → behind front (events_of workers number left) ≡ all → behind (front ++ event ∷ []) (events_of workers (number + 1) more) ≡ all
+read_event workers front number left line more event all cut said before = grind (arith, put)

@@ -1,17 +1,11 @@
 -- Which texts are numbers, and the position of the first space of a text.
-use Rattle.std.proofs.Common.{◌≡◌, ℕ, suc, ◌+◌, ◌<◌, ◌≤◌, ◌^◌, Bool, true, false, not, ◌&&◌, List, [], ◌∷◌, ◌++◌, length, take, drop, get_or, nat_lt, nat_eq, nat_le, Option, Some, None, refl, sym, ap, subst, ◌∙◌, arith, lt-ltb, ltb-true, append_assoc}
-use Rattle.std.specs.Bool.{if◌then◌else◌, Decides}
-use Rattle.std.specs.List.{All, list_all, position_or_len, prefix_len, before_first, after_first}
+use Rattle.crawl_replay.proofs.Prelude.{◌≡◌, ℕ, suc, ◌+◌, ◌<◌, ◌≤◌, ◌^◌, Bool, true, false, not, ◌&&◌, List, [], ◌∷◌, ◌++◌, length, take, drop, get_or, nat_lt, nat_eq, nat_le, Option, Some, None, refl, sym, ap, subst, ◌∙◌, arith, lt-ltb, ltb-true, append_assoc, Result, rules, if◌then◌else◌, Decides, All, list_all, position_or_len, prefix_len, before_first, after_first, le-leb, leb-true, and_parts, Decides-by_and, nat_tests, is_space, at_space, is_number, number_of, IsNumber, common_steps, OkIff, result_ok}
 use Rattle.std.specs.Char.{is_ascii_digit}
-use Rattle.std.specs.Str.Parse.{digits_value}
-use Rattle.std.proofs.lemmas.Bool.{le-leb, leb-true, and_parts}
-use Rattle.std.proofs.lemmas.Bool.Decides.{Decides-by_and, nat_tests}
+use Rattle.std.specs.Str.Parse.{digits_value, ParsesUnsigned}
 use Rattle.std.proofs.lemmas.Option.{cond_some}
 use Rattle.std.proofs.lemmas.List.{take_at, drop_at, length-append}
 use Rattle.std.proofs.lemmas.List.Sums.{split_at_first, prefix_len_stops}
-use Rattle.text_lines.specs.Fields.{is_space, at_space}
-use Rattle.crawl_replay.specs.Numbers.{is_number, number_of}
-use Rattle.crawl_replay.specs.ScriptLines.{IsNumber}
+use Rattle.std.proofs.lemmas.Str.Parse.{IsNumeralModel, numerals_by_value, parse_digits}
 
 digit : (b : ℕ) → Decides (is_ascii_digit b) ((48 ≤ b) × (b ≤ 57))
 digit b = (λ e. grind (arith, nat_tests, e), λ e. grind (arith, nat_tests, e))
@@ -21,9 +15,6 @@ digits text = Decides-by_and is_ascii_digit (λ b. (48 ≤ b) × (b ≤ 57)) (li
 
 some_length : (n : ℕ) → not (nat_eq n 0) ≡ true → 1 ≤ n
 some_length n e = grind arith
-
-length_some : (n : ℕ) → 1 ≤ n → not (nat_eq n 0) ≡ true
-length_some n some = grind arith
 
 pub number_is : (bits : ℕ) (text : List ℕ) (value : ℕ) → number_of bits text ≡ Some value → IsNumber bits value text
 number_is bits text value e =
@@ -39,7 +30,7 @@ number_is bits text value e =
     }
 
 pub number_of_is : (bits : ℕ) (text : List ℕ) (value : ℕ) → IsNumber bits value text → number_of bits text ≡ Some value
-number_of_is bits text value is = grind (arith, length_some, le-leb, digits, lt-ltb)
+number_of_is bits text value is = grind (arith, le-leb, digits, lt-ltb)
 
 -- ---- the first space
 
@@ -96,3 +87,21 @@ by_test true text p within e =
 -- what a space parts
 pub joined-at_space : (text : List ℕ) (p : List ℕ × List ℕ) → at_space text ≡ Some p → text ≡ p.0 ++ 32 ∷ p.1
 joined-at_space text p e = by_test (nat_lt (position_or_len is_space text) (length text)) text p refl e
+
+-- What parsing a text that has only digits gives
+
+own : IsNumeralModel (λ text. list_all is_ascii_digit text ≡ true) (digits_value 10)
+own = numerals_by_value _ (search rules)
+
+last_of : (a b c : Bool) → (a && b && c) ≡ true → c ≡ true
+last_of a b c e = grind arith
+
+first_of_all : (n : ℕ) (b c : Bool) → (not (nat_eq n 0) && b && c) ≡ true → 0 < n
+first_of_all n b c e = grind arith
+
+-- a test that cannot hold fails
+by_size : {E : Type 0} (limit n size : ℕ) (b : Bool) (r : Result ℕ E) → 0 < size → b ≡ true → OkIff r ((0 < size) × (n < limit)) n → result_ok r ≡ (if b && nat_lt n limit then Some n else None)
+by_size limit n size b r some e too_large = grind arith
+
+pub parsed : {E : Type 0} (bits : ℕ) (text : List ℕ) (r : Result ℕ E) → ParsesUnsigned bits 10 text r → is_number text ≡ true → result_ok r ≡ number_of bits text
+parsed bits text r reads number = grind (arith, common_steps, last_of, first_of_all, by_size, parse_digits, own)

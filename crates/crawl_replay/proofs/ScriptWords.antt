@@ -1,10 +1,5 @@
 -- What the lines of a script say together is what the format says of them.
-use Rattle.std.proofs.Common.{◌≡◌, ℕ, ◌+◌, List, [], ◌∷◌, Option, Some, None, Result, Ok, Err, refl, sym, ap, subst, ◌∙◌, inl, inr, arith}
-use Rattle.crawl_core.specs.declared.event.Event.{Event}
-use Rattle.crawl_replay.specs.Script.{Said, script_in, header_in, with_header, with_events, unless_fault, least_fault, events_in, said_from, said_by}
-use Rattle.crawl_replay.specs.ScriptLines.{HeaderSays, LinesSay, IsScript}
-use Rattle.crawl_replay.specs.declared.script.header.Header.{Header}
-use Rattle.crawl_replay.specs.declared.script.error.ScriptError.{ScriptError}
+use Rattle.crawl_replay.proofs.Prelude.{◌≡◌, ℕ, ◌+◌, List, [], ◌∷◌, Option, Some, None, Result, Ok, Err, refl, sym, ap, subst, ◌∙◌, inl, inr, arith, Event, Said, script_in, header_in, with_header, with_events, unless_fault, least_fault, events_in, said_from, said_by, HeaderSays, LinesSay, IsScript, Header, ScriptError}
 use Rattle.crawl_replay.proofs.HeaderWords.{header_means}
 use Rattle.crawl_replay.proofs.LineWords.{line_means}
 

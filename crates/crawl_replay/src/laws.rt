@@ -21,6 +21,7 @@ ghost use Rattle.crawl_replay.specs.declared.script.error.ScriptError.{ScriptErr
 /// Hosts keep to their subqueues. If each admission names its URL's subqueue, as those of a script that was read do: in
 /// every state of a run each message is in its URL's subqueue; a URL is taken at most once; and it is taken only from its
 /// subqueue.
+#[tactic(auto, using(crate::proofs::Assigned::placed_at))]
 pub fn hosts_keep_to_their_subqueues()
     ensures states { (workers max : ℕ) (history : List (Event × Reply)) (state : State) → Run (start workers max) history state → IsAssigned workers (map (λ x. x.0) history) → (queue k : ℕ) (found : Subqueue) (m : Message) → slice_get state.subqueues queue ≡ Some found → slice_get found.accepted k ≡ Some m → queue ≡ subqueue_of m.url workers }
     ensures once { (workers max : ℕ) (events : List Event) (replies : List Reply) → IsRun workers max events replies → IsAssigned workers events → TakesOnce (zip events replies) }
@@ -34,6 +35,7 @@ pub fn hosts_keep_to_their_subqueues()
 /// something of a line exactly if the line has the bytes that the format names for it: `workers N max M` for a header; for
 /// each event its word, spaces and digits, and the URL of an admission; and for each error, what is wrong with the line. And
 /// bytes are a script exactly if their first line says its header, and the others its events, in order.
+#[tactic(auto, using(crate::proofs::HeaderWords::header_means, crate::proofs::LineWords::line_means))]
 pub fn lines_mean_what_the_format_says()
     ensures header { (line : List ℕ) (said : Result Header ScriptError) → (header_in line ≡ said) ↔ HeaderSays line said }
     ensures line { (workers number : ℕ) (line : List ℕ) (said : Result (Option Event) ScriptError) → (said_by workers number line ≡ said) ↔ LineSays workers number line said }

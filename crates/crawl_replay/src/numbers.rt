@@ -8,6 +8,7 @@ ghost use Rattle.crawl_replay.specs.Numbers.{is_number, number_of};
 pub const DIGIT_LIMIT: usize = 20;
 
 /// The number that the text is, if it is one that fits 32 bits.
+#[tactic(auto, using(crate::proofs::NumberText::parsed))]
 pub fn number32(text: &str) -> Option<u32>
     ensures { result ≡ number_of 32 text.now }
 {
@@ -19,6 +20,7 @@ pub fn number32(text: &str) -> Option<u32>
 }
 
 /// The number that the text is, if it is one that fits 64 bits.
+#[tactic(auto, using(crate::proofs::NumberText::parsed))]
 pub fn number64(text: &str) -> Option<u64>
     ensures { result ≡ number_of 64 text.now }
 {

@@ -12,14 +12,6 @@ adds_both out mid more xs ys p q = grind (arith, append_assoc, flat_map-append)
 pub adds_same : (out more : Out) (xs ys : List Line) → xs ≡ ys → Adds out more xs → Adds out more ys
 adds_same out more xs ys same is = subst (Adds out more) same is
 
--- what was printed, and then nothing
-pub adds_nothing : (out mid more : Out) (xs : List Line) → Adds out mid xs → Adds mid more [] → Adds out more xs
-adds_nothing out mid more xs p q = adds_same out more _ _ (append-nil xs) (adds_both out mid more xs [] p q)
-
--- a line more, for one element more
-pub line_more : {X : Type 0} (f : X → Line) (out mid more : Out) (xs : List X) (k : ℕ) (x : X) → k < length xs → x ≡ get_or xs k x → Adds out mid (map f (take k xs)) → Adds mid more (f x ∷ []) → Adds out more (map f (take (k + 1) xs))
-line_more f out mid more xs k x below at p q = grind (arith, common_steps, adds_same, map_more, adds_both)
-
 -- all elements were looked at
 pub lines_all : {X : Type 0} (lines : List X → List Line) (out more : Out) (xs : List X) (k : ℕ) → length xs ≤ k → Adds out more (lines (take k xs)) → Adds out more (lines xs)
 lines_all lines out more xs k past is = adds_same out more _ _ (ap lines (take_all k xs past)) is

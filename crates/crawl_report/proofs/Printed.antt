@@ -1,5 +1,5 @@
 -- Chunks of lines, and what they are together.
-use Rattle.crawl_report.proofs.Prelude.{◌≡◌, ℕ, Bool, Global, List, [], ◌∷◌, ◌++◌, Vec, append-nil, ap, ◌∙◌, arith, suc, ◌+◌, ◌^◌, ◌<◌, ◌≤◌, false, cond, ◌==◌, ◌%◌, length, drop, get_or, Some, option_and_then, decimal, refl, length-append, append_assoc, map-append, drop_all, flat_map-append, flat_map, prefix_len, PageResult, printed_line, Line, Adds, bytes_of, is_json, joined, result_lines, rows_behind, printed, Out, common_steps, ne_eqb, le-leb, and_from}
+use Rattle.crawl_report.proofs.Prelude.{◌≡◌, ℕ, Bool, Global, List, [], ◌∷◌, ◌++◌, Vec, append-nil, ap, ◌∙◌, arith, suc, ◌+◌, ◌^◌, ◌<◌, ◌≤◌, false, cond, ◌==◌, ◌%◌, length, drop, get_or, Some, option_and_then, decimal, refl, length-append, append_assoc, drop_all, flat_map-append, flat_map, prefix_len, printed_line, Line, Adds, bytes_of, is_json, joined, result_lines, rows_behind, printed, Out, common_steps, ne_eqb, le-leb, and_from}
 use Rattle.crawl_report.specs.declared.report.Report.{Report}
 use lib.ListN.{get_or-append}
 use Rattle.std.proofs.lemmas.Fmt.{decimal_is_IsNumeral_wide, decimal_by_steps_wide, decimal_digit}
@@ -21,12 +21,6 @@ whole_report json report front back of_results of_rest = grind (arith, flat_map-
 -- a part more
 pub joined_push : (parts : List (Vec ℕ Global)) (part : Vec ℕ Global) → joined (parts ++ part ∷ []) ≡ joined parts ++ part.items
 joined_push parts part = flat_map-append (λ (p : Vec ℕ Global). p.items) parts (part ∷ []) ∙ ap (λ t. joined parts ++ t) (append-nil part.items)
-
--- the parts of both halves
-pub put_together : (json : Bool) (xs ys : List (Vec ℕ Global)) (front back pages : List PageResult) → front ++ back ≡ pages
-    → joined xs ≡ flat_map (printed_line json) (result_lines front) → joined ys ≡ flat_map (printed_line json) (result_lines back)
-    → joined (xs ++ ys) ≡ flat_map (printed_line json) (result_lines pages)
-put_together json xs ys front back pages parts of_front of_back = grind (arith, flat_map-append, map-append)
 
 -- What `decimal` writes is a number of JSON, of up to 128 bits
 

@@ -58,6 +58,7 @@ fn rest_of(alloc: Global, report: &Report<'_>, json: bool) -> Result<Vec<u8>, No
 }
 
 /// Returns what is printed, followed by a line for each result.
+#[tactic(auto, using(crate::proofs::Adding::adds_none, crate::proofs::Adding::adds_same, crate::proofs::Adding::adds_both, std::proofs::lemmas::List::map_more, crate::proofs::Adding::lines_all, crate::proofs::Prelude::result_lines))]
 pub(crate) fn with_results(mut out: Out, pages: &[PageResult]) -> Result<Out, NoMemory>
     ensures { IfOk result (λ more. Adds out more (result_lines pages.now)) }
 {

@@ -1,38 +1,11 @@
 -- From the ends of a run's workers to what the run left: its workers, its results, and what it lost.
-use Rattle.std.proofs.Common.{◌≡◌, ◌⊎◌, inl, inr, ℕ, ◌+◌, ◌-◌, ◌^◌, ◌<◌, ◌≤◌, min, Bool, true, false, true≢false, List, [], ◌∷◌, ◌++◌, map, refl, sym, ap, subst, ◌∙◌, arith, Option, Some, Result, Ok, Err, IfOk}
-use Rattle.std.proofs.lemmas.Bool.{cases_lt}
+use Rattle.crawl_run.proofs.Prelude.{◌≡◌, ◌⊎◌, ℕ, ◌+◌, ◌-◌, ◌^◌, ◌<◌, ◌≤◌, min, Bool, true, false, List, [], ◌∷◌, ◌++◌, map, refl, sym, ap, subst, ◌∙◌, arith, Option, Some, Result, Ok, Err, IfOk, cases_lt, All-nil, All-cons, All-head, All-tail, All, flat_map, here, ArePages, NothingLost, first_fault, first_of, link_missing, not_fetched, seed_missing, IsCulprit, is_at_fault, no_memory, Culprit, CertError, entries_in, entries_of, Accounts, AccountId, AllFresh, OfferError, WorkerId, SenderId, Entry, GateId, SeatId, Page, PageResult, AllLogged, all_losses, both_losses, with_refusal, AllRan, Losses, WorkerEnd, IsUncertified, losses_at, of_cert, IsLost, losses_with, IsWithoutLoss, Share, all_closed, all_found, CrawlError}
 use Rattle.std.proofs.lemmas.List.{append_assoc, take_all}
-use Rattle.std.proofs.lemmas.List.Elements.{All-nil, All-cons, All-head, All-tail}
-use Rattle.std.specs.List.{All, flat_map}
-use Rattle.crawl_certificate.proofs.Lists.{here}
-use Rattle.crawl_certificate.specs.Certificate.{ArePages, NothingLost}
-use Rattle.crawl_certificate.specs.CertFaults.{first_fault, first_of, link_missing, not_fetched, seed_missing, twice, unfounded}
-use Rattle.crawl_certificate.specs.Culprits.{IsCulprit, is_at_fault, no_memory}
-use Rattle.crawl_certificate.specs.declared.culprit.Culprit.{Culprit}
-use Rattle.crawl_certificate.specs.declared.error.CertError.{CertError}
 use Rattle.crawl_certificate.specs.declared.error.CertError.TheVariants as cert
-use Rattle.crawl_certificate.specs.AccountEntries.{entries_in, entries_of}
-use Rattle.crawl_frontier.specs.Accounts.{Accounts, AccountId}
-use Rattle.crawl_frontier.specs.FreshParts.{AllFresh}
 use Rattle.crawl_frontier.specs.Offers.{IsFiltered, OfferWordsBeside}
-use Rattle.crawl_frontier.specs.declared.error.OfferError.{OfferError}
 use Rattle.crawl_frontier.specs.declared.error.OfferError.TheVariants as refused
-use Rattle.crawl_frontier.specs.Parts.{WorkerId, SenderId}
-use Rattle.crawl_queues.specs.declared.entry.Entry.{Entry}
-use Rattle.crawl_gate.specs.Seat.{GateId, SeatId}
-use Rattle.crawl_pages.specs.declared.page.Page.{Page}
-use Rattle.crawl_pages.specs.declared.page.PageResult.{PageResult}
-use Rattle.link_offers.specs.Logs.{AllLogged}
-use Rattle.link_offers.specs.Losses.{all_losses, both_losses, sum, with_refusal}
 use Rattle.crawl_workers.specs.Ran.{Ran}
-use Rattle.crawl_workers.specs.Runs.{AllRan}
-use Rattle.link_offers.specs.declared.losses.Losses.{Losses}
-use Rattle.crawl_workers.specs.declared.worker_end.WorkerEnd.{WorkerEnd}
-use Rattle.crawl_run.specs.Crawls.{IsUncertified, losses_at, of_cert}
-use Rattle.crawl_run.specs.Losses.{IsLost, losses_with}
-use Rattle.crawl_run.specs.LosslessRuns.{IsWithoutLoss, Share, all_closed, all_found}
 use Rattle.crawl_run.specs.declared.run_output.RunOutput as left
-use Rattle.crawl_run.specs.declared.error.CrawlError.{CrawlError}
 use Rattle.crawl_run.specs.declared.error.CrawlError.TheVariants as wrong
 use Rattle.crawl_run.proofs.WithoutLoss.{run_without_loss}
 
@@ -59,19 +32,7 @@ none_of_all : (a b c d e f : ℕ) → (a ≡ 0) × (b ≡ 0) × (c ≡ 0) × (d 
 none_of_all a b c d e f each = omega (arith, each.0, each.1, each.2, each.3, each.4, each.5)
 
 both_none : (a b : Losses) → all_losses (both_losses a b) ≡ 0 → (all_losses a ≡ 0) × (all_losses b ≡ 0)
-both_none a b none =
-    let most : ℕ = 2 ^ 64 - 1 in
-    let some : 0 < most = omega arith in
-    let each = all_none (sum a.failed b.failed) (sum a.unkept b.unkept) (sum a.full b.full) (sum a.too_far b.too_far) (sum a.crossed b.crossed) (sum a.no_memory b.no_memory) none in
-    let failed = sum_none most a.failed b.failed some each.0 in
-    let unkept = sum_none most a.unkept b.unkept some each.1 in
-    let full = sum_none most a.full b.full some each.2 in
-    let too_far = sum_none most a.too_far b.too_far some each.3 in
-    let crossed = sum_none most a.crossed b.crossed some each.4 in
-    let no_memory = sum_none most a.no_memory b.no_memory some each.5 in (
-      none_of_all a.failed a.unkept a.full a.too_far a.crossed a.no_memory (failed.0, unkept.0, full.0, too_far.0, crossed.0, no_memory.0),
-      none_of_all b.failed b.unkept b.full b.too_far b.crossed b.no_memory (failed.1, unkept.1, full.1, too_far.1, crossed.1, no_memory.1),
-    )
+both_none a b none = grind (arith, all_none, sum_none, none_of_all)
 
 none_with : {K : _} (before : Losses) (ends : List (WorkerEnd K)) → all_losses (losses_with before ends) ≡ 0 → (all_losses before ≡ 0) × All (λ (e : WorkerEnd K). all_losses e.losses ≡ 0) ends
 none_with {K} before [] none = (none, All-nil (λ (e : WorkerEnd K). all_losses e.losses ≡ 0))
@@ -128,10 +89,7 @@ nothing_lost {K} gate workers allowed meaning seeds starts ends sender before lo
 -- ---- errors that report something missing
 
 one_at_least : (n : ℕ) → (n ≡ 0 → ⊥) → 1 ≤ n
-one_at_least n some = elim (cases_lt 0 n) [
-  | inl more ↦ omega (arith, more)
-  | inr none ↦ absurd (some (omega (arith, none)))
-]
+one_at_least n some = grind (arith, cases_lt)
 
 abbrev tells_missing : Option CertError → Bool
 tells_missing (Some cert.SeedMissing) = true
@@ -140,9 +98,7 @@ tells_missing (Some cert.LinkMissing) = true
 tells_missing _ = false
 
 none_missing : (d e : Bool) → tells_missing (first_of false false false d e) ≡ false
-none_missing true e = refl
-none_missing false true = refl
-none_missing false false = refl
+none_missing d e = grind arith
 
 -- if nothing was lost, nothing is missing
 abbrev pub LacksNothing : (List ℕ → Bool) → List (List ℕ) → List Entry → List PageResult → Losses → Type 0
@@ -151,33 +107,19 @@ LacksNothing allowed seeds entries results losses =
 
 missing_lost : (allowed : List ℕ → Bool) (seeds : List (List ℕ)) (entries : List Entry) (results : List PageResult) (cause : CertError) (losses : Losses) → tells_missing (Some cause) ≡ true → LacksNothing allowed seeds entries results losses
     → first_fault allowed seeds entries results ≡ Some cause → 1 ≤ all_losses losses
-missing_lost allowed seeds entries results cause losses tells lacks first =
-    one_at_least (all_losses losses) (λ none.
-    let each = lacks none in
-    let unfound = unfounded allowed seeds entries results in
-    let again = twice results in
-    let untold : tells_missing (first_fault allowed seeds entries results) ≡ false =
-    (λ i. tells_missing (first_of (each.0 i) (each.1 i) (each.2 i) unfound again)) ∙ none_missing unfound again in
-    true≢false (sym tells ∙ ap tells_missing (sym first) ∙ untold))
+missing_lost allowed seeds entries results cause losses tells lacks first = grind (arith, one_at_least, none_missing)
 
 cause_lost : (allowed : List ℕ → Bool) (seeds : List (List ℕ)) (entries : List Entry) (results : List PageResult) (cause : CertError) (losses : Losses) → LacksNothing allowed seeds entries results losses → first_fault allowed seeds entries results ≡ Some cause → IsLost (of_cert cause) losses
-cause_lost allowed seeds entries results cert.SeedMissing losses lacks first = missing_lost allowed seeds entries results cert.SeedMissing losses refl lacks first
-cause_lost allowed seeds entries results cert.NotFetched losses lacks first = missing_lost allowed seeds entries results cert.NotFetched losses refl lacks first
-cause_lost allowed seeds entries results cert.LinkMissing losses lacks first = missing_lost allowed seeds entries results cert.LinkMissing losses refl lacks first
-cause_lost allowed seeds entries results cause losses lacks first = tt
+cause_lost allowed seeds entries results cause losses lacks first = grind (arith, missing_lost)
 
 -- so if nothing was lost, the culprit of the run reports nothing missing
 pub culprit_lost : (allowed : List ℕ → Bool) (seeds : List (List ℕ)) (entries : List Entry) (results : List PageResult) (culprit : Culprit) (losses : Losses) → LacksNothing allowed seeds entries results losses
     → IsCulprit (first_fault allowed seeds entries results) (is_at_fault allowed seeds entries results) culprit ⊎ (culprit ≡ no_memory) → IsLost (of_cert culprit.cause) (losses_at culprit.url losses)
-culprit_lost allowed seeds entries results culprit losses lacks told = elim told [
-  | inl found ↦ subst (λ (url : Option (List ℕ)). IsLost (of_cert culprit.cause) (losses_at url losses)) (sym found.named) (cause_lost allowed seeds entries results culprit.cause losses lacks found.cause)
-  | inr memory ↦ subst (λ (c : Culprit). IsLost (of_cert c.cause) (losses_at c.url losses)) (sym memory) tt
-]
+culprit_lost allowed seeds entries results culprit losses lacks told = grind (arith, cause_lost)
 
 -- an error without a certificate reports nothing missing
 pub uncertified_lost : (error : CrawlError) (losses : Losses) → IsUncertified error → IsLost error losses
-uncertified_lost (wrong.Cert error) losses is = absurd is
-uncertified_lost error losses is = tt
+uncertified_lost error losses is = grind arith
 
 -- ---- a seed that is refused
 
@@ -186,22 +128,12 @@ one_lost most a b c d e f some = (λ none. omega (arith, some, none), λ none. o
 
 -- a seed that is refused is lost, unless the filter does not allow it
 pub refusal_line : (error : OfferError) (before : Losses) (allowed : Bool) (Line : Type 0) (held held' pass pass' : SeatId) → OfferWordsBeside held held' pass pass' (Err error) → (IsFiltered (Err error) → allowed ≡ false) → all_losses (with_refusal error before) ≡ 0 → (all_losses before ≡ 0) × (allowed ≡ true → Line)
-refusal_line refused.Filtered before allowed Line h h' p p' words filtered none = (none, λ is. absurd (true≢false (sym is ∙ filtered tt)))
-refusal_line refused.Closed before allowed Line h h' p p' words filtered none = absurd words
-refusal_line refused.Full b allowed Line h h' p p' words filtered none = absurd ((one_lost (2 ^ 64 - 1) b.failed b.unkept b.full b.too_far b.crossed b.no_memory (omega arith)).0 none)
-refusal_line refused.TooFar b allowed Line h h' p p' words filtered none = absurd ((one_lost (2 ^ 64 - 1) b.failed b.unkept b.full b.too_far b.crossed b.no_memory (omega arith)).1 none)
-refusal_line (refused.Crossed own found) b allowed Line h h' p p' words filtered none = absurd ((one_lost (2 ^ 64 - 1) b.failed b.unkept b.full b.too_far b.crossed b.no_memory (omega arith)).2 none)
-refusal_line refused.NoMemory b allowed Line h h' p p' words filtered none = absurd ((one_lost (2 ^ 64 - 1) b.failed b.unkept b.full b.too_far b.crossed b.no_memory (omega arith)).3 none)
-
-pub refusal_filtered : (error : OfferError) (before : Losses) → IsFiltered (Err error) → with_refusal error before ≡ before
-refusal_filtered refused.Filtered before is = refl
-refusal_filtered error before is = absurd is
+refusal_line error before allowed Line held held' pass pass' words filtered none = grind (arith, one_lost)
 
 -- ---- what a run returns
 
 pub found_of : {E : Type 0} (result : Result left.RunOutput E) (meaning : List ℕ → Page) (found : List PageResult) → ArePages meaning found → IfOk result (λ ran. ran.results.items ≡ found) → IfOk result (λ ran. ArePages meaning ran.results.items)
-found_of (Ok ran) meaning found pages is = subst (ArePages meaning) (sym is) pages
-found_of (Err e) meaning found pages is = tt
+found_of result meaning found pages is = grind arith
 
 pub nothing_lost_of : {K : _} {E : Type 0} (result : Result left.RunOutput E) (gate : GateId) (workers : ℕ) (allowed : List ℕ → Bool) (meaning : List ℕ → Page) (seeds : List (List ℕ)) (starts : List WorkerId) (ends : List (WorkerEnd K)) (sender : SenderId) (before : Losses)
     → 0 < workers → AllFresh gate workers 0 starts → AllRan workers allowed meaning starts ends → (all_losses before ≡ 0 → AllLogged workers allowed sender.book.log seeds)

@@ -1,56 +1,18 @@
 -- What the seeds and the workers of a run lost together, and the run that lost it.
-use Rattle.std.proofs.Common.{◌≡◌, ◌⊎◌, inl, inr, ℕ, ◌+◌, ◌-◌, ◌^◌, min, Bool, true≢false, List, [], ◌∷◌, ◌++◌, map, append-nil, append_assoc, refl, sym, ap, subst, ◌∙◌, arith, Option, Some, Result, Ok, Err, IfOk}
-use Rattle.std.proofs.lemmas.List.{map-append, take_all}
-use Rattle.std.proofs.lemmas.List.Sums.{sum_by_push}
-use Rattle.std.specs.List.{sum_by}
-use Rattle.crawl_certificate.specs.AccountEntries.{entries_in, entries_of}
-use Rattle.crawl_certificate.specs.CertFaults.{first_fault}
-use Rattle.crawl_certificate.specs.Culprits.{IsCulprit, is_at_fault, no_memory}
-use Rattle.crawl_certificate.specs.Least.{IsLeast}
-use Rattle.crawl_certificate.specs.declared.culprit.Culprit.{Culprit}
-use Rattle.crawl_certificate.specs.declared.error.CertError.{CertError}
+use Rattle.crawl_run.proofs.Prelude.{◌≡◌, ◌⊎◌, ℕ, ◌+◌, ◌-◌, ◌^◌, min, Bool, List, [], ◌∷◌, ◌++◌, map, append-nil, append_assoc, refl, sym, ap, subst, ◌∙◌, arith, Some, Result, Ok, Err, IfOk, map-append, take_all, sum_by_push, sum_by, entries_in, entries_of, first_fault, IsCulprit, is_at_fault, no_memory, IsLeast, Culprit, CertError, Accounts, AllFresh, SeederId, SenderId, WorkerId, Entry, OfferError, Offer, GateId, Page, PageResult, both_losses, no_losses, with_refusal, AllRan, Losses, WorkerEnd, losses_at, of_cert, AllOffered, AreOffered, CountsLosses, IsRun, IsSeedOffer, losses_with, lost_seed, together, all_closed, all_found, all_lost}
+use Rattle.std.proofs.lemmas.Grind.{common_steps}
 use Rattle.crawl_certificate.specs.declared.error.CertError.TheVariants as cert
-use Rattle.crawl_frontier.specs.Accounts.{Accounts}
 use Rattle.crawl_queues.specs.Books.{fresh_book}
-use Rattle.crawl_frontier.specs.FreshParts.{AllFresh}
-use Rattle.crawl_frontier.specs.Parts.{SeederId, SenderId, WorkerId}
-use Rattle.crawl_queues.specs.declared.entry.Entry.{Entry}
-use Rattle.crawl_frontier.specs.declared.error.OfferError.{OfferError}
 use Rattle.crawl_frontier.specs.declared.error.OfferError.TheVariants as refused
-use Rattle.crawl_frontier.specs.declared.offer.Offer.{Offer}
-use Rattle.crawl_gate.specs.Seat.{GateId}
-use Rattle.crawl_pages.specs.declared.page.Page.{Page}
-use Rattle.crawl_pages.specs.declared.page.PageResult.{PageResult}
-use Rattle.link_offers.specs.Losses.{both_losses, no_losses, with_refusal}
-use Rattle.crawl_workers.specs.Runs.{AllRan}
-use Rattle.link_offers.specs.declared.losses.Losses.{Losses}
-use Rattle.crawl_workers.specs.declared.worker_end.WorkerEnd.{WorkerEnd}
-use Rattle.crawl_run.specs.Crawls.{losses_at, of_cert}
-use Rattle.crawl_run.specs.JudgedRuns.{AllOffered, AreOffered, CountsLosses, IsRun, IsSeedOffer}
-use Rattle.crawl_run.specs.Losses.{losses_with, lost_seed, together}
-use Rattle.crawl_run.specs.LosslessRuns.{all_closed, all_found, all_lost}
 use Rattle.crawl_run.specs.declared.run_output.RunOutput as left
 
 -- ---- one more
 
-least_of_sum : (most s x : ℕ) → min (min s most + x) most ≡ min (s + x) most
-least_of_sum most s x = omega arith
-
-stays : (most s : ℕ) → min s most ≡ min (min s most + 0) most
-stays most s = omega arith
-
 kind_more : (kind : Losses → ℕ) (all : List Losses) (l : Losses) → min (min (sum_by kind all) (2 ^ 64 - 1) + kind l) (2 ^ 64 - 1) ≡ min (sum_by kind (all ++ l ∷ [])) (2 ^ 64 - 1)
-kind_more kind all l = least_of_sum (2 ^ 64 - 1) (sum_by kind all) (kind l) ∙ ap (λ n. min n (2 ^ 64 - 1)) (sym (sum_by_push kind all l))
+kind_more kind all l = grind (arith, sum_by_push)
 
 together_more : (all : List Losses) (l : Losses) → both_losses (together all) l ≡ together (all ++ l ∷ [])
-together_more all l = λ i. record {
-  failed = kind_more (λ (x : Losses). x.failed) all l i;
-  unkept = kind_more (λ (x : Losses). x.unkept) all l i;
-  full = kind_more (λ (x : Losses). x.full) all l i;
-  too_far = kind_more (λ (x : Losses). x.too_far) all l i;
-  crossed = kind_more (λ (x : Losses). x.crossed) all l i;
-  no_memory = kind_more (λ (x : Losses). x.no_memory) all l i;
-}
+together_more all l = grind (arith, common_steps, kind_more)
 
 -- likewise for the ends of workers
 with_ends : {K : _} (all : List Losses) (ends : List (WorkerEnd K)) → losses_with (together all) ends ≡ together (all ++ all_lost ends)
@@ -70,54 +32,13 @@ with_offer (Err refusal) losses = with_refusal refusal losses
 
 -- a count that no seed is added to
 unchanged : (kind : Losses → ℕ) (all : List Losses) → min (sum_by kind all) (2 ^ 64 - 1) ≡ min (min (sum_by kind all) (2 ^ 64 - 1) + 0) (2 ^ 64 - 1)
-unchanged kind all = stays (2 ^ 64 - 1) (sum_by kind all)
+unchanged kind all = grind arith
 
 none_lost : (all : List Losses) → together all ≡ both_losses (together all) no_losses
-none_lost all = λ i. record {
-  failed = unchanged (λ (x : Losses). x.failed) all i;
-  unkept = unchanged (λ (x : Losses). x.unkept) all i;
-  full = unchanged (λ (x : Losses). x.full) all i;
-  too_far = unchanged (λ (x : Losses). x.too_far) all i;
-  crossed = unchanged (λ (x : Losses). x.crossed) all i;
-  no_memory = unchanged (λ (x : Losses). x.no_memory) all i;
-}
+none_lost all = grind (arith, unchanged)
 
 both_offer : (all : List Losses) (offer : Answer) → with_offer offer (together all) ≡ both_losses (together all) (lost_seed offer)
-both_offer all (Ok taken) = none_lost all
-both_offer all (Err refused.Filtered) = none_lost all
-both_offer all (Err refused.Closed) = none_lost all
-both_offer all (Err refused.Full) = λ i. record {
-  failed = unchanged (λ (x : Losses). x.failed) all i;
-  unkept = unchanged (λ (x : Losses). x.unkept) all i;
-  full = (both_losses (together all) (lost_seed (Err refused.Full))).full;
-  too_far = unchanged (λ (x : Losses). x.too_far) all i;
-  crossed = unchanged (λ (x : Losses). x.crossed) all i;
-  no_memory = unchanged (λ (x : Losses). x.no_memory) all i;
-}
-both_offer all (Err refused.TooFar) = λ i. record {
-  failed = unchanged (λ (x : Losses). x.failed) all i;
-  unkept = unchanged (λ (x : Losses). x.unkept) all i;
-  full = unchanged (λ (x : Losses). x.full) all i;
-  too_far = (both_losses (together all) (lost_seed (Err refused.TooFar))).too_far;
-  crossed = unchanged (λ (x : Losses). x.crossed) all i;
-  no_memory = unchanged (λ (x : Losses). x.no_memory) all i;
-}
-both_offer all (Err (refused.Crossed own found)) = λ i. record {
-  failed = unchanged (λ (x : Losses). x.failed) all i;
-  unkept = unchanged (λ (x : Losses). x.unkept) all i;
-  full = unchanged (λ (x : Losses). x.full) all i;
-  too_far = unchanged (λ (x : Losses). x.too_far) all i;
-  crossed = (both_losses (together all) (lost_seed (Err (refused.Crossed own found)))).crossed;
-  no_memory = unchanged (λ (x : Losses). x.no_memory) all i;
-}
-both_offer all (Err refused.NoMemory) = λ i. record {
-  failed = unchanged (λ (x : Losses). x.failed) all i;
-  unkept = unchanged (λ (x : Losses). x.unkept) all i;
-  full = unchanged (λ (x : Losses). x.full) all i;
-  too_far = unchanged (λ (x : Losses). x.too_far) all i;
-  crossed = unchanged (λ (x : Losses). x.crossed) all i;
-  no_memory = (both_losses (together all) (lost_seed (Err refused.NoMemory))).no_memory;
-}
+both_offer all offer = grind (arith, none_lost, unchanged)
 
 offer_more : (offers : List Answer) (offer : Answer) → with_offer offer (together (map lost_seed offers)) ≡ together (map lost_seed (offers ++ offer ∷ []))
 offer_more offers offer = both_offer (map lost_seed offers) offer ∙ together_more (map lost_seed offers) (lost_seed offer) ∙ ap together (sym (map-append lost_seed offers (offer ∷ [])))
@@ -131,11 +52,7 @@ all_more workers allowed s m s' seeds answers seed answer each own = absurd each
 
 pub offered_more : (workers : ℕ) (allowed : List ℕ → Bool) (s m s' : SeederId) (seeds : List (List ℕ)) (seed : List ℕ) (answer : Answer) (before after : Losses) → IsSeedOffer workers allowed m s' seed answer → after ≡ with_offer answer before
     → AreOffered workers allowed s m seeds before → AreOffered workers allowed s s' (seeds ++ seed ∷ []) after
-offered_more workers allowed s m s' seeds seed answer before after own counted so_far = record {
-  answers = so_far.answers ++ answer ∷ [];
-  each = all_more workers allowed s m s' seeds so_far.answers seed answer so_far.each own;
-  lost = counted ∙ ap (with_offer answer) so_far.lost ∙ offer_more so_far.answers answer;
-}
+offered_more workers allowed s m s' seeds seed answer before after own counted so_far = grind (arith, all_more, offer_more)
 
 pub none_offered : (workers : ℕ) (allowed : List ℕ → Bool) (s : SeederId) (losses : Losses) → losses ≡ no_losses → AreOffered workers allowed s s [] losses
 none_offered workers allowed s losses none = record { answers = []; each = refl; lost = none }
@@ -199,15 +116,9 @@ run_of {K} (Err e) gate workers allowed meaning seeds starts ends seeder seeded 
 
 cause_counted : (workers : ℕ) (allowed : List ℕ → Bool) (meaning : List ℕ → Page) (seeds : List (List ℕ)) (entries : List Entry) (results : List PageResult) (losses : Losses) (cause : CertError) (url : List ℕ) → IsRun workers allowed meaning seeds entries results losses
     → first_fault allowed seeds entries results ≡ Some cause → IsLeast (is_at_fault allowed seeds entries results cause) (Some url) → CountsLosses workers allowed meaning seeds (of_cert cause) (Some url) losses
-cause_counted workers allowed meaning seeds entries results losses cert.NoMemory url run first least = absurd (true≢false (sym least.0))
-cause_counted workers allowed meaning seeds entries results losses cause url run first least = record { entries = entries; results = results; run = run; first = first; least = least }
+cause_counted workers allowed meaning seeds entries results losses cause url run first least = grind arith
 
 -- a culprit of such a run is reported with its losses, and with none if memory ran out
 pub culprit_counted : (workers : ℕ) (allowed : List ℕ → Bool) (meaning : List ℕ → Page) (seeds : List (List ℕ)) (entries : List Entry) (results : List PageResult) (losses : Losses) (culprit : Culprit) → IsRun workers allowed meaning seeds entries results losses
     → IsCulprit (first_fault allowed seeds entries results) (is_at_fault allowed seeds entries results) culprit ⊎ (culprit ≡ no_memory) → CountsLosses workers allowed meaning seeds (of_cert culprit.cause) culprit.url (losses_at culprit.url losses)
-culprit_counted workers allowed meaning seeds entries results losses culprit run told = elim told [
-  | inl found ↦
-      subst (λ (url : Option (List ℕ)). CountsLosses workers allowed meaning seeds (of_cert culprit.cause) url (losses_at url losses)) (sym found.named)
-      (cause_counted workers allowed meaning seeds entries results losses culprit.cause found.url run found.cause found.least)
-  | inr memory ↦ subst (λ (c : Culprit). CountsLosses workers allowed meaning seeds (of_cert c.cause) c.url (losses_at c.url losses)) (sym memory) refl
-]
+culprit_counted workers allowed meaning seeds entries results losses culprit run told = grind (arith, cause_counted)

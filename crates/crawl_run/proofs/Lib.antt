@@ -1,3 +1,4 @@
+pub mod Prelude
 pub mod EndedRuns
 pub mod JudgedRuns
 pub mod LostUrls

@@ -1,25 +1,6 @@
 -- In a run a URL that was taken has a result, or is counted as lost.
-use Rattle.std.proofs.Common.{◌≡◌, inl, inr, ℕ, zero, suc, ◌+◌, ◌-◌, ◌^◌, ◌<◌, ◌≤◌, min, Bool, List, [], ◌∷◌, ◌++◌, length, map, slice_get, length-append, zero-add, refl, sym, ap, subst, ◌∙◌, arith, Result, Ok, Err}
-use Rattle.std.proofs.lemmas.List.Sums.{sum_by-append, sum_by-cons}
-use Rattle.std.proofs.lemmas.Option.{slice_get_cases, slice_get_within}
-use Rattle.std.specs.List.{sum_by}
-use Rattle.crawl_certificate.specs.AccountEntries.{entries_in}
-use Rattle.crawl_frontier.specs.Accounts.{At, HasWorkers}
-use Rattle.crawl_frontier.specs.FreshParts.{AllFresh}
-use Rattle.crawl_frontier.specs.Parts.{WorkerId}
-use Rattle.crawl_queues.specs.declared.entry.Entry.{Entry}
-use Rattle.crawl_frontier.specs.declared.error.OfferError.{OfferError}
+use Rattle.crawl_run.proofs.Prelude.{◌≡◌, inl, inr, ℕ, zero, suc, ◌+◌, ◌-◌, ◌^◌, ◌<◌, ◌≤◌, min, Bool, List, [], ◌∷◌, ◌++◌, length, map, slice_get, length-append, zero-add, refl, sym, ap, subst, ◌∙◌, arith, Result, sum_by-append, sum_by-cons, slice_get_cases, slice_get_within, sum_by, entries_in, At, HasWorkers, AllFresh, WorkerId, Entry, OfferError, Offer, GateId, Page, PageResult, AllRan, Losses, WorkerEnd, IsRun, lost_seed, all_closed, all_found, all_lost}
 use Rattle.crawl_frontier.specs.declared.error.OfferError.TheVariants as refused
-use Rattle.crawl_frontier.specs.declared.offer.Offer.{Offer}
-use Rattle.crawl_gate.specs.Seat.{GateId}
-use Rattle.crawl_pages.specs.declared.page.Page.{Page}
-use Rattle.crawl_pages.specs.declared.page.PageResult.{PageResult}
-use Rattle.crawl_workers.specs.Runs.{AllRan}
-use Rattle.link_offers.specs.declared.losses.Losses.{Losses}
-use Rattle.crawl_workers.specs.declared.worker_end.WorkerEnd.{WorkerEnd}
-use Rattle.crawl_run.specs.JudgedRuns.{IsRun}
-use Rattle.crawl_run.specs.Losses.{lost_seed}
-use Rattle.crawl_run.specs.LosslessRuns.{all_closed, all_found, all_lost}
 
 abbrev Answer : Type 0
 Answer = Result Offer OfferError
@@ -42,10 +23,7 @@ all_taken (e ∷ es) = e.closed.taken ∷ all_taken es
 
 worker_more : (most f u fs us sum_f sum_u before own taken results rest : ℕ) → sum_f ≡ f + fs → sum_u ≡ u + us → sum_f + sum_u < most → before ≡ 0 → (f + u < most → before + own + f + u ≡ taken) → (fs + us < most → rest ≡ results + fs + us)
     → taken + rest ≡ own + results + sum_f + sum_u
-worker_more most f u fs us sum_f sum_u before own taken results rest more_f more_u few none here others =
-    let first : f + u < most = omega (arith, more_f, more_u, few) in
-    let second : fs + us < most = omega (arith, more_f, more_u, few) in
-    omega (arith, more_f, more_u, none, here first, others second)
+worker_more most f u fs us sum_f sum_u before own taken results rest more_f more_u few none here others = grind arith
 
 all_counted : (gate : GateId) (workers n : ℕ) (allowed : List ℕ → Bool) (meaning : List ℕ → Page) (starts : List WorkerId) (ends : List End) → AllFresh gate workers n starts → AllRan workers allowed meaning starts ends
     → sum_by failed_of (all_lost ends) + sum_by unkept_of (all_lost ends) < 2 ^ 64 - 1 → length (entries_in (all_taken ends)) ≡ length (all_found ends) + sum_by failed_of (all_lost ends) + sum_by unkept_of (all_lost ends)
@@ -72,13 +50,7 @@ own_queue gate workers n allowed meaning (s ∷ ss) (e ∷ es) fresh ran (suc k)
 own_queue gate workers n allowed meaning starts ends fresh ran k w at = absurd ran
 
 enough : (workers : ℕ) (closed : List WorkerId) → HasWorkers workers closed → ((k : ℕ) (w : WorkerId) → At closed k w → w.queue ≡ k) → workers ≤ length closed
-enough zero closed has own = omega arith
-enough (suc n) closed has own =
-    let one = has n (omega arith) in
-    let is : one.1.queue ≡ n = one.3 in
-    let here : one.1.queue ≡ one.0 = own one.0 one.1 one.2 in
-    let within : one.0 < length closed = slice_get_within closed one.0 one.1 one.2 in
-    omega (arith, is, here, within)
+enough workers closed has own = grind (arith, slice_get_within)
 
 few_enough : (workers : ℕ) (closed : List WorkerId) (queues : List (List Entry)) → length queues ≡ workers → ((k : ℕ) (w : WorkerId) → At closed k w → At queues w.queue w.taken) → ((k : ℕ) (w : WorkerId) → At closed k w → w.queue ≡ k) → length closed ≤ workers
 few_enough workers closed queues len taken own = elim ((slice_get_cases closed workers).1) [
@@ -104,13 +76,7 @@ same_lists (q ∷ qs) (e ∷ es) len each =
 -- ---- seeds lose only links
 
 no_url : (answer : Answer) → ((lost_seed answer).failed ≡ 0) × ((lost_seed answer).unkept ≡ 0)
-no_url (Ok offer) = (refl, refl)
-no_url (Err refused.Filtered) = (refl, refl)
-no_url (Err refused.Closed) = (refl, refl)
-no_url (Err refused.Full) = (refl, refl)
-no_url (Err refused.TooFar) = (refl, refl)
-no_url (Err (refused.Crossed own found)) = (refl, refl)
-no_url (Err refused.NoMemory) = (refl, refl)
+no_url answer = grind arith
 
 no_urls : (kind : Losses → ℕ) (answers : List Answer) → ((answer : Answer) → kind (lost_seed answer) ≡ 0) → sum_by kind (map lost_seed answers) ≡ 0
 no_urls kind [] none = refl
@@ -123,8 +89,7 @@ all_of most told sum seeds ends is more none few = omega (arith, is, more, none,
 
 of_ends : (kind : Losses → ℕ) (told : ℕ) (answers : List Answer) (ends : List End) → ((answer : Answer) → kind (lost_seed answer) ≡ 0) → told ≡ min (sum_by kind (map lost_seed answers ++ all_lost ends)) (2 ^ 64 - 1) → told < 2 ^ 64 - 1
     → told ≡ sum_by kind (all_lost ends)
-of_ends kind told answers ends none is few =
-    all_of (2 ^ 64 - 1) told (sum_by kind (map lost_seed answers ++ all_lost ends)) (sum_by kind (map lost_seed answers)) (sum_by kind (all_lost ends)) is (sum_by-append kind (map lost_seed answers) (all_lost ends)) (no_urls kind answers none) few
+of_ends kind told answers ends none is few = grind (arith, all_of, sum_by-append, no_urls)
 
 pub lost_urls : (workers : ℕ) (allowed : List ℕ → Bool) (meaning : List ℕ → Page) (seeds : List (List ℕ)) (entries : List Entry) (results : List PageResult) (losses : Losses) → IsRun workers allowed meaning seeds entries results losses → losses.failed + losses.unkept < 2 ^ 64 - 1
     → length entries ≡ length results + losses.failed + losses.unkept

@@ -1,26 +1,7 @@
 -- From the ends of a run to its results, and from an account to its counts.
-use Rattle.std.proofs.Common.{◌≡◌, ◌⊎◌, inl, inr, true≢false, ℕ, ◌+◌, Bool, List, [], ◌∷◌, ◌++◌, length, slice_get, Option, Some, None, sym, ap, subst, ◌∙◌, arith, length-append}
-use Rattle.std.proofs.lemmas.Bool.{cases_lt}
-use Rattle.std.proofs.lemmas.List.Elements.{All-nil, All-append}
-use Rattle.crawl_certificate.specs.Certificate.{ArePages, CountsOf}
-use Rattle.crawl_certificate.specs.CertFaults.{first_fault}
-use Rattle.crawl_certificate.specs.declared.error.CertError.{CertError}
+use Rattle.crawl_run.proofs.Prelude.{◌≡◌, ◌⊎◌, inl, inr, ℕ, ◌+◌, Bool, List, [], ◌∷◌, ◌++◌, length, slice_get, Option, Some, None, sym, ap, ◌∙◌, arith, length-append, cases_lt, All-nil, All-append, ArePages, CountsOf, first_fault, CertError, IsCulprit, is_at_fault, no_memory, IsLeast, Culprit, get_push, get_last, AccountId, WorkerId, Entry, Page, PageResult, AllRan, WorkerEnd, AreCounts, ComesIn, CountedBelow, IsJudged, IsJudgedAt, IsOfRun, IsUncertified, of_cert, all_found, CrawlError}
 use Rattle.crawl_certificate.specs.declared.error.CertError.TheVariants as cert
-use Rattle.crawl_certificate.specs.Culprits.{IsCulprit, is_at_fault, no_memory}
-use Rattle.crawl_certificate.specs.Least.{IsLeast}
-use Rattle.crawl_certificate.specs.declared.culprit.Culprit.{Culprit}
-use Rattle.crawl_certificate.proofs.Places.{get_push, get_last}
-use Rattle.crawl_frontier.specs.Accounts.{AccountId}
-use Rattle.crawl_frontier.specs.Parts.{WorkerId}
-use Rattle.crawl_queues.specs.declared.entry.Entry.{Entry}
-use Rattle.crawl_pages.specs.declared.page.Page.{Page}
-use Rattle.crawl_pages.specs.declared.page.PageResult.{PageResult}
-use Rattle.crawl_workers.specs.Runs.{AllRan}
-use Rattle.crawl_workers.specs.declared.worker_end.WorkerEnd.{WorkerEnd}
-use Rattle.crawl_run.specs.Crawls.{AreCounts, ComesIn, CountedBelow, IsJudged, IsJudgedAt, IsOfRun, IsUncertified, of_cert}
-use Rattle.crawl_run.specs.LosslessRuns.{all_found}
 use Rattle.crawl_run.specs.declared.settings.Mode.{Mode}
-use Rattle.crawl_run.specs.declared.error.CrawlError.{CrawlError}
 use Rattle.crawl_run.specs.declared.error.CrawlError.TheVariants as wrong
 
 -- every result of every worker has the page that its URL means
@@ -58,36 +39,25 @@ urls_counted account urls counts counted own = record {
 -- the error of these entries and results, with the least URL that shows it
 judged_at : (meaning : List ℕ → Page) (allowed : List ℕ → Bool) (seeds : List (List ℕ)) (entries : List Entry) (results : List PageResult) (cause : CertError) (url : List ℕ) → ArePages meaning results → first_fault allowed seeds entries results ≡ Some cause
     → IsLeast (is_at_fault allowed seeds entries results cause) (Some url) → IsJudgedAt meaning allowed seeds (of_cert cause) (Some url)
-judged_at meaning allowed seeds entries results cert.NoMemory url means first least = absurd (true≢false (sym least.0))
-judged_at meaning allowed seeds entries results cause url means first least = record { entries = entries; results = results; means = means; first = first; least = least }
+judged_at meaning allowed seeds entries results cause url means first least = grind arith
 
 -- a culprit of these entries and results, as the crawl reports it
 pub culprit_judged : (meaning : List ℕ → Page) (allowed : List ℕ → Bool) (seeds : List (List ℕ)) (entries : List Entry) (results : List PageResult) (culprit : Culprit) → ArePages meaning results
     → IsCulprit (first_fault allowed seeds entries results) (is_at_fault allowed seeds entries results) culprit ⊎ (culprit ≡ no_memory) → IsJudgedAt meaning allowed seeds (of_cert culprit.cause) culprit.url
-culprit_judged meaning allowed seeds entries results culprit means told = elim told [
-  | inl found ↦ subst (IsJudgedAt meaning allowed seeds (of_cert culprit.cause)) (sym found.named) (judged_at meaning allowed seeds entries results culprit.cause found.url means found.cause found.least)
-  | inr memory ↦ subst (λ (c : Culprit). IsJudgedAt meaning allowed seeds (of_cert c.cause) c.url) (sym memory) tt
-]
+culprit_judged meaning allowed seeds entries results culprit means told = grind (arith, judged_at)
 
 -- the cause of a culprit is an error of a run
 pub cause_of_run : (cause : CertError) → IsOfRun (of_cert cause)
-cause_of_run cert.NoMemory = tt
-cause_of_run cause = tt
+cause_of_run cause = grind arith
 
 -- and it can occur in either mode
 pub cause_comes : (mode : Mode) (cause : CertError) → ComesIn mode (of_cert cause)
-cause_comes mode cert.NoMemory = tt
-cause_comes mode cause = tt
+cause_comes mode cause = grind arith
 
 -- an error without a certificate is reported without a URL
 pub uncertified_judged : (meaning : List ℕ → Page) (allowed : List ℕ → Bool) (seeds : List (List ℕ)) (error : CrawlError) → IsUncertified error → IsOfRun error × IsJudgedAt meaning allowed seeds error None
-uncertified_judged meaning allowed seeds (wrong.Frontier error) is = absurd is
-uncertified_judged meaning allowed seeds (wrong.Cert error) is = absurd is
-uncertified_judged meaning allowed seeds wrong.NoMemory is = (tt, tt)
-uncertified_judged meaning allowed seeds error is = (is, tt)
+uncertified_judged meaning allowed seeds error is = grind arith
 
 -- likewise for the error without its URL
 pub judged_alone : (meaning : List ℕ → Page) (allowed : List ℕ → Bool) (seeds : List (List ℕ)) (error : CrawlError) (culprit : Option (List ℕ)) → IsJudgedAt meaning allowed seeds error culprit → IsJudged meaning allowed seeds error
-judged_alone meaning allowed seeds (wrong.Cert error) (Some url) at = record { entries = at.entries; results = at.results; means = at.means; first = at.first }
-judged_alone meaning allowed seeds (wrong.Cert error) None at = absurd at
-judged_alone meaning allowed seeds error culprit at = tt
+judged_alone meaning allowed seeds error culprit at = grind arith

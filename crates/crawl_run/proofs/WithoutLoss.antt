@@ -1,27 +1,12 @@
 -- What a run without loss leaves for the certificate.
-use Rattle.std.proofs.Common.{◌≡◌, inl, inr, ℕ, ◌<◌, Bool, true, List, [], ◌∷◌, map, slice_get, Some, IsTrue, refl, sym, ap, subst, ◌∙◌}
-use Rattle.std.proofs.lemmas.Bool.{or_cases}
-use Rattle.std.proofs.lemmas.List.Elements.{All-weaker, All-contains, All-contains_itself, Contains-append_left, Contains-append_right, Contains-append_cases}
-use Rattle.std.proofs.lemmas.Option.{slice_get_within}
-use Rattle.std.specs.List.{All, Contains, flat_map}
+use Rattle.crawl_run.proofs.Prelude.{◌≡◌, inl, inr, ℕ, ◌<◌, Bool, true, List, [], ◌∷◌, map, slice_get, Some, IsTrue, refl, sym, ap, subst, ◌∙◌, or_cases, All-weaker, All-contains, All-contains_itself, Contains-append_left, Contains-append_right, Contains-append_cases, slice_get_within, All, Contains, flat_map, no_element, here, there, first_or_later, same_text, place_among, among_at, entries_in, entry_urls, result_urls, AllowedAreIn, NothingLost, Accounts, WorkerId, SenderId, Entry, Page, PageResult, HasLine, AllLogged, Share, IsWithoutLoss}
 use Rattle.std.specs.Str.{bytes_eq}
 use Rattle.crawl_certificate.proofs.Certified.{in_map, from_map}
-use Rattle.crawl_certificate.proofs.Lists.{no_element, here, there, first_or_later, same_text}
-use Rattle.crawl_certificate.proofs.Places.{place_among, among_at}
-use Rattle.crawl_certificate.specs.AccountEntries.{entries_in}
-use Rattle.crawl_certificate.specs.Certificate.{entry_urls, result_urls, AllowedAreIn, NothingLost}
-use Rattle.crawl_frontier.specs.Accounts.{Accounts}
 use Rattle.crawl_queues.specs.Entries.{has_url}
-use Rattle.crawl_frontier.specs.Parts.{WorkerId, SenderId}
-use Rattle.crawl_queues.specs.declared.entry.Entry.{Entry}
 use Rattle.crawl_keys.specs.Assignment.{subqueue_of}
 use Rattle.crawl_pages.specs.Pages.{links_of}
-use Rattle.crawl_pages.specs.declared.page.Page.{Page}
-use Rattle.crawl_pages.specs.declared.page.PageResult.{PageResult}
 use Rattle.crawl_workers.proofs.Lossless.{all_taken_found, logged_accepted, links_accepted}
-use Rattle.link_offers.specs.Logs.{HasLine, AllLogged}
 use Rattle.crawl_workers.specs.Lossless.{IsAccepted, AllAccepted}
-use Rattle.crawl_run.specs.LosslessRuns.{Share, IsWithoutLoss}
 
 -- ---- elements of lists in a row
 

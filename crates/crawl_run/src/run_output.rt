@@ -23,6 +23,7 @@ pub struct RunOutput {
 
 /// Collects what a run of this frontier left: closed workers and results in the order of `ends`, and the losses in addition to
 /// those of the seeds. So the results are in the order of an account's entries, which is where the certificate looks for each first.
+#[tactic(auto, using(crate::proofs::EndedRuns::closed_on, crate::proofs::EndedRuns::found_on, crate::proofs::EndedRuns::losses_on))]
 pub fn output_of<K: Name>(
     alloc: Global,
     frontier: Frontier<K>,
@@ -76,6 +77,7 @@ fn with_found(
 }
 
 /// Returns the number of entries of each queue.
+#[tactic(auto, using(crate::proofs::RunResults::one_more_counted))]
 pub fn counts_of(alloc: Global, account: &Account) -> Result<Vec<u64>, AllocError>
     ensures { IfOk result (λ counts. CountedBelow account.now.workers account.now counts.items) }
 {

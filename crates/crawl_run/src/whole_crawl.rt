@@ -61,6 +61,7 @@ pub struct Crawled {
 ///     Some(found.result.pages().len())
 /// }
 /// ```
+#[tactic(auto, using(crate::proofs::RunResults::judged_alone))]
 pub fn crawl<F: SessionFetch + Sync, R: Threads + Wait + Sync>(
     rt: &R,
     alloc: Global,

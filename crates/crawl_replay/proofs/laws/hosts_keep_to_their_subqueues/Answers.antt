@@ -1,12 +1,6 @@
-use Rattle.std.proofs.Common.{sym, ◌∙◌}
-use Rattle.crawl_core.specs.declared.event.Event.TheVariants.{Admit}
+use Rattle.crawl_replay.proofs.Prelude.{sym, ◌∙◌, Admit}
 use Rattle.crawl_replay.proofs.Assigned.{placed_at}
 use Rattle.crawl_replay.proofs.laws.hosts_keep_to_their_subqueues.Goals as goal
-
-pub returns-clause-states : goal.returns-clause-states
-returns-clause-states c workers max history state run assigned queue k found m at at_k =
-    let admitted = c.admitted_before.ensures.accepted workers max history state run queue k found m at at_k in
-    (placed_at workers _ admitted.0 (Admit admitted.1 m.url queue) assigned admitted.2)
 
 pub returns-clause-once : goal.returns-clause-once
 returns-clause-once c workers max events replies run assigned =

@@ -1,9 +1,5 @@
-use Rattle.std.proofs.Common.{◌+◌, Ok, ap, ◌∙◌, arith}
-use Rattle.std.specs.Str.Lines.{lines}
-use Rattle.std.proofs.lemmas.List.Elements.{All-push}
-use Rattle.crawl_replay.specs.Assignment.{IsAddressed}
-use Rattle.crawl_replay.specs.Script.{events_of}
-use Rattle.crawl_replay.proofs.ReadLines.{read_event}
+use Rattle.crawl_replay.proofs.Prelude.{◌+◌, Ok, ap, ◌∙◌, arith, lines, All-push, IsAddressed, events_of}
+use Rattle.crawl_replay.proofs.LineWords.{read_event}
 use Rattle.crawl_replay.proofs.script.events_of.Goals as goal
 
 pub loop-line-preserved-in-Continue-branch-2 : goal.loop-line-preserved-in-Continue-branch-2

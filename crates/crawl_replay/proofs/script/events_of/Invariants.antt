@@ -1,8 +1,5 @@
-use Rattle.std.proofs.Common.{◌≡◌, ◌+◌, ◌≤◌, length}
-use Rattle.std.specs.Str.Lines.{lines}
-use Rattle.crawl_replay.specs.Assignment.{AreAddressed}
-use Rattle.crawl_replay.specs.Script.{events_of}
-use Rattle.crawl_replay.proofs.ReadLines.{behind}
+use Rattle.crawl_replay.proofs.Prelude.{◌≡◌, ◌+◌, ◌≤◌, length, lines, AreAddressed, events_of}
+use Rattle.crawl_replay.proofs.LineWords.{behind}
 use Rattle.crawl_replay.proofs.script.events_of.Given as goal
 
 abbrev pub invariant-loop-line : goal.invariant-loop-line

@@ -1,7 +1,6 @@
+use Rattle.crawl_run.proofs.Prelude.{entries_of, allows}
 use Rattle.crawl_certificate.proofs.Crawls.{whole_crawl}
 use Rattle.crawl_certificate.proofs.NothingLost.{nothing_lost}
-use Rattle.crawl_certificate.specs.AccountEntries.{entries_of}
-use Rattle.crawl_keys.specs.HostFilter.{allows}
 use Rattle.crawl_run.proofs.EndedRuns.{culprit_lost}
 use Rattle.crawl_run.proofs.JudgedRuns.{culprit_counted}
 use Rattle.crawl_run.proofs.RunResults.{cause_comes, cause_of_run, culprit_judged, urls_counted}

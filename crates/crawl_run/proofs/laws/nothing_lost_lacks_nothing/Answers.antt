@@ -1,6 +1,4 @@
-use Rattle.std.specs.List.{flat_map}
-use Rattle.crawl_certificate.specs.AccountEntries.{entries_in}
-use Rattle.crawl_run.specs.LosslessRuns.{Share}
+use Rattle.crawl_run.proofs.Prelude.{flat_map, entries_in, Share}
 use Rattle.crawl_run.proofs.WithoutLoss.{run_without_loss}
 use Rattle.crawl_run.proofs.laws.nothing_lost_lacks_nothing.Goals as goal
 

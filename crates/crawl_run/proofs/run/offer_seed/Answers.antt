@@ -1,8 +1,5 @@
-use Rattle.std.proofs.Common.{◌∙◌, refl, Ok, Err}
-use Rattle.crawl_keys.specs.HostFilter.{allows}
-use Rattle.link_offers.proofs.Logs.{offer_grows, offer_line}
-use Rattle.link_offers.specs.Logs.{HasLine}
-use Rattle.crawl_run.proofs.EndedRuns.{refusal_filtered, refusal_line}
+use Rattle.crawl_run.proofs.Prelude.{refl, Ok, Err, arith, allows, offer_grows, offer_line}
+use Rattle.crawl_run.proofs.EndedRuns.{refusal_line}
 use Rattle.crawl_run.proofs.JudgedRuns.{offered_more}
 use Rattle.crawl_run.proofs.run.offer_seed.Goals as goal
 
@@ -16,12 +13,7 @@ pub returns-in-Err-clause-grows : goal.returns-in-Err-clause-grows
 returns-in-Err-clause-grows g c = offer_grows g.K.Name.workers _ _ c.args.seed.now 0 _ c.offer.ensures.books
 
 pub returns-in-Err-clause-line : goal.returns-in-Err-clause-line
-returns-in-Err-clause-line g c = λ none.
-    refusal_line c.in-Err.refused c.args.before (allows g.K.Name.filter c.args.seed.now) (HasLine g.K.Name.workers c.offer.new.self.book.log c.args.seed.now) _ _ _ _
-    c.in-Err.ensures.words c.in-Err.ensures.filtered.0 (rw c.with_refusal.ensures at none)
-
-pub returns-in-Err-clause-filtered : goal.returns-in-Err-clause-filtered
-returns-in-Err-clause-filtered g c = λ no. c.with_refusal.ensures ∙ refusal_filtered c.in-Err.refused c.args.before (c.in-Err.ensures.filtered.1 no)
+returns-in-Err-clause-line g c = grind (arith, refusal_line)
 
 pub returns-in-Ok-clause-offered : goal.returns-in-Ok-clause-offered
 returns-in-Ok-clause-offered g c = λ first seeds so_far.

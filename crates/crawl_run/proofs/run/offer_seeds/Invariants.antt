@@ -1,8 +1,4 @@
-use Rattle.std.proofs.Common.{◌≡◌, take}
-use Rattle.crawl_keys.specs.HostFilter.{allows}
-use Rattle.link_offers.specs.Logs.{AllLogged}
-use Rattle.link_offers.specs.Losses.{all_losses}
-use Rattle.crawl_run.specs.JudgedRuns.{AreOffered}
+use Rattle.crawl_run.proofs.Prelude.{◌≡◌, take, allows, AllLogged, all_losses, AreOffered}
 use Rattle.crawl_run.proofs.run.offer_seeds.Given as goal
 
 abbrev pub invariant-loop-seed : goal.invariant-loop-seed

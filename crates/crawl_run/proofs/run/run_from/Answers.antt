@@ -1,17 +1,7 @@
-use Rattle.std.proofs.Common.{◌≡◌, ◌<◌, IfOk, sym, subst}
-use Rattle.crawl_certificate.specs.AccountEntries.{entries_of}
-use Rattle.crawl_certificate.specs.Certificate.{NothingLost}
-use Rattle.crawl_keys.specs.HostFilter.{allows}
-use Rattle.link_offers.specs.Losses.{all_losses}
-use Rattle.crawl_run.proofs.EndedRuns.{found_of, nothing_lost_of}
+use Rattle.crawl_run.proofs.Prelude.{◌≡◌, ◌<◌, IfOk, sym, subst, entries_of, NothingLost, allows, all_losses}
+use Rattle.crawl_run.proofs.EndedRuns.{nothing_lost_of}
 use Rattle.crawl_run.proofs.JudgedRuns.{run_of}
-use Rattle.crawl_run.proofs.RunResults.{all_pages}
 use Rattle.crawl_run.proofs.run.run_from.Goals as goal
-
-pub returns-clause-pages : goal.returns-clause-pages
-returns-clause-pages g c =
-    let meaning = g.F.SessionFetch.meaning c.args.fetcher.now in
-    found_of c.output_of.result meaning _ (all_pages g.K.Name.workers (allows g.K.Name.filter) meaning _ _ c.in_ok-ends.ensures.ran) c.output_of.ensures.found
 
 pub returns-clause-mode : goal.returns-clause-mode
 returns-clause-mode g c = c.output_of.ensures.mode c.args.settings.now.mode

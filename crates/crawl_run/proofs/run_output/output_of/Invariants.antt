@@ -1,7 +1,5 @@
-use Rattle.std.proofs.Common.{◌≡◌, ◌++◌}
+use Rattle.crawl_run.proofs.Prelude.{◌≡◌, ◌++◌, losses_with, all_closed, all_found}
 use Rattle.std.specs.Vec.Iter.{into_iter_items}
-use Rattle.crawl_run.specs.Losses.{losses_with}
-use Rattle.crawl_run.specs.LosslessRuns.{all_closed, all_found}
 use Rattle.crawl_run.proofs.run_output.output_of.Given as goal
 
 abbrev pub invariant-loop-end : goal.invariant-loop-end
