@@ -1,2 +1,4 @@
+pub mod LastPage
 pub mod PageIndex
+pub mod UrlIndices
 pub mod WebLines

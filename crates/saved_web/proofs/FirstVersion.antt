@@ -6,9 +6,9 @@ use Rattle.std.specs.List.{list_any}
 use Rattle.saved_web.proofs.PassedLines.{said_passes}
 use Rattle.text_lines.specs.LeastFault.{SoundAfter}
 use Rattle.crawl_pages.specs.Pages.{is_moved}
-use Rattle.saved_web.specs.SavedWeb.{lines_behind, put_moved, moved_text, link_texts, page_with, page_behind, page_of}
+use Rattle.saved_pages.specs.SavedWeb.{lines_behind, put_moved, moved_text, link_texts, page_with, page_behind, page_of}
 use Rattle.saved_pages.specs.WebChecks.{Before, said_fault}
-use Rattle.saved_web.specs.WebFaults.{is_second, before, fault_after, IsSound}
+use Rattle.saved_pages.specs.WebFaults.{is_second, before, fault_after, IsSound}
 use Rattle.saved_pages.specs.WebLines.{line_of, says_moved, is_moved_line}
 use Rattle.saved_pages.specs.declared.line.Line.{Line}
 use Rattle.saved_pages.specs.declared.line.Line.TheVariants as says

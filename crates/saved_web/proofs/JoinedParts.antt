@@ -18,9 +18,9 @@ use Rattle.text_lines.specs.LeastFault.{SoundAfter}
 use Rattle.saved_pages.specs.PageLists.{PageRead, urls, has}
 use Rattle.saved_pages.specs.PageLists as list
 use Rattle.saved_web.specs.Reading.{AreRead, AreReadBehind, IsHeader}
-use Rattle.saved_web.specs.SavedWeb.{lines_behind, put_link, link_texts, put_moved, moved_text, page_with, page_behind, page_of, page_urls}
+use Rattle.saved_pages.specs.SavedWeb.{lines_behind, put_link, link_texts, put_moved, moved_text, page_with, page_behind, page_of, page_urls}
 use Rattle.saved_pages.specs.WebChecks.{Before, page_fault, under_fault, said_fault, text_fault, line_fault}
-use Rattle.saved_web.specs.WebFaults.{under_last_page, before, fault_after}
+use Rattle.saved_pages.specs.WebFaults.{under_last_page, before, fault_after}
 use Rattle.saved_pages.specs.WebLines.{line_of_text, line_of, says_page, url_said, is_page, is_page_at, page_url}
 use Rattle.text_lines.specs.declared.lines.LineError.TheVariants.{TooLong, NotText}
 use Rattle.saved_pages.specs.declared.error.WebError.TheVariants as wrong

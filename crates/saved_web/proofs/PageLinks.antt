@@ -3,7 +3,7 @@ use native.Mathlib.Omega.{arith}
 use Rattle.std.proofs.Common.{◌≡◌, ℕ, true, List, [], ◌∷◌, ◌++◌, Some}
 use Rattle.std.specs.List.{filter_map}
 use Rattle.std.proofs.lemmas.List.{append_assoc}
-use Rattle.saved_web.specs.SavedWeb.{link_url}
+use Rattle.saved_pages.specs.SavedWeb.{link_url}
 use Rattle.crawl_keys.specs.CanonicalText.{resolve}
 use Rattle.crawl_keys.specs.Folders.{is_of_folder}
 use Rattle.saved_web.specs.KnownLinks.{TextLink, AreLinks, AreOfFolder}

@@ -7,11 +7,11 @@ use Rattle.std.specs.List.{list_any, count_by}
 use Rattle.std.proofs.lemmas.Bool.{cases_Bool, cond-true, cond-false, or_parts}
 use Rattle.std.proofs.lemmas.List.Sums.{sum_by-append, take_while-cons}
 use Rattle.saved_web.proofs.PassedLines.{said_passes}
-use Rattle.saved_web.proofs.ReadWeb.{under_more}
+use Rattle.saved_pages.proofs.LastPage.{under_more}
 use Rattle.text_lines.specs.LeastFault.{SoundAfter}
-use Rattle.saved_web.specs.SavedWeb.{lines_behind, up_to_page, IsUnmixed}
+use Rattle.saved_pages.specs.SavedWeb.{lines_behind, up_to_page, IsUnmixed}
 use Rattle.saved_pages.specs.WebChecks.{Before, under_fault, said_fault}
-use Rattle.saved_web.specs.WebFaults.{under_last_page, before, fault_after, IsSound}
+use Rattle.saved_pages.specs.WebFaults.{under_last_page, before, fault_after, IsSound}
 use Rattle.saved_pages.specs.WebLines.{line_of, says_page, url_said, is_page, is_link, is_moved_line, is_page_at}
 use Rattle.std.specs.Option.{option_map_or}
 use Rattle.std.specs.Str.{bytes_eq}

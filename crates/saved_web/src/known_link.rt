@@ -1,6 +1,6 @@
 //! The URLs to which links lead.
 ghost use Rattle.std.specs.Prelude.{◌≡◌, IfOk, IfErr};
-ghost use Rattle.saved_web.specs.SavedWeb.{link_url};
+ghost use Rattle.saved_pages.specs.SavedWeb.{link_url};
 
 use crawl_keys::{Base, CanonUrl, KeyError};
 use crawl_pages::FetchError;

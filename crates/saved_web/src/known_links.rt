@@ -3,14 +3,14 @@ ghost use Rattle.std.specs.Prelude.{◌≡◌, ◌<◌, true, [], length, get_or
 ghost use Rattle.std.specs.List.{Contains};
 ghost use Rattle.crawl_keys.specs.Folders.{is_of_folder};
 ghost use Rattle.saved_web.specs.KnownLinks.{AreLinks, AreOfFolder};
-ghost use Rattle.saved_web.specs.SavedWeb.{link_url};
+ghost use Rattle.saved_pages.specs.SavedWeb.{link_url};
 
 use crate::known_link::{copy_of, link_of};
-use crate::link_text::LinkText;
 use crawl_keys::{Base, CanonUrl};
 use crawl_pages::FetchError;
 use hash_index::{HashIndex, Keyed};
 use hash_order::hash_of;
+use saved_pages::LinkText;
 use std::alloc::Global;
 use std::marker::Model;
 

@@ -1,8 +1,8 @@
 //! Laws of saved webs. None does anything when it is called.
 ghost use Rattle.std.specs.Prelude.{◌≡◌, ℕ, false, List, Some};
 ghost use Rattle.crawl_pages.specs.Pages.{is_moved};
-ghost use Rattle.saved_web.specs.SavedWeb.{page_of, lines_behind, up_to_page, IsUnmixed};
-ghost use Rattle.saved_web.specs.WebFaults.{is_second, IsSound};
+ghost use Rattle.saved_pages.specs.SavedWeb.{page_of, lines_behind, up_to_page, IsUnmixed};
+ghost use Rattle.saved_pages.specs.WebFaults.{is_second, IsSound};
 
 /// In a saved web of version 1 no page has moved.
 pub fn none_moved_in_version_1()

@@ -3,7 +3,7 @@ ghost use Rattle.std.specs.Prelude.{◌≡◌, ◌+◌, ◌++◌, ◌<◌, [], t
 ghost use Rattle.std.specs.List.{list_any};
 ghost use Rattle.std.specs.Str.Lines.{lines};
 ghost use Rattle.saved_web.specs.LongPages.{AreFound};
-ghost use Rattle.saved_web.specs.SavedWeb.{link_texts, found_page, page_behind};
+ghost use Rattle.saved_pages.specs.SavedWeb.{link_texts, found_page, page_behind};
 ghost use Rattle.saved_pages.specs.WebLines.{is_page};
 
 use crate::folder::Folder;

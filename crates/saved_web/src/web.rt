@@ -2,10 +2,10 @@
 ghost use Rattle.std.specs.Prelude.{◌≡◌, ℕ, List, Ok, Err, IfOk, IfErr, IsUtf8};
 ghost use Rattle.crawl_keys.specs.Outcome.{Gives};
 ghost use Rattle.std.specs.Str.Lines.{lines};
-ghost use Rattle.saved_web.specs.SavedWeb.{page_of, page_urls};
+ghost use Rattle.saved_pages.specs.SavedWeb.{page_of, page_urls};
 ghost use Rattle.saved_web.specs.KnownPages.{page_at, urls_of};
 ghost use Rattle.saved_web.specs.Reading.{AreRead};
-ghost use Rattle.saved_web.specs.WebFaults.{IsSound, IsWebFault, IsWebRefusal};
+ghost use Rattle.saved_pages.specs.WebFaults.{IsSound, IsWebFault, IsWebRefusal};
 
 use crate::link_cache::LinkCache;
 use crate::links::page_behind;

@@ -1,7 +1,7 @@
 use Rattle.std.proofs.Common.{rules, ◌≡◌, [], ◌∷◌, ◌++◌, Some, sym, subst, ap, ◌∙◌}
 use Rattle.std.specs.List.{filter_map}
 use Rattle.std.specs.Str.Lines.{lines}
-use Rattle.saved_web.specs.SavedWeb.{link_texts, link_url}
+use Rattle.saved_pages.specs.SavedWeb.{link_texts, link_url}
 use Rattle.saved_web.proofs.PageLinks.{pushed_next}
 use Rattle.saved_web.proofs.links.find_links.Goals as goal
 

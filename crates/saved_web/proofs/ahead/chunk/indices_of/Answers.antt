@@ -1,6 +1,7 @@
 use Rattle.std.proofs.Common.{rules, ◌≡◌, ◌+◌, [], ◌∷◌, ◌++◌, take, sym, subst}
-use Rattle.saved_web.specs.Ahead.{LeadTo}
-use Rattle.saved_web.proofs.AheadLinks.{lead_still, lead_more}
+use Rattle.saved_pages.specs.UrlIndices.{LeadTo}
+use Rattle.saved_pages.proofs.UrlIndices.{lead_still}
+use Rattle.saved_web.proofs.AheadLinks.{lead_more}
 use Rattle.saved_web.proofs.ahead.chunk.indices_of.Goals as goal
 
 pub loop-link-preserved : goal.loop-link-preserved

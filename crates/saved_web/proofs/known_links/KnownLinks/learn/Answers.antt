@@ -6,7 +6,7 @@ use Rattle.hash_order.specs.HashOrder.{hash_of}
 use Rattle.hash_index.specs.Lists.{index_of}
 use Rattle.hash_index.proofs.Keeping.{pushed_item}
 use Rattle.saved_web.specs.KnownLinks.{TextLink}
-use Rattle.saved_web.specs.SavedWeb.{link_url}
+use Rattle.saved_pages.specs.SavedWeb.{link_url}
 use Rattle.saved_web.proofs.LinkIndex.{texts, within_at, contains_at}
 use Rattle.saved_web.proofs.known_links.KnownLinks.learn.Goals as goal
 

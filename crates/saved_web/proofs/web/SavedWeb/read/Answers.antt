@@ -1,6 +1,6 @@
 use Rattle.std.proofs.lemmas.Result.{err_from_is_err_and}
 use Rattle.std.specs.Str.Lines.{lines}
-use Rattle.saved_web.specs.SavedWeb.{page_of}
+use Rattle.saved_pages.specs.SavedWeb.{page_of}
 use Rattle.saved_web.proofs.LeastLine.{no_fault, only_memory, same_fault}
 use Rattle.saved_web.proofs.web.SavedWeb.read.Goals as goal
 

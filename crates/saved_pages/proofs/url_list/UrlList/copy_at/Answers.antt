@@ -1,7 +1,7 @@
 use Rattle.std.proofs.Common.{rules, ◌≡◌, Some, sym, ap, ◌∙◌}
 use Rattle.std.specs.Option.{option_map}
 use Rattle.saved_pages.proofs.PageIndex.{item_at}
-use Rattle.saved_web.proofs.url_list.UrlList.copy_at.Goals as goal
+use Rattle.saved_pages.proofs.url_list.UrlList.copy_at.Goals as goal
 
 pub returns-in-Ok : goal.returns-in-Ok
 returns-in-Ok c =

@@ -1,6 +1,6 @@
 //! A list of different URLs.
 ghost use Rattle.std.specs.Prelude.{◌≡◌, [], Some, slice_get, IfOk, IfSome};
-ghost use Rattle.saved_web.specs.Ahead.{KeepIndices};
+ghost use Rattle.saved_pages.specs.UrlIndices.{KeepIndices};
 
 use crawl_keys::CanonUrl;
 use hash_index::HashIndex;
