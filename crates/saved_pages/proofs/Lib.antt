@@ -1,4 +1,3 @@
-pub mod LastPage
 pub mod PageIndex
 pub mod UrlIndices
 pub mod WebLines

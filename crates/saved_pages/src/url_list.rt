@@ -56,6 +56,7 @@ impl UrlList {
     }
 
     /// Returns a copy of the URL at the index. `None` if there is no such URL, or if it cannot be copied.
+    #[tactic(auto, using(crate::proofs::PageIndex::item_at))]
     pub fn copy_at(&self, index: u32) -> Option<CanonUrl>
         ensures { IfSome result (λ url. slice_get self.now index ≡ Some url) }
     {

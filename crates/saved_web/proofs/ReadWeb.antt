@@ -13,7 +13,7 @@ use Rattle.std.proofs.lemmas.List.Folds.{list_any-append}
 use Rattle.crawl_keys.specs.Outcome.{IsRefusal}
 use Rattle.text_lines.proofs.CutLines.{is_lf, lines_at, lines_only}
 use Rattle.text_lines.specs.LeastFault.{SoundAfter, IsLeastFault}
-use Rattle.saved_pages.proofs.LastPage.{under_more}
+use Rattle.saved_pages.proofs.WebLines.{under_more}
 use Rattle.saved_web.specs.Reading.{ReadTo, AllFound, FoundTo, AreRead, IsHeader}
 use Rattle.saved_pages.specs.SavedWeb.{page_of, page_urls}
 use Rattle.saved_pages.specs.WebLines.{says_page, says_link, says_moved, url_said, is_page, is_link, is_moved_line, is_page_at, page_url}
@@ -37,10 +37,10 @@ told o = option_map (λ page. lines page.behind) o
 abbrev at : Option (List ℕ) → List ℕ → Bool
 at own url = option_map_or (λ u. bytes_eq u url) own false
 
--- the page that is found after one was put at the end
-pub page_with-push : (old : KnownPages) (page : PageRead) (q : List ℕ) → page_with (old ++ page ∷ []) q ≡ option_or (page_with old q) (if bytes_eq page.url q then Some page else None)
-page_with-push [] page q = refl
-page_with-push (x ∷ xs) page q = grind (arith, page_with-push xs page q)
+-- the page that is found in two lists
+pub with_url-append : (ps qs : KnownPages) (url : List ℕ) → page_with (ps ++ qs) url ≡ option_or (page_with ps url) (page_with qs url)
+with_url-append [] qs url = refl
+with_url-append (p ∷ ps) qs url = grind (arith, with_url-append ps qs url)
 
 adds_some : (old new : KnownPages) (own : Option (List ℕ)) (bytes : List ℕ) → Adds old new own bytes → has_some new ≡ (has_some old || is_some own)
 adds_some old new own bytes same = grind (arith, or-false, length-append, or_right)
@@ -52,7 +52,7 @@ behind_put : (b : Bool) (o : Option PageRead) (page : PageRead) (more : Option (
 behind_put b o page more = grind arith
 
 adds_behind : (old new : KnownPages) (own : Option (List ℕ)) (bytes : List ℕ) (more : Option (List (List ℕ))) → Adds old new own bytes → (q : List ℕ) → option_or (known_behind old q) (if at own q then Some (lines bytes) else more) ≡ option_or (known_behind new q) more
-adds_behind old new own bytes more same q = grind (arith, behind_put, page_with-push)
+adds_behind old new own bytes more same q = grind (arith, behind_put, with_url-append)
 
 -- ---- the URLs of pages
 

@@ -44,6 +44,7 @@ impl<'a> Folder<'a> {
     }
 
     /// The folder of the next page. What is known stays known where the page is in the same folder.
+    #[tactic(auto, using(crate::proofs::KnownLinks::on_page_beside))]
     pub fn turn_to(self, alloc: Global, page: Base) -> Folder<'a>
         ensures { result ≡ page }
     {

@@ -3,7 +3,6 @@
 
 mod ahead;
 mod folder;
-mod known_link;
 mod known_links;
 /// Theorems about saved webs.
 pub mod laws;

@@ -8,8 +8,7 @@ ghost use Rattle.saved_pages.specs.SavedWeb.{link_texts, link_url, moved_text, f
 ghost use Rattle.crawl_pages.specs.declared.page.Page.TheVariants.{Moved};
 
 use crate::folder::Folder;
-use crate::known_link::{copy_of, link_of};
-use crate::known_links::KnownLinks;
+use crate::known_links::{KnownLinks, copy_of, link_of};
 use crate::link_cache::{LinkCache, folder_hash};
 use crawl_keys::{Base, CanonUrl, is_of_folder};
 use crawl_pages::{FetchError, Links, Page};
@@ -102,6 +101,7 @@ fn found_page<'a>(
 }
 
 /// Replaces the links by those among these lines, up to the next page. Returns how many lead to no URL.
+#[tactic(auto, using(crate::proofs::KnownLinks::pushed_next))]
 pub fn find_links<'a>(
     alloc: Global,
     folder: &mut Folder<'a>,

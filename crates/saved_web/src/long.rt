@@ -86,6 +86,7 @@ fn long_page<R: Threads>(rt: &R, alloc: Global, url: &CanonUrl, behind: &str) ->
 }
 
 /// Whether the first of the lines is a page, or there is none.
+#[tactic(auto, using(crate::proofs::LongPages::page_begins))]
 fn begins_with_page(bytes: &[u8]) -> bool
     ensures { result ≡ true → link_texts (lines bytes.now) ≡ [] }
 {

@@ -184,6 +184,7 @@ fn links_of<'a>(
 }
 
 /// Returns the indices of the URLs of links. New URLs are pushed to the list.
+#[tactic(auto, using(crate::proofs::AheadLinks::lead_more, saved_pages::proofs::UrlIndices::lead_still))]
 fn indices_of(alloc: Global, urls: &mut UrlList, links: &[CanonUrl]) -> Result<Vec<u32>, AllocError>
     ensures lead { IfOk result (λ indices. LeadTo urls.new indices.items links.now) }
     ensures keep { KeepIndices urls.old urls.new }
