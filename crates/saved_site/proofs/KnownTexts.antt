@@ -8,8 +8,8 @@ use Rattle.std.proofs.lemmas.List.Elements.{All-contains, All-push, Contains-get
 use Rattle.std.proofs.lemmas.Option.{slice_get_within, get_or_from_slice_get}
 use Rattle.crawl_keys.specs.CanonicalText.{resolve}
 use Rattle.crawl_keys.specs.Folders.{is_of_folder}
-use Rattle.saved_web.specs.Ahead.{KeepIndices}
-use Rattle.saved_web.specs.SavedWeb.{link_url}
+use Rattle.saved_pages.specs.UrlIndices.{KeepIndices}
+use Rattle.saved_pages.specs.SavedWeb.{link_url}
 use Rattle.hash_index.specs.Lists.{index_of}
 use Rattle.hash_index.proofs.Listed.{found_at}
 use Rattle.saved_site.proofs.LedPages.{leads_still}

@@ -7,8 +7,8 @@ use Rattle.std.specs.Str.{bytes_eq}
 use Rattle.std.proofs.lemmas.List.{append-nil, take_more}
 use Rattle.std.proofs.lemmas.List.Elements.{All-head, All-tail, filter_map-append}
 use Rattle.hash_index.specs.Lists.{index_of}
-use Rattle.saved_web.proofs.AheadLinks.{lead_still}
-use Rattle.saved_web.specs.Ahead.{KeepIndices, LeadTo}
+use Rattle.saved_pages.proofs.UrlIndices.{lead_still}
+use Rattle.saved_pages.specs.UrlIndices.{KeepIndices, LeadTo}
 use Rattle.crawl_pages.specs.declared.page.Page.{Page}
 use Rattle.crawl_pages.specs.declared.page.Page.TheVariants as page
 use Rattle.saved_site.specs.Leads.{LeadsTo}

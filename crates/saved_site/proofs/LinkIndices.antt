@@ -4,9 +4,9 @@ use Rattle.std.specs.List.{count_by, filter_map}
 use Rattle.std.specs.Option.{is_none}
 use Rattle.std.proofs.lemmas.List.{map_push}
 use Rattle.std.proofs.lemmas.List.Sums.{sum_by-cons}
-use Rattle.saved_web.proofs.AheadLinks.{lead_still}
-use Rattle.saved_web.specs.Ahead.{KeepIndices, LeadTo}
-use Rattle.saved_web.specs.SavedWeb.{found_page, link_url}
+use Rattle.saved_pages.proofs.UrlIndices.{lead_still}
+use Rattle.saved_pages.specs.UrlIndices.{KeepIndices, LeadTo}
+use Rattle.saved_pages.specs.SavedWeb.{found_page, link_url}
 use Rattle.crawl_pages.specs.declared.page.Page.TheVariants as page
 use Rattle.saved_site.proofs.LedPages.{led_links}
 use Rattle.saved_site.specs.Leads.{LeadsTo}

@@ -4,7 +4,7 @@ use Rattle.std.specs.Bool.{if◌then◌else◌}
 use Rattle.std.proofs.lemmas.Bool.{cond-true}
 use Rattle.std.proofs.lemmas.List.{map_push}
 use Rattle.std.proofs.lemmas.List.Elements.{All-push}
-use Rattle.saved_web.specs.Ahead.{KeepIndices}
+use Rattle.saved_pages.specs.UrlIndices.{KeepIndices}
 use Rattle.crawl_pages.specs.declared.page.Page.{Page}
 use Rattle.hash_index.specs.Lists.{index_of}
 use Rattle.saved_site.proofs.LedPages.{all_led_still, has_found, same_found}

@@ -16,9 +16,9 @@ use Rattle.std.proofs.lemmas.Cmp.{nat_list_cmp_total}
 use Rattle.std.proofs.lemmas.Map.Text.{is_eq-slice_cmp}
 use Rattle.std.proofs.lemmas.List.Folds.{list_any-append}
 use Rattle.crawl_keys.specs.declared.error.KeyError.{KeyError}
-use Rattle.saved_web.proofs.ReadWeb.{under_more}
+use Rattle.saved_pages.proofs.WebLines.{under_more}
 use Rattle.text_lines.specs.LeastFault.{SoundAfter}
-use Rattle.saved_web.specs.WebFaults.{is_second, under_last_page, before, fault_after, IsSound}
+use Rattle.saved_pages.specs.WebFaults.{is_second, under_last_page, before, fault_after, IsSound}
 use Rattle.saved_pages.specs.WebChecks.{header_of, header_fault, page_fault, under_fault, said_fault, text_fault}
 use Rattle.saved_pages.specs.WebLines.{says_page, says_moved, url_said, is_page, is_moved_line, is_link, is_page_at}
 use Rattle.saved_pages.specs.declared.error.WebError.{WebError}

@@ -1,12 +1,12 @@
 //! What is known of the links on the pages of a folder.
 ghost use Rattle.std.specs.Prelude.{◌≡◌, true, IfOk, IfErr, IfSome};
 ghost use Rattle.crawl_keys.specs.Folders as spec;
-ghost use Rattle.saved_web.specs.SavedWeb.{link_url};
+ghost use Rattle.saved_pages.specs.SavedWeb.{link_url};
 
 use crate::known_links::KnownLinks;
-use crate::link_text::LinkText;
 use crawl_keys::{Base, CanonUrl};
 use crawl_pages::FetchError;
+use saved_pages::LinkText;
 use std::alloc::Global;
 use std::marker::Model;
 
@@ -44,6 +44,7 @@ impl<'a> Folder<'a> {
     }
 
     /// The folder of the next page. What is known stays known where the page is in the same folder.
+    #[tactic(auto, using(crate::proofs::KnownLinks::on_page_beside))]
     pub fn turn_to(self, alloc: Global, page: Base) -> Folder<'a>
         ensures { result ≡ page }
     {

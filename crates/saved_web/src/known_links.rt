@@ -3,15 +3,14 @@ ghost use Rattle.std.specs.Prelude.{◌≡◌, ◌<◌, true, [], length, get_or
 ghost use Rattle.std.specs.List.{Contains};
 ghost use Rattle.crawl_keys.specs.Folders.{is_of_folder};
 ghost use Rattle.saved_web.specs.KnownLinks.{AreLinks, AreOfFolder};
-ghost use Rattle.saved_web.specs.SavedWeb.{link_url};
+ghost use Rattle.saved_pages.specs.SavedWeb.{link_url};
 
-use crate::known_link::{copy_of, link_of};
-use crate::link_text::LinkText;
-use crawl_keys::{Base, CanonUrl};
+use crawl_keys::{Base, CanonUrl, KeyError};
 use crawl_pages::FetchError;
 use hash_index::{HashIndex, Keyed};
 use hash_order::hash_of;
-use std::alloc::Global;
+use saved_pages::LinkText;
+use std::alloc::{AllocError, Global};
 use std::marker::Model;
 
 /// The room of at most this many texts is used again.
@@ -105,6 +104,7 @@ impl<'a> KnownLinks<'a> {
     }
 
     /// The URL to which a link with this text leads, if that is known.
+    #[tactic(auto, using(crate::proofs::KnownLinks::texts, crate::proofs::KnownLinks::within_at))]
     pub fn find(&self, text: &LinkText<'a>) -> Option<&Option<CanonUrl>>
         ensures { IfSome result (λ link. Contains self.now (text.now, link.now)) }
     {
@@ -138,6 +138,7 @@ impl<'a> KnownLinks<'a> {
     }
 
     // The same, which is known from now on.
+    #[tactic(auto, using(crate::proofs::KnownLinks::texts, crate::proofs::KnownLinks::within_at))]
     fn learn(
         &mut self,
         alloc: Global,
@@ -171,4 +172,26 @@ fn link_at<'l>(links: &'l [KnownLink<'_>], index: usize) -> &'l Option<CanonUrl>
 {
     let known = &links[index];
     &known.link
+}
+
+/// The same link once more, sharing its text.
+pub fn copy_of(link: &Option<CanonUrl>) -> Result<Option<CanonUrl>, AllocError>
+    ensures { IfOk result (λ copy. copy ≡ link.now) }
+{
+    match link {
+        Some(url) => Ok(Some(url.clone()?)),
+        None => Ok(None),
+    }
+}
+
+/// The URL that the text of a link leads to, if it leads to one.
+pub fn link_of(alloc: Global, base: &Base, text: &str) -> Result<Option<CanonUrl>, FetchError>
+    ensures link { IfOk result (λ link. link ≡ link_url base.now text.now) }
+    ensures refused { IfErr result (λ e. e ≡ FetchError.NoMemory) }
+{
+    match base.resolve(alloc, text) {
+        Ok(url) => Ok(Some(url)),
+        Err(KeyError::NoMemory) => Err(FetchError::NoMemory),
+        Err(KeyError::NotUrl | KeyError::NotHttp) => Ok(None),
+    }
 }

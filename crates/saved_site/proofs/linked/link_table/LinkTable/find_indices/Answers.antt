@@ -1,6 +1,6 @@
 use Rattle.std.proofs.Common.{◌≡◌, ℕ, ◌+◌, ◌<◌, [], ◌∷◌, drop, length, get_or, drop_of_length-le, Option, Some, None, ap, refl, sym, subst, ◌∙◌, arith}
 use Rattle.std.proofs.lemmas.List.{drop_more}
-use Rattle.saved_web.specs.SavedWeb.{link_url}
+use Rattle.saved_pages.specs.SavedWeb.{link_url}
 use Rattle.saved_site.specs.Leads.{LeadsTo}
 use Rattle.saved_site.proofs.LinkIndices.{none_count, looked_start, looked_some, looked_none, looked_all, count_some, count_none}
 use Rattle.saved_site.proofs.linked.link_table.LinkTable.find_indices.Goals as goal

@@ -1,5 +1,5 @@
 use Rattle.std.proofs.Common.{◌≡◌, ◌+◌, ◌-◌, ◌≤◌, drop, length}
-use Rattle.saved_web.specs.Ahead.{KeepIndices}
+use Rattle.saved_pages.specs.UrlIndices.{KeepIndices}
 use Rattle.saved_site.specs.LinkTables.{IsTableOf}
 use Rattle.saved_site.proofs.LinkIndices.{Looked, none_count}
 use Rattle.saved_site.proofs.linked.link_table.LinkTable.find_indices.Given as goal

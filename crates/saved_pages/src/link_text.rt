@@ -1,6 +1,6 @@
 //! The text of a link, with its hash.
 ghost use Rattle.std.specs.Prelude.{◌≡◌, ℕ, List};
-ghost use Rattle.saved_web.specs.SavedWeb.{link_url};
+ghost use Rattle.saved_pages.specs.SavedWeb.{link_url};
 
 use crawl_keys::before_fragment;
 use hash_index::Keyed;
