@@ -1,25 +1,9 @@
 -- The ends of a page's root and folder in the text of its URL, and the URLs that common link forms lead to from there.
-use Rattle.std.proofs.lemmas.Grind.{common_steps}
-use Rattle.std.proofs.Common.{◌≡◌, ◌⊎◌, ℕ, zero, suc, ◌+◌, ◌-◌, ◌<◌, true, List, [], ◌∷◌, ◌++◌, length, get_or, take, drop, refl, ap, sym, subst, ◌∙◌, ⊎_elim, inr, All, Some, None, Ok, arith, append_assoc, append-nil, length-append, length-drop, take_all, take_at, drop_at}
-use Rattle.std.specs.Prelude.{Option, slice_range, decimal, is_some, option_map, unwrap_or}
-use Rattle.std.specs.List.{prefix_len}
-use Rattle.std.proofs.lemmas.Bool.Decides.{nat_tests}
-use Rattle.std.proofs.lemmas.List.Elements.{All-weaker}
-use Rattle.url.specs.declared.slicing.Position.TheVariants.{BeforeScheme, BeforeHost, AfterHost, AfterPath}
-use Rattle.url.specs.Input.{rsplit_once, rsplit_step, when}
+use Rattle.crawl_keys.proofs.Prelude.{common_steps, ◌≡◌, ◌⊎◌, ℕ, zero, suc, ◌+◌, ◌-◌, ◌<◌, true, List, [], ◌∷◌, ◌++◌, length, get_or, take, drop, refl, ap, sym, subst, ◌∙◌, ⊎_elim, inr, All, Some, None, Ok, arith, append_assoc, append-nil, length-append, length-drop, take_all, take_at, drop_at, Option, slice_range, decimal, is_some, option_map, unwrap_or, prefix_len, nat_tests, All-weaker, BeforeScheme, BeforeHost, AfterHost, AfterPath, Parts, IsValid, has_authority, kind_of, offset, serialize, text_before, text_between, SpecialNotFile, IsSegmentList, without_last_segment, Passes, StopsAt, prefix_len_at, rooted, without_last_valid, IsBase, IsCanonical, IsPage, resolve, IsInFolder, above, folder_above, is_query, is_rooted, is_same, is_other, IsSpelled}
+use Rattle.url.specs.Input.{rsplit_once, when}
 use Rattle.url.specs.Parser.{parse_url}
-use Rattle.url.specs.Parts.{Parts, IsValid, has_authority, kind_of, offset, serialize, text_before, text_between}
-use Rattle.url.specs.declared.scheme.SchemeType.TheVariants.{SpecialNotFile}
-use Rattle.url.specs.Path.{IsSegmentList, without_last_segment}
-use Rattle.url.proofs.InputLemmas.{Passes, StopsAt, prefix_len_at}
-use Rattle.url.proofs.PathLemmas.{rooted, without_last_valid}
 use Rattle.url.proofs.TextLemmas.{All-concat, All_one, body_bytes, is_body_byte, is_host_byte, port_bytes}
-use Rattle.crawl_keys.specs.Bases.{IsBase}
-use Rattle.crawl_keys.specs.CanonicalText.{IsCanonical, IsPage, resolve}
 use Rattle.crawl_keys.specs.Folders.{folder_text, is_of_folder, root_text}
-use Rattle.crawl_keys.specs.Links.{IsInFolder, above, folder_above, is_query, is_rooted, is_same}
-use Rattle.crawl_keys.specs.Plain.{is_other}
-use Rattle.crawl_keys.specs.Spelled.{IsSpelled}
 use Rattle.crawl_keys.proofs.FolderLemmas.{IsWeb, cut_path, folder_text-root, front_of_last, path_text, resolve-beside, web_url}
 use Rattle.crawl_keys.proofs.PlainLemmas.{query_text}
 use Rattle.crawl_keys.proofs.PlainLinks.{in_folder, resolve-in_folder, resolve-query, resolve-rooted, resolve-same, spelled_query, spelled_in_folder, spelled_rooted}
@@ -112,13 +96,10 @@ abbrev Splits : List ℕ → Option (List ℕ) → List ℕ → Type 0
 Splits xs None back = back ≡ xs
 Splits xs (Some front) back = xs ≡ front ++ 47 ∷ back
 
-split_step : (b : ℕ) (xs : List ℕ) (o : Option (List ℕ)) (back : List ℕ) → Splits xs o back → Splits (b ∷ xs) (rsplit_step 47 b o back).0 (rsplit_step 47 b o back).1
-split_step b xs o back h = grind arith
-
 splits_last : (xs : List ℕ) → Splits xs (rsplit_once 47 xs).0 (rsplit_once 47 xs).1
 unfolding rsplit_once
 splits_last [] = refl
-splits_last (b ∷ xs) = split_step b xs _ _ (splits_last xs)
+splits_last (b ∷ xs) = grind (arith, splits_last xs)
 
 -- a path with a slash is its folder, the slash and the rest
 record Folded (path : List ℕ) : Type 0 where

@@ -1,14 +1,8 @@
 -- A canonical text parses to the very URL that it is the text of.
-use Rattle.std.proofs.Common.{◌≡◌, List, ℕ, None, Ok, Err, true, false, arith}
-use Rattle.std.proofs.lemmas.Bool.{or_cases, cond-true, cond-false}
-use Rattle.std.proofs.lemmas.Slice.Eq.{bytes_eq-Decides}
-use Rattle.url.specs.declared.scheme.SchemeType.TheVariants.{SpecialNotFile}
+use Rattle.crawl_keys.proofs.Prelude.{◌≡◌, List, ℕ, None, Ok, Err, true, false, arith, or_cases, cond-true, cond-false, bytes_eq-Decides, SpecialNotFile, Parts, IsValid, kind_of, serialize, parse_url-serialize_special, NotHttp}
 use Rattle.url.specs.Scheme.{scheme_type, default_port}
-use Rattle.url.specs.Parts.{Parts, IsValid, kind_of, serialize}
 use Rattle.url.specs.Parser.{parse_url}
-use Rattle.url.proofs.Theorems.{parse_url-serialize_special}
 use Rattle.crawl_keys.specs.CanonicalText.{IsCanonical, canonical, is_web, text_of, without_fragment}
-use Rattle.crawl_keys.specs.declared.error.KeyError.TheVariants.{NotHttp}
 
 -- the standard calls the scheme of a web URL special, and it is no file
 pub web_kind : (url : Parts) → is_web url ≡ true → kind_of url ≡ SpecialNotFile

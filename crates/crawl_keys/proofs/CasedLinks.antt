@@ -1,39 +1,15 @@
 -- How the parser reads web URLs with letters in any case, with the scheme's default port, or with no path.
-use Rattle.std.proofs.lemmas.Grind.{common_steps}
-use Rattle.std.proofs.Common.{◌≡◌, ◌⊎◌, ℕ, ◌+◌, ◌<◌, ◌==◌, Bool, true, false, not, ◌&&◌, ◌||◌, ltb, List, [], ◌∷◌, ◌++◌, length, get_or, take, drop, refl, ap, sym, subst, ◌∙◌, inl, inr, All, Some, None, Ok, arith, append_assoc, append-nil, length-append, take_at, drop_at}
-use Rattle.std.specs.Prelude.{Option, codes, unwrap_or}
-use Rattle.std.specs.Char.{is_ascii, is_ascii_alphabetic, is_ascii_alphanumeric, is_ascii_digit, to_ascii_lowercase}
-use Rattle.std.specs.List.{list_all}
-use Rattle.std.proofs.lemmas.Bool.{and_left, and_parts, cond-false, cond-true, cond_both}
-use Rattle.std.proofs.lemmas.Bool.Decides.{nat_tests}
-use Rattle.std.proofs.lemmas.List.{get_or_at, length-map}
-use Rattle.std.proofs.lemmas.List.Elements.{All-nil, All-cons, All-head, All-tail, All-append, All-map, All-weaker}
-use Rattle.std.proofs.lemmas.Slice.Eq.{bytes_eq-Decides}
+use Rattle.crawl_keys.proofs.Prelude.{common_steps, ◌≡◌, ◌⊎◌, ℕ, ◌+◌, ◌<◌, ◌==◌, Bool, true, false, not, ◌&&◌, ◌||◌, ltb, List, [], ◌∷◌, ◌++◌, length, get_or, take, drop, refl, ap, sym, subst, ◌∙◌, inl, inr, All, Some, None, Ok, arith, append_assoc, append-nil, length-append, take_at, drop_at, Option, codes, unwrap_or, is_ascii, is_ascii_alphabetic, is_ascii_alphanumeric, is_ascii_digit, to_ascii_lowercase, list_all, and_left, and_parts, cond-false, cond-true, cond_both, nat_tests, get_or_at, length-map, All-nil, All-cons, All-head, All-tail, All-append, All-map, All-weaker, bytes_eq-Decides, IsKept, percent_decode, percent_decode-nil, percent_decode_not_percent, Domain, SchemeType, NotSpecial, SpecialNotFile, FORBIDDEN_HOST, with_authority, Parts, kind_of, All-take-prefix_len, All_from_list_all, IsNot, Passes, StopsAt, is_empty_nonempty, list_all_from_All, prefix_len_at, rsplit_once_none, stops_at_path, lowercase-lowercase_all, kept_from_passes, text_of_parse, first_is_slash, host_len, is_host_byte, is_kept, is_lower, is_named, is_plain, is_plain_host, IsSpelled}
 use Rattle.percent_encoding.specs.declared.ascii_set.TheConstants.{CONTROLS}
-use Rattle.percent_encoding.specs.Percent.{IsKept, percent_decode}
-use Rattle.percent_encoding.proofs.PercentLemmas.{percent_decode-nil, percent_decode_not_percent}
 use Rattle.url.specs.declared.host.Host.{Host}
-use Rattle.url.specs.declared.host.Host.TheVariants.{Domain}
-use Rattle.url.specs.declared.scheme.SchemeType.{SchemeType}
-use Rattle.url.specs.declared.scheme.SchemeType.TheVariants.{NotSpecial, SpecialNotFile}
-use Rattle.url.specs.declared.sets.TheConstants.{FORBIDDEN_HOST}
-use Rattle.url.specs.Head.{with_authority}
 use Rattle.url.specs.Host.{ascii_domain, host_of_ascii, parse_special_host}
 use Rattle.url.specs.Input.{lowercase, split_once}
 use Rattle.url.specs.Parser.{Parsed, after_double_slash, and_then, base_for_scheme, before_tail, host_len as before_colon, leading_slashes, parse_authority, parse_body, parse_parts, parse_port, parse_relative, parse_url, skip_slashes, split_port, split_scheme, with_path, with_tail}
-use Rattle.url.specs.Parts.{Parts, kind_of}
 use Rattle.url.specs.Path.{parse_path_start}
 use Rattle.url.specs.Scheme.{is_scheme_byte, is_slash, is_special, scheme_len, scheme_type}
 use Rattle.url.proofs.HostRoundTrip.{host_len-host_text}
-use Rattle.url.proofs.InputLemmas.{All-take-prefix_len, All_from_list_all, IsNot, Passes, StopsAt, is_empty_nonempty, list_all_from_All, prefix_len_at, rsplit_once_none}
 use Rattle.url.proofs.OnLiterals.{url_on_literals}
-use Rattle.url.proofs.RoundTrip.{stops_at_path}
-use Rattle.url.proofs.SchemeLemmas.{lowercase-lowercase_all}
-use Rattle.url.proofs.SetLemmas.{kept_from_passes}
-use Rattle.crawl_keys.specs.CanonicalText.{text_of_parse}
 use Rattle.crawl_keys.specs.Cased.{IsCut, IsFront, IsFrontOf, IsLowered, IsWithPort, LeadsAnywhere}
-use Rattle.crawl_keys.specs.Plain.{first_is_slash, host_len, is_host_byte, is_kept, is_lower, is_named, is_plain, is_plain_host}
-use Rattle.crawl_keys.specs.Spelled.{IsSpelled}
 use Rattle.crawl_keys.proofs.HostLinks.{split_behind}
 use Rattle.crawl_keys.proofs.PlainLemmas.{all_kept}
 use Rattle.crawl_keys.proofs.PlainLinks.{uncut}

@@ -1,22 +1,7 @@
 -- How the parser reads dot segments at the beginning of a text, and segments that they cancel.
-use Rattle.std.proofs.lemmas.Grind.{common_steps}
-use Rattle.std.proofs.Common.{◌≡◌, ℕ, zero, suc, ◌+◌, ◌-◌, ◌<◌, ◌==◌, true, false, List, [], ◌∷◌, ◌++◌, length, refl, ap, sym, subst, ◌∙◌, All, arith, append_assoc, append-nil, length-append, take_all}
-use Rattle.std.specs.Prelude.{Option, unwrap_or}
-use Rattle.std.specs.List.{before_first, list_all, position_or_len, prefix_len}
-use Rattle.std.proofs.lemmas.Bool.{and_from, and_parts, eq-eqb, true≢false}
-use Rattle.std.proofs.lemmas.Bool.Decides.{nat_tests}
-use Rattle.std.proofs.lemmas.List.Elements.{All-nil, All-cons, All-weaker}
-use Rattle.std.proofs.lemmas.List.Folds.{list_all-append}
-use Rattle.std.proofs.lemmas.List.Sums.{fails_before_first}
-use Rattle.percent_encoding.proofs.PercentLemmas.{percent_encode_unchanged}
-use Rattle.url.specs.declared.scheme.SchemeType.TheVariants.{SpecialNotFile}
-use Rattle.url.specs.declared.sets.TheConstants.{PATH}
+use Rattle.crawl_keys.proofs.Prelude.{common_steps, ◌≡◌, ℕ, zero, suc, ◌+◌, ◌-◌, ◌<◌, ◌==◌, true, false, List, [], ◌∷◌, ◌++◌, length, refl, ap, sym, subst, ◌∙◌, All, arith, append_assoc, append-nil, length-append, take_all, Option, unwrap_or, before_first, list_all, position_or_len, prefix_len, and_from, and_parts, eq-eqb, true≢false, nat_tests, All-nil, All-cons, All-weaker, list_all-append, fails_before_first, percent_encode_unchanged, SpecialNotFile, PATH, All-take-prefix_len, IsNot, Passes, list_all_from_All, rsplit_once_at, IsNoSlash, parse_path_more, IsAhead, IsBehind, IsInFolder, IsWithin, above, behind_ups, has_no_scheme, first_is_slash, is_kept, is_other, is_plain}
 use Rattle.url.specs.Input.{split_once}
 use Rattle.url.specs.Path.{IsSegment, dot_count, parse_path, push_segment, without_last_segment}
-use Rattle.url.proofs.InputLemmas.{All-take-prefix_len, IsNot, Passes, list_all_from_All, rsplit_once_at}
-use Rattle.url.proofs.PathLemmas.{IsNoSlash, parse_path_more}
-use Rattle.crawl_keys.specs.Links.{IsAhead, IsBehind, IsInFolder, IsWithin, above, behind_ups, has_no_scheme}
-use Rattle.crawl_keys.specs.Plain.{first_is_slash, is_kept, is_other, is_plain}
 use Rattle.crawl_keys.proofs.HostLinks.{split_behind}
 use Rattle.crawl_keys.proofs.PlainLemmas.{all_kept, plain_segment}
 use Rattle.crawl_keys.proofs.PlainLinks.{parse_ups, rootless_plain, split_ups}
@@ -25,9 +10,6 @@ abbrev Split : Type 0
 Split = List ℕ × Option (List ℕ)
 
 -- ---- no step, and one step after another
-
-pub whole_behind : (text : List ℕ) → IsBehind text 0 text
-whole_behind text = grind arith
 
 above_more : (n m : ℕ) (path : List ℕ) → above m (above n path) ≡ above (n + m) path
 above_more n zero path = ap (λ k. above k path) (let same : n ≡ n + 0 = omega arith in same)
@@ -51,11 +33,7 @@ pub ups_behind : (n : ℕ) (rest : List ℕ) → IsBehind (behind_ups n rest) n 
 ups_behind n rest = grind (arith, split_ups, parse_ups, keeps_ups, rootless_ups)
 
 pub in_folder_ups : (text : List ℕ) (n : ℕ) (rest : List ℕ) → text ≡ behind_ups n rest → is_plain 47 rest ≡ true → has_no_scheme text ≡ true → IsInFolder text n rest
-in_folder_ups text n rest is plain none = record {
-  behind = subst (λ t. IsBehind t n rest) (sym is) (ups_behind n rest);
-  plain = plain;
-  no_scheme = none;
-}
+in_folder_ups text n rest is plain none = grind (arith, split_ups, parse_ups, keeps_ups, rootless_ups)
 
 -- ---- `./`
 
@@ -121,9 +99,6 @@ no_query_in segment len =
     All-weaker (Passes (is_other 63)) (IsNot 63) other_byte segment all
 
 -- ---- dot segments after segments
-
-pub ahead_none : (text : List ℕ) → IsAhead text text
-ahead_none text = record { front = []; is = refl; lifts = λ more behind. behind }
 
 pub ahead_then : (text mid rest : List ℕ) → IsAhead text mid → IsAhead mid rest → IsAhead text rest
 ahead_then text mid rest one other = record {

@@ -1,18 +1,7 @@
 -- A host is within a suffix if a look-up of the host, or of the text after one of its dots, finds the suffix.
-use Rattle.std.proofs.Common.{◌≡◌, ◌≤◌, ◌<◌, ◌+◌, ◌-◌, ℕ, Bool, true, false, ◌&&◌, ◌||◌, not, List, [], ◌∷◌, ◌++◌, map, length, drop, suc, refl, ap, sym, ◌∙◌, ⊎_elim, arith, cond, String, Global, Bor, Some, None, Ok, Err}
-use Rattle.std.proofs.lemmas.Bool.{cases_order, false_from_ne_true, and_right, cases_Bool}
-use Rattle.std.proofs.Math.Bool.{or-false}
-use Rattle.std.proofs.lemmas.Slice.Eq.{bytes_eq-Decides}
+use Rattle.crawl_keys.proofs.Prelude.{◌≡◌, ◌≤◌, ◌<◌, ◌+◌, ◌-◌, ℕ, Bool, true, false, ◌&&◌, ◌||◌, not, List, [], ◌∷◌, ◌++◌, map, length, drop, suc, refl, ap, sym, ◌∙◌, ⊎_elim, arith, cond, String, Global, cases_order, false_from_ne_true, and_right, cases_Bool, or-false, bytes_eq-Decides, bytes_eq, string_bytes, nat_eq, codes, insert_key, length-map, ends_with, list_any, after_first, position_or_len, position, nat_cmp, is_eq, slice_cmp, is_dot, is_within}
 use Rattle.std.proofs.lemmas.Map.Text.{is_eq-slice_cmp}
-use Rattle.std.specs.Prelude.{bytes_eq, string_bytes, nat_eq, codes}
 use Rattle.std.specs.String.{string_cmp}
-use Rattle.std.specs.BTreeSet.{insert_key}
-use Rattle.std.proofs.lemmas.List.{length-map}
-use Rattle.std.specs.List.{ends_with, list_any, after_first, position_or_len, position}
-use Rattle.std.specs.Ordering.{nat_cmp, is_eq}
-use Rattle.std.specs.Cmp.Lexicographic.{slice_cmp}
-use Rattle.crawl_keys.specs.declared.filter.error.FilterError.TheVariants.{BadSuffix}
-use Rattle.crawl_keys.specs.HostFilter.{is_dot, is_within, is_good, in_order, filter_of}
 
 -- texts of different lengths differ
 pub bytes_eq-lengths : (xs ys : List ℕ) → (length xs ≡ length ys → ⊥) → bytes_eq xs ys ≡ false
@@ -108,28 +97,12 @@ list_any-within host suffixes =
     list_any-or (bytes_eq host) (λ suffix. ends_with nat_eq host (codes "." ++ suffix)) suffixes
     ∙ ap (λ b. list_any (bytes_eq host) suffixes || b) (list_any-same _ _ (ends_with-dot host) suffixes)
 
--- a host that is a suffix is within it
-pub within-whole : (host : List ℕ) (suffixes : List (List ℕ)) → list_any (bytes_eq host) suffixes ≡ true → list_any (is_within host) suffixes ≡ true
-within-whole host suffixes found = list_any-within host suffixes ∙ ap (λ b. b || list_any (is_behind_dot host) suffixes) found
-
--- a text that is not a suffix is within the suffixes after its dots
-pub within-behind : (host : List ℕ) (suffixes : List (List ℕ)) → list_any (bytes_eq host) suffixes ≡ false → list_any (is_within host) suffixes ≡ list_any (is_behind_dot host) suffixes
-within-behind host suffixes missed = list_any-within host suffixes ∙ ap (λ b. b || list_any (is_behind_dot host) suffixes) missed
-
 -- some suffix is after a dot of the text exactly if the text after the first dot is a suffix or has one after a dot
 pub behind-first : (text behind : List ℕ) (suffixes : List (List ℕ)) → position_or_len is_dot text < length text → behind ≡ after_first is_dot text → list_any (is_behind_dot text) suffixes ≡ (list_any (bytes_eq behind) suffixes || list_any (is_behind_dot behind) suffixes)
 behind-first text behind suffixes within cut =
     list_any-same _ _ (λ suffix. is_behind_dot-first text suffix within) suffixes
     ∙ list_any-or (bytes_eq (after_first is_dot text)) (is_behind_dot (after_first is_dot text)) suffixes
     ∙ (λ i. list_any (bytes_eq (sym cut i)) suffixes || list_any (is_behind_dot (sym cut i)) suffixes)
-
--- if the text after the first dot is a suffix, some suffix is after a dot of the text
-pub behind-found : (text behind : List ℕ) (suffixes : List (List ℕ)) → position_or_len is_dot text < length text → behind ≡ after_first is_dot text → list_any (bytes_eq behind) suffixes ≡ true → list_any (is_behind_dot text) suffixes ≡ true
-behind-found text behind suffixes within cut found = grind (arith, behind-first)
-
--- otherwise some suffix is after a dot of the text exactly if one is after a dot of the rest
-pub behind-missed : (text behind : List ℕ) (suffixes : List (List ℕ)) → position_or_len is_dot text < length text → behind ≡ after_first is_dot text → list_any (bytes_eq behind) suffixes ≡ false → list_any (is_behind_dot text) suffixes ≡ list_any (is_behind_dot behind) suffixes
-behind-missed text behind suffixes within cut missed = grind (arith, behind-first)
 
 -- a text with no dot has no suffix after one
 pub behind-none : (text : List ℕ) (suffixes : List (List ℕ)) → position_or_len is_dot text ≡ length text → list_any (is_behind_dot text) suffixes ≡ false
@@ -143,11 +116,3 @@ position-map p f xs = rw (place p f xs, length-map xs f) refl
     place : {A B : Type 0} (p : B → Bool) (f : A → B) (xs : List A) → position_or_len p (map f xs) ≡ position_or_len (λ x. p (f x)) xs
     place p f [] = refl
     place p f (x ∷ xs) = ap (λ n. cond (not (p (f x))) (1 + n) 0) (place p f xs)
-
--- if some suffix is bad, the filter is an error with the index of the first bad one
-pub filter_of-bad : (suffixes : List (Bor (List ℕ))) (place : ℕ) → position (λ suffix. not (is_good suffix.now)) suffixes ≡ Some place → filter_of (map (λ suffix. suffix.now) suffixes) ≡ Err (BadSuffix place)
-filter_of-bad suffixes place first = grind (arith, position-map)
-
--- if all suffixes are good, the filter has them in order
-pub filter_of-good : (suffixes : List (Bor (List ℕ))) → position (λ suffix. not (is_good suffix.now)) suffixes ≡ None → filter_of (map (λ suffix. suffix.now) suffixes) ≡ Ok (in_order (map (λ suffix. suffix.now) suffixes))
-filter_of-good suffixes none = grind (arith, position-map)

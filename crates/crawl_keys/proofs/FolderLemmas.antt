@@ -1,26 +1,10 @@
 -- The target of a link depends only on the page's folder.
-use Rattle.std.proofs.lemmas.Grind.{common_steps}
-use Rattle.std.proofs.lemmas.Bool.Decides.{nat_tests}
-use Rattle.std.proofs.Common.{◌≡◌, ◌≢◌, ◌⊎◌, ℕ, zero, suc, ◌<◌, ◌≤◌, ◌-◌, ◌==◌, Bool, true, false, not, List, [], ◌∷◌, ◌++◌, length, get_or, take, drop, refl, ap, sym, subst, ◌∙◌, ⊎_elim, inl, All, Some, None, Ok, arith, append-nil}
-use Rattle.std.specs.Prelude.{Option, unwrap_or, filter, if◌then◌else◌}
-use Rattle.std.specs.List.{prefix_len, suffix_len, position_or_len, list_any}
-use Rattle.std.proofs.Math.Seq.{get_or-append_seam}
-use Rattle.std.proofs.lemmas.Bool.{and_left, and_right, and_parts, or_from, or_parts, not-true, eq-eqb, ltb-true, true≢false, cases_eq, cases_lt, cases_Bool, cond_both, cond-true, cond-false, eqb-true, lt-leb, ne_eqb, or_cases}
+use Rattle.crawl_keys.proofs.Prelude.{common_steps, nat_tests, ◌≡◌, ◌≢◌, ◌⊎◌, ℕ, zero, suc, ◌<◌, ◌≤◌, ◌-◌, ◌==◌, Bool, true, false, not, List, [], ◌∷◌, ◌++◌, length, get_or, take, refl, ap, sym, subst, ◌∙◌, ⊎_elim, inl, All, Some, None, Ok, arith, append-nil, Option, unwrap_or, filter, prefix_len, suffix_len, position_or_len, list_any, get_or-append_seam, and_left, and_right, and_parts, or_from, or_parts, not-true, eq-eqb, ltb-true, true≢false, cases_eq, cases_lt, cases_Bool, cond_both, cond-true, cond-false, eqb-true, lt-leb, ne_eqb, or_cases, All-nil, All-cons, All-filter, All-head, All-tail, All-take, SpecialNotFile, BeforeScheme, AfterPath, Parts, IsValid, has_authority, kind_of, serialize, text_between, is_empty_nonempty, rsplit_once_at, empty_segment, push_valid, rooted, without_last_valid, parse_url-serialize_special, base_from_authority, hierarchical, special_has_authority, IsPage, is_web, resolve}
 use Rattle.std.proofs.lemmas.List.{append_assoc, get_or-reverse, get_or_past, length-append, length-reverse}
-use Rattle.std.proofs.lemmas.List.Elements.{All-nil, All-cons, All-filter, All-head, All-tail, All-take}
-use Rattle.url.specs.declared.scheme.SchemeType.TheVariants.{SpecialNotFile}
-use Rattle.url.specs.declared.slicing.Position.TheVariants.{BeforeScheme, AfterPath}
-use Rattle.url.specs.Head.{head_only}
 use Rattle.url.specs.Input.{is_c0_control_or_space, is_tab_or_new_line, rsplit_once, rsplit_step, split_once, strip_tabs_and_new_lines, trim_c0_control_and_space}
-use Rattle.url.specs.Parser.{Parsed, and_then, after_double_slash, after_slashes, before_tail, leading_slashes, parse_all, parse_body, parse_by_scheme, parse_parts, parse_relative, parse_url, parse_without_scheme, split_scheme, with_path, with_tail}
-use Rattle.url.specs.Parts.{Parts, IsValid, has_authority, kind_of, serialize, text_between}
-use Rattle.url.specs.Path.{IsSegmentList, parse_path, shorten_path, without_last_segment}
+use Rattle.url.specs.Parser.{Parsed, and_then, before_tail, parse_all, parse_body, parse_by_scheme, parse_parts, parse_relative, parse_url, parse_without_scheme, split_scheme, with_tail}
+use Rattle.url.specs.Path.{IsSegmentList, shorten_path, without_last_segment}
 use Rattle.url.specs.Scheme.{is_file, scheme_len}
-use Rattle.url.proofs.InputLemmas.{is_empty_nonempty, rsplit_once_at}
-use Rattle.url.proofs.PathLemmas.{empty_segment, push_valid, rooted, without_last_valid}
-use Rattle.url.proofs.Theorems.{parse_url-serialize_special}
-use Rattle.url.proofs.ValidLemmas.{base_from_authority, hierarchical, special_has_authority}
-use Rattle.crawl_keys.specs.CanonicalText.{IsPage, is_web, resolve}
 use Rattle.crawl_keys.specs.Folders.{folder_text, is_colon, is_of_folder, root_text}
 use Rattle.crawl_keys.proofs.CanonicalLemmas.{web_kind}
 
@@ -87,12 +71,9 @@ begins-split b s P l other k = record {
 abbrev pub NoScheme : ℕ → ℕ → Type 0
 NoScheme b x = (b ≡ 47) ⊎ (x ≢ 58)
 
-no_colon_at : (l : List ℕ) (n : ℕ) → All (λ x. x ≢ 58) l → get_or l n 0 ≢ 58
-no_colon_at l n all = ⊎_elim (λ inside. all n 0 inside) (λ past same. let none = get_or_past l n 0 past in omega (arith, none, same)) (cases_lt n (length l))
-
 pub no_scheme : (b : ℕ) (l : List ℕ) → Begins b (NoScheme b) l → split_scheme l ≡ None
 unfolding split_scheme scheme_len
-no_scheme b l k = grind (arith, cond-false, and_right, ne_eqb, no_colon_at, cases_eq)
+no_scheme b l k = grind (arith, cond-false, and_right, ne_eqb, cases_eq, get_or_past, cases_lt)
 
 -- ---- the parts of the page that the parser uses
 
@@ -107,21 +88,9 @@ pub shorten_web : (path : List ℕ) → shorten_path SpecialNotFile path ≡ wit
 unfolding shorten_path
 shorten_web path = refl
 
-shorten-folder : (url : Parts) → kind_of url ≡ SpecialNotFile → shorten_path (kind_of url) url.path ≡ shorten_path (kind_of url) (folder url).path
-shorten-folder url kind = grind (arith, shorten_web, front_of_last)
-
--- against the URL with this path left of the page's
-abbrev relative_to : Parts → List ℕ → List ℕ → Parsed Parts
-relative_to url body path =
-    let kind = kind_of url in
-    let slashes = leading_slashes kind body in
-    let start = with_path (head_only url) (if slashes == 0 then path else []) in
-    if slashes == 2 then after_double_slash url.scheme (after_slashes kind body)
-    else Ok (with_path start (parse_path kind start.path (drop slashes body)))
-
 parse_relative-folder : (url : Parts) (body : List ℕ) → kind_of url ≡ SpecialNotFile → parse_relative url body ≡ parse_relative (folder url) body
 unfolding parse_relative
-parse_relative-folder url body kind = ap (relative_to url body) (shorten-folder url kind)
+parse_relative-folder url body kind = grind (arith, shorten_web, front_of_last)
 
 pub parse_body-web : (url : Parts) (body : List ℕ) → kind_of url ≡ SpecialNotFile → parse_body url.scheme (Some url) body ≡ parse_relative url body
 unfolding parse_body

@@ -1,23 +1,9 @@
 -- A link without its fragment has the link's target.
-use Rattle.std.proofs.lemmas.Grind.{common_steps}
-use Rattle.std.proofs.lemmas.Bool.Decides.{nat_tests}
-use Rattle.std.proofs.Common.{◌≡◌, ◌⊎◌, ℕ, suc, ◌+◌, ◌<◌, ◌-◌, ◌==◌, ◌&&◌, Bool, true, false, not, List, [], ◌∷◌, ◌++◌, length, get_or, take, drop, refl, ap, sym, subst, ◌∙◌, ⊎_elim, All, Some, None, Ok, Err, arith, one-add}
-use Rattle.std.specs.Prelude.{Option, filter, is_some, if◌then◌else◌}
-use Rattle.std.specs.List.{suffix_len, position_or_len, before_first, after_first}
-use Rattle.std.proofs.Math.Seq.{take-append-add, take-nil}
-use Rattle.std.proofs.lemmas.Bool.{and_left, and_from, and_parts, or_parts, not-true, eq-eqb, eqb-true, ltb-true, true≢false, cases_lt, cases_Bool, cond-true, cond-false, lt-leb, or_left, or_right, or_cases}
+use Rattle.crawl_keys.proofs.Prelude.{common_steps, nat_tests, ◌≡◌, ◌⊎◌, ℕ, suc, ◌+◌, ◌<◌, ◌-◌, ◌==◌, ◌&&◌, Bool, true, false, not, List, [], ◌∷◌, ◌++◌, length, get_or, take, drop, refl, ap, sym, subst, ◌∙◌, ⊎_elim, All, Some, None, Ok, Err, arith, one-add, Option, filter, is_some, if◌then◌else◌, suffix_len, position_or_len, before_first, after_first, take-append-add, take-nil, and_left, and_from, and_parts, or_parts, not-true, eq-eqb, eqb-true, ltb-true, true≢false, cases_lt, cases_Bool, cond-true, cond-false, lt-leb, or_left, or_right, or_cases, All-filter, All-tail, filter-append, list_any-append, fails_before_first, passes_at_first, split_at_first, Parts, All-take_from_reads, IsNot, is_empty_nonempty, split_around, split_once_at, split_once_none, NotHttp, is_of_folder, before_fragment, ends_visibly, is_number_sign}
 use Rattle.std.proofs.lemmas.List.{append_assoc, drop_all, get_or_past, length-append, take_all}
-use Rattle.std.proofs.lemmas.List.Elements.{All-filter, All-tail, filter-append}
-use Rattle.std.proofs.lemmas.List.Folds.{list_any-append}
-use Rattle.std.proofs.lemmas.List.Sums.{fails_before_first, passes_at_first, split_at_first}
 use Rattle.url.specs.Input.{is_c0_control_or_space, is_empty, is_tab_or_new_line, split_once, strip_tabs_and_new_lines, trim_c0_control_and_space, trim_end, trim_start}
 use Rattle.url.specs.Parser.{Parsed, and_then, before_tail, parse_by_scheme, parse_parts, parse_url, parse_without_scheme, with_tail}
-use Rattle.url.specs.Parts.{Parts}
-use Rattle.url.proofs.InputLemmas.{All-take_from_reads, IsNot, is_empty_nonempty, split_around, split_once_at, split_once_none}
-use Rattle.crawl_keys.specs.declared.error.KeyError.TheVariants.{NotHttp}
 use Rattle.crawl_keys.specs.CanonicalText.{canonical, is_web, resolve, resolve_from, text_of, text_of_parse}
-use Rattle.crawl_keys.specs.Folders.{is_of_folder}
-use Rattle.crawl_keys.specs.Fragments.{before_fragment, ends_visibly, is_number_sign}
 use Rattle.crawl_keys.proofs.CanonicalLemmas.{web_kind}
 use Rattle.crawl_keys.proofs.FolderLemmas.{suffix_len-stops}
 

@@ -1,27 +1,12 @@
 -- The targets of links that begin with two slashes: the page's scheme comes before them.
-use Rattle.std.proofs.Common.{◌≡◌, ◌⊎◌, ℕ, ◌+◌, ◌==◌, Bool, true, not, ◌&&◌, List, [], ◌∷◌, ◌++◌, length, take, drop, refl, ap, sym, subst, ◌∙◌, All, Some, None, Ok, arith, append_assoc, length-append, take-append-drop}
-use Rattle.std.specs.Prelude.{Option, codes}
-use Rattle.std.proofs.lemmas.Bool.{and_from, and_left, and_parts, cond-false, cond-true, ne_eqb, or_cases}
-use Rattle.std.proofs.lemmas.Bool.Decides.{nat_tests}
-use Rattle.std.proofs.lemmas.List.Elements.{All-append, All-cons, All-head, All-tail, All-weaker}
-use Rattle.std.proofs.lemmas.Slice.Eq.{bytes_eq-Decides}
+use Rattle.crawl_keys.proofs.Prelude.{◌≡◌, ℕ, ◌+◌, ◌==◌, Bool, true, not, ◌&&◌, List, [], ◌∷◌, ◌++◌, length, take, drop, refl, ap, sym, subst, ◌∙◌, All, Some, None, Ok, arith, append_assoc, length-append, take-append-drop, Option, and_from, and_left, and_parts, cond-false, cond-true, ne_eqb, or_cases, nat_tests, All-append, All-cons, All-head, All-tail, All-weaker, bytes_eq-Decides, Parts, IsValid, serialize, IsScheme, is_special, All-take-prefix_len, IsNot, Passes, split_own_scheme, base_from_authority, IsSchemeOf, IsCanonical, IsPage, is_web, resolve, resolve_from, text_of_parse, IsByHost, host_len, is_host_byte, is_kept, is_plain_host, IsSpelled}
 use Rattle.url.specs.Input.{split_once}
 use Rattle.url.specs.Parser.{base_for_scheme, parse_parts, parse_url}
-use Rattle.url.specs.Parts.{Parts, IsValid, serialize}
-use Rattle.url.specs.Scheme.{IsScheme, is_special}
-use Rattle.url.proofs.InputLemmas.{All-take-prefix_len, IsNot, Passes}
-use Rattle.url.proofs.RoundTrip.{split_own_scheme}
-use Rattle.url.proofs.ValidLemmas.{base_from_authority}
-use Rattle.crawl_keys.specs.Bases.{IsSchemeOf}
-use Rattle.crawl_keys.specs.CanonicalText.{IsCanonical, IsPage, is_web, resolve, resolve_from, text_of_parse}
-use Rattle.crawl_keys.specs.Links.{IsByHost}
-use Rattle.crawl_keys.specs.Plain.{host_len, is_host_byte, is_kept, is_plain_host}
-use Rattle.crawl_keys.specs.Spelled.{IsSpelled}
 use Rattle.crawl_keys.proofs.BaseLemmas.{page_of}
 use Rattle.crawl_keys.proofs.FolderLemmas.{IsWeb, web_url}
 use Rattle.crawl_keys.proofs.PlainLemmas.{all_kept}
 use Rattle.crawl_keys.proofs.PlainLinks.{parse_url-kept, rooted_scheme, uncut}
-use Rattle.crawl_keys.proofs.SpelledLemmas.{IsWebScheme, resolve-spelled, spelled_at, spelled_host}
+use Rattle.crawl_keys.proofs.SpelledLemmas.{resolve-spelled, spelled_at, spelled_host}
 
 -- ---- the scheme of a page
 
@@ -29,11 +14,8 @@ use Rattle.crawl_keys.proofs.SpelledLemmas.{IsWebScheme, resolve-spelled, spelle
 abbrev stands : ℕ → Bool
 stands b = is_kept b && not (b == 63)
 
-http_or_https : (base : Parts) → is_web base ≡ true → (base.scheme ≡ codes "http") ⊎ (base.scheme ≡ codes "https")
-http_or_https base web = grind (arith, bytes_eq-Decides, or_cases)
-
 scheme_bytes : (base : Parts) → is_web base ≡ true → All (Passes stands) base.scheme
-scheme_bytes base web = grind (arith, http_or_https)
+scheme_bytes base web = grind (arith, bytes_eq-Decides, or_cases)
 
 -- ---- the parser reads the link after the page's scheme as it reads the link itself
 
@@ -71,11 +53,8 @@ parse_url-by_scheme base more page web kept =
 
 -- ---- its target
 
-web_scheme : (base : Parts) → IsValid base → is_web base ≡ true → IsWebScheme base.scheme
-web_scheme base valid web = record { is = valid.head.scheme; web = web }
-
 spelled_behind : (base : Parts) (rest : List ℕ) → IsValid base → is_web base ≡ true → is_plain_host rest ≡ true → IsSpelled (base.scheme ++ 58 ∷ 47 ∷ 47 ∷ rest) (length base.scheme + 3) (length base.scheme + 3 + host_len rest)
-spelled_behind base rest valid web plain = spelled_host base.scheme rest (web_scheme base valid web) plain
+spelled_behind base rest valid web plain = grind (arith, spelled_host)
 
 host_byte_kept : (b : ℕ) → Passes is_host_byte b → Passes is_kept b
 host_byte_kept b host = grind (arith, nat_tests)

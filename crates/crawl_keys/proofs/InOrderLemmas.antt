@@ -1,17 +1,9 @@
 -- Suffixes in order are the suffixes given.
-use Rattle.std.proofs.Common.{◌≡◌, ◌↔◌, ℕ, Bool, true, false, ◌||◌, List, [], ◌∷◌, Ok, Result, refl, ap, sym, subst, ◌∙◌, fold, bytes_eq, Contains, arith}
-use Rattle.std.specs.BTreeSet.{insert_key}
-use Rattle.std.specs.Cmp.Lexicographic.{slice_cmp, nat_list_eq_equiv}
-use Rattle.std.specs.List.{list_any}
-use Rattle.std.specs.Ordering.{nat_cmp, match_ordering}
+use Rattle.crawl_keys.proofs.Prelude.{◌≡◌, ◌↔◌, ℕ, Bool, true, false, ◌||◌, List, [], ◌∷◌, Ok, Result, refl, ap, sym, subst, ◌∙◌, fold, bytes_eq, Contains, insert_key, slice_cmp, nat_list_eq_equiv, list_any, nat_cmp, match_ordering, bytes_eq-Decides, or-false, allows, in_order, is_within, host_key}
 use Rattle.std.specs.declared.cmp.Ordering.{Ordering}
 use Rattle.std.specs.declared.cmp.Ordering.TheVariants.{Less, Equal, Greater}
 use Rattle.std.proofs.lemmas.Map.Lookups.{exact_bytes}
 use Rattle.std.proofs.lemmas.Map.Views.{Contains-from_any, list_any-from_Contains}
-use Rattle.std.proofs.lemmas.Slice.Eq.{bytes_eq-Decides}
-use Rattle.std.proofs.Math.Bool.{or-false}
-use Rattle.crawl_keys.specs.HostFilter.{allows, in_order, is_within}
-use Rattle.crawl_keys.specs.HostKey.{host_key}
 use Rattle.crawl_keys.specs.declared.filter.error.FilterError.{FilterError}
 
 -- the texts that pass a test, with one more text
@@ -84,7 +76,3 @@ pub Contains-kept : (given kept : List (List ℕ)) → ◌≡◌ {A = Result (Li
 Contains-kept given kept same suffix =
     let is : in_order given ≡ kept = cc in
     subst (λ texts. Contains texts suffix ↔ Contains given suffix) is (Contains-in_order given suffix)
-
--- and the filter allows the same hosts
-pub allows-kept : (given kept : List (List ℕ)) → ◌≡◌ {A = Result (List (List ℕ)) FilterError} (Ok (in_order given)) (Ok kept) → (url : List ℕ) → allows kept url ≡ allows given url
-allows-kept given kept same url = grind (arith, allows-in_order)

@@ -1,13 +1,5 @@
 -- From the mask of 16 lanes to the bytes of a text.
-use Rattle.std.proofs.Common.{◌≡◌, ◌≢◌, ℕ, ◌+◌, ◌-◌, ◌%◌, ◌^◌, ◌<◌, ◌≤◌, ◌==◌, Bool, true, false, not, ◌||◌, cond, refl, List, map, length, get_or, bit_and, bit_or, Fits, w8, replicate, sym, ap, ◌∙◌, subst, arith, inl, inr}
-use Rattle.std.proofs.lemmas.Bool.{agree_below, agree_below_at, cases_eq, cond-false, cond-true, eq-eqb, ne_eqb, not-false, not-true}
-use Rattle.std.proofs.lemmas.Simd.{first_set_mask_l, get_or-chunk, get_or-zip2, leading_from_mask_l, length-chunk, length-zip2, map-map, mask_l-mod, run_in_chunk_fails, run_in_chunk_le, run_in_chunk_stops, splat_is_map, zip2_of_maps}
-use Rattle.std.proofs.lemmas.List.{get_or-map, length-map}
-use Rattle.std.proofs.lemmas.List.Sums.{prefix_len_passes}
-use Rattle.std.specs.List.{prefix_len}
-use lib.Lanes.{chunk, mask_l, top, zip2}
-use Rattle.crawl_keys.specs.Lanes.{Follow, IsRun, first_set}
-use Rattle.crawl_keys.specs.Plain.{is_host_byte, is_kept, is_other, may_begin, may_follow}
+use Rattle.crawl_keys.proofs.Prelude.{◌≡◌, ◌≢◌, ℕ, ◌+◌, ◌-◌, ◌%◌, ◌^◌, ◌<◌, ◌≤◌, ◌==◌, Bool, true, false, not, ◌||◌, cond, refl, List, map, length, get_or, bit_and, bit_or, Fits, w8, replicate, sym, ap, ◌∙◌, subst, arith, inl, inr, agree_below, agree_below_at, cases_eq, cond-false, cond-true, eq-eqb, ne_eqb, not-false, not-true, first_set_mask_l, get_or-chunk, get_or-zip2, leading_from_mask_l, length-chunk, length-zip2, map-map, mask_l-mod, run_in_chunk_fails, run_in_chunk_le, run_in_chunk_stops, splat_is_map, zip2_of_maps, get_or-map, length-map, prefix_len_passes, prefix_len, chunk, mask_l, top, zip2, Follow, IsRun, first_set, is_host_byte, is_kept, is_other, may_begin, may_follow}
 
 -- a splat, as computed lane by lane from v
 pub splat : (v : List ℕ) (y : ℕ) → length v ≡ 16 → replicate 16 y ≡ map (λ _. y) v

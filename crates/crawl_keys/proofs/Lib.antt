@@ -1,3 +1,4 @@
+pub mod Prelude
 pub mod CanonicalLemmas
 pub mod FilterLemmas
 pub mod FolderLemmas

@@ -1,27 +1,9 @@
 -- URLs whose path is opaque have no canonical text.
-use Rattle.std.proofs.lemmas.Grind.{common_steps}
-use Rattle.std.proofs.Common.{◌≡◌, ℕ, Bool, true, false, List, [], ◌∷◌, get_or, refl, ap, sym, subst, ◌∙◌, All, Some, None, Ok, Err, arith, append-nil, take_all}
-use Rattle.std.specs.Prelude.{Option, bytes_eq, codes, is_some, if◌then◌else◌}
-use Rattle.std.specs.Char.{is_ascii_alphabetic, is_ascii_lowercase, to_ascii_lowercase}
-use Rattle.std.specs.List.{prefix_len}
-use Rattle.std.proofs.lemmas.Bool.{and_parts, and_right, cases_Bool, cond-true, cond_both, or_from}
-use Rattle.std.proofs.lemmas.Bool.Decides.{nat_tests}
-use Rattle.std.proofs.lemmas.List.Elements.{All-weaker}
-use Rattle.std.proofs.lemmas.Slice.Eq.{bytes_eq-Decides}
-use Rattle.percent_encoding.specs.Percent.{percent_encode}
-use Rattle.url.specs.declared.scheme.SchemeType.TheVariants.{NotSpecial, SpecialNotFile}
-use Rattle.url.specs.declared.sets.TheConstants.{OPAQUE_PATH}
-use Rattle.url.specs.Head.{scheme_only}
+use Rattle.crawl_keys.proofs.Prelude.{common_steps, ◌≡◌, ℕ, true, false, List, [], ◌∷◌, get_or, refl, ap, sym, subst, ◌∙◌, All, Some, None, Ok, Err, arith, append-nil, take_all, Option, bytes_eq, codes, is_some, is_ascii_alphabetic, is_ascii_lowercase, to_ascii_lowercase, prefix_len, and_parts, and_right, cases_Bool, cond-true, cond_both, or_from, nat_tests, All-weaker, bytes_eq-Decides, percent_encode, NotSpecial, OPAQUE_PATH, scheme_only, Parts, kind_of, All-take-prefix_len, IsNot, Passes, StopsAt, lowercase_other, map_fixed, prefix_len_at, not_special_from, IsCanonical, is_web, resolve, resolve_from, text_of_parse, NotHttp, first_is_slash, is_kept, is_lower}
 use Rattle.url.specs.Input.{split_once}
 use Rattle.url.specs.Parser.{base_for_scheme, before_tail, parse_body, parse_non_special, parse_parts, parse_url, with_path}
-use Rattle.url.specs.Parts.{Parts, kind_of}
 use Rattle.url.specs.Scheme.{IsScheme, default_port, is_scheme_byte, is_slash, is_special, scheme_len, scheme_type}
-use Rattle.url.proofs.InputLemmas.{All-take-prefix_len, IsNot, Passes, StopsAt, lowercase_other, map_fixed, prefix_len_at}
-use Rattle.url.proofs.SchemeLemmas.{not_special_from}
-use Rattle.crawl_keys.specs.CanonicalText.{IsCanonical, is_web, resolve, resolve_from, text_of_parse}
-use Rattle.crawl_keys.specs.declared.error.KeyError.TheVariants.{NotHttp}
 use Rattle.crawl_keys.specs.Opaque.{IsOpaque, IsWord}
-use Rattle.crawl_keys.specs.Plain.{first_is_slash, is_kept, is_lower}
 use Rattle.crawl_keys.proofs.CanonicalLemmas.{text_of-other, web_kind}
 use Rattle.crawl_keys.proofs.HostLinks.{parse_url-scheme, split_behind}
 use Rattle.crawl_keys.proofs.PlainLemmas.{all_kept}
@@ -106,12 +88,9 @@ pub file_special : (scheme : List ℕ) → bytes_eq scheme (codes "file") ≡ tr
 unfolding scheme_type
 file_special scheme file = rw file refl
 
-by_port : (port : Bool) → is_special (if port then SpecialNotFile else NotSpecial) ≡ port
-by_port port = grind arith
-
 pub other_special : (scheme : List ℕ) → bytes_eq scheme (codes "file") ≡ false → is_special (scheme_type scheme) ≡ is_some (default_port scheme)
 unfolding scheme_type
-other_special scheme other = rw other (by_port (is_some (default_port scheme)))
+other_special scheme other = grind arith
 
 pub letter_test : (b : ℕ) → is_ascii_lowercase b ≡ is_lower b
 letter_test b = grind (arith, nat_tests)

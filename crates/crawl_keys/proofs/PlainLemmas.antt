@@ -1,22 +1,7 @@
 -- The segments of a path, and a query, in a text that the parser of URLs leaves as it is.
-use Rattle.std.proofs.Common.{◌≡◌, ◌≢◌, ℕ, suc, ◌+◌, ◌-◌, ◌<◌, ◌==◌, Bool, true, not, ◌&&◌, List, [], ◌∷◌, ◌++◌, length, take, drop, get_or, take-append-drop, refl, ap, sym, subst, ◌∙◌, ⊎_elim, All, Some, IfSome, arith, bit_and, nat_eq}
-use Rattle.std.specs.Prelude.{Option, is_some, unwrap_or}
-use Rattle.std.proofs.lemmas.Bool.{agree_below, agree_below_at, and_from, and_parts, cases_eq, cond-false, cond-true, cond_both, eq-eqb, eqb-true, ne_eqb, true≢false}
-use Rattle.std.proofs.lemmas.Bool.Decides.{nat_tests}
-use Rattle.std.proofs.lemmas.List.Elements.{All-nil, All-cons, All-head, All-tail, All-weaker}
-use Rattle.std.proofs.lemmas.List.Folds.{list_all-append}
-use Rattle.std.specs.List.{after_first, before_first, list_all, position_or_len, prefix_len}
-use Rattle.std.proofs.lemmas.List.Sums.{passes_at_first, split_at_first}
-use Rattle.percent_encoding.specs.Percent.{IsKept}
-use Rattle.url.specs.declared.sets.TheConstants.{PATH, SPECIAL_QUERY}
-use Rattle.url.specs.declared.scheme.SchemeType.TheVariants.{SpecialNotFile}
+use Rattle.crawl_keys.proofs.Prelude.{◌≡◌, ◌≢◌, ℕ, suc, ◌+◌, ◌-◌, ◌<◌, ◌==◌, Bool, true, not, ◌&&◌, List, [], ◌∷◌, ◌++◌, length, take, drop, get_or, take-append-drop, refl, ap, sym, subst, ◌∙◌, ⊎_elim, All, Some, IfSome, arith, bit_and, nat_eq, Option, is_some, unwrap_or, agree_below, agree_below_at, and_from, and_parts, cases_eq, cond-false, cond-true, cond_both, eq-eqb, eqb-true, ne_eqb, true≢false, nat_tests, All-nil, All-cons, All-head, All-tail, All-weaker, list_all-append, after_first, before_first, list_all, position_or_len, prefix_len, passes_at_first, split_at_first, IsKept, PATH, SPECIAL_QUERY, SpecialNotFile, All_from_list_all, IsNot, Passes, StopsAt, StopsAt-drop-prefix_len, list_all_from_All, IsNoSlash, kept_from_passes, Follow, is_kept, is_other, is_plain, may_begin, may_follow}
 use Rattle.url.specs.Input.{split_once, when}
 use Rattle.url.specs.Path.{dot_len, dot_count, IsSegment, IsSegmentList, join_segments}
-use Rattle.url.proofs.InputLemmas.{All_from_list_all, IsNot, Passes, StopsAt, StopsAt-drop-prefix_len, list_all_from_All}
-use Rattle.url.proofs.PathLemmas.{IsNoSlash}
-use Rattle.url.proofs.SetLemmas.{kept_from_passes}
-use Rattle.crawl_keys.specs.Lanes.{Follow}
-use Rattle.crawl_keys.specs.Plain.{is_kept, is_other, is_plain, may_begin, may_follow}
 
 -- ---- bytes
 

@@ -1,34 +1,10 @@
 -- The targets of links in common forms: the parser's relative state on texts that it leaves as they are.
-use Rattle.std.proofs.lemmas.Grind.{common_steps}
-use Rattle.std.proofs.Common.{◌≡◌, ℕ, zero, suc, ◌+◌, ◌<◌, ◌==◌, true, false, List, [], ◌∷◌, ◌++◌, length, get_or, drop, reverse, refl, ap, sym, subst, ◌∙◌, ⊎_elim, inl, All, Some, None, Ok, IfSome, arith, append_assoc, append-nil, length-append, take_all, add-one}
-use Rattle.std.specs.Prelude.{Option, if◌then◌else◌}
-use Rattle.std.specs.List.{prefix_len}
-use Rattle.std.proofs.lemmas.Bool.{and_left, and_parts, cond-false, cond_both, eqb-true, lt-leb, or_cases, true≢false}
-use Rattle.std.proofs.lemmas.Bool.Decides.{nat_tests}
-use Rattle.std.proofs.lemmas.Grind.{flat_map-append, common_steps}
-use Rattle.std.proofs.lemmas.List.{get_or-reverse, length-reverse}
-use Rattle.std.proofs.lemmas.List.Elements.{All-nil, All-cons, All-append, All-from_get_or, All-head, All-weaker}
-use Rattle.percent_encoding.specs.Percent.{IsKept}
-use Rattle.url.specs.declared.scheme.SchemeType.{SchemeType}
-use Rattle.url.specs.declared.scheme.SchemeType.TheVariants.{SpecialNotFile}
-use Rattle.url.specs.declared.sets.TheConstants.{SPECIAL_QUERY}
-use Rattle.url.specs.declared.slicing.Position.TheVariants.{BeforeHost, AfterHost}
-use Rattle.url.specs.Head.{head_only}
+use Rattle.crawl_keys.proofs.Prelude.{common_steps, ◌≡◌, ℕ, zero, suc, ◌+◌, ◌<◌, ◌==◌, true, false, List, [], ◌∷◌, ◌++◌, length, get_or, drop, reverse, refl, ap, sym, subst, ◌∙◌, ⊎_elim, inl, All, Some, None, Ok, IfSome, arith, append_assoc, append-nil, length-append, take_all, add-one, Option, if◌then◌else◌, prefix_len, and_left, and_parts, cond-false, cond_both, eqb-true, lt-leb, or_cases, true≢false, nat_tests, flat_map-append, get_or-reverse, length-reverse, All-nil, All-cons, All-append, All-from_get_or, All-head, All-weaker, IsKept, SchemeType, SpecialNotFile, SPECIAL_QUERY, BeforeHost, AfterHost, head_only, Parts, IsValid, kind_of, offset, query_set, serialize, All_from_list_all, IsNot, Passes, StopsAt, filter_all, list_all_from_All, split_once_none, IsNoSlash, parse_path_more, without_last_valid, parse_after_slash, parse_own_segments, stays_unless_file, base_from_authority, option_unchanged, IsPage, resolve, text_of_parse, is_of_folder, root_text, IsInFolder, above, behind_ups, has_no_scheme, is_query, is_rooted, is_same, first_is_slash, is_kept, is_plain, may_follow, IsSpelled}
 use Rattle.url.specs.Input.{is_c0_control_or_space, split_once, strip_tabs_and_new_lines, trim_c0_control_and_space}
 use Rattle.url.specs.Parser.{Parsed, after_double_slash, after_slashes, and_then, before_tail, inherit, leading_slashes, parse_by_scheme, parse_parts, parse_relative, parse_url, parse_without_scheme, split_scheme, with_path, with_tail}
-use Rattle.url.specs.Parts.{Parts, IsValid, kind_of, offset, query_set, serialize}
 use Rattle.url.specs.Path.{IsSegment, IsSegmentList, dot_count, join_segments, parse_path, push_segment, shorten_path, without_last_segment}
 use Rattle.url.specs.Scheme.{is_file, is_slash, scheme_len}
-use Rattle.url.proofs.InputLemmas.{All_from_list_all, IsNot, Passes, StopsAt, filter_all, list_all_from_All, split_once_none}
 use Rattle.url.proofs.ParsedCanonical.{before_special}
-use Rattle.url.proofs.PathLemmas.{IsNoSlash, parse_path_more, without_last_valid}
-use Rattle.url.proofs.RoundTrip.{parse_after_slash, parse_own_segments, stays_unless_file}
-use Rattle.url.proofs.ValidLemmas.{base_from_authority, option_unchanged}
-use Rattle.crawl_keys.specs.CanonicalText.{IsPage, resolve, text_of, text_of_parse}
-use Rattle.crawl_keys.specs.Folders.{is_of_folder, root_text}
-use Rattle.crawl_keys.specs.Links.{IsInFolder, above, behind_ups, has_no_scheme, is_query, is_rooted, is_same}
-use Rattle.crawl_keys.specs.Plain.{first_is_slash, is_kept, is_plain, may_follow}
-use Rattle.crawl_keys.specs.Spelled.{IsSpelled}
 use Rattle.crawl_keys.proofs.CanonicalLemmas.{text_of-web}
 use Rattle.crawl_keys.proofs.FolderLemmas.{IsWeb, NoScheme, begins-split, begins-strip, begins-trim, no_scheme, parse_body-web, parse_without_scheme-web, plain_text, shorten_web, web_url}
 use Rattle.crawl_keys.proofs.PlainLemmas.{all_kept, no_sign_byte, query_byte, query_text, run_segment, runs, splits, visible_byte}
@@ -340,12 +316,9 @@ spelled_query base own text start end valid page query is first last = grind (ar
 
 -- ---- an empty link, or only a fragment
 
-same_tail : (base : Parts) (fragment : Option (List ℕ)) → IsWeb base → IsPage base → text_of (with_tail base base.query fragment) ≡ Ok (serialize base)
-same_tail base fragment web page = grind (arith, option_unchanged, text_of-web)
-
 same_parts : (base : Parts) (fragment : Option (List ℕ)) → IsWeb base → IsPage base → text_of_parse (parse_without_scheme (Some base) [] None fragment) ≡ Ok (serialize base)
 unfolding parse_parts
-same_parts base fragment web page = grind (arith, cond-false, and_left, base_from_authority, same_tail)
+same_parts base fragment web page = grind (arith, cond-false, and_left, base_from_authority, option_unchanged, text_of-web)
 
 same_empty : (base : Parts) → IsWeb base → IsPage base → text_of_parse (parse_url (Some base) []) ≡ Ok (serialize base)
 unfolding parse_url trim_c0_control_and_space strip_tabs_and_new_lines split_once
@@ -362,12 +335,9 @@ same_fragment base text web page =
     ∙ ap (λ s. text_of_parse (parse_by_scheme s (Some base) [] None (Some begins.rest))) no_text_scheme
     ∙ same_parts base (Some begins.rest) web page
 
-same_text : (base : Parts) (text : List ℕ) → IsWeb base → IsPage base → is_same text ≡ true → text_of_parse (parse_url (Some base) text) ≡ Ok (serialize base)
-same_text base text web page same = grind (arith, same_empty, eqb-true, same_fragment)
-
 -- such a link leads to the page
 pub resolve-same : (base : Parts) (text : List ℕ) → IsValid base → IsPage base → is_same text ≡ true → resolve (serialize base) text ≡ Ok (serialize base)
-resolve-same base text valid page same = grind (arith, same_text, web_url)
+resolve-same base text valid page same = grind (arith, web_url, same_empty, eqb-true, same_fragment)
 
 -- one `../` more
 pub behind_more : (n : ℕ) (text : List ℕ) → behind_ups n (46 ∷ 46 ∷ 47 ∷ text) ≡ behind_ups (n + 1) text

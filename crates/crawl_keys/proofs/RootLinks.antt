@@ -1,25 +1,7 @@
 -- The targets of links that begin with a slash and have dot segments: there is no folder above the root.
-use Rattle.std.proofs.Common.{◌≡◌, ◌⊎◌, ℕ, zero, suc, ◌+◌, ◌<◌, true, List, [], ◌∷◌, ◌++◌, length, get_or, take, drop, refl, ap, sym, subst, ◌∙◌, All, Some, Ok, IfSome, arith, append_assoc, length-append, take_at}
-use Rattle.std.proofs.lemmas.Bool.{and_from}
-use Rattle.std.proofs.lemmas.List.Elements.{All-cons}
-use Rattle.percent_encoding.specs.Percent.{IsKept}
-use Rattle.url.specs.declared.scheme.SchemeType.TheVariants.{SpecialNotFile}
-use Rattle.url.specs.declared.sets.TheConstants.{SPECIAL_QUERY}
-use Rattle.url.specs.declared.slicing.Position.TheVariants.{BeforeHost, AfterHost}
-use Rattle.url.specs.Head.{head_only}
+use Rattle.crawl_keys.proofs.Prelude.{◌≡◌, ◌⊎◌, ℕ, zero, suc, ◌+◌, ◌<◌, true, List, [], ◌∷◌, ◌++◌, length, get_or, take, drop, refl, ap, sym, subst, ◌∙◌, All, Some, Ok, IfSome, arith, append_assoc, length-append, take_at, and_from, All-cons, IsKept, SpecialNotFile, SPECIAL_QUERY, BeforeHost, AfterHost, head_only, Parts, IsValid, kind_of, offset, serialize, parse_path, without_last_segment, is_slash, All_from_list_all, IsNot, Passes, StopsAt, list_all_from_All, rooted, IsBase, IsCanonical, IsPage, resolve, root_text, IsAtRoot, IsBehind, above, is_kept, is_plain, may_follow, IsSpelled}
 use Rattle.url.specs.Input.{rsplit_once, split_once}
 use Rattle.url.specs.Parser.{parse_relative, parse_url, with_path}
-use Rattle.url.specs.Parts.{Parts, IsValid, kind_of, offset, serialize}
-use Rattle.url.specs.Path.{parse_path, without_last_segment}
-use Rattle.url.specs.Scheme.{is_slash}
-use Rattle.url.proofs.InputLemmas.{All_from_list_all, IsNot, Passes, StopsAt, list_all_from_All}
-use Rattle.url.proofs.PathLemmas.{rooted}
-use Rattle.crawl_keys.specs.Bases.{IsBase}
-use Rattle.crawl_keys.specs.CanonicalText.{IsCanonical, IsPage, resolve}
-use Rattle.crawl_keys.specs.Folders.{root_text}
-use Rattle.crawl_keys.specs.Links.{IsAtRoot, IsBehind, above}
-use Rattle.crawl_keys.specs.Plain.{is_kept, is_plain, may_follow}
-use Rattle.crawl_keys.specs.Spelled.{IsSpelled}
 use Rattle.crawl_keys.proofs.BaseLemmas.{own_end, own_start, page_of, page_text}
 use Rattle.crawl_keys.proofs.FolderLemmas.{IsWeb, web_url}
 use Rattle.crawl_keys.proofs.PlainLemmas.{all_kept, query_text, splits}

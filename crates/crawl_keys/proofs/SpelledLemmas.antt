@@ -1,40 +1,13 @@
 -- Texts of web URLs that are made of a head, a path and a query.
-use Rattle.std.proofs.lemmas.Grind.{common_steps}
-use Rattle.std.proofs.Common.{◌≡◌, ℕ, ◌+◌, ◌<◌, true, false, not, ◌&&◌, ◌||◌, List, [], ◌∷◌, ◌++◌, length, get_or, take, drop, refl, ap, sym, subst, ◌∙◌, All, Some, None, Ok, IfSome, arith, append_assoc, append-nil, length-append, length-take-le, take-append-drop, lit<}
-use Rattle.std.specs.Prelude.{Option, IsAscii, bytes_eq, codes, slice_range}
-use Rattle.std.specs.Char.{is_ascii_digit, to_ascii_lowercase}
-use Rattle.std.specs.List.{list_all}
-use Rattle.std.proofs.lemmas.Bool.{and_left, and_right, or_from, true≢false}
-use Rattle.std.proofs.lemmas.Bool.Decides.{nat_tests}
-use Rattle.std.proofs.lemmas.List.Elements.{All-nil}
-use Rattle.std.proofs.lemmas.List.Sums.{prefix_len-le-length}
-use Rattle.percent_encoding.specs.Percent.{IsKept}
-use Rattle.hash_order.specs.HashOrder.{hash_of}
-use Rattle.url.specs.declared.host.Host.TheVariants.{Domain}
-use Rattle.url.specs.declared.scheme.SchemeType.TheVariants.{SpecialNotFile}
-use Rattle.url.specs.declared.sets.TheConstants.{FORBIDDEN_DOMAIN, SPECIAL_QUERY, USERINFO}
-use Rattle.url.specs.declared.slicing.Position.TheVariants.{BeforeHost, AfterHost}
+use Rattle.crawl_keys.proofs.Prelude.{common_steps, ◌≡◌, ℕ, ◌+◌, ◌<◌, true, false, not, ◌&&◌, ◌||◌, List, [], ◌∷◌, ◌++◌, length, get_or, take, drop, refl, ap, sym, subst, ◌∙◌, All, Some, None, Ok, IfSome, arith, append_assoc, append-nil, length-append, length-take-le, take-append-drop, lit<, Option, IsAscii, bytes_eq, codes, slice_range, is_ascii_digit, to_ascii_lowercase, list_all, and_left, and_right, or_from, true≢false, nat_tests, All-nil, prefix_len-le-length, IsKept, hash_of, Domain, SpecialNotFile, FORBIDDEN_DOMAIN, SPECIAL_QUERY, USERINFO, BeforeHost, AfterHost, Parts, IsValid, IsValidHead, has_authority, offset, serialize, pieces, IsSegmentList, Passes, All-take-prefix_len, is_empty_nonempty, lowercase_other, map_fixed, kept_from_passes, parse_url-serialize_special, IsAscii-serialize, special_has_authority, Laid, IsCanonical, canonical, is_web, resolve, resolve_from, text_of_parse, without_fragment, root_text, IsLaidOut, host_len, is_host_byte, is_lower, is_named, is_plain, is_plain_host, IsSpelled, host_key, host_of_parse}
 use Rattle.url.specs.Host.{IsDomain, IsHostOf}
 use Rattle.url.specs.Input.{is_empty, rsplit_once, split_once}
 use Rattle.url.specs.Ipv4.{ends_in_a_number, is_number, last_label_of, parse_number}
 use Rattle.url.specs.Parser.{parse_url}
-use Rattle.url.specs.Parts.{Parts, IsValid, IsValidHead, has_authority, offset, serialize, pieces}
-use Rattle.url.specs.Path.{IsSegmentList}
 use Rattle.url.specs.Scheme.{IsScheme, is_special, scheme_len}
-use Rattle.url.proofs.InputLemmas.{Passes, All-take-prefix_len, is_empty_nonempty, lowercase_other, map_fixed}
-use Rattle.url.proofs.SetLemmas.{kept_from_passes}
-use Rattle.url.proofs.Theorems.{parse_url-serialize_special}
-use Rattle.url.proofs.ValidLemmas.{IsAscii-serialize, special_has_authority}
-use Rattle.crawl_keys.specs.declared.canon_url.Laid.{Laid}
-use Rattle.crawl_keys.specs.CanonicalText.{IsCanonical, canonical, is_web, resolve, resolve_from, text_of_parse, without_fragment}
-use Rattle.crawl_keys.specs.Folders.{root_text}
-use Rattle.crawl_keys.specs.Layout.{IsLaidOut}
-use Rattle.crawl_keys.specs.Plain.{host_len, is_host_byte, is_lower, is_named, is_plain, is_plain_host}
-use Rattle.crawl_keys.specs.Spelled.{IsSpelled}
-use Rattle.crawl_keys.proofs.CanonicalLemmas.{canonical-canonical, web_kind, without_fragment_valid, canonical_text, parse_url-without_fragment}
+use Rattle.crawl_keys.proofs.CanonicalLemmas.{canonical-canonical, web_kind, canonical_text, parse_url-without_fragment}
 use Rattle.crawl_keys.proofs.PlainLemmas.{query_text, rooted_path, splits}
 use Rattle.url.proofs.PiecesLemmas.{slice_at, upto-le, upto_ordered}
-use Rattle.crawl_keys.specs.HostKey.{host_key, host_of_parse}
 
 -- the host key is between the start and the end of the host
 slice_range-host : (url : Parts) → IsValid url → is_web url ≡ true → slice_range (serialize (without_fragment url)) (offset url BeforeHost) (offset url AfterHost) ≡ host_key (serialize (without_fragment url))
@@ -89,10 +62,6 @@ laid_spelled u k hashed =
 -- likewise for equal offsets
 pub spelled_at : (text : List ℕ) (start end own its : ℕ) → IsSpelled text start end → own ≡ start → its ≡ end → IsSpelled text own its
 spelled_at text start end own its k first last = grind arith
-
--- the text of a web URL without its fragment
-pub spelled_own : (url : Parts) (text : List ℕ) (start end : ℕ) → IsValid url → is_web url ≡ true → text ≡ serialize (without_fragment url) → start ≡ offset url BeforeHost → end ≡ offset url AfterHost → IsSpelled text start end
-spelled_own url text start end valid web spelled first last = grind (arith, without_fragment_valid)
 
 -- ---- a head with a path and a query
 

@@ -1,6 +1,4 @@
-use Rattle.std.proofs.lemmas.Grind.{common_steps}
-use Rattle.std.proofs.Common.{arith, add-one, ◌≡◌, ℕ, ◌+◌, ◌*◌, ◌%◌, ◌^◌, List, [], ◌∷◌, ◌++◌, length, ap, ◌∙◌, length-append}
-use Rattle.std.proofs.Math.Seq.{take-suc}
+use Rattle.crawl_keys.proofs.Prelude.{common_steps, arith, add-one, ◌≡◌, ℕ, ◌+◌, ◌*◌, ◌%◌, ◌^◌, List, [], ◌∷◌, ◌++◌, length, ap, ◌∙◌, length-append, take-suc}
 use Rattle.std.proofs.lemmas.List.{take_all}
 use Rattle.crawl_keys.specs.Assignment.{hash, weighted_sum}
 use Rattle.std.proofs.Math.Nat.{pow-succ'}

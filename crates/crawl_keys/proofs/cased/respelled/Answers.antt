@@ -1,5 +1,4 @@
-use Rattle.std.proofs.Common.{◌≡◌, ◌<◌, ◌==◌, ◌∷◌, ◌++◌, codes, length, sym, ◌∙◌, rules}
-use Rattle.std.specs.List.{after_first, before_first, position_or_len}
+use Rattle.crawl_keys.proofs.Prelude.{◌≡◌, ◌<◌, ◌==◌, ◌∷◌, ◌++◌, codes, length, sym, ◌∙◌, rules, after_first, before_first, position_or_len}
 use Rattle.std.proofs.lemmas.Option.{IfSome_then}
 use Rattle.std.proofs.lemmas.Result.{IfOk-weaker}
 use Rattle.crawl_keys.proofs.CasedLinks.{leads-cased}

@@ -1,9 +1,6 @@
 use Rattle.std.proofs.Common.{arith, rules}
-use Rattle.crawl_keys.proofs.DotLinks.{behind_then, whole_behind}
+use Rattle.crawl_keys.proofs.DotLinks.{behind_then}
 use Rattle.crawl_keys.proofs.dots.behind_dots.Goals as goal
-
-pub loop-up-init : goal.loop-up-init
-loop-up-init c = grind (arith, whole_behind)
 
 pub loop-up-preserved : goal.loop-up-preserved
 loop-up-preserved c = (

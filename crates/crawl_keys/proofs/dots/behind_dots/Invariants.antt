@@ -1,7 +1,4 @@
-use Rattle.std.proofs.Common.{◌≤◌, ◌+◌, length}
-use denote.Text.{Utf8}
-use denote.Shadow.{shadow}
-use Rattle.crawl_keys.specs.Links.{IsBehind}
+use Rattle.crawl_keys.proofs.Prelude.{◌≤◌, ◌+◌, length, Utf8, shadow, IsBehind}
 use Rattle.crawl_keys.proofs.dots.behind_dots.Given as goal
 
 -- so far the text reads as the rest

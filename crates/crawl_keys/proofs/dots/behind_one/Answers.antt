@@ -1,5 +1,4 @@
-use Rattle.std.proofs.Common.{◌≡◌, ◌++◌, codes, subst, sym, rules, arith}
-use Rattle.crawl_keys.specs.Links.{IsBehind}
+use Rattle.crawl_keys.proofs.Prelude.{◌≡◌, ◌++◌, codes, subst, sym, rules, arith, IsBehind}
 use Rattle.crawl_keys.proofs.DotLinks.{same_behind, ups_behind}
 use Rattle.crawl_keys.proofs.dots.behind_one.Goals as goal
 

@@ -1,8 +1,4 @@
-use Rattle.std.proofs.Common.{◌≡◌, ◌<◌, ◌==◌, ◌∷◌, ◌++◌, All, true, codes, length, subst, sym, ◌∙◌, rules}
-use Rattle.std.specs.List.{after_first, before_first, position_or_len}
-use Rattle.url.proofs.InputLemmas.{IsNot}
-use Rattle.crawl_keys.specs.Links.{IsBehind}
-use Rattle.crawl_keys.specs.Plain.{is_plain}
+use Rattle.crawl_keys.proofs.Prelude.{◌≡◌, ◌<◌, ◌==◌, ◌∷◌, ◌++◌, All, true, codes, length, subst, sym, ◌∙◌, rules, after_first, before_first, position_or_len, IsNot, IsBehind, is_plain}
 use Rattle.crawl_keys.proofs.DotLinks.{no_query_in, no_slash_before, pair_behind}
 use Rattle.crawl_keys.proofs.PlainLemmas.{cut_at}
 use Rattle.crawl_keys.proofs.dots.behind_pair.Goals as goal

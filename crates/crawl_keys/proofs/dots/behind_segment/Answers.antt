@@ -1,8 +1,4 @@
-use Rattle.std.proofs.Common.{◌≡◌, ◌<◌, ◌==◌, ◌∷◌, ◌++◌, All, true, length, subst, sym, ◌∙◌, rules}
-use Rattle.std.specs.List.{after_first, before_first, position_or_len}
-use Rattle.url.proofs.InputLemmas.{IsNot}
-use Rattle.crawl_keys.specs.Links.{IsAhead}
-use Rattle.crawl_keys.specs.Plain.{is_plain}
+use Rattle.crawl_keys.proofs.Prelude.{◌≡◌, ◌<◌, ◌==◌, ◌∷◌, ◌++◌, All, true, length, subst, sym, ◌∙◌, rules, after_first, before_first, position_or_len, IsNot, IsAhead, is_plain}
 use Rattle.crawl_keys.proofs.DotLinks.{no_query_in, no_slash_before, segment_ahead}
 use Rattle.crawl_keys.proofs.PlainLemmas.{cut_at}
 use Rattle.crawl_keys.proofs.dots.behind_segment.Goals as goal

@@ -1,9 +1,6 @@
 use Rattle.std.proofs.Common.{◌≡◌, arith, rules}
-use Rattle.crawl_keys.proofs.DotLinks.{ahead_none, ahead_then, within_from}
+use Rattle.crawl_keys.proofs.DotLinks.{ahead_then, within_from}
 use Rattle.crawl_keys.proofs.dots.dots_within.Goals as goal
-
-pub loop-more-init : goal.loop-more-init
-loop-more-init c = (search rules, ahead_none c.args.text.now)
 
 pub loop-more-preserved : goal.loop-more-preserved
 loop-more-preserved c = (search rules, ahead_then c.args.text.now c.loop-more.rest.now c.in-Some.more.now c.loop-more.invariant.1 c.in-Some.ensures.ahead)

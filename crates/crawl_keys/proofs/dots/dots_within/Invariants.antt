@@ -1,7 +1,4 @@
-use Rattle.std.proofs.Common.{length}
-use denote.Text.{Utf8}
-use denote.Shadow.{shadow}
-use Rattle.crawl_keys.specs.Links.{IsAhead}
+use Rattle.crawl_keys.proofs.Prelude.{length, Utf8, shadow, IsAhead}
 use Rattle.crawl_keys.proofs.dots.dots_within.Given as goal
 
 -- so far there are whole segments before the rest

@@ -1,5 +1,4 @@
-use Rattle.std.proofs.Common.{◌≡◌, ◌≤◌, ◌<◌, length}
-use Rattle.crawl_keys.specs.Links.{folder_above}
+use Rattle.crawl_keys.proofs.Prelude.{◌≡◌, ◌≤◌, ◌<◌, length, folder_above}
 use Rattle.crawl_keys.proofs.folder.folder_above.Given as goal
 
 -- the folder so far

@@ -1,9 +1,4 @@
-use Rattle.std.proofs.Common.{◌≡◌, ℕ, List, Bool, not, nat_lt, length, sym, ◌∙◌, ⊎_elim, arith, rules}
-use Rattle.std.specs.List.{list_any, position_or_len}
-use Rattle.std.proofs.lemmas.Bool.{cases_lt, le-ltb, lt-ltb}
-use Rattle.std.proofs.lemmas.List.Folds.{list_any_at}
-use Rattle.std.proofs.lemmas.List.Sums.{passes_at_first, prefix_len-le-length}
-use Rattle.crawl_keys.specs.Folders.{is_colon}
+use Rattle.crawl_keys.proofs.Prelude.{◌≡◌, ℕ, List, Bool, not, nat_lt, length, sym, ◌∙◌, ⊎_elim, arith, rules, list_any, position_or_len, cases_lt, le-ltb, lt-ltb, list_any_at, passes_at_first, prefix_len-le-length, is_colon}
 use Rattle.crawl_keys.proofs.FolderLemmas.{none_from_first}
 use Rattle.crawl_keys.proofs.folder.has_colon.Goals as goal
 

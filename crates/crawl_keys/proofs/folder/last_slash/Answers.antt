@@ -1,6 +1,4 @@
-use Rattle.std.proofs.Common.{◌<◌, ℕ, List, [], length, length-take-le, ap, sym, ◌∙◌, arith, rules}
-use Rattle.std.specs.Prelude.{Option, unwrap_or}
-use Rattle.url.proofs.InputLemmas.{rsplit_once_at_last, rsplit_once_none}
+use Rattle.crawl_keys.proofs.Prelude.{◌<◌, ℕ, List, [], length, length-take-le, ap, sym, ◌∙◌, arith, rules, Option, unwrap_or, rsplit_once_at_last, rsplit_once_none}
 use Rattle.crawl_keys.proofs.folder.last_slash.Goals as goal
 
 pub returns-in-Some-clause-value : goal.returns-in-Some-clause-value

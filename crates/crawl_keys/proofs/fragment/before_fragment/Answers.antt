@@ -1,6 +1,4 @@
-use Rattle.std.proofs.Common.{◌≡◌, ◌∙◌, ap, rules, arith}
-use Rattle.crawl_keys.specs.Folders.{is_of_folder}
-use Rattle.crawl_keys.specs.Fragments.{before_fragment}
+use Rattle.crawl_keys.proofs.Prelude.{◌≡◌, ◌∙◌, ap, rules, arith, is_of_folder, before_fragment}
 use Rattle.crawl_keys.proofs.FragmentLemmas.{is_of_folder-before_fragment, resolve-before_fragment}
 use Rattle.crawl_keys.proofs.fragment.before_fragment.Goals as goal
 

@@ -1,8 +1,4 @@
-use Rattle.std.proofs.Common.{◌≡◌, ℕ, List, IsCharBoundary, subst, sym, arith, rules}
-use Rattle.std.specs.List.{position_or_len}
-use Rattle.std.proofs.lemmas.Bool.{cases_lt, eqb-true}
-use Rattle.std.proofs.lemmas.List.Sums.{passes_at_first, prefix_len-le-length}
-use Rattle.crawl_keys.specs.Fragments.{is_number_sign}
+use Rattle.crawl_keys.proofs.Prelude.{◌≡◌, ℕ, List, IsCharBoundary, subst, sym, arith, rules, position_or_len, cases_lt, eqb-true, passes_at_first, prefix_len-le-length, is_number_sign}
 use Rattle.crawl_keys.proofs.fragment.before_sign.Goals as goal
 
 -- a text may be cut before its first `#`, or at its end

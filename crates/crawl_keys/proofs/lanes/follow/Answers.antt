@@ -1,7 +1,4 @@
-use Rattle.std.proofs.Common.{◌+◌, ℕ, bit_and, bit_or, cond, ltb, refl, arith}
-use Rattle.std.proofs.lemmas.Bool.{cond-false, eqb-true, ne_eqb}
-use Rattle.std.proofs.lemmas.Simd.{zip2_splat, length-chunk}
-use lib.Lanes.{chunk, zip2}
+use Rattle.crawl_keys.proofs.Prelude.{◌+◌, ℕ, bit_and, bit_or, cond, ltb, refl, arith, cond-false, eqb-true, ne_eqb, zip2_splat, length-chunk, chunk, zip2}
 use Rattle.crawl_keys.proofs.LaneLemmas.{all_follow, joined, splat}
 use Rattle.crawl_keys.proofs.lanes.follow.Goals as goal
 

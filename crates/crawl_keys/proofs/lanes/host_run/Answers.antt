@@ -1,6 +1,4 @@
-use Rattle.std.proofs.Common.{ℕ, bit_and, cond, leb, refl}
-use Rattle.std.proofs.lemmas.Simd.{zip2_splat, length-chunk}
-use lib.Lanes.{chunk}
+use Rattle.crawl_keys.proofs.Prelude.{ℕ, bit_and, cond, leb, refl, zip2_splat, length-chunk, chunk}
 use Rattle.crawl_keys.proofs.LaneLemmas.{host_run, joined, splat}
 use Rattle.crawl_keys.proofs.lanes.host_run.Goals as goal
 

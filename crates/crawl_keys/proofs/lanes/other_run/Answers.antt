@@ -1,6 +1,4 @@
-use Rattle.std.proofs.Common.{ℕ}
-use Rattle.std.proofs.lemmas.Simd.{zip2_splat, length-chunk}
-use lib.Lanes.{chunk}
+use Rattle.crawl_keys.proofs.Prelude.{ℕ, zip2_splat, length-chunk, chunk}
 use Rattle.crawl_keys.proofs.LaneLemmas.{other_run}
 use Rattle.crawl_keys.proofs.lanes.other_run.Goals as goal
 

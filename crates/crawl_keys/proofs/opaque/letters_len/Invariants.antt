@@ -1,5 +1,4 @@
-use Rattle.std.proofs.Common.{◌≡◌, ◌<◌, ◌≤◌, ◌-◌, ℕ, true, get_or, length}
-use Rattle.crawl_keys.specs.Plain.{is_lower}
+use Rattle.crawl_keys.proofs.Prelude.{◌≡◌, ◌<◌, ◌≤◌, ◌-◌, ℕ, true, get_or, length, is_lower}
 use Rattle.crawl_keys.proofs.opaque.letters_len.Given as goal
 
 -- the bytes so far are letters

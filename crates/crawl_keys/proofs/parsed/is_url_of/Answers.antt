@@ -1,6 +1,4 @@
-use Rattle.std.proofs.Common.{arith}
-use Rattle.std.proofs.lemmas.Slice.Eq.{bytes_eq-Decides}
-use Rattle.url.proofs.Theorems.{parse_url-serialize_special}
+use Rattle.crawl_keys.proofs.Prelude.{arith, bytes_eq-Decides, parse_url-serialize_special}
 use Rattle.crawl_keys.proofs.CanonicalLemmas.{web_kind}
 use Rattle.crawl_keys.proofs.parsed.is_url_of.Goals as goal
 

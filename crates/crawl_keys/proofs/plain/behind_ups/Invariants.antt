@@ -1,7 +1,4 @@
-use Rattle.std.proofs.Common.{◌≡◌, ◌≤◌, ◌+◌, length}
-use denote.Text.{Utf8}
-use denote.Shadow.{shadow}
-use Rattle.crawl_keys.specs.Links.{behind_ups}
+use Rattle.crawl_keys.proofs.Prelude.{◌≡◌, ◌≤◌, ◌+◌, length, Utf8, shadow, behind_ups}
 use Rattle.crawl_keys.proofs.plain.behind_ups.Given as goal
 
 -- the text is the part that was passed, and the rest

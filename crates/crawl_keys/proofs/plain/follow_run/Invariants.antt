@@ -1,5 +1,4 @@
-use Rattle.std.proofs.Common.{◌-◌, ◌≤◌, length}
-use Rattle.crawl_keys.specs.Lanes.{Follow}
+use Rattle.crawl_keys.proofs.Prelude.{◌-◌, ◌≤◌, length, Follow}
 use Rattle.crawl_keys.proofs.plain.follow_run.Given as goal
 
 -- so far each byte may follow the one before it

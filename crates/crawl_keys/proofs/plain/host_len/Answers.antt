@@ -1,6 +1,4 @@
-use Rattle.std.proofs.Common.{sym, ◌∙◌, arith}
-use Rattle.url.proofs.InputLemmas.{prefix_len_is}
-use Rattle.crawl_keys.specs.Plain.{is_host_byte}
+use Rattle.crawl_keys.proofs.Prelude.{sym, ◌∙◌, arith, prefix_len_is, is_host_byte}
 use Rattle.crawl_keys.proofs.plain.host_len.Goals as goal
 
 pub returns-else-is_host_byte-clause-value : goal.returns-else-is_host_byte-clause-value

@@ -1,5 +1,4 @@
-use Rattle.std.proofs.Common.{◌≡◌, ◌<◌, ◌≤◌, ◌-◌, ℕ, true, get_or, length}
-use Rattle.crawl_keys.specs.Plain.{is_host_byte}
+use Rattle.crawl_keys.proofs.Prelude.{◌≡◌, ◌<◌, ◌≤◌, ◌-◌, ℕ, true, get_or, length, is_host_byte}
 use Rattle.crawl_keys.proofs.plain.host_len.Given as goal
 
 -- the bytes so far may be in a host

@@ -1,6 +1,4 @@
-use Rattle.std.proofs.Common.{◌≡◌, ◌+◌, ◌++◌, ap, refl, subst, sym, ◌∙◌, codes, true, rules}
-use Rattle.crawl_keys.specs.Plain.{host_len, is_plain_host}
-use Rattle.crawl_keys.specs.Spelled.{IsSpelled}
+use Rattle.crawl_keys.proofs.Prelude.{◌≡◌, ◌+◌, ◌++◌, ap, refl, subst, sym, ◌∙◌, codes, true, rules, host_len, is_plain_host, IsSpelled}
 use Rattle.crawl_keys.proofs.SpelledLemmas.{http, https, spelled_at, spelled_host}
 use Rattle.crawl_keys.proofs.plain.host_place.Goals as goal
 

@@ -1,6 +1,4 @@
-use Rattle.std.proofs.Common.{refl, arith}
-use Rattle.crawl_keys.specs.declared.plain.TheConstants.{CLASS}
-use Rattle.crawl_keys.specs.Plain.{is_kept}
+use Rattle.crawl_keys.proofs.Prelude.{refl, arith, CLASS, is_kept}
 use Rattle.crawl_keys.proofs.PlainLemmas.{from_table}
 use Rattle.crawl_keys.proofs.plain.is_kept.Goals as goal
 

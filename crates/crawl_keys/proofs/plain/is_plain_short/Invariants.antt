@@ -1,5 +1,4 @@
-use Rattle.std.proofs.Common.{◌≡◌, true, drop}
-use Rattle.crawl_keys.specs.Plain.{is_plain}
+use Rattle.crawl_keys.proofs.Prelude.{◌≡◌, true, drop, is_plain}
 use Rattle.crawl_keys.proofs.plain.is_plain_short.Given as goal
 
 -- the text is plain if its rest is

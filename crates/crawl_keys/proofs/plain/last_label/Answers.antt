@@ -1,6 +1,4 @@
-use Rattle.std.proofs.Common.{◌+◌, ◌-◌, ℕ, List, length, take_all, length-drop, drop, ap, sym, ◌∙◌, arith, rules}
-use Rattle.std.specs.Prelude.{Option}
-use Rattle.url.proofs.InputLemmas.{rsplit_once_at_last, rsplit_once_none}
+use Rattle.crawl_keys.proofs.Prelude.{◌+◌, ◌-◌, ℕ, List, length, take_all, length-drop, drop, ap, sym, ◌∙◌, arith, rules, Option, rsplit_once_at_last, rsplit_once_none}
 use Rattle.crawl_keys.proofs.plain.last_label.Goals as goal
 
 pub returns-in-Some : goal.returns-in-Some

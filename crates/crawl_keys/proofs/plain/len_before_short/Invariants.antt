@@ -1,5 +1,4 @@
-use Rattle.std.proofs.Common.{◌≡◌, ◌<◌, ℕ, true, get_or}
-use Rattle.crawl_keys.specs.Plain.{is_other}
+use Rattle.crawl_keys.proofs.Prelude.{◌≡◌, ◌<◌, ℕ, true, get_or, is_other}
 use Rattle.crawl_keys.proofs.plain.len_before_short.Given as goal
 
 -- the bytes so far are others

@@ -1,6 +1,4 @@
-use Rattle.std.proofs.lemmas.Grind.{common_steps}
-use Rattle.std.proofs.Common.{◌≡◌, ℕ, List, length, true, arith}
-use Rattle.crawl_keys.specs.Plain.{is_plain}
+use Rattle.crawl_keys.proofs.Prelude.{common_steps, ◌≡◌, ℕ, List, length, true, arith, is_plain}
 use Rattle.crawl_keys.proofs.PlainLemmas.{plain_from}
 use Rattle.crawl_keys.proofs.plain.plain_run.Goals as goal
 

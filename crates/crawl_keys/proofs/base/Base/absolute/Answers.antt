@@ -1,7 +1,4 @@
-use Rattle.std.proofs.Common.{Ok, ap, append-nil, subst, sym, ◌∙◌}
-use Rattle.crawl_keys.specs.CanonicalText.{resolve}
-use Rattle.crawl_keys.specs.Outcome.{Gives}
-use Rattle.crawl_keys.specs.declared.error.KeyError.TheVariants.{NoMemory}
+use Rattle.crawl_keys.proofs.Prelude.{Ok, ap, append-nil, subst, sym, ◌∙◌, resolve, Gives, NoMemory}
 use Rattle.crawl_keys.proofs.BaseLemmas.{leads_absolute}
 use Rattle.crawl_keys.proofs.base.Base.absolute.Goals as goal
 

@@ -1,8 +1,4 @@
-use Rattle.std.proofs.Common.{◌+◌, ◌++◌, Ok, ap, subst, sym, ◌∙◌}
-use Rattle.crawl_keys.specs.CanonicalText.{resolve}
-use Rattle.crawl_keys.specs.Outcome.{Gives}
-use Rattle.crawl_keys.specs.Spelled.{IsSpelled}
-use Rattle.crawl_keys.specs.declared.error.KeyError.TheVariants.{NoMemory}
+use Rattle.crawl_keys.proofs.Prelude.{◌+◌, ◌++◌, Ok, ap, subst, sym, ◌∙◌, resolve, Gives, IsSpelled, NoMemory}
 use Rattle.crawl_keys.proofs.BaseLemmas.{front_slice}
 use Rattle.crawl_keys.proofs.RootLinks.{leads_at_root, spelled_at_root}
 use Rattle.crawl_keys.proofs.base.Base.at_root.Goals as goal

@@ -1,5 +1,4 @@
-use Rattle.std.proofs.Common.{◌≡◌, true, subst, sym, ◌∙◌}
-use Rattle.crawl_keys.specs.Plain.{is_plain}
+use Rattle.crawl_keys.proofs.Prelude.{◌≡◌, true, subst, sym, ◌∙◌, is_plain}
 use Rattle.crawl_keys.proofs.DotLinks.{in_folder_ups}
 use Rattle.crawl_keys.proofs.base.Base.beside.Goals as goal
 

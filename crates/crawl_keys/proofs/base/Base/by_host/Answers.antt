@@ -1,6 +1,4 @@
-use Rattle.std.proofs.Common.{subst, sym}
-use Rattle.crawl_keys.specs.Outcome.{Gives}
-use Rattle.crawl_keys.specs.declared.error.KeyError.TheVariants.{NoMemory}
+use Rattle.crawl_keys.proofs.Prelude.{subst, sym, Gives, NoMemory}
 use Rattle.crawl_keys.proofs.HostLinks.{leads_by_host, spelled_by_host}
 use Rattle.crawl_keys.proofs.base.Base.by_host.Goals as goal
 

@@ -1,5 +1,4 @@
-use Rattle.std.proofs.Common.{subst, ◌∙◌}
-use Rattle.crawl_keys.specs.Bases.{IsFolderOf}
+use Rattle.crawl_keys.proofs.Prelude.{subst, ◌∙◌, IsFolderOf}
 use Rattle.crawl_keys.proofs.BaseLemmas.{front_slice, own_folder}
 use Rattle.crawl_keys.proofs.base.Base.folder.Goals as goal
 

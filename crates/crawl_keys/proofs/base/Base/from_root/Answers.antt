@@ -1,6 +1,4 @@
-use Rattle.std.proofs.Common.{◌≡◌, ◌∷◌, subst, sym, true, rules}
-use Rattle.crawl_keys.specs.Links.{IsBehind}
-use Rattle.crawl_keys.specs.Plain.{is_plain}
+use Rattle.crawl_keys.proofs.Prelude.{◌≡◌, ◌∷◌, subst, sym, true, rules, IsBehind, is_plain}
 use Rattle.crawl_keys.proofs.DotLinks.{behind_both}
 use Rattle.crawl_keys.proofs.base.Base.from_root.Goals as goal
 

@@ -1,6 +1,4 @@
-use Rattle.std.proofs.Common.{ap, sym, ◌∙◌}
-use Rattle.std.proofs.lemmas.Slice.Eq.{bytes_eq-Decides}
-use Rattle.crawl_keys.specs.CanonicalText.{resolve}
+use Rattle.crawl_keys.proofs.Prelude.{ap, sym, ◌∙◌, bytes_eq-Decides, resolve}
 use Rattle.crawl_keys.proofs.BaseLemmas.{front_slice, leads_beside}
 use Rattle.crawl_keys.proofs.base.Base.is_beside.Goals as goal
 

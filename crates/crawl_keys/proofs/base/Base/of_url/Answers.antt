@@ -1,7 +1,4 @@
-use Rattle.std.proofs.Common.{◌+◌, ap, length, take, ◌∙◌}
-use Rattle.std.specs.List.{prefix_len}
-use Rattle.url.specs.Path.{without_last_segment}
-use Rattle.crawl_keys.specs.Plain.{is_other}
+use Rattle.crawl_keys.proofs.Prelude.{◌+◌, ap, length, take, ◌∙◌, prefix_len, without_last_segment, is_other}
 use Rattle.crawl_keys.proofs.BaseLemmas.{back_slice, is_base}
 use Rattle.crawl_keys.proofs.base.Base.of_url.Goals as goal
 

@@ -1,6 +1,4 @@
-use Rattle.std.proofs.Common.{ap, subst, ◌∙◌}
-use Rattle.crawl_keys.specs.CanonicalText.{IsCanonical}
-use Rattle.crawl_keys.specs.declared.canon_url.Laid.{Laid}
+use Rattle.crawl_keys.proofs.Prelude.{ap, subst, ◌∙◌, IsCanonical, Laid}
 use Rattle.crawl_keys.proofs.CanonicalLemmas.{canonical-canonical}
 use Rattle.crawl_keys.proofs.canon_url.CanonUrl.as_str.Goals as goal
 

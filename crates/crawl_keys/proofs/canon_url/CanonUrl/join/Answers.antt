@@ -1,8 +1,4 @@
-use Rattle.std.proofs.Common.{Ok, ap, subst, sym, ◌∙◌}
-use Rattle.hash_order.specs.HashOrder.{hash_of}
-use Rattle.crawl_keys.specs.Layout.{IsLaidOut}
-use Rattle.crawl_keys.specs.Spelled.{IsSpelled}
-use Rattle.crawl_keys.specs.declared.canon_url.Laid.{Laid}
+use Rattle.crawl_keys.proofs.Prelude.{Ok, ap, subst, sym, ◌∙◌, hash_of, IsLaidOut, IsSpelled, Laid}
 use Rattle.crawl_keys.proofs.SpelledLemmas.{laid_spelled, spelled_at}
 use Rattle.crawl_keys.proofs.canon_url.CanonUrl.join.Goals as goal
 

@@ -1,10 +1,5 @@
-use Rattle.std.proofs.Common.{ap, ◌∙◌, map, string_bytes, arith, ◌≡◌, ℕ, Bool, true, List}
-use Rattle.std.specs.BTreeSet.{insert_key}
-use Rattle.std.specs.Cmp.Lexicographic.{slice_cmp}
-use Rattle.std.specs.Ordering.{nat_cmp}
+use Rattle.crawl_keys.proofs.Prelude.{ap, ◌∙◌, map, string_bytes, arith, ◌≡◌, ℕ, Bool, true, List, insert_key, slice_cmp, nat_cmp, cases_Bool, bytes_eq-Decides}
 use Rattle.crawl_keys.proofs.FilterLemmas.{map-insert_key}
-use Rattle.std.proofs.lemmas.Bool.{cases_Bool}
-use Rattle.std.proofs.lemmas.Slice.Eq.{bytes_eq-Decides}
 use Rattle.crawl_keys.specs.Marks.{is_marked, AreMarked}
 use Rattle.crawl_keys.proofs.InOrderLemmas.{list_any-insert_key}
 use Rattle.crawl_keys.proofs.filter.suffixes.Suffixes.add.Goals as goal

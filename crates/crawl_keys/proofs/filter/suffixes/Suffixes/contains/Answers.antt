@@ -1,5 +1,4 @@
-use Rattle.std.proofs.Common.{ap, ◌∙◌, bytes_eq}
-use Rattle.std.specs.List.{list_any}
+use Rattle.crawl_keys.proofs.Prelude.{ap, ◌∙◌, bytes_eq, list_any}
 use Rattle.crawl_keys.proofs.FilterLemmas.{list_any-contains}
 use Rattle.crawl_keys.proofs.filter.suffixes.Suffixes.contains.Goals as goal
 

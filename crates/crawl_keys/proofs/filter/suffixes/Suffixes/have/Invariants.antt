@@ -1,8 +1,4 @@
-use Rattle.std.proofs.Common.{◌≡◌, length}
-use denote.Text.{Utf8}
-use denote.Shadow.{shadow}
-use Rattle.std.specs.List.{list_any}
-use Rattle.crawl_keys.specs.HostFilter.{is_within}
+use Rattle.crawl_keys.proofs.Prelude.{◌≡◌, length, Utf8, shadow, list_any, is_within}
 use Rattle.crawl_keys.proofs.FilterLemmas.{is_behind_dot}
 use Rattle.crawl_keys.proofs.filter.suffixes.Suffixes.have.Given as goal
 

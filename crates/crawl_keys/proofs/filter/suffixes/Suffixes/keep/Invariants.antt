@@ -1,5 +1,4 @@
-use Rattle.std.proofs.Common.{◌≡◌, map, take}
-use Rattle.crawl_keys.specs.HostFilter.{in_order}
+use Rattle.crawl_keys.proofs.Prelude.{◌≡◌, map, take, in_order}
 use Rattle.crawl_keys.proofs.filter.suffixes.Suffixes.keep.Given as goal
 
 -- those before this place are kept
