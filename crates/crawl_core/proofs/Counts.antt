@@ -1,18 +1,7 @@
 -- How the count of the kept state changes with a subqueue, and that the machine's events on subqueues are the table's moves.
-use Rattle.std.proofs.Common.{◌≡◌, ℕ, suc, ◌-◌, ◌≤◌, Bool, true, false, List, ◌∷◌, length, drop, slice_get, slice_set, Option, Some, refl, sym, ap, ◌∙◌, arith}
-use Rattle.std.specs.Option.{option_map}
-use Rattle.std.specs.Ordering.{nat_cmp}
-use Rattle.std.specs.BTreeMap.{is_at}
-use Rattle.std.proofs.lemmas.List.{length_push}
-use Rattle.std.proofs.lemmas.Map.Made.{length-remove_key}
+use Rattle.crawl_core.proofs.Prelude.{◌≡◌, ℕ, suc, ◌-◌, ◌≤◌, Bool, true, false, List, ◌∷◌, length, drop, slice_get, slice_set, Option, Some, refl, sym, ap, ◌∙◌, arith, option_map, nat_cmp, is_at, length_push, length-remove_key, Event, Take, Done, Reply, one_if, let_go, holds, Kept, KeptQueue, IsCounted, kept_count, outstanding, has_seen}
 use Rattle.crawl_core.proofs.Places.{sum_at}
-use Rattle.crawl_core.specs.declared.event.Event.{Event}
-use Rattle.crawl_core.specs.declared.event.Event.TheVariants.{Take, Done}
-use Rattle.crawl_core.specs.declared.reply.Reply.{Reply}
 use Rattle.crawl_core.specs.declared.reply.Reply.TheVariants as told
-use Rattle.crawl_core.specs.Flags.{one_if}
-use Rattle.crawl_core.specs.GateSide.{let_go, holds}
-use Rattle.crawl_core.specs.Kept.{Kept, KeptQueue, IsCounted, kept_count, outstanding, has_seen}
 use Rattle.crawl_core.specs.Moves.{Moves, accepting}
 
 -- the result of a test at an index is its result for the element at that index

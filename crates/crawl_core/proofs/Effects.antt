@@ -1,20 +1,6 @@
 -- The effect of one step on the invariants and on each subqueue, event by event.
-use Rattle.std.proofs.Common.{◌≡◌, ℕ, zero, suc, ◌+◌, cond, arith, ◌≤◌, Bool, true, false, not, List, [], ◌∷◌, ◌++◌, length, take, map, slice_get, Option, Some, None, refl, sym, ap, ◌∙◌, eqb-true, true≢false}
-use Rattle.std.proofs.lemmas.Grind.{common_steps}
-use Rattle.std.specs.Bool.{if◌then◌else◌}
-use Rattle.std.specs.Option.{option_to_list}
-use Rattle.std.proofs.lemmas.List.{take-append-le, map-append}
-use Rattle.crawl_core.specs.declared.event.Event.{Event}
-use Rattle.crawl_core.specs.declared.event.Event.TheVariants.{Look, Enter, Admit, Back, EndSeeds, Take, Done, Close}
+use Rattle.crawl_core.proofs.Prelude.{◌≡◌, ℕ, zero, suc, ◌+◌, cond, arith, ◌≤◌, Bool, true, false, not, List, [], ◌∷◌, ◌++◌, length, take, map, slice_get, Option, Some, None, refl, sym, ap, ◌∙◌, eqb-true, true≢false, common_steps, if◌then◌else◌, option_to_list, take-append-le, map-append, Event, Look, Enter, Admit, Back, EndSeeds, Take, Done, Close, one_if, Message, has_url, Subqueue, finished, oldest, next_message, after_finishing, GateTurn, holds, State, count_of, Turn, turn, by_gate, with_subqueue, put, admit_to, take_oldest, take_from, done_with, accepted_by, taken_by, done_by, SubqueueInvariant, EachSubqueue}
 use Rattle.crawl_core.specs.declared.reply.Reply.TheVariants as told
-use Rattle.crawl_core.specs.Flags.{one_if}
-use Rattle.crawl_core.specs.Messages.{Message, has_url}
-use Rattle.crawl_core.specs.Subqueue.{Subqueue, finished, oldest, next_message, after_finishing}
-use Rattle.crawl_core.specs.GateSide.{GateTurn, holds}
-use Rattle.crawl_core.specs.State.{State, count_of}
-use Rattle.crawl_core.specs.Step.{Turn, turn, by_gate, with_subqueue, put, admit_to, take_oldest, take_from, done_with}
-use Rattle.crawl_core.specs.History.{accepted_by, taken_by, done_by}
-use Rattle.crawl_core.specs.Invariants.{SubqueueInvariant, EachSubqueue}
 use Rattle.crawl_core.proofs.Places.{set_cases}
 
 -- a property of both branches is a property of the choice

@@ -1,24 +1,5 @@
 -- What a run's history states about the opening unit and about the senders that hold a unit.
-use Rattle.std.proofs.Common.{◌≡◌, ℕ, suc, Bool, true, false, not, ◌||◌, ◌&&◌, List, [], ◌∷◌, nat_eq, fold, slice_get, Option, Some, None, refl, ap, ◌∙◌, arith, eqb-true}
-use Rattle.std.specs.Bool.{if◌then◌else◌}
-use Rattle.std.specs.List.{list_any}
-use Rattle.std.specs.Ordering.{nat_cmp}
-use Rattle.std.specs.BTreeMap.{is_at}
-use Rattle.std.specs.Map.{lookup, remove_entry}
-use Rattle.std.specs.Set.{remove_key}
-use Rattle.std.proofs.lemmas.Cmp.{nat_cmp_total}
-use Rattle.std.proofs.lemmas.Bool.{eqb-false}
-use Rattle.std.proofs.lemmas.Bool.Decides.{nat_tests}
-use Rattle.crawl_core.specs.declared.word.Word.{Word}
-use Rattle.crawl_core.specs.declared.event.Event.{Event}
-use Rattle.crawl_core.specs.declared.event.Event.TheVariants.{Look, Enter, Admit, Back, EndSeeds, Take, Done, Close}
-use Rattle.crawl_core.specs.declared.reply.Reply.{Reply}
-use Rattle.crawl_core.specs.Subqueue.{Subqueue}
-use Rattle.crawl_core.specs.GateSide.{GateTurn, holds, remembers, same_word, enter_with}
-use Rattle.crawl_core.specs.State.{State, start, count_of, word_of, unfinished_in}
-use Rattle.crawl_core.specs.Step.{Turn, turn, by_gate, admit_to, take_from, done_with}
-use Rattle.crawl_core.specs.Run.{Run}
-use Rattle.crawl_core.specs.History.{ends_seeds, was_ended, holds_after, has_unit, word_after, last_word}
+use Rattle.crawl_core.proofs.Prelude.{◌≡◌, ℕ, suc, Bool, true, false, not, ◌||◌, ◌&&◌, List, [], ◌∷◌, nat_eq, fold, slice_get, Option, Some, None, refl, ap, ◌∙◌, arith, eqb-true, if◌then◌else◌, list_any, nat_cmp, is_at, lookup, remove_entry, remove_key, nat_cmp_total, eqb-false, nat_tests, Word, Event, Look, Enter, Admit, Back, EndSeeds, Take, Done, Close, Reply, Subqueue, GateTurn, holds, remembers, same_word, enter_with, State, start, count_of, word_of, unfinished_in, Turn, turn, by_gate, admit_to, take_from, done_with, Run, ends_seeds, was_ended, holds_after, has_unit, word_after, last_word}
 use Rattle.crawl_core.proofs.Sets.{list_any-insert_key, lookup-insert_entry}
 use Rattle.crawl_core.proofs.Holders.{Rising, RisingKeys, lower, lower_keys}
 use Rattle.crawl_core.proofs.Effects.{cond_both}

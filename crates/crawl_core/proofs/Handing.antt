@@ -1,28 +1,7 @@
 -- The unit of the URL that a subqueue is busy with goes to a sender.
-use Rattle.std.proofs.Common.{◌≡◌, ℕ, suc, ◌+◌, ◌-◌, ◌<◌, ◌≤◌, Bool, true, false, not, ◌&&◌, cond, unwrap_or, List, [], ◌∷◌, length, nat_eq, slice_get, slice_set, Option, Some, None, refl, sym, ap, subst, ◌∙◌, arith, true≢false, ne_eqb}
-use Rattle.std.proofs.lemmas.Bool.Decides.{nat_tests}
-use Rattle.std.specs.Option.{option_map}
-use Rattle.std.specs.Ordering.{nat_cmp}
-use Rattle.std.specs.BTreeMap.{is_at, insert_entry}
-use Rattle.std.specs.BTreeSet.{insert_key}
-use Rattle.std.specs.List.{AllZip, list_any}
-use Rattle.std.specs.Set.{remove_key}
-use Rattle.std.specs.Map.{lookup, remove_entry}
-use Rattle.std.proofs.lemmas.Cmp.{nat_cmp_total}
-use Rattle.std.proofs.lemmas.List.{length-map, length-drop}
-use Rattle.std.proofs.lemmas.Option.{slice_get_within}
-use Rattle.crawl_core.specs.declared.machine.handing.Progress.{Progress}
+use Rattle.crawl_core.proofs.Prelude.{◌≡◌, ℕ, suc, ◌+◌, ◌-◌, ◌≤◌, Bool, true, false, not, ◌&&◌, cond, unwrap_or, List, [], ◌∷◌, nat_eq, slice_get, slice_set, Option, Some, None, refl, sym, ap, subst, ◌∙◌, arith, true≢false, ne_eqb, nat_tests, option_map, nat_cmp, is_at, insert_entry, insert_key, AllZip, list_any, remove_key, lookup, remove_entry, nat_cmp_total, length-map, length-drop, Word, one_if, GateSide, enter, grant, holds, look, remembers, shown_word, units_out, Hands, can_hand_over, handed_over, has_room, is_fetching, kept_progress, lets_in, progress, progress_of, Kept, KeptQueue, IsCounted, kept_count, outstanding, Shows, ShowsQueue, State, count_of, unfinished_in, counted, with_subqueue, Subqueue, after_finishing, unfinished}
 use Rattle.crawl_core.specs.declared.reply.Reply.TheVariants as told
 use Rattle.crawl_core.specs.declared.reply.Refusal.TheVariants as why
-use Rattle.crawl_core.specs.declared.word.Word.{Word}
-use Rattle.crawl_core.specs.Flags.{one_if}
-use Rattle.crawl_core.specs.GateSide.{GateSide, enter, grant, holds, look, remembers, same_word, shown_word, units_out}
-use Rattle.crawl_core.specs.Handing.{Hands, can_hand_over, handed_over, has_room, is_fetching, kept_progress, lets_in, progress, progress_of}
-use Rattle.crawl_core.specs.Kept.{Kept, KeptQueue, IsCounted, kept_count, outstanding}
-use Rattle.crawl_core.specs.Shows.{Shows, ShowsQueue}
-use Rattle.crawl_core.specs.State.{State, count_of, unfinished_in}
-use Rattle.crawl_core.specs.Step.{counted, with_subqueue}
-use Rattle.crawl_core.specs.Subqueue.{Subqueue, after_finishing, unfinished}
 use Rattle.crawl_core.proofs.Places.{sum_at}
 use Rattle.crawl_core.proofs.RunParts.{eqb_same}
 use Rattle.crawl_core.proofs.Sets.{lookup-insert_entry}
@@ -34,14 +13,8 @@ use Rattle.crawl_core.proofs.Sound.{length-insert_key}
 pub kept_count_of : (kept : Kept) (state : State) → Shows kept state → kept_count kept ≡ count_of state
 kept_count_of kept state shows = grind (arith, sums)
 
-abbrev made : ℕ → ℕ → Bool → Progress
-made accepted taken busy = record { accepted = accepted; taken = taken; busy = busy }
-
-progress_shows : (kept : KeptQueue) (queue : Subqueue) → ShowsQueue kept queue → kept_progress kept ≡ progress queue
-progress_shows kept queue shows = grind (arith, length-map, length-drop)
-
 both_progress : (kept : Option KeptQueue) (queue : Option Subqueue) → Both ShowsQueue kept queue → option_map kept_progress kept ≡ option_map progress queue
-both_progress kept queue both = grind (arith, progress_shows)
+both_progress kept queue both = grind (arith, length-map, length-drop)
 
 pub kept_progress_of : (kept : Kept) (state : State) (queue : ℕ) → Shows kept state → option_map kept_progress (slice_get kept.queues queue) ≡ progress_of state queue
 kept_progress_of kept state queue shows =
@@ -59,23 +32,10 @@ fetching_shows : (kept : Kept) (state : State) (queue : ℕ) → Shows kept stat
 fetching_shows kept state queue shows =
     both_busy (slice_get kept.queues queue) (slice_get state.subqueues queue) (AllZip-slice_get ShowsQueue kept.queues state.subqueues queue shows.queues)
 
--- a queue that is busy exists
-pub fetching_below : (queues : List KeptQueue) (queue : ℕ) → unwrap_or (option_map kept_busy (slice_get queues queue)) false ≡ true → queue < length queues
-fetching_below queues queue busy = grind (arith, slice_get_within)
-
-never : (b : Bool) → false ≡ (b && false)
-never b = grind arith
-
 pub stays_idle : (kept : Kept) (queue sender : ℕ) → unwrap_or (option_map kept_busy (slice_get kept.queues queue)) false ≡ false → Hands kept queue sender false kept
 stays_idle kept queue sender idle state shows = grind (arith, fetching_shows)
 
-pub stays_out : (kept : Kept) (queue sender : ℕ) → lets_in kept.gate sender ≡ false → Hands kept queue sender false kept
-stays_out kept queue sender out state shows = grind arith
-
 -- ---- if it can be handed over
-
-same_word_same : (word : Word) → same_word word word ≡ true
-same_word_same word = grind (arith, nat_tests)
 
 -- a sender that holds no unit and remembers exactly this word enters an open gate that has room
 entry_is : (gate : GateSide) (messages sender : ℕ) → holds gate sender ≡ false → remembers gate sender ≡ Some (shown_word gate messages) → gate.closed ≡ false → nat_eq (units_out gate messages) gate.max ≡ false → enter gate messages sender ≡ grant gate messages sender

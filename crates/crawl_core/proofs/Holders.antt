@@ -1,12 +1,5 @@
 -- Ascending lists of numbers (the senders that hold a unit), and maps by such keys (the words that senders remember).
-use Rattle.std.proofs.Common.{◌≡◌, ℕ, zero, suc, ◌≤◌, Bool, List, [], ◌∷◌, slice_get, Some, refl, ap, arith}
-use Rattle.std.proofs.lemmas.Bool.Decides.{nat_tests}
-use Rattle.std.specs.Ordering.{nat_cmp}
-use Rattle.std.specs.BTreeMap.{insert_entry}
-use Rattle.std.specs.BTreeSet.{insert_key}
-use Rattle.std.specs.Map.{remove_entry}
-use Rattle.std.specs.Set.{remove_key}
-use Rattle.std.proofs.lemmas.Option.{same_Some}
+use Rattle.crawl_core.proofs.Prelude.{◌≡◌, ℕ, zero, suc, ◌≤◌, Bool, List, [], ◌∷◌, slice_get, Some, refl, ap, arith, nat_tests, nat_cmp, insert_entry, insert_key, remove_entry, remove_key, same_Some}
 
 -- each number is above those before it, and none is below the least
 abbrev pub Rising : ℕ → List ℕ → Type 0

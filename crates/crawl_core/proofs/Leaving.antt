@@ -1,11 +1,5 @@
 -- Messages that are found by their URLs, and numbered by their senders.
-use Rattle.std.proofs.Common.{cond, ◌≡◌, ℕ, zero, suc, ◌+◌, Bool, true, false, List, [], ◌∷◌, take, map, nat_eq, slice_get, Some, refl, sym, ap, ◌∙◌, arith, eqb-true, zero-add, filter_map}
-use Rattle.std.specs.List.{filter}
-use Rattle.std.proofs.lemmas.List.Sums.{sum_by-cons}
-use Rattle.std.specs.Str.{bytes_eq}
-use Rattle.std.proofs.lemmas.Cmp.{nat_list_eq_equiv}
-use Rattle.std.proofs.lemmas.Slice.Eq.{bytes_eq-Decides}
-use Rattle.crawl_core.specs.Messages.{Message, message_with, count_from, numbers_of, UrlsDiffer, NumbersInOrder}
+use Rattle.crawl_core.proofs.Prelude.{cond, ◌≡◌, ℕ, zero, suc, ◌+◌, Bool, true, false, List, [], ◌∷◌, take, map, nat_eq, slice_get, Some, refl, sym, ap, ◌∙◌, arith, eqb-true, zero-add, filter_map, filter, sum_by-cons, bytes_eq, nat_list_eq_equiv, bytes_eq-Decides, Message, message_with, count_from, numbers_of, UrlsDiffer, NumbersInOrder}
 use Rattle.crawl_core.proofs.Places.{slice_get-take}
 use Rattle.crawl_core.proofs.Sound.{some_is}
 

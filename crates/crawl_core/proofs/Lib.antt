@@ -1,3 +1,4 @@
+pub mod Prelude
 pub mod Counts
 pub mod Effects
 pub mod Fetching

@@ -1,11 +1,6 @@
 -- Lemmas on lists and indices.
-use Rattle.std.proofs.Common.{◌≡◌, ℕ, zero, suc, ◌+◌, ◌<◌, true, false, List, [], ◌∷◌, ◌++◌, length, take, map, nat_eq, slice_get, slice_set, Option, Some, None, refl, ap, ◌∙◌, arith, eqb-true, inl, inr, ◌⊎◌}
-use Rattle.std.proofs.lemmas.Bool.Decides.{nat_tests}
+use Rattle.crawl_core.proofs.Prelude.{◌≡◌, ℕ, zero, suc, ◌+◌, ◌<◌, true, false, List, [], ◌∷◌, ◌++◌, length, take, map, nat_eq, slice_get, slice_set, Option, Some, None, refl, ap, ◌∙◌, arith, eqb-true, inl, inr, ◌⊎◌, nat_tests, option_map, length-set, sum_by-set, slice_get_within, get_or_from_slice_get}
 use Rattle.std.specs.List.{sum_by, filter_map, cons_option, zip}
-use Rattle.std.specs.Option.{option_map}
-use Rattle.std.proofs.lemmas.List.{length-set}
-use Rattle.std.proofs.lemmas.List.Sums.{sum_by-set}
-use Rattle.std.proofs.lemmas.Option.{slice_get_within, get_or_from_slice_get}
 
 -- the sum over a list after one element was replaced
 pub sum_at : {X : Type 0} (f : X → ℕ) (xs : List X) (place : ℕ) (old new : X) → slice_get xs place ≡ Some old → sum_by f (slice_set xs place new) + f old ≡ sum_by f xs + f new
@@ -63,14 +58,11 @@ rank_below h (z ∷ zs) i zero x y lt at e = absurd (omega arith)
 rank_below h (z ∷ zs) zero (suc j) x y lt at e = let here : h z ≡ Some y = ap h (cc) ∙ e in rw here (omega arith)
 rank_below {X} {Y} h (z ∷ zs) (suc i) (suc j) x y lt at e = grind (arith, nat_tests, rank_below h zs i j x y)
 
-first_of_some : {A B : Type 0} {p q : A × B} → Some p ≡ Some q → Some p.0 ≡ Some q.0
-first_of_some e = ap (option_map (λ r. r.0)) e
-
 -- the first of a pair comes from the first list
 pub zip_first : {A B : Type 0} (xs : List A) (ys : List B) (i : ℕ) (a : A) (b : B) → slice_get (zip xs ys) i ≡ Some (a, b) → slice_get xs i ≡ Some a
 zip_first [] ys i a b at = absurd (cc)
 zip_first (x ∷ xs) [] i a b at = absurd (cc)
-zip_first (x ∷ xs) (y ∷ ys) zero a b at = first_of_some at
+zip_first (x ∷ xs) (y ∷ ys) zero a b at = grind arith
 zip_first (x ∷ xs) (y ∷ ys) (suc i) a b at = zip_first xs ys i a b at
 
 pub slice_get-map : {X Y : Type 0} (f : X → Y) (xs : List X) (i : ℕ) → slice_get (map f xs) i ≡ option_map f (slice_get xs i)

@@ -1,21 +1,6 @@
 -- What a run's history states about a subqueue.
-use Rattle.std.proofs.lemmas.Grind.{common_steps}
-use Rattle.std.proofs.Common.{cond, ◌≡◌, ℕ, zero, suc, ◌+◌, ◌-◌, ◌<◌, Bool, true, false, List, [], ◌∷◌, ◌++◌, take, drop, map, slice_get, Option, Some, None, refl, sym, ap, subst, ◌∙◌, arith, true≢false, filter_map}
-use Rattle.std.specs.List.{zip, cons_option}
-use Rattle.std.specs.Option.{option_to_list}
-use Rattle.std.proofs.lemmas.List.{append_assoc}
-use Rattle.std.proofs.lemmas.List.Sums.{sum_by-cons}
-use Rattle.crawl_core.specs.declared.event.Event.{Event}
-use Rattle.crawl_core.specs.declared.event.Event.TheVariants.{Take, Done}
-use Rattle.crawl_core.specs.declared.reply.Reply.{Reply}
+use Rattle.crawl_core.proofs.Prelude.{common_steps, cond, ◌≡◌, ℕ, zero, suc, ◌+◌, ◌-◌, ◌<◌, Bool, true, false, List, [], ◌∷◌, ◌++◌, take, drop, map, slice_get, Option, Some, None, refl, sym, ap, subst, ◌∙◌, arith, true≢false, zip, cons_option, option_to_list, append_assoc, sum_by-cons, Event, Take, Done, Reply, Message, numbers_of, Subqueue, State, start, turn, Run, IsRun, accepted_by, taken_by, done_by, accepted_in, taken_urls, done_in, left_in, TakesInOrder, AcceptsOnce, LeavesInOrder, FetchesOneAtATime, SubqueueInvariant}
 use Rattle.crawl_core.specs.declared.reply.Reply.TheVariants as told
-use Rattle.crawl_core.specs.Messages.{Message, message_with, numbers_of}
-use Rattle.crawl_core.specs.Subqueue.{Subqueue}
-use Rattle.crawl_core.specs.State.{State, start}
-use Rattle.crawl_core.specs.Step.{turn}
-use Rattle.crawl_core.specs.Run.{Run, IsRun}
-use Rattle.crawl_core.specs.History.{accepted_by, taken_by, done_by, accepted_in, taken_urls, done_in, left_in, TakesInOrder, AcceptsOnce, LeavesInOrder, FetchesOneAtATime}
-use Rattle.crawl_core.specs.Invariants.{SubqueueInvariant}
 use Rattle.crawl_core.proofs.Effects.{QueueEffect, queue_effect, append_nil, messages, urls_taken, finished_at, is_busy}
 use Rattle.crawl_core.proofs.Leaving.{firsts_found, firsts_numbered}
 use Rattle.crawl_core.proofs.RunParts.{eqb_same, pair_is, run_at, run_sound, start_sound, get-replicate, slice_get-drop, later_place}
@@ -123,9 +108,6 @@ abbrev left_at : Option Subqueue → List Message
 left_at None = []
 left_at (Some queue) = take queue.taken queue.accepted
 
-left_are : (o : Option Subqueue) → ((found : Subqueue) → o ≡ Some found → SubqueueInvariant found) → filter_map (message_with (messages o)) (urls_taken o) ≡ left_at o
-left_are o sound = grind (arith, common_steps, firsts_found)
-
 left_urls : (o : Option Subqueue) → map (λ (m : Message). m.url) (left_at o) ≡ urls_taken o
 left_urls o = grind arith
 
@@ -133,7 +115,7 @@ left_numbered : (o : Option Subqueue) → ((found : Subqueue) → o ≡ Some fou
 left_numbered o sound sender k number at = grind (arith, common_steps, firsts_numbered)
 
 left_of : (queue : ℕ) (history : List (Event × Reply)) (end : State) → History queue history end → left_in queue history ≡ left_at (slice_get end.subqueues queue)
-left_of queue history end said = rw (said.accepted, said.taken) (left_are (slice_get end.subqueues queue) said.sound)
+left_of queue history end said = grind (arith, firsts_found)
 
 pub leaves_in_order : (workers max : ℕ) (events : List Event) (replies : List Reply) → IsRun workers max events replies → LeavesInOrder (zip events replies)
 leaves_in_order workers max events replies run = record {

@@ -1,27 +1,7 @@
 -- The laws of whole runs.
-use Rattle.std.proofs.Common.{cond, ◌≡◌, inl, inr, ℕ, zero, suc, ◌-◌, ◌<◌, ◌≤◌, Bool, true, false, List, [], ◌∷◌, ◌++◌, length, take, drop, map, nat_eq, slice_get, Option, Some, None, refl, sym, ap, subst, ◌∙◌, arith, eqb-true, ◌||◌, filter_map}
-use Rattle.std.specs.Bool.{if◌then◌else◌}
-use Rattle.std.specs.List.{zip, cons_option, Contains, list_any}
-use Rattle.std.specs.Option.{option_map}
-use Rattle.std.proofs.lemmas.List.{append_assoc, length-map, map-append, nil_from_length, take-append-drop}
-use Rattle.std.proofs.lemmas.Bool.{cases_lt}
-use Rattle.std.proofs.lemmas.List.Sums.{sum_by-append}
-use Rattle.std.specs.Str.{bytes_eq}
-use Rattle.std.proofs.lemmas.Slice.Eq.{bytes_eq-Decides}
+use Rattle.crawl_core.proofs.Prelude.{cond, ◌≡◌, inl, inr, ℕ, zero, suc, ◌-◌, ◌<◌, ◌≤◌, Bool, true, false, List, [], ◌∷◌, ◌++◌, length, take, drop, map, nat_eq, slice_get, Option, Some, None, refl, sym, ap, subst, ◌∙◌, arith, eqb-true, ◌||◌, filter_map, if◌then◌else◌, zip, cons_option, Contains, list_any, option_map, append_assoc, length-map, map-append, nil_from_length, take-append-drop, cases_lt, sum_by-append, bytes_eq, bytes_eq-Decides, slice_get_past, Event, Look, Enter, Admit, Back, EndSeeds, Take, Done, Close, Reply, one_if, Message, Subqueue, finished, unfinished, State, start, count_of, take_from, turn, admit_to, Run, IsRun, accepted_by, taken_by, done_by, accepted_in, accepted_urls, taken_urls, done_in, is_quiet, AssignsEachUrl, IsAdmitted, TakesOnce, TakesWhereAdmitted, NamesItsSubqueue, StaysClosed, SubqueueInvariant, EachSubqueue, GateInvariant, HasRoom, IsAfter, IsState, IsFinished}
 use Rattle.std.proofs.lemmas.List.Elements.{Contains-append_right}
-use Rattle.std.proofs.lemmas.Option.{slice_get_past}
-use Rattle.crawl_core.specs.declared.event.Event.{Event}
-use Rattle.crawl_core.specs.declared.event.Event.TheVariants.{Look, Enter, Admit, Back, EndSeeds, Take, Done, Close}
-use Rattle.crawl_core.specs.declared.reply.Reply.{Reply}
 use Rattle.crawl_core.specs.declared.reply.Reply.TheVariants as told
-use Rattle.crawl_core.specs.Flags.{one_if}
-use Rattle.crawl_core.specs.Messages.{Message}
-use Rattle.crawl_core.specs.Subqueue.{Subqueue, finished, unfinished}
-use Rattle.crawl_core.specs.State.{State, start, count_of}
-use Rattle.crawl_core.specs.Step.{take_from, turn, admit_to}
-use Rattle.crawl_core.specs.Run.{Run, IsRun}
-use Rattle.crawl_core.specs.History.{accepted_by, taken_by, done_by, accepted_in, accepted_urls, taken_urls, done_in, is_quiet, AssignsEachUrl, IsAdmitted, TakesOnce, TakesWhereAdmitted, NamesItsSubqueue, StaysClosed}
-use Rattle.crawl_core.specs.Invariants.{SubqueueInvariant, EachSubqueue, GateInvariant, HasRoom, IsAfter, IsState, IsFinished}
 use Rattle.crawl_core.proofs.Places.{from_filter_map, at_rank, rank_below, zip_first, slice_get-map}
 use Rattle.crawl_core.proofs.Holders.{rising_differ}
 use Rattle.crawl_core.proofs.Effects.{messages, urls_taken, finished_at, cond_both}

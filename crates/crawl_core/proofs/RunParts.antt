@@ -1,20 +1,7 @@
 -- Parts of a run, and the invariants of every run.
-use Rattle.std.proofs.lemmas.Grind.{common_steps}
-use Rattle.std.proofs.Common.{Bool, true, ◌||◌, eq-eqb, ◌≡◌, ℕ, zero, suc, ◌+◌, ◌-◌, ◌<◌, List, [], ◌∷◌, ◌++◌, length, take, drop, nat_eq, replicate, slice_get, Some, refl, sym, ap, subst, ◌∙◌, arith, mul-zero, zero-add}
-use Rattle.std.specs.List.{count_by, zip}
-use Rattle.std.proofs.lemmas.List.{length-replicate}
-use Rattle.std.proofs.lemmas.List.Sums.{sum_by-cons}
+use Rattle.crawl_core.proofs.Prelude.{common_steps, Bool, true, ◌||◌, eq-eqb, ◌≡◌, ℕ, zero, suc, ◌+◌, ◌-◌, ◌<◌, List, [], ◌∷◌, ◌++◌, length, take, drop, nat_eq, replicate, slice_get, Some, refl, sym, ap, subst, ◌∙◌, arith, mul-zero, zero-add, count_by, zip, length-replicate, sum_by-cons, Event, Look, Reply, empty_subqueue, unfinished, holds, State, start, count_of, Step, turn, Run, IsRun, comes_out, comes_back, told_count, AreOut, TellsUnits, was_closed, TellsClosing}
 use Rattle.std.proofs.lemmas.List.Folds.{sum_by-replicate}
-use Rattle.crawl_core.specs.declared.event.Event.{Event}
-use Rattle.crawl_core.specs.declared.event.Event.TheVariants.{Look}
-use Rattle.crawl_core.specs.declared.reply.Reply.{Reply}
 use Rattle.crawl_core.specs.declared.reply.Reply.TheVariants as told
-use Rattle.crawl_core.specs.Subqueue.{empty_subqueue, unfinished}
-use Rattle.crawl_core.specs.GateSide.{holds}
-use Rattle.crawl_core.specs.State.{State, start, count_of}
-use Rattle.crawl_core.specs.Step.{Step, turn}
-use Rattle.crawl_core.specs.Run.{Run, IsRun}
-use Rattle.crawl_core.specs.History.{comes_out, comes_back, told_count, AreOut, TellsUnits, was_closed, TellsClosing}
 use Rattle.crawl_core.proofs.Effects.{take_one_more}
 use Rattle.crawl_core.proofs.RunSteps.{Run-push}
 use Rattle.crawl_core.proofs.Sound.{Sound, gate_effect, or_nothing, some_is}

@@ -1,14 +1,5 @@
 -- How a run continues.
-use Rattle.std.proofs.Common.{◌≡◌, ℕ, ◌+◌, List, [], ◌∷◌, ◌++◌, length, refl, ap, arith}
-use Rattle.std.specs.List.{zip}
-use Rattle.std.proofs.lemmas.List.{length_push}
-use Rattle.crawl_core.specs.declared.event.Event.{Event}
-use Rattle.crawl_core.specs.declared.reply.Reply.{Reply}
-use Rattle.crawl_core.specs.State.{State, start}
-use Rattle.crawl_core.specs.Step.{Step}
-use Rattle.crawl_core.specs.Run.{Run}
-use Rattle.crawl_core.specs.Kept.{Kept}
-use Rattle.crawl_core.specs.Shows.{Shows, Makes}
+use Rattle.crawl_core.proofs.Prelude.{◌≡◌, ℕ, ◌+◌, List, [], ◌∷◌, ◌++◌, length, refl, ap, arith, zip, length_push, Event, Reply, State, start, Step, Run, Kept, Shows, Makes}
 
 -- a new frontier had these replies to these events, and this is kept after them
 pub record RunTo (workers max : ℕ) (events : List Event) (replies : List Reply) (kept : Kept) : Type 0 where

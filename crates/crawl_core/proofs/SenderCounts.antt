@@ -1,8 +1,5 @@
 -- How many URLs each sender has.
-use Rattle.std.proofs.Common.{◌≡◌, ℕ, ◌+◌, ◌≤◌, Some, arith}
-use Rattle.std.specs.Ordering.{nat_cmp}
-use Rattle.std.specs.BTreeMap.{BTreeMap, Updates}
-use Rattle.crawl_core.specs.Kept.{number_at}
+use Rattle.crawl_core.proofs.Prelude.{◌≡◌, ℕ, ◌+◌, ◌≤◌, Some, arith, nat_cmp, BTreeMap, Updates, number_at}
 
 -- after one more URL of a sender, no sender has more URLs than there are URLs
 pub few_after : (m n : BTreeMap ℕ ℕ) (sender number count : ℕ) → Updates nat_cmp m n sender (Some (number + 1)) → number ≡ number_at m.entries sender

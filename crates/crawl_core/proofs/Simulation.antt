@@ -1,31 +1,10 @@
 -- A move of what is kept is the step of each state that it shows.
-use Rattle.std.proofs.Common.{eqb-true, unwrap_or, subst, ◌≡◌, ℕ, zero, suc, Bool, true, false, cond, ◌||◌, not, nat_eq, ◌+◌, ◌-◌, List, [], ◌∷◌, ◌++◌, map, drop, replicate, slice_get, slice_set, Option, Some, None, refl, sym, ap, ◌∙◌, arith, MatchOption}
-use Rattle.std.specs.Bool.{if◌then◌else◌}
-use Rattle.std.specs.List.{AllZip, sum_by}
-use Rattle.std.specs.Ordering.{nat_cmp}
-use Rattle.std.specs.Str.{bytes_eq}
-use Rattle.std.specs.BTreeMap.{is_at}
-use Rattle.std.specs.Map.{lookup}
-use Rattle.std.proofs.lemmas.Cmp.{nat_cmp_total}
-use Rattle.std.proofs.lemmas.List.{length-map, length-drop, map-append, drop-append-le, length_push}
+use Rattle.crawl_core.proofs.Prelude.{eqb-true, unwrap_or, subst, ◌≡◌, ℕ, zero, suc, Bool, true, false, cond, ◌||◌, not, nat_eq, ◌+◌, ◌-◌, List, [], ◌∷◌, ◌++◌, map, drop, replicate, slice_get, slice_set, Option, Some, None, refl, sym, ap, ◌∙◌, arith, MatchOption, if◌then◌else◌, AllZip, sum_by, nat_cmp, bytes_eq, is_at, lookup, nat_cmp_total, length-map, length-drop, map-append, drop-append-le, length_push, sum_by-cons, sum_by_push, nat_tests, slice_get_within, Event, Look, Enter, Admit, Back, EndSeeds, Take, Done, Close, Reply, Message, has_url, count_from, Subqueue, unfinished, oldest, next_message, after_accepting, after_taking, after_finishing, GateTurn, new_gate, holds, look, enter, back, end_seeds, close, State, start, Turn, turn, Kept, KeptQueue, empty_queue, outstanding, has_text, has_seen, number_at, Shows, ShowsQueue, Makes}
 use Rattle.std.proofs.Math.ListN.{drop_of_length-le}
-use Rattle.std.proofs.lemmas.List.Sums.{sum_by-cons, sum_by_push}
-use Rattle.std.proofs.lemmas.Bool.Decides.{nat_tests}
-use Rattle.std.proofs.lemmas.Option.{slice_get_within}
-use Rattle.crawl_core.specs.declared.event.Event.{Event}
-use Rattle.crawl_core.specs.declared.event.Event.TheVariants.{Look, Enter, Admit, Back, EndSeeds, Take, Done, Close}
-use Rattle.crawl_core.specs.declared.reply.Reply.{Reply}
 use Rattle.crawl_core.specs.declared.reply.Reply.TheVariants as told
 use Rattle.crawl_core.specs.declared.reply.Refusal.TheVariants as why
-use Rattle.crawl_core.specs.Messages.{Message, has_url, count_from}
-use Rattle.crawl_core.specs.Subqueue.{Subqueue, unfinished, oldest, next_message, after_accepting, after_taking, after_finishing}
-use Rattle.crawl_core.specs.GateSide.{GateTurn, new_gate, holds, look, enter, back, end_seeds, close}
-use Rattle.crawl_core.specs.State.{State, start}
 use Rattle.crawl_core.specs.Step as step
-use Rattle.crawl_core.specs.Step.{Turn, turn}
-use Rattle.crawl_core.specs.Kept.{Kept, KeptQueue, empty_queue, outstanding, has_text, has_seen, number_at}
-use Rattle.crawl_core.specs.Moves.{Moves, Move, move, by_gate, counted, admit_to, take_from, take_oldest, done_with, accepting}
-use Rattle.crawl_core.specs.Shows.{Shows, ShowsQueue, Makes}
+use Rattle.crawl_core.specs.Moves.{Moves, Move, move, by_gate, admit_to, take_from, take_oldest, done_with, accepting}
 use Rattle.crawl_core.proofs.Sets.{lookup-insert_entry}
 
 -- both elements are present and R holds of them, or neither is present
@@ -127,10 +106,6 @@ agrees_if b made made' done done' first second = grind arith
 unchanged : (queues : List KeptQueue) (state : State) → AllZip ShowsQueue queues state.subqueues → (reply : Reply) → Agrees (record { reply = reply; kept = keeping queues state }) (record { reply = reply; state = state })
 unchanged queues state shown reply = record { queues = queues; shown = shown; is_move = refl }
 
--- a step that only reports the number of units
-counted_agrees : (queues : List KeptQueue) (state : State) → AllZip ShowsQueue queues state.subqueues → Agrees (counted (keeping queues state)) (step.counted state)
-counted_agrees queues state shown = record { queues = queues; shown = shown; is_move = rw (sums queues state.subqueues shown) refl }
-
 -- a step of the gate, which gets the number of unfinished messages
 gate_agrees : (queues : List KeptQueue) (state : State) → AllZip ShowsQueue queues state.subqueues → (done : ℕ → GateTurn) → Agrees (by_gate (keeping queues state) (done (sum_by outstanding queues))) (step.by_gate state (done (sum_by unfinished state.subqueues)))
 gate_agrees queues state shown done = record { queues = queues; shown = shown; is_move = rw (sums queues state.subqueues shown) refl }
@@ -168,11 +143,7 @@ done_agrees : (queues : List KeptQueue) (state : State) → AllZip ShowsQueue qu
 done_agrees queues state shown place None None both = unchanged queues state shown (told.Refused why.NoSuch)
 done_agrees queues state shown place None (Some queue) both = absurd both
 done_agrees queues state shown place (Some kept) None both = absurd both
-done_agrees queues state shown place (Some kept) (Some queue) both =
-    let set = AllZip-slice_set ShowsQueue queues state.subqueues place (record kept { busy = false }) (after_finishing queue) shown (finished_shows kept queue both) in
-    rw (both.busy)
-    (agrees_if queue.busy _ _ _ _ (counted_agrees _ (step.with_subqueue state place (after_finishing queue)) set)
-    (unchanged queues state shown (told.Refused why.Nothing)))
+done_agrees queues state shown place (Some kept) (Some queue) both = grind (arith, AllZip-slice_set, agrees_if, unchanged, sums)
 
 agrees : (queues : List KeptQueue) (state : State) → AllZip ShowsQueue queues state.subqueues → (event : Event) → Agrees (move (keeping queues state) event) (turn state event)
 agrees queues state shown (Look sender) = gate_agrees queues state shown (λ messages. look state.gate messages sender)

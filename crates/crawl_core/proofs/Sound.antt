@@ -1,32 +1,8 @@
 -- The invariants, and that each step keeps them.
-use Rattle.std.proofs.Common.{unwrap_or, ◌≡◌, ℕ, zero, suc, ◌+◌, ◌≤◌, Bool, true, false, cond, not, ◌||◌, List, [], ◌∷◌, length, nat_eq, slice_get, Option, Some, None, refl, sym, ap, subst, ◌∙◌, arith, true≢false, Ordering}
-use Rattle.std.proofs.lemmas.Bool.Decides.{nat_tests}
-use Rattle.std.specs.List.{list_any, list_all}
-use Rattle.std.specs.Ordering.{nat_cmp}
-use Rattle.std.specs.Str.{bytes_eq}
-use Rattle.std.specs.BTreeMap.{is_at, insert_entry}
-use Rattle.std.specs.BTreeSet.{insert_key}
-use Rattle.std.specs.Map.{lookup, remove_entry}
-use Rattle.std.proofs.lemmas.Cmp.{nat_list_eq_equiv}
-use Rattle.std.proofs.lemmas.List.{take-append-le, length_push}
+use Rattle.crawl_core.proofs.Prelude.{unwrap_or, ◌≡◌, ℕ, zero, suc, ◌+◌, ◌≤◌, Bool, true, false, cond, not, ◌||◌, List, [], ◌∷◌, length, nat_eq, slice_get, Option, Some, None, refl, sym, ap, subst, ◌∙◌, arith, true≢false, Ordering, nat_tests, list_any, list_all, nat_cmp, is_at, insert_entry, insert_key, lookup, remove_entry, nat_list_eq_equiv, take-append-le, length_push, eqb-false, length-remove_key, slice_get_within, Word, Event, Look, Enter, Admit, Back, EndSeeds, Take, Done, Close, Reply, one_if, Message, has_url, Subqueue, empty_subqueue, unfinished, oldest, next_message, after_accepting, after_taking, after_finishing, GateSide, GateTurn, units_out, holds, let_go, same_word, enter_with, close, State, unfinished_in, count_of, word_of, Turn, turn, by_gate, with_subqueue, put, admit_to, take_oldest, take_from, done_with, is_quiet, says_closed, comes_out, comes_back, told_count, SubqueueInvariant, EachSubqueue}
 use Rattle.std.proofs.Math.Seq.{take-length}
-use Rattle.std.proofs.lemmas.Bool.{eqb-false}
-use Rattle.std.proofs.lemmas.Map.Made.{length-remove_key}
-use Rattle.std.proofs.lemmas.Option.{slice_get_within}
-use Rattle.crawl_core.specs.declared.word.Word.{Word}
-use Rattle.crawl_core.specs.declared.event.Event.{Event}
-use Rattle.crawl_core.specs.declared.event.Event.TheVariants.{Look, Enter, Admit, Back, EndSeeds, Take, Done, Close}
-use Rattle.crawl_core.specs.declared.reply.Reply.{Reply}
 use Rattle.crawl_core.specs.declared.reply.Reply.TheVariants as told
 use Rattle.crawl_core.specs.declared.reply.Refusal.TheVariants as why
-use Rattle.crawl_core.specs.Flags.{one_if}
-use Rattle.crawl_core.specs.Messages.{Message, has_url}
-use Rattle.crawl_core.specs.Subqueue.{Subqueue, empty_subqueue, unfinished, oldest, next_message, after_accepting, after_taking, after_finishing}
-use Rattle.crawl_core.specs.GateSide.{GateSide, GateTurn, units_out, holds, let_go, same_word, enter_with, close}
-use Rattle.crawl_core.specs.State.{State, unfinished_in, count_of, word_of}
-use Rattle.crawl_core.specs.Step.{Turn, turn, by_gate, with_subqueue, put, admit_to, take_oldest, take_from, done_with}
-use Rattle.crawl_core.specs.History.{is_quiet, says_closed, comes_out, comes_back, told_count}
-use Rattle.crawl_core.specs.Invariants.{SubqueueInvariant, EachSubqueue}
 use Rattle.crawl_core.proofs.Places.{sum_at, set_cases, push_cases, length-slice_set}
 use Rattle.crawl_core.proofs.Holders.{Rising, Rising-insert_key, Rising-remove_key, RisingKeys, RisingKeys-insert_entry, RisingKeys-remove_entry}
 use Rattle.crawl_core.proofs.Effects.{cond_both}
@@ -55,10 +31,6 @@ pub record GateEffect (old : State) (done : Turn) : Type 0 where
 pub or_nothing : (b : Bool) → b ≡ (b || false)
 or_nothing b = grind arith
 
--- a reply that changes nothing
-still : (state : State) → Sound state → (reply : Reply) → is_quiet reply ≡ true → (reply ≡ told.Closed → ⊥) → says_closed reply ≡ false → comes_back reply ≡ comes_out reply → ((count : ℕ) → told_count reply ≡ Some count → count_of state ≡ count) → GateEffect state (record { reply = reply; state = state })
-still state sound reply quiet other open_still even tells = grind arith
-
 -- a reply that changes nothing and reports no unit
 abbrev is_silent : Reply → Bool
 is_silent told.Lost = true
@@ -72,12 +44,6 @@ silent state sound reply is = grind arith
 
 pub some_is : {A : Type 0} {x y : A} → Some x ≡ Some y → x ≡ y
 some_is {A} {x} {y} e = ap (λ o. unwrap_or o x) e
-
-or_second : (a b : Bool) → (a || b) ≡ false → b ≡ false
-or_second a b none = grind arith
-
-within_length : {A : Type 0} (xs : List A) (k : ℕ) (x : A) → slice_get xs k ≡ Some x → k ≤ length xs
-within_length xs k x at = let below = slice_get_within xs k x at in omega arith
 
 -- ## Words that senders remember
 
@@ -174,11 +140,11 @@ look_sound state sound sender = record {
 -- a message that the subqueue has accepted is not one of a URL that it has not
 unseen_differs : (accepted : List Message) (url : List ℕ) (i : ℕ) (m : Message) → has_url accepted url ≡ false → slice_get accepted i ≡ Some m → m.url ≡ url → ⊥
 unseen_differs [] url i m unseen at same = absurd (cc)
-unseen_differs (x ∷ xs) url zero m unseen at same = grind (arith, nat_tests, some_is, nat_list_eq_equiv, true≢false, or_second)
-unseen_differs (x ∷ xs) url (suc i) m unseen at same = unseen_differs xs url i m (or_second (bytes_eq x.url url) (has_url xs url) unseen) at same
+unseen_differs (x ∷ xs) url zero m unseen at same = grind (arith, some_is, nat_list_eq_equiv)
+unseen_differs (x ∷ xs) url (suc i) m unseen at same = grind (arith, unseen_differs xs url i m)
 
 accepting_sound : (queue : Subqueue) (sender : ℕ) (url : List ℕ) → has_url queue.accepted url ≡ false → SubqueueInvariant queue → SubqueueInvariant (after_accepting queue (next_message queue sender url))
-accepting_sound queue sender url unseen inv = grind (arith, length_push, push_cases, unseen_differs, take-append-le, within_length, take-length)
+accepting_sound queue sender url unseen inv = grind (arith, length_push, push_cases, unseen_differs, take-append-le, take-length, slice_get_within)
 
 -- each subqueue after a write at a place
 each_after : (state : State) (place : ℕ) (queue next : Subqueue) → slice_get state.subqueues place ≡ Some queue → EachSubqueue SubqueueInvariant state → SubqueueInvariant next → EachSubqueue SubqueueInvariant (with_subqueue state place next)

@@ -1,23 +1,9 @@
 -- What is true at every moment of a history of a gate's steps.
-use Rattle.std.proofs.Common.{◌≡◌, ℕ, ◌+◌, ◌<◌, ◌^◌, true, List, [], ◌∷◌, ◌++◌, set, sym, refl, ap, ◌∙◌, subst, arith}
-use Rattle.std.specs.Prelude.{All}
+use Rattle.crawl_gate.proofs.Prelude.{◌≡◌, ℕ, ◌+◌, true, List, [], ◌∷◌, ◌++◌, set, sym, refl, ap, ◌∙◌, subst, arith, All, set_again, View, StepKind, Load, EnterWon, EnterLost, Leave, CloseLost, Word, bits, open_at, closed_at, units_of, units_held, knows_closed, fresh_view, view_meeting, view_entering, view_leaving, view_closing, Moment, GateInvariant, first_moment, SeatSteps, GateStep, IsHistory, splits, looks, enters, loses, leaves, closes, not_closes}
 use Rattle.std.proofs.lemmas.List.Elements.{All-nil, All-cons}
-use Rattle.atomic_table.proofs.Lists.{set_again}
-use Rattle.crawl_gate.specs.declared.rule.View.{View}
-use Rattle.crawl_gate.specs.declared.step_kind.StepKind.{StepKind}
-use Rattle.crawl_gate.specs.declared.step_kind.StepKind.TheVariants.{Load, EnterWon, EnterLost, Leave, CloseLost}
-use Rattle.crawl_gate.specs.Word.{Word, bits, open_at, closed_at}
-use Rattle.crawl_gate.specs.View.{units_of, units_held, knows_closed, fresh_view, view_meeting, view_entering, view_leaving, view_closing}
-use Rattle.crawl_gate.specs.GateInvariant.{Moment, GateInvariant}
 use Rattle.crawl_gate.specs.GateError.{IsMaximum}
-use Rattle.crawl_gate.specs.History.{first_moment, SeatSteps, GateStep, IsHistory}
-use Rattle.crawl_gate.specs.History.GateStep.{splits, looks, enters, loses, leaves, closes, not_closes}
 use Rattle.crawl_gate.proofs.Keeping as keeping
 use Rattle.crawl_gate.proofs.Keeping.{word_of, Owed, kept, owed_meeting, owed_moving, owed_closing}
-
--- a u64 shows one word
-pub same_word : (x y : Word) → bits x ≡ bits y → x.0 < 2 ^ 63 → y.0 < 2 ^ 63 → x ≡ y
-same_word x y e small small' = grind arith
 
 -- the word that a step of a seat finds is that of the invariant
 pub word_found : (max : ℕ) (gate gate' : Moment) (k : GateInvariant max gate) (v w : View) (x y : Word) → SeatSteps gate gate' v w x y → x ≡ word_of max gate k
@@ -80,9 +66,6 @@ later_kept max gate (next ∷ later) k history =
 abbrev IsShut : Moment → Type 0
 IsShut gate = gate.words ≡ bits (closed_at 0) ∷ []
 
-stays_shut : (gate gate' : Moment) → IsShut gate → GateStep gate gate' → IsShut gate'
-stays_shut gate gate' shut h3 = grind arith
-
 pub shut_for_good : (gate : Moment) (moments : List Moment) → IsShut gate → IsHistory gate moments → All IsShut moments
 shut_for_good gate [] shut history = All-nil IsShut
-shut_for_good gate (next ∷ later) shut history = grind (arith, stays_shut, shut_for_good next later)
+shut_for_good gate (next ∷ later) shut history = grind (arith, shut_for_good next later)

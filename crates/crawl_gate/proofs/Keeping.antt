@@ -1,20 +1,6 @@
 -- Each kind of step keeps the gate's invariant, and its seat learns what `specs/Steps.antt` states.
-use Rattle.std.proofs.Common.{◌≡◌, ◌≢◌, ℕ, ◌+◌, ◌-◌, ◌%◌, ◌^◌, ◌<◌, ◌≤◌, Bool, true, false, true≢false, eqb, List, [], ◌∷◌, ◌++◌, set, sym, refl, ap, ◌∙◌, subst, ◌⊎◌, ⊎_elim, arith, eq-eqb, ne_eqb}
-use Rattle.std.specs.Prelude.{slice_index}
-use mathlib.Core.Logic.{dite}
-use mathlib.Core.Option.{none, some, some-injective}
-use native.Mathlib.Decide.{ℕ_discrete}
-use lib.ListN.{get_elem?}
+use Rattle.crawl_gate.proofs.Prelude.{◌≡◌, ◌≢◌, ℕ, ◌+◌, ◌-◌, ◌%◌, ◌^◌, ◌<◌, ◌≤◌, Bool, true, false, true≢false, eqb, List, [], ◌∷◌, ◌++◌, set, sym, refl, ap, ◌∙◌, subst, ◌⊎◌, ⊎_elim, arith, eq-eqb, ne_eqb, slice_index, dite, none, some, some-injective, ℕ_discrete, get_elem?, step, keeps, stepped, Allows, Splits, at_set, at_snoc, at_longer, set_else, set_again, View, StepKind, Load, EnterWon, EnterLost, Leave, CloseLost, Word, bits, closed_bit, open_at, closed_at, units_of, units_held, knows_closed, fresh_view, view_meeting, view_looking, view_entering, view_losing, view_leaving, view_closing, view_not_closing, Moment, HasCloser, GateInvariant, MayMeet, Sitting, Looks, Enters, Leaves, Closes}
 use prog.Atomic.{either}
-use Rattle.atomic_table.specs.Table.{step, keeps, stepped, Allows, Splits}
-use Rattle.atomic_table.proofs.Lists.{at_set, at_snoc, at_longer, set_else, set_again}
-use Rattle.crawl_gate.specs.declared.rule.View.{View}
-use Rattle.crawl_gate.specs.declared.step_kind.StepKind.{StepKind}
-use Rattle.crawl_gate.specs.declared.step_kind.StepKind.TheVariants.{Load, EnterWon, EnterLost, Leave, CloseLost}
-use Rattle.crawl_gate.specs.Word.{Word, bits, closed_bit, open_at, closed_at}
-use Rattle.crawl_gate.specs.View.{units_of, units_held, knows_closed, fresh_view, view_meeting, view_looking, view_entering, view_losing, view_leaving, view_closing, view_not_closing}
-use Rattle.crawl_gate.specs.GateInvariant.{Moment, HasCloser, GateInvariant, MayMeet}
-use Rattle.crawl_gate.specs.Steps.{Sitting, Looks, Enters, Leaves, Closes}
 use Rattle.crawl_gate.proofs.Units.{at_itself, units_held-set, units_held-at, units_held-fresh}
 use Rattle.crawl_gate.proofs.Knowing.{knows_closed-before}
 

@@ -1,10 +1,5 @@
 -- When a seat knows that the gate is closed, after it has read one more word.
-use Rattle.std.proofs.Common.{◌≡◌, ◌⊎◌, ℕ, Bool, true, false, true≢false, List, [], ◌∷◌, ◌++◌, sym, refl, subst, inl, inr, arith}
-use Rattle.std.specs.Prelude.{◌||◌}
-use Rattle.crawl_gate.specs.declared.rule.View.{View}
-use Rattle.crawl_gate.specs.declared.step_kind.StepKind.{StepKind}
-use Rattle.crawl_gate.specs.Word.{Word}
-use Rattle.crawl_gate.specs.View.{Met, any_closed, knows_closed, view_meeting}
+use Rattle.crawl_gate.proofs.Prelude.{◌≡◌, ◌⊎◌, ℕ, Bool, true, false, true≢false, List, [], ◌∷◌, ◌++◌, sym, refl, subst, inl, inr, arith, ◌||◌, View, StepKind, Word, Met, any_closed, knows_closed, view_meeting}
 
 any_closed-before : (ms : List Met) (kind : StepKind) (x : Word) → any_closed (ms ++ (kind, x) ∷ []) ≡ true → (any_closed ms ≡ true) ⊎ (x.1 ≡ true)
 any_closed-before [] kind (n, true) e = inr refl
@@ -22,22 +17,16 @@ any_closed-last [] kind n = refl
 any_closed-last ((k, (m, true)) ∷ ms) kind n = refl
 any_closed-last ((k, (m, false)) ∷ ms) kind n = any_closed-last ms kind n
 
-before : (closed : Bool) (ms : List Met) (kind : StepKind) (x : Word) → (closed || any_closed (ms ++ (kind, x) ∷ [])) ≡ true → ((closed || any_closed ms) ≡ true) ⊎ (x.1 ≡ true)
-before closed ms kind x e = grind (arith, any_closed-before)
-
-still : (closed : Bool) (ms : List Met) (kind : StepKind) (x : Word) → (closed || any_closed ms) ≡ true → (closed || any_closed (ms ++ (kind, x) ∷ [])) ≡ true
-still closed ms kind x e = grind (arith, any_closed-still)
-
 last : (closed : Bool) (ms : List Met) (kind : StepKind) (n : ℕ) → (closed || any_closed (ms ++ (kind, (n, true)) ∷ [])) ≡ true
 last closed ms kind n = grind (arith, any_closed-last)
 
 -- it knew before, or the word is closed
 pub knows_closed-before : (v : View) (kind : StepKind) (x : Word) → knows_closed (view_meeting v kind x) ≡ true → (knows_closed v ≡ true) ⊎ (x.1 ≡ true)
-knows_closed-before v kind x e = before v.closed_gate v.met kind x e
+knows_closed-before v kind x e = grind (arith, any_closed-before)
 
 -- a seat that knew it still knows it
 pub knows_closed-still : (v : View) (kind : StepKind) (x : Word) → knows_closed v ≡ true → knows_closed (view_meeting v kind x) ≡ true
-knows_closed-still v kind x e = still v.closed_gate v.met kind x e
+knows_closed-still v kind x e = grind (arith, any_closed-still)
 
 -- a seat that reads a closed word knows it
 pub knows_closed-last : (v : View) (kind : StepKind) (x : Word) → x.1 ≡ true → knows_closed (view_meeting v kind x) ≡ true

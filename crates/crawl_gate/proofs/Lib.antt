@@ -1,3 +1,4 @@
+pub mod Prelude
 pub mod Units
 pub mod Knowing
 pub mod Keeping

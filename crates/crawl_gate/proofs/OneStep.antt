@@ -1,13 +1,5 @@
 -- What one step does to the word and to the views.
-use Rattle.std.proofs.Common.{◌≡◌, ℕ, ◌+◌, ◌<◌, [], ◌∷◌, ◌++◌, refl, ap, ◌∙◌, arith}
-use Rattle.crawl_gate.specs.declared.rule.View.{View}
-use Rattle.crawl_gate.specs.declared.step_kind.StepKind.{StepKind}
-use Rattle.crawl_gate.specs.declared.step_kind.StepKind.TheVariants.{Load, EnterWon, EnterLost, Leave, CloseWon, CloseLost}
-use Rattle.crawl_gate.specs.Word.{Word, top_bit, bits, open_at, closed_at}
-use Rattle.crawl_gate.specs.View.{units_held, fresh_view, view_looking, view_entering, view_losing, view_leaving, view_closing, view_not_closing}
-use Rattle.crawl_gate.specs.GateInvariant.{Moment, GateInvariant}
-use Rattle.crawl_gate.specs.History.{SeatSteps, GateStep, GainsMet, GateGoes}
-use Rattle.crawl_gate.specs.History.GateStep.{splits, looks, enters, loses, leaves, closes, not_closes}
+use Rattle.crawl_gate.proofs.Prelude.{◌≡◌, ℕ, ◌+◌, ◌<◌, [], ◌∷◌, ◌++◌, refl, ap, ◌∙◌, arith, View, StepKind, Load, EnterWon, EnterLost, Leave, CloseWon, CloseLost, Word, top_bit, bits, open_at, closed_at, units_held, fresh_view, view_looking, view_entering, view_losing, view_leaving, view_closing, view_not_closing, Moment, GateInvariant, SeatSteps, GateStep, GainsMet, GateGoes, splits, looks, enters, loses, leaves, closes, not_closes}
 
 words_after : (gate gate' : Moment) (v w : View) (x y : Word) → SeatSteps gate gate' v w x y → gate'.words ≡ bits y ∷ []
 words_after gate gate' v w x y s = ap (λ (m : Moment). m.words) s.next

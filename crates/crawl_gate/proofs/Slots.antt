@@ -1,8 +1,5 @@
 -- A seat that begins and ends a step with no slot leaves the slots of a table as they are.
-use Rattle.std.proofs.Common.{◌≡◌, ℕ, zero, suc, List, [], ◌∷◌, set, refl, ap, ◌∙◌, arith}
-use mathlib.Core.Option.{Option, none, some}
-use Rattle.atomic_table.specs.Table.{Act, keeps, takes, gives, chain, Valid, homes_after, carried_after}
-use Rattle.atomic_table.proofs.Lists.{set_again}
+use Rattle.crawl_gate.proofs.Prelude.{◌≡◌, ℕ, zero, suc, List, [], ◌∷◌, set, refl, ap, ◌∙◌, arith, Option, none, some, Act, keeps, takes, gives, chain, Valid, homes_after, carried_after, set_again}
 
 abbrev Homes : Type 0
 Homes = List (Option (Unit {0}))

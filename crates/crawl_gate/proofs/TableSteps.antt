@@ -1,21 +1,7 @@
 -- The steps of a history are the steps that the gate's table allows for its plays and its split.
-use Rattle.std.proofs.Common.{◌≡◌, ℕ, ◌+◌, ◌-◌, ◌<◌, ◌^◌, Bool, true, List, [], ◌∷◌, ◌++◌, set, sym, refl, ap, ◌∙◌, subst, arith}
-use Rattle.std.specs.Prelude.{slice_index, ◌||◌}
-use mathlib.Core.Logic.{dite}
-use mathlib.Core.Option.{none, some}
-use native.Mathlib.Decide.{ℕ_discrete}
-use lib.ListN.{get_elem?}
-use Rattle.atomic_table.specs.Table.{Step, step, keeps, carried_after}
-use Rattle.atomic_table.proofs.Lists.{at_set, set_again}
-use Rattle.crawl_gate.specs.declared.rule.View.{View}
-use Rattle.crawl_gate.specs.Word.{Word, bits, open_at, closed_at}
-use Rattle.crawl_gate.specs.View.{any_closed, units_of, units_held, knows_closed, fresh_view, view_looking, view_entering, view_losing, view_leaving, view_closing, view_not_closing}
-use Rattle.crawl_gate.specs.GateInvariant.{Moment, HasCloser, GateInvariant, MayMeet}
-use Rattle.crawl_gate.specs.Steps.{Sitting, Looks, Enters, Leaves, Closes}
+use Rattle.crawl_gate.proofs.Prelude.{◌≡◌, ℕ, ◌+◌, ◌-◌, ◌<◌, ◌^◌, Bool, true, List, [], ◌∷◌, ◌++◌, set, sym, refl, ap, ◌∙◌, subst, arith, slice_index, ◌||◌, dite, none, some, ℕ_discrete, get_elem?, Step, step, keeps, carried_after, at_set, set_again, View, Word, bits, open_at, closed_at, any_closed, units_of, units_held, knows_closed, fresh_view, view_looking, view_entering, view_losing, view_leaving, view_closing, view_not_closing, Moment, HasCloser, GateInvariant, MayMeet, Sitting, Looks, Enters, Leaves, Closes, SeatSteps, GateStep, splits, looks, enters, loses, leaves, closes, not_closes}
 use Rattle.crawl_gate.specs.TableStep.{PlayMade, TableStep}
 use Rattle.crawl_gate.specs.TableStep.TableStep.{by_look, by_take_unit, by_give_back, by_shut, by_split}
-use Rattle.crawl_gate.specs.History.{SeatSteps, GateStep}
-use Rattle.crawl_gate.specs.History.GateStep.{splits, looks, enters, loses, leaves, closes, not_closes}
 use Rattle.crawl_gate.proofs.Units.{at_itself, units_held-set}
 use Rattle.crawl_gate.proofs.Slots.{homes_stay}
 use Rattle.crawl_gate.proofs.Keeping.{word_of, still_closer, may_meet}

@@ -1,13 +1,9 @@
 -- What a seat has read after several tries, and the closed word that a call of `try_close` finds.
-use Rattle.std.proofs.Common.{◌≡◌, ◌≢◌, ℕ, ◌<◌, ◌^◌, true, List, [], ◌∷◌, ◌++◌, sym, refl, ap, ◌∙◌, subst, arith}
-use Rattle.crawl_gate.specs.declared.rule.View.{View}
-use Rattle.crawl_gate.specs.declared.step_kind.StepKind.TheVariants.{Load, EnterLost}
+use Rattle.crawl_gate.proofs.Prelude.{◌≡◌, ◌≢◌, ℕ, ◌<◌, true, List, [], ◌∷◌, ◌++◌, sym, refl, ap, ◌∙◌, subst, arith, View, Load, EnterLost, open_at, knows_closed, view_looking, view_losing}
 use Rattle.crawl_gate.specs.declared.gate.enter.Enter.{Enter}
 use Rattle.crawl_gate.specs.declared.gate.enter.Enter.TheVariants.{Lost}
-use Rattle.crawl_gate.specs.Word.{Word, bits, open_at, closed_at}
-use Rattle.crawl_gate.specs.View.{knows_closed, view_looking, view_losing}
 use Rattle.crawl_gate.specs.Seat.{GateId, SeatId, IsSeatOf, with_view}
-use Rattle.crawl_gate.specs.Enter.{LostTry, AllLost, TriesToEnter, TriesToEnterBeside, view_trying, view_loading, view_exchanging, after_trying, after_loading, after_exchanging, IsLost, EntersAtLast, EntersAtLastBeside}
+use Rattle.crawl_gate.specs.Enter.{LostTry, AllLost, TriesToEnter, TriesToEnterBeside, view_trying, view_loading, view_exchanging, after_trying, after_loading, after_exchanging, IsLost, EntersAtLast}
 use Rattle.crawl_gate.proofs.Knowing.{knows_closed-still}
 
 pub not_lost : (answer : Enter) → ((back : SeatId) → answer ≡ Lost back → ⊥) → ¬ IsLost answer
@@ -51,9 +47,6 @@ view_exchanging-append v (u ∷ ts) t = view_exchanging-append (view_losing v u.
 abbrev pub LostSoFar : SeatId → SeatId → Type 0
 LostSoFar pass now = (ts : List LostTry) × AllLost pass.view.max_pending ts × (now ≡ after_trying pass ts)
 
-pub none_lost : (pass : SeatId) → LostSoFar pass pass
-none_lost pass = ([], tt, refl)
-
 pub lost_of : (gate : GateId) (pass now : SeatId) → LostSoFar pass now → IsSeatOf gate pass → IsSeatOf gate now
 lost_of gate pass now so_far of = grind (arith, view_trying-max)
 
@@ -91,11 +84,3 @@ one_more_lost_beside held held' held'' pass now next so_far tries =
       try.4 ∙ ap (with_view held) (sym (view_loading-append held.view so_far.0 t)),
       try.5 ∙ ap (with_view pass) (sym (view_exchanging-append pass.view so_far.0 t)),
     )
-
-pub at_last_beside : (held held' held'' pass now : SeatId) (answer : Enter) → LostSoFarBeside held held' pass now
-    → TriesToEnterBeside held' held'' now answer → ¬ IsLost answer → EntersAtLastBeside held held'' pass answer
-at_last_beside held held' held'' pass now answer so_far tries not = grind arith
-
--- a number of at least 2^63 is the word of a closed gate, whose count is 0
-pub closed_word : (x : Word) (r count : ℕ) → r ≡ bits x → bits (count, true) ≡ r → x.0 < 2 ^ 63 → (x.1 ≡ true → x.0 ≡ 0) → x ≡ closed_at 0
-closed_word x r count is shown small empty = grind arith

@@ -1,34 +1,16 @@
 -- A text that is shown piece by piece.
-use Rattle.std.proofs.lemmas.Grind.{common_steps}
-use Rattle.std.proofs.Common.{◌≡◌, ℕ, ◌+◌, ◌/◌, ◌%◌, ◌≤◌, Bool, true, false, List, [], ◌∷◌, ◌++◌, length, get_or, take, nat_lt, chars, IsUtf8, IsCharBoundary, refl, ap, ◌∙◌, append-nil, arith, if◌then◌else◌}
-use Rattle.std.proofs.lemmas.Bool.{and_from, and_parts, cond_both, ltb-false, ltb-true}
-use Rattle.std.proofs.lemmas.Bool.Decides.{nat_tests}
+use Rattle.shown_text.proofs.Prelude.{common_steps, ◌≡◌, ℕ, ◌+◌, ◌/◌, ◌%◌, ◌≤◌, Bool, true, false, List, [], ◌∷◌, ◌++◌, length, take, nat_lt, chars, IsUtf8, IsCharBoundary, refl, ap, ◌∙◌, append-nil, arith, if◌then◌else◌, and_from, and_parts, cond_both, ltb-false, ltb-true, list_all-append, prefix_len-le-length, prefix_len_stops, take_while-cons, chars-append, chars-nil, chars_past_char, encodes-chars, flat_map, list_all, prefix_len, take_while, encode_utf8_all, escape_of, is_escaped, is_hidden, is_plain, shown_char_in, shown_in, Lines}
 use Rattle.std.proofs.lemmas.List.Concat.{flat_map-append}
-use Rattle.std.proofs.lemmas.List.Folds.{list_all-append}
-use Rattle.std.proofs.lemmas.List.Sums.{prefix_len-le-length, prefix_len_stops, take_while-cons}
-use Rattle.std.proofs.lemmas.Str.{chars-append, chars-nil, chars_past_char, encodes-chars}
 use Rattle.std.specs.Char.{encode_utf8}
-use Rattle.std.specs.Int.{is_in_range}
-use Rattle.std.specs.List.{flat_map, list_all, prefix_len, take_while}
-use Rattle.std.specs.Str.{encode_utf8_all}
-use Rattle.shown_text.specs.Shown.{escape_of, is_escaped, is_hidden, is_plain, shown_char_in, shown_in}
-use Rattle.shown_text.specs.declared.escape.Lines.{Lines}
 use Rattle.shown_text.specs.declared.escape.Lines.TheVariants as lines
 
 -- ---- characters that are not hidden
 
-outside : (low high c : ℕ) → (low ≤ c → c ≤ high → ⊥) → is_in_range low high c ≡ false
-outside low high c out = grind (arith, nat_tests)
-
 visible : (c : ℕ) → 32 ≤ c → (127 ≤ c → c ≤ 159 → ⊥) → (8232 ≤ c → c ≤ 8238 → ⊥) → (8294 ≤ c → c ≤ 8297 → ⊥) → is_hidden c ≡ false
 visible c past no_control no_separator no_isolate = grind arith
 
--- a plain byte
-plain_parts : (b : ℕ) → is_plain b ≡ true → (32 ≤ b) × (b ≡ 127 → ⊥) × (b ≡ 194 → ⊥) × (b ≡ 226 → ⊥)
-plain_parts b plain = grind arith
-
 first_plain : (b : ℕ) (rest : List ℕ) → list_all is_plain (b ∷ rest) ≡ true → (32 ≤ b) × (b ≡ 127 → ⊥) × (b ≡ 194 → ⊥) × (b ≡ 226 → ⊥)
-first_plain b rest plain = plain_parts b (and_parts (is_plain b) (list_all is_plain rest) plain).0
+first_plain b rest plain = grind (arith, and_parts)
 
 -- a character whose bytes are plain is not hidden
 pub plain_bytes : (c : ℕ) → list_all is_plain (encode_utf8 c) ≡ true → is_hidden c ≡ false
@@ -85,12 +67,9 @@ run_is_plain text n is = ap (λ k. list_all is_plain (take k text)) is ∙ front
 
 -- ---- the end of a run
 
-not_within : (b : ℕ) → is_plain b ≡ false → 128 ≤ b → 192 ≤ b
-not_within b other high = grind (arith, nat_tests)
-
 -- a text may be cut after its plain bytes
 pub run_ends : (text : List ℕ) → IsCharBoundary text (prefix_len is_plain text)
-run_ends text = (prefix_len-le-length is_plain text, λ inside high. not_within (get_or text (prefix_len is_plain text) 0) (prefix_len_stops is_plain text 0 inside) high)
+run_ends text = grind (arith, prefix_len-le-length, prefix_len_stops)
 
 -- ---- the bytes that were written, and the rest
 

@@ -1,19 +1,11 @@
 -- Properties of a shown text.
-use Rattle.std.proofs.lemmas.Grind.{common_steps}
-use Rattle.std.proofs.Common.{◌≡◌, ℕ, ◌+◌, ◌<◌, ◌≤◌, ◌==◌, Bool, true, false, ◌&&◌, ◌||◌, not, List, [], ◌∷◌, ◌++◌, nat_le, nat_lt, chars, IsAscii, IsUtf8, refl, sym, ap, ◌∙◌, append-nil, arith}
-use Rattle.std.proofs.lemmas.Bool.{and_from, and_parts, cond_both, le-leb, lt-ltb, ltb-true, ne_eqb, not-true, not_from_false, or_left}
+use Rattle.shown_text.proofs.Prelude.{common_steps, ◌≡◌, ℕ, ◌+◌, ◌<◌, ◌≤◌, ◌==◌, Bool, true, false, ◌&&◌, ◌||◌, not, List, [], ◌∷◌, ◌++◌, nat_lt, chars, IsAscii, IsUtf8, refl, sym, ap, ◌∙◌, append-nil, arith, and_from, and_parts, cond_both, le-leb, lt-ltb, ltb-true, ne_eqb, not-true, not_from_false, or_left, list_all-append, chars-IsAscii, chars-append, chars-encodes, chars-nil, encodes-chars, IsUtf8-append, IsUtf8-encode, IsUtf8-from_ascii, IsUtf8-nil, scalars-chars, flat_map, list_all, encode_utf8_all, escape_of, is_escaped, is_hidden, is_printed, is_visible, is_visible_or_lf, shown_char, shown_char_in, shown_in, Lines}
 use Rattle.std.proofs.lemmas.Bool.Decides.{nat_tests}
 use Rattle.std.proofs.lemmas.Fmt.{digits_is_IsNumeral}
-use Rattle.std.proofs.lemmas.List.Folds.{list_all-append}
-use Rattle.std.proofs.lemmas.Str.{chars-IsAscii, chars-append, chars-encodes, chars-nil, encodes-chars, IsUtf8-append, IsUtf8-encode, IsUtf8-from_ascii, IsUtf8-nil, scalars-chars}
 use Rattle.std.proofs.lemmas.Str.Ascii.{IsAscii-nil}
 use Rattle.std.specs.Char.{digit_value, encode_utf8}
-use Rattle.std.specs.List.{flat_map, list_all}
-use Rattle.std.specs.Str.{encode_utf8_all}
 use Rattle.std.specs.Str.Parse.{AllDigits}
 use lib.Utf8.{scalar, scalars}
-use Rattle.shown_text.specs.Shown.{escape_of, is_escaped, is_hidden, is_printed, is_visible, is_visible_or_lf, shown_char, shown_char_in, shown_in}
-use Rattle.shown_text.specs.declared.escape.Lines.{Lines}
 use Rattle.shown_text.specs.declared.escape.Lines.TheVariants as lines
 use Rattle.shown_text.proofs.Pieces.{char_stays}
 
@@ -62,9 +54,6 @@ escapes_visible = (λ b from to. between_visible b (omega arith) (omega arith), 
 
 between_printed : (b : ℕ) → 32 ≤ b → b < 127 → is_printed b ≡ true
 between_printed b low high = grind (arith, nat_tests)
-
-pub escapes_printed : PassesEscapes is_printed
-escapes_printed = (λ b from to. between_printed b (omega arith) (omega arith), λ b from to. between_printed b (omega arith) (omega arith))
 
 -- ---- characters
 
@@ -116,11 +105,8 @@ pub char_visible : (c : ℕ) → scalar c ≡ true → Passes is_visible (shown_
 char_visible c is_scalar =
     cond_both (is_hidden c) (escape_of c) (encode_utf8 c) (Passes is_visible) (escape_visible c) (λ seen. passes_char is_visible c is_scalar (not_from_false (is_hidden c) seen))
 
-or_lf : (c : ℕ) → is_visible c ≡ true → is_visible_or_lf c ≡ true
-or_lf c seen = or_left (is_visible c) (c == 10) seen
-
 escapes_or_lf : PassesEscapes is_visible_or_lf
-escapes_or_lf = (λ b from to. or_lf b (escapes_visible.0 b from to), λ b from to. or_lf b (escapes_visible.1 b from to))
+escapes_or_lf = grind (arith, or_left, between_visible)
 
 -- a character that is not escaped in a text of several lines
 stays_or_lf : (hidden feed : Bool) → (hidden && not feed) ≡ false → (not hidden || feed) ≡ true
@@ -169,16 +155,10 @@ lines_same text utf8 all = stay_all lines.Several is_visible_or_lf (λ c seen. o
 abbrev pub PassesHigh : (ℕ → Bool) → Type 0
 PassesHigh p = (b : ℕ) → 128 ≤ b → p b ≡ true
 
-next_passes : (p : ℕ → Bool) → PassesHigh p → (n : ℕ) (rest : List ℕ) → list_all p rest ≡ true → list_all p ((128 + n) ∷ rest) ≡ true
-next_passes p high n rest all = and_from (p (128 + n)) (list_all p rest) (high (128 + n) (omega arith)) all
-
 -- the bytes of a character pass if it passes or is not ASCII
 pub encode_passes : (p : ℕ → Bool) → PassesHigh p → (c : ℕ) → (c < 128 → p c ≡ true) → list_all p (encode_utf8 c) ≡ true
 unfolding encode_utf8
 encode_passes p high c passes = grind arith
-
-pub high_printed : PassesHigh is_printed
-high_printed b high = and_from (nat_le 32 b) _ (le-leb 32 b (omega arith)) (not_from_false _ (ne_eqb b 127 (λ e. omega arith)))
 
 pub seen_printed : (c : ℕ) → c < 128 → is_hidden c ≡ false → is_printed c ≡ true
 seen_printed c small seen = grind (arith, nat_tests)
@@ -188,7 +168,7 @@ pub shown_char_passes : (p : ℕ → Bool) → PassesEscapes p → PassesHigh p 
 shown_char_passes p escapes high c passes = grind (arith, cond_both, escape_passes, encode_passes)
 
 pub shown_char_printed : (c : ℕ) → list_all is_printed (shown_char c) ≡ true
-shown_char_printed c = shown_char_passes is_printed escapes_printed high_printed c (seen_printed c)
+shown_char_printed c = grind (arith, shown_char_passes, seen_printed, between_printed, and_from, le-leb, not_from_false, ne_eqb)
 
 -- the output for each character passes
 pub each_passes : (p : ℕ → Bool) (f : ℕ → List ℕ) → ((c : ℕ) → list_all p (f c) ≡ true) → (cs : List ℕ) → list_all p (flat_map f cs) ≡ true

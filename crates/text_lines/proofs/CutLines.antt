@@ -1,14 +1,12 @@
 -- Bytes as a first line and the rest, and the text of a line.
+use Rattle.text_lines.proofs.Prelude.{◌≡◌, ℕ, ◌+◌, ◌<◌, ◌≤◌, ◌-◌, ◌==◌, Bool, true, false, cond, List, [], ◌∷◌, ◌++◌, length, take, drop, get_or, Option, Some, None, Ok, Err, codes, refl, sym, ap, subst, ◌∙◌, arith, length-append, ltb-true, ltb-false, le-ltb, lt-ltb, is_utf8-from_IsUtf8, IsUtf8-from_is_utf8, IsUtf8-append, IsUtf8-from_ascii, take_all, take_more, take-append-drop, drop_more, get_or-drop, length-drop}
 use Rattle.std.proofs.lemmas.Grind.{common_steps}
-use Rattle.std.proofs.Common.{◌≡◌, ℕ, ◌+◌, ◌<◌, ◌≤◌, ◌-◌, ◌==◌, Bool, true, false, cond, List, [], ◌∷◌, ◌++◌, length, take, drop, get_or, Option, Some, None, Ok, Err, codes, refl, sym, ap, subst, ◌∙◌, arith, length-append, ltb-true, ltb-false, le-ltb, lt-ltb}
 use Rattle.std.specs.List.{position, position_or_len, slice_split}
 use Rattle.std.specs.Str.{is_utf8, IsUtf8}
 use Rattle.std.specs.Str.Lines.{lines, lines_of_parts, strip_carriage_return}
 use Rattle.std.specs.Bool.{if◌then◌else◌}
 use Rattle.std.proofs.lemmas.Bool.{eqb-true, false_from_ne_true}
-use Rattle.std.proofs.lemmas.Str.{is_utf8-from_IsUtf8, IsUtf8-from_is_utf8, IsUtf8-append, IsUtf8-from_ascii}
 use Rattle.std.proofs.lemmas.Str.Ascii.{IsAscii-from_all}
-use Rattle.std.proofs.lemmas.List.{take_all, take_more, take-append-drop, drop_all, drop_more, get_or-drop, length-drop}
 use Rattle.std.proofs.lemmas.List.Elements.{All-nil, All-push}
 use Rattle.std.proofs.lemmas.List.Splits.{slice_split_first, slice_split_none, length-slice_split}
 use Rattle.std.proofs.lemmas.List.Sums.{fails_before_first, passes_at_first, position_or_len_is}
@@ -23,9 +21,6 @@ is_lf b = b == 10
 
 found : (b : Bool) (n i : ℕ) → cond b (Some n) None ≡ Some i → (b ≡ true) × (n ≡ i)
 found b n i e = grind arith
-
-missed : (b : Bool) (n : ℕ) → cond b (Some n) None ≡ None → b ≡ false
-missed b n e = grind arith
 
 pub nonempty : (n : ℕ) → (n == 0) ≡ false → 0 < n
 nonempty n e = grind arith
@@ -52,7 +47,7 @@ lines_at bytes end e = grind (arith, found, slice_split_first, ltb-true, before_
 
 -- bytes without an LF are one line
 pub lines_only : (bytes : List ℕ) → position is_lf bytes ≡ None → 0 < length bytes → lines bytes ≡ bytes ∷ []
-lines_only bytes e some = grind (arith, ltb-false, missed, slice_split_none, fails_before_first)
+lines_only bytes e some = grind (arith, ltb-false, slice_split_none, fails_before_first)
 
 -- the checks of a line's text
 
@@ -97,15 +92,6 @@ pub no_bytes : (bytes : List ℕ) → (length bytes == 0) ≡ true → IsUtf8 by
 no_bytes bytes e = grind (arith, common_steps, eqb-true)
 
 -- ---- the text after the first line
-
-pub behind_at : (text : List ℕ) (end : ℕ) → position is_lf text ≡ Some end → drop (end + 1) text ≡ behind_line text
-behind_at text end e = grind arith
-
-pub none_behind : (text : List ℕ) → position is_lf text ≡ None → [] ≡ behind_line text
-none_behind text e = grind (arith, ltb-false, missed, drop_all)
-
-pub no_text : (text : List ℕ) → (length text == 0) ≡ true → behind_line text ≡ []
-no_text text e = grind arith
 
 -- a word before the first line does not change what follows that line
 pub behind_page : (text : List ℕ) → behind_line text ≡ behind_line (codes "page " ++ text)

@@ -1,5 +1,4 @@
-use Rattle.std.proofs.Common.{take}
-use Rattle.std.proofs.lemmas.List.{take_more}
+use Rattle.crawl_core.proofs.Prelude.{take, take_more}
 use Rattle.crawl_core.proofs.RunSteps.{run_more}
 use Rattle.crawl_core.proofs.runs.run.Goals as goal
 

@@ -1,17 +1,10 @@
-use Rattle.std.proofs.Common.{◌≡◌, ◌++◌, IsCharBoundary, IsUtf8, ap, ◌∙◌, subst, sym}
-use Rattle.std.proofs.lemmas.Bool.{eqb-true}
+use Rattle.shown_text.proofs.Prelude.{◌≡◌, ◌++◌, IsCharBoundary, IsUtf8, ap, ◌∙◌, subst, sym, arith, eqb-true, length-prefix_len, IsUtf8-take, list_all, is_plain, prefix_len_stops, prefix_len-le-length}
 use Rattle.std.proofs.lemmas.List.{take-append-drop}
-use Rattle.std.proofs.lemmas.List.Folds.{length-prefix_len}
-use Rattle.std.proofs.lemmas.Str.{IsUtf8-take}
-use Rattle.std.specs.List.{list_all}
-use Rattle.shown_text.specs.Shown.{is_plain}
 use Rattle.shown_text.proofs.Pieces.{all_put, run_ends, run_is_plain, run_put}
 use Rattle.shown_text.proofs.escape.put_text.Goals as goal
 
 pub split_at-requires : goal.split_at-requires
-split_at-requires c =
-    let text = c.runs.rest.now in
-    subst (IsCharBoundary text) (sym (c.plain_len.ensures ∙ length-prefix_len is_plain text)) (run_ends text)
+split_at-requires c = grind (arith, length-prefix_len, prefix_len-le-length, prefix_len_stops)
 
 pub runs-preserved : goal.runs-preserved
 runs-preserved c =

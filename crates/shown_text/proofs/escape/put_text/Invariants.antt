@@ -1,5 +1,4 @@
-use Rattle.std.proofs.Common.{◌≡◌, ◌++◌, length, IsUtf8}
-use Rattle.shown_text.specs.Shown.{shown_in}
+use Rattle.shown_text.proofs.Prelude.{◌≡◌, ◌++◌, length, IsUtf8, shown_in}
 use Rattle.shown_text.proofs.escape.put_text.Given as goal
 
 abbrev pub decreases-runs : goal.decreases-runs

@@ -1,6 +1,4 @@
-use Rattle.std.proofs.Common.{◌∙◌, ◌++◌, IsUtf8, ap, subst, sym}
-use Rattle.std.proofs.lemmas.Bool.{false≢true}
-use Rattle.shown_text.specs.Shown.{shown_in}
+use Rattle.shown_text.proofs.Prelude.{◌∙◌, ◌++◌, IsUtf8, ap, subst, sym, false≢true, shown_in}
 use Rattle.shown_text.proofs.Visible.{shown_utf8}
 use Rattle.shown_text.proofs.escape.shown_in.Goals as goal
 

@@ -1,5 +1,4 @@
-use Rattle.std.proofs.Common.{sym, ◌+◌, length, arith}
-use Rattle.std.proofs.lemmas.List.{take_rest}
+use Rattle.text_lines.proofs.Prelude.{sym, ◌+◌, length, arith, take_rest}
 use Rattle.text_lines.proofs.CutLines.{lines_at, lines_only, nonempty, whole_utf8, no_bytes}
 use Rattle.text_lines.proofs.lines.first_line.Goals as goal
 

@@ -1,6 +1,5 @@
-use Rattle.std.proofs.Common.{rules, ◌≡◌, ◌==◌, position, Some, arith}
-use Rattle.std.proofs.lemmas.Str.{IsCharBoundary-after_ascii}
-use Rattle.text_lines.proofs.CutLines.{lines_at, lines_only, nonempty, lf_at, none_behind, no_text}
+use Rattle.text_lines.proofs.Prelude.{ltb-false, rules, ◌≡◌, ◌==◌, position, Some, arith, IsCharBoundary-after_ascii, drop_all}
+use Rattle.text_lines.proofs.CutLines.{lines_at, lines_only, nonempty, lf_at}
 use Rattle.text_lines.proofs.lines.first_text.Goals as goal
 
 pub range-requires-clause-end_boundary : goal.range-requires-clause-end_boundary
@@ -18,8 +17,5 @@ returns-in-Some-clause-cut c = grind (arith, lines_at)
 pub returns-in-None-2-clause-cut : goal.returns-in-None-2-clause-cut
 returns-in-None-2-clause-cut c = grind (arith, lines_only, nonempty)
 
-pub returns-in-None-clause-behind : goal.returns-in-None-clause-behind
-returns-in-None-clause-behind c = no_text c.args.text.now (search rules)
-
 pub returns-in-None-2-clause-behind : goal.returns-in-None-2-clause-behind
-returns-in-None-2-clause-behind c = grind (arith, none_behind)
+returns-in-None-2-clause-behind c = grind (arith, ltb-false, drop_all)

@@ -1,15 +1,12 @@
-use Rattle.std.proofs.Common.{◌≡◌, false, true, slice_get, unwrap_or, sym, subst, ◌∙◌, arith}
-use Rattle.std.specs.Option.{option_map}
-use Rattle.crawl_core.specs.Handing.{lets_in}
-use Rattle.crawl_core.specs.Kept.{Kept, KeptQueue}
-use Rattle.crawl_core.proofs.Handing.{fetching_below, hands, hands_counts, stays_idle}
+use Rattle.crawl_core.proofs.Prelude.{◌≡◌, false, true, slice_get, unwrap_or, sym, subst, ◌∙◌, arith, option_map, lets_in, Kept, KeptQueue, slice_get_within}
+use Rattle.crawl_core.proofs.Handing.{hands, hands_counts, stays_idle}
 use Rattle.crawl_core.proofs.machine.Core.hand_over.Goals as goal
 
 pub returns-then-not-is_fetching-clause-hands : goal.returns-then-not-is_fetching-clause-hands
 returns-then-not-is_fetching-clause-hands c = stays_idle c.args.self.now c.args.queue c.args.sender (sym c.is_fetching.ensures ∙ c.if-not-is_fetching.true)
 
 pub finish-requires : goal.finish-requires
-finish-requires c = grind (arith, fetching_below)
+finish-requires c = grind (arith, slice_get_within)
 
 pub invariant_of-self-2 : goal.invariant_of-self-2
 invariant_of-self-2 c =

@@ -1,11 +1,8 @@
-use Rattle.std.proofs.Common.{rules, ◌≡◌, ℕ, ◌+◌, ◌≤◌, false, List, [], ◌∷◌, ◌++◌, length, map, is_some, sym, subst, ◌∙◌}
-use Rattle.std.proofs.lemmas.List.{length_push, map-id}
+use Rattle.crawl_core.proofs.Prelude.{rules, ◌≡◌, ℕ, ◌+◌, ◌≤◌, false, List, [], ◌∷◌, ◌++◌, length, map, is_some, sym, subst, ◌∙◌, length_push, map-id, has_index, none_there, number_at}
 use Rattle.hash_order.specs.HashOrder.{hash_of}
 use Rattle.hash_index.specs.Lists.{index_of}
 use Rattle.hash_index.specs.Index.{IsIndexOf}
-use Rattle.hash_index.proofs.Listed.{has_index, none_there}
 use Rattle.hash_index.proofs.Keeping.{pushed_item}
-use Rattle.crawl_core.specs.Kept.{number_at}
 use Rattle.crawl_core.proofs.SenderCounts.{few_after}
 use Rattle.crawl_core.proofs.url_queue.UrlQueue.accept.Goals as goal
 

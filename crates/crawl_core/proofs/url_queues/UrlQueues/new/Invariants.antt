@@ -1,5 +1,4 @@
-use Rattle.std.proofs.Common.{◌≡◌, replicate}
-use Rattle.crawl_core.specs.Kept.{empty_queue}
+use Rattle.crawl_core.proofs.Prelude.{◌≡◌, replicate, empty_queue}
 use Rattle.crawl_core.proofs.url_queues.UrlQueues.new.Given as goal
 
 abbrev pub invariant-loop-made : goal.invariant-loop-made

@@ -1,9 +1,6 @@
 use native.Mathlib.Omega.{arith}
-use Rattle.crawl_gate.proofs.Trying.{none_lost, lost_of, lost_knows, one_more_lost, at_last, not_lost}
+use Rattle.crawl_gate.proofs.Trying.{lost_of, lost_knows, one_more_lost, at_last, not_lost}
 use Rattle.crawl_gate.proofs.gate.Gate.enter.Goals as goal
-
-pub loop-init : goal.loop-init
-loop-init g c = (tt, tt, none_lost _)
 
 pub try_enter-requires : goal.try_enter-requires
 try_enter-requires g c = lost_of _ _ _ c.loop.invariant.2 c.requires

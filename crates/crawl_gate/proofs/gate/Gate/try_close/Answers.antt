@@ -1,7 +1,4 @@
-use Rattle.std.proofs.Common.{◌≡◌, true, rules, refl, ap, ◌∙◌, arith}
-use Rattle.crawl_gate.specs.declared.step_kind.StepKind.TheVariants.{CloseLost}
-use Rattle.crawl_gate.specs.Word.{closed_at}
-use Rattle.crawl_gate.specs.View.{knows_closed, view_not_closing}
+use Rattle.crawl_gate.proofs.Prelude.{◌≡◌, true, rules, refl, ap, ◌∙◌, arith, CloseLost, closed_at, knows_closed, view_not_closing}
 use Rattle.crawl_gate.proofs.Keeping.{shuts}
 use Rattle.crawl_gate.proofs.Knowing.{knows_closed-last}
 use Rattle.crawl_gate.proofs.gate.Gate.try_close.Goals as goal
