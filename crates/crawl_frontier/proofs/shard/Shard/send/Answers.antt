@@ -16,10 +16,7 @@ use Rattle.crawl_frontier.proofs.Admitting.{answered}
 use Rattle.crawl_frontier.proofs.shard.Shard.send.Goals as goal
 
 pub overflow_add-own : goal.overflow_add-own
-overflow_add-own g c =
-    let v = c.self.inside.sent in
-    let is : count_of c.args.offered.now.id v.items ≡ c.args.offered.now.own = search rules in
-    omega (arith, is, count_of-le c.args.offered.now.id v.items, v.ok.0, v.ok.1, v.small)
+overflow_add-own g c = grind (arith, count_of-le)
 
 pub index-requires : goal.index-requires
 index-requires g c =
