@@ -1,20 +1,8 @@
 -- What follows from the result of an offer to a shard, while its lock is held and after it is released.
-use Rattle.std.proofs.Common.{◌≡◌, ◌⊎◌, ℕ, List, [], ◌∷◌, ◌++◌, length, Some, slice_get, refl, sym, ap, ◌∙◌, subst, arith}
-use Rattle.std.specs.Prelude.{slice_set}
-use Rattle.crawl_gate.specs.Seat.{SeatId}
-use Rattle.crawl_queues.specs.declared.entry.Entry.{Entry}
-use Rattle.crawl_queues.specs.declared.log.LogLine.{LogLine}
+use Rattle.crawl_frontier.proofs.Prelude.{◌≡◌, ◌⊎◌, ℕ, List, [], ◌∷◌, ◌++◌, length, Some, slice_get, refl, sym, ap, ◌∙◌, subst, arith, slice_set, SeatId, Entry, LogLine, QueueId, count_of, entry, KnownList, begins_with, items_of, lists_of, log_of, ListsAre, AreKnown, ShardId, Stays, Replies, IsKnown, AreRaised}
 use Rattle.crawl_frontier.specs.declared.shard.Admit.{Admit}
 use Rattle.crawl_frontier.specs.declared.shard.Admit.TheVariants.{Admitted, Crossed, Seen, TooFar, NoMemory}
-use Rattle.crawl_queues.specs.QueueId.{QueueId}
-use Rattle.crawl_queues.specs.Entries.{count_of, entry}
-use Rattle.crawl_queues.specs.Known.{KnownList, begins_with}
-use Rattle.crawl_queues.specs.Logs.{items_of, lists_of, log_of, ListsAre, AreKnown}
-use Rattle.crawl_frontier.specs.Parts.{ShardId}
 use Rattle.crawl_frontier.specs.Admits.{Admits}
-use Rattle.crawl_queues.specs.Growing.{Stays}
-use Rattle.crawl_frontier.specs.Offers.{Replies, IsKnown}
-use Rattle.crawl_frontier.specs.Finishing.{AreRaised}
 use Rattle.crawl_frontier.proofs.Gets.{get_last, get_set_same}
 use Rattle.crawl_frontier.proofs.Logging.{at_map, has_url_at, raised_at, raised_log, raised_known}
 

@@ -1,17 +1,5 @@
 -- When the books of a part agree with the list of a subqueue.
-use Rattle.std.proofs.lemmas.Bool.Decides.{nat_tests}
-use Rattle.std.proofs.Common.{◌≡◌, ℕ, zero, suc, ◌+◌, ◌<◌, ◌≤◌, Bool, true, false, cond, eqb, List, [], ◌∷◌, ◌++◌, length, map, Some, refl, sym, ap, ◌∙◌, subst, ⊎_elim, arith}
-use Rattle.std.proofs.lemmas.Bool.{cases_lt}
-use Rattle.std.proofs.lemmas.List.{append_assoc, map-append}
-use Rattle.crawl_queues.specs.declared.entry.Entry.{Entry}
-use Rattle.crawl_queues.specs.declared.book.Logged.{Logged}
-use Rattle.crawl_queues.specs.declared.book.Logged.TheVariants.{Accepted, Seen}
-use Rattle.crawl_queues.specs.Entries.{count_of, entries_of}
-use Rattle.crawl_queues.specs.declared.book.Book.{Book}
-use Rattle.crawl_queues.specs.Books.{BookId, sent_to, Numbered, IsBook, book_of, queue_of}
-use Rattle.crawl_frontier.specs.Accounts.{At}
-use Rattle.crawl_frontier.specs.Finishing.{Stands, LogStands, CountsStand, CountFails, AgreesBelow, DisagreesAt, OneDisagrees, AgreeTo, KeepRuleBelow}
-use Rattle.crawl_queues.proofs.Entries.{rule-numbered}
+use Rattle.crawl_frontier.proofs.Prelude.{nat_tests, ◌≡◌, ℕ, zero, suc, ◌+◌, ◌<◌, ◌≤◌, Bool, true, false, cond, eqb, List, [], ◌∷◌, ◌++◌, length, map, Some, refl, sym, ap, ◌∙◌, subst, ⊎_elim, arith, cases_lt, append_assoc, map-append, Entry, Logged, Accepted, Seen, count_of, entries_of, Book, BookId, sent_to, Numbered, IsBook, book_of, queue_of, At, Stands, LogStands, CountsStand, CountFails, AgreesBelow, DisagreesAt, OneDisagrees, AgreeTo, KeepRuleBelow, rule-numbered}
 
 -- the k-th entry of a numbered list has the k-th number
 numbered_at : (id n : ℕ) (xs : List Entry) (k : ℕ) (x : Entry) → Numbered id n xs → At xs k x → (x.sender ≡ id) × (x.number ≡ n + k)

@@ -1,10 +1,5 @@
 -- The parts of a run, taken apart one by one.
-use Rattle.std.proofs.Common.{◌≡◌, ◌⊎◌, ℕ, ◌<◌, List, [], ◌∷◌, ◌++◌, length, Some, sym, ◌∙◌, subst, inl, inr, ⊎_elim, arith, length-append}
-use Rattle.std.proofs.lemmas.Bool.{cases_lt}
-use Rattle.crawl_queues.specs.Books.{BookId, IsBook}
-use Rattle.crawl_frontier.specs.Parts.{WorkerId, SenderId}
-use Rattle.crawl_frontier.specs.Accounts.{At}
-use Rattle.crawl_frontier.specs.Finishing.{HasBook, Gathered}
+use Rattle.crawl_frontier.proofs.Prelude.{◌≡◌, ◌⊎◌, ℕ, ◌<◌, List, [], ◌∷◌, ◌++◌, length, Some, sym, ◌∙◌, subst, inl, inr, ⊎_elim, arith, length-append, cases_lt, BookId, IsBook, WorkerId, SenderId, At, HasBook, Gathered}
 use Rattle.crawl_frontier.proofs.Gets.{get_snoc, get_before, get_last, get_within}
 
 pub gather-none : (workers : ℕ) (closed : List WorkerId) (senders : List SenderId) → Gathered workers closed senders closed senders []

@@ -1,16 +1,6 @@
 -- One subqueue more.
-use Rattle.std.proofs.Common.{◌≡◌, ℕ, zero, suc, ◌+◌, List, [], ◌∷◌, ◌++◌, length, Some, refl, subst, arith, length-append}
-use Rattle.std.specs.Prelude.{slice_get}
-use Rattle.crawl_queues.specs.QueueId.{QueueId}
-use Rattle.crawl_gate.specs.Seat.{GateId}
-use Rattle.crawl_queues.specs.PassId.{PassId}
-use Rattle.crawl_queues.specs.Known.{KnownList}
-use Rattle.crawl_queues.specs.Logs.{ListsAre}
-use Rattle.crawl_queues.specs.Rule.{pushing, popping, home}
+use Rattle.crawl_frontier.proofs.Prelude.{◌≡◌, ℕ, zero, suc, ◌+◌, List, [], ◌∷◌, ◌++◌, length, Some, refl, subst, arith, length-append, slice_get, QueueId, GateId, PassId, KnownList, ListsAre, pushing, popping, home, WorkerId, fresh_book, Line, AllPush, AllPop, AllFresh}
 use Rattle.crawl_gate.specs.View.{fresh_view}
-use Rattle.crawl_frontier.specs.Parts.{WorkerId}
-use Rattle.crawl_queues.specs.Books.{fresh_book}
-use Rattle.crawl_frontier.specs.FreshParts.{Line, AllPush, AllPop, AllFresh}
 use Rattle.crawl_frontier.proofs.Gets.{get_both}
 
 pub line-snoc : (gate : GateId) (workers : ℕ) (qs : List QueueId) (ss ts : List PassId) (n : ℕ) (q : QueueId) (s t : PassId) → Line gate workers qs ss ts n

@@ -1,22 +1,8 @@
 -- What the lines of a log say as what is known of the lists grows, and at the end.
-use Rattle.std.proofs.Common.{◌≡◌, ℕ, zero, suc, Bool, true, List, [], ◌∷◌, map, set, Some, refl, sym, ap, ◌∙◌, subst, arith}
-use Rattle.std.specs.Prelude.{if◌then◌else◌}
+use Rattle.crawl_frontier.proofs.Prelude.{◌≡◌, ℕ, zero, suc, Bool, true, List, [], ◌∷◌, map, set, Some, refl, sym, ap, ◌∙◌, subst, arith, if◌then◌else◌, Entry, LogLine, Accepted, Seen, QueueId, has_url, Stays, KnownList, items_of, lists_of, says, line_of, log_of, AreThere, AllStay, ListsAre, AreKnown, queue_of, ShardId, At, Stands, AreRaised, IsHome, AreToldOf, LogIsOf, entry_there, log_stays, there_stays}
 use Rattle.std.proofs.lemmas.Slice.Eq.{bytes_eq-Decides}
 use mathlib.Core.Logic.{dite}
 use native.Mathlib.Decide.{ℕ_discrete}
-use Rattle.crawl_queues.specs.declared.entry.Entry.{Entry}
-use Rattle.crawl_queues.specs.declared.log.LogLine.{LogLine}
-use Rattle.crawl_queues.specs.declared.book.Logged.TheVariants.{Accepted, Seen}
-use Rattle.crawl_queues.specs.QueueId.{QueueId}
-use Rattle.crawl_queues.specs.Entries.{has_url}
-use Rattle.crawl_queues.specs.Growing.{Stays}
-use Rattle.crawl_queues.specs.Known.{KnownList}
-use Rattle.crawl_queues.specs.Logs.{items_of, lists_of, says, line_of, log_of, AreThere, AllStay, ListsAre, AreKnown}
-use Rattle.crawl_queues.specs.Books.{queue_of}
-use Rattle.crawl_frontier.specs.Parts.{ShardId}
-use Rattle.crawl_frontier.specs.Accounts.{At}
-use Rattle.crawl_frontier.specs.Finishing.{Stands, AreRaised, IsHome, AreToldOf, LogIsOf}
-use Rattle.crawl_queues.proofs.LogLines.{entry_there, log_stays, there_stays}
 use Rattle.crawl_frontier.proofs.Gets.{get_set_same, get_set_other, get_len_set, get_within, has_at, same_at}
 
 pub at_map : {X Y : Type 0} (f : X → Y) (xs : List X) (k : ℕ) (x : X) → At xs k x → At (map f xs) k (f x)

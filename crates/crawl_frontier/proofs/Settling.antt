@@ -1,25 +1,6 @@
 -- One more queue is settled, and what maps by number contain after a change.
-use Rattle.std.proofs.Common.{◌≡◌, ◌⊎◌, ℕ, ◌+◌, ◌<◌, ◌≤◌, Bool, true, false, true≢false, cond, eqb, List, [], ◌∷◌, ◌++◌, length, map, Option, Some, None, get_or, slice_get, refl, sym, ap, ◌∙◌, subst, inl, inr, ⊎_elim, arith}
-use Rattle.std.proofs.lemmas.Bool.{cases_lt}
-use Rattle.std.proofs.lemmas.Bool.Decides.{nat_tests}
-use Rattle.std.proofs.lemmas.Option.{slice_get_read, slice_get-map}
-use Rattle.std.specs.Prelude.{option_map, is_some}
+use Rattle.crawl_frontier.proofs.Prelude.{◌≡◌, ◌⊎◌, ℕ, ◌+◌, ◌<◌, ◌≤◌, Bool, true, false, true≢false, cond, eqb, List, [], ◌∷◌, ◌++◌, length, map, Option, Some, None, get_or, slice_get, refl, sym, ap, ◌∙◌, subst, inl, inr, ⊎_elim, arith, cases_lt, nat_tests, slice_get_read, slice_get-map, option_map, is_some, nat_cmp, BTreeMap, get, is_at, BTreeSet, contains, GateId, Entry, Book, Doubt, QueueId, PassId, KeepsRule, popping, home, BookId, book_of, WorkerId, SenderId, ShardId, At, IsPart, HasWorkers, Accounts, Slots, Placed, OwnRight, IsShared, SettlesAt, AllSettle, IdsOf, AgreesBelow, Gathered, AllAre, SendersIn, HasBook}
 use Rattle.std.specs.Cmp.{unsigned_ties}
-use Rattle.std.specs.Ordering.{nat_cmp}
-use Rattle.std.specs.BTreeMap.{BTreeMap, get, is_at}
-use Rattle.std.specs.BTreeSet.{BTreeSet, contains}
-use Rattle.crawl_gate.specs.Seat.{GateId}
-use Rattle.crawl_queues.specs.declared.entry.Entry.{Entry}
-use Rattle.crawl_queues.specs.declared.book.Book.{Book}
-use Rattle.crawl_frontier.specs.declared.finish.settle.Doubt.{Doubt}
-use Rattle.crawl_queues.specs.QueueId.{QueueId}
-use Rattle.crawl_queues.specs.PassId.{PassId}
-use Rattle.crawl_queues.specs.Entries.{KeepsRule}
-use Rattle.crawl_queues.specs.Rule.{popping, home}
-use Rattle.crawl_queues.specs.Books.{BookId, book_of}
-use Rattle.crawl_frontier.specs.Parts.{WorkerId, SenderId, ShardId}
-use Rattle.crawl_frontier.specs.Accounts.{At, IsPart, HasWorkers, Accounts}
-use Rattle.crawl_frontier.specs.Finishing.{Slots, Placed, OwnRight, IsShared, SettlesAt, AllSettle, IdsOf, AgreesBelow, Gathered, AllAre, SendersIn, HasBook}
 use Rattle.crawl_frontier.proofs.Gets.{get_both, get_within, has_at, same_at}
 
 key_is : (key q : ℕ) → is_at (nat_cmp key) q ≡ true → key ≡ q

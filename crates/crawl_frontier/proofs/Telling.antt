@@ -1,18 +1,5 @@
 -- What each part knows of the lists becomes what the shards have, queue by queue and book by book.
-use Rattle.std.proofs.Common.{◌≡◌, ◌≢◌, ℕ, zero, suc, ◌+◌, ◌<◌, ◌≤◌, List, [], ◌∷◌, ◌++◌, length, map, set, Option, None, refl, sym, ap, ◌∙◌, subst, ⊎_elim, arith}
-use Rattle.std.proofs.lemmas.Bool.{cases_lt}
-use Rattle.std.specs.BTreeMap.{BTreeMap}
-use Rattle.crawl_queues.specs.declared.entry.Entry.{Entry}
-use Rattle.crawl_queues.specs.declared.book.Book.{Book}
-use Rattle.crawl_frontier.specs.declared.finish.settle.Doubt.{Doubt}
-use Rattle.crawl_queues.specs.QueueId.{QueueId}
-use Rattle.crawl_queues.specs.PassId.{PassId}
-use Rattle.crawl_queues.specs.Growing.{Stays}
-use Rattle.crawl_queues.specs.Known.{KnownList}
-use Rattle.crawl_queues.specs.Books.{BookId, book_of}
-use Rattle.crawl_frontier.specs.Parts.{ShardId}
-use Rattle.crawl_frontier.specs.Accounts.{At}
-use Rattle.crawl_frontier.specs.Finishing.{AllAre, AreRaised, IsHome, AreToldOf, LogIsOf, LogsAreOf, LogsStand, AllSettle}
+use Rattle.crawl_frontier.proofs.Prelude.{◌≡◌, ◌≢◌, ℕ, zero, suc, ◌+◌, ◌<◌, ◌≤◌, List, [], ◌∷◌, ◌++◌, length, map, set, Option, None, refl, sym, ap, ◌∙◌, subst, ⊎_elim, arith, cases_lt, BTreeMap, Entry, Book, Doubt, QueueId, PassId, Stays, KnownList, BookId, book_of, ShardId, At, AllAre, AreRaised, IsHome, AreToldOf, LogIsOf, LogsAreOf, LogsStand, AllSettle}
 use Rattle.crawl_frontier.proofs.Gets.{get_set_same, get_set_other, get_snoc, get_within, same_at}
 use Rattle.crawl_frontier.proofs.Logging.{at_map, raised_on, raised_at}
 

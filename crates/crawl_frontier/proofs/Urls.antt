@@ -1,12 +1,7 @@
 -- Entries by the indices of their URLs.
-use Rattle.std.proofs.Common.{◌≡◌, ℕ, ◌<◌, List, [], ◌∷◌, map, slice_get, Option, Some, None, is_some, refl, sym, ap, ◌∙◌, arith}
-use Rattle.std.specs.Prelude.{length}
+use Rattle.crawl_frontier.proofs.Prelude.{◌≡◌, ℕ, ◌<◌, List, [], ◌∷◌, map, slice_get, Option, Some, None, is_some, refl, sym, ap, ◌∙◌, arith, length, slice_get-map, slice_get_within, index_of, Entry, has_url}
 use Rattle.std.specs.Option.{option_map}
-use Rattle.std.proofs.lemmas.Option.{slice_get-map, slice_get_within}
-use Rattle.hash_index.specs.Lists.{index_of}
 use Rattle.hash_index.proofs.Listed.{found_at}
-use Rattle.crawl_queues.specs.declared.entry.Entry.{Entry}
-use Rattle.crawl_queues.specs.Entries.{has_url}
 
 -- a URL is in the list exactly if it has an index
 pub has_index : (es : List Entry) (url : List ℕ) → is_some (index_of (map (λ e. e.url) es) url) ≡ has_url url es

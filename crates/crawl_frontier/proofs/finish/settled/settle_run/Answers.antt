@@ -1,14 +1,4 @@
-use Rattle.std.proofs.Common.{◌≡◌, ◌<◌, ℕ, List, [], Option, true, None, Some, map, sym, subst, inl, inr, length, arith}
-use Rattle.std.specs.Prelude.{is_some}
-use Rattle.std.specs.Ordering.{nat_cmp}
-use Rattle.std.specs.BTreeMap.{get}
-use Rattle.crawl_queues.specs.declared.book.Book.{Book}
-use Rattle.crawl_queues.specs.declared.entry.Entry.{Entry}
-use Rattle.crawl_frontier.specs.declared.finish.settle.Doubt.{Doubt}
-use Rattle.crawl_queues.specs.Books.{BookId, IsBook, book_of}
-use Rattle.crawl_frontier.specs.Parts.{ShardId}
-use Rattle.crawl_frontier.specs.Accounts.{At, HasWorkers}
-use Rattle.crawl_frontier.specs.Finishing.{AllAre, Gathered, LogsAreOf, SendersIn, IdsOf, KeepRuleBelow, Stranger}
+use Rattle.crawl_frontier.proofs.Prelude.{◌≡◌, ◌<◌, ℕ, List, [], Option, true, None, Some, map, sym, subst, inl, inr, length, arith, is_some, nat_cmp, get, Book, Entry, Doubt, BookId, IsBook, book_of, ShardId, At, HasWorkers, AllAre, Gathered, LogsAreOf, SendersIn, IdsOf, KeepRuleBelow, Stranger}
 use Rattle.crawl_frontier.proofs.Telling.{logs_stand}
 use Rattle.crawl_frontier.proofs.Settling.{Settled, settled, accounts, all_work, one_is_missing}
 use Rattle.crawl_frontier.proofs.Disagreeing.{found, strangers, all_senders, first_unsettled}

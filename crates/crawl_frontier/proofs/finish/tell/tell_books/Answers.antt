@@ -1,9 +1,4 @@
-use Rattle.std.proofs.Common.{◌≡◌, ◌≢◌, ◌∙◌, List, map, length, refl, sym, ap, subst, arith}
-use Rattle.std.proofs.lemmas.Option.{slice_get_read}
-use Rattle.crawl_queues.specs.Books.{book_of}
-use Rattle.crawl_frontier.specs.Parts.{ShardId}
-use Rattle.crawl_frontier.specs.Accounts.{At}
-use Rattle.crawl_frontier.specs.Finishing.{LogIsOf}
+use Rattle.crawl_frontier.proofs.Prelude.{◌≡◌, ◌≢◌, ◌∙◌, List, map, length, refl, sym, ap, subst, arith, slice_get_read, book_of, ShardId, At, LogIsOf}
 use Rattle.crawl_frontier.proofs.Gets.{get_set_other, get_within}
 use Rattle.crawl_frontier.proofs.Settling.{mapped}
 use Rattle.crawl_frontier.proofs.Telling.{map_set_same, book_more}

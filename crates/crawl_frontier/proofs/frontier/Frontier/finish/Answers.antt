@@ -1,16 +1,9 @@
-use Rattle.std.proofs.Common.{◌∙◌, sym, ◌≡◌, ℕ, ◌<◌, ◌≤◌, List, [], length, map, ap, subst, arith}
+use Rattle.crawl_frontier.proofs.Prelude.{◌∙◌, sym, ◌≡◌, ℕ, ◌<◌, ◌≤◌, List, [], length, map, ap, subst, arith, MatchResult, Entry, KeepsRule, IsBook, book_of, WorkerId, SenderId, Accounts, AccountId, AllKeepRule, FinishFails, AllAre, AgreeTo, CanCompare, KeepRuleBelow, LogsStand}
 use Rattle.std.proofs.lemmas.Result.{MatchResult-weaker}
-use Rattle.std.specs.Prelude.{MatchResult}
 use Rattle.std.specs.declared.result.Result.{Result}
-use Rattle.crawl_queues.specs.declared.entry.Entry.{Entry}
 use Rattle.crawl_frontier.specs.declared.error.FinishError.{FinishError}
 use Rattle.crawl_frontier.specs.declared.error.FinishError.TheVariants.{Disagree}
 use Rattle.crawl_frontier.specs.declared.finish.settled.Settled.{Settled}
-use Rattle.crawl_queues.specs.Entries.{KeepsRule}
-use Rattle.crawl_queues.specs.Books.{IsBook, book_of}
-use Rattle.crawl_frontier.specs.Parts.{WorkerId, SenderId}
-use Rattle.crawl_frontier.specs.Accounts.{Accounts, AccountId, AllKeepRule, FinishFails}
-use Rattle.crawl_frontier.specs.Finishing.{AllAre, AgreeTo, CanCompare, KeepRuleBelow, LogsStand}
 use Rattle.crawl_frontier.proofs.Gets.{get_within}
 use Rattle.crawl_frontier.proofs.frontier.Frontier.finish.Goals as goal
 

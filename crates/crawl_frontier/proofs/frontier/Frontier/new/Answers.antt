@@ -1,8 +1,5 @@
-use Rattle.std.proofs.Common.{◌∙◌, List, ap, subst}
-use Rattle.crawl_queues.specs.QueueId.{QueueId}
+use Rattle.crawl_frontier.proofs.Prelude.{◌∙◌, List, ap, subst, QueueId, ListsAre, AllPush, AllPop}
 use Rattle.crawl_frontier.specs.SetupId.{SetupId}
-use Rattle.crawl_queues.specs.Logs.{ListsAre}
-use Rattle.crawl_frontier.specs.FreshParts.{AllPush, AllPop}
 use Rattle.crawl_frontier.proofs.Lines.{line-push, line-pop}
 use Rattle.crawl_frontier.proofs.frontier.Frontier.new.Goals as goal
 

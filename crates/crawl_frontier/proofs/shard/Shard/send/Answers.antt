@@ -1,15 +1,8 @@
-use Rattle.std.proofs.Common.{rules, ◌≡◌, ◌+◌, ◌<◌, ◌∙◌, ◌++◌, ◌∷◌, [], List, length, length-append, map, slice_get, false, Some, None, cond, eqb, ap, refl, sym, subst, arith}
-use Rattle.std.specs.Prelude.{is_some}
-use Rattle.std.proofs.lemmas.Option.{slice_get_read}
+use Rattle.crawl_frontier.proofs.Prelude.{rules, ◌≡◌, ◌+◌, ◌<◌, ◌∙◌, ◌++◌, ◌∷◌, [], List, length, length-append, map, slice_get, false, Some, None, cond, eqb, ap, refl, sym, subst, arith, is_some, slice_get_read, index_of, Entry, ShardId, shard, MayFollow, KeepsRule, has_url, count_of, entry, rule-snoc, count_of-le}
 use Rattle.hash_order.specs.HashOrder.{hash_of}
-use Rattle.hash_index.specs.Lists.{index_of}
 use Rattle.hash_index.specs.Index.{IsIndexOf}
 use Rattle.hash_index.proofs.Keeping.{pushed_item}
-use Rattle.crawl_queues.specs.declared.entry.Entry.{Entry}
 use Rattle.crawl_queues.specs.declared.rule.PassView.{PassView}
-use Rattle.crawl_frontier.specs.Parts.{ShardId, shard}
-use Rattle.crawl_queues.specs.Entries.{MayFollow, KeepsRule, has_url, count_of, entry}
-use Rattle.crawl_queues.proofs.Entries.{rule-snoc, count_of-le}
 use Rattle.crawl_frontier.proofs.Urls.{has_index, index_within, url_there}
 use Rattle.crawl_frontier.proofs.Undo.{raised}
 use Rattle.crawl_frontier.proofs.Admitting.{answered}
