@@ -1,20 +1,8 @@
 -- What follows from the result of an offer to a shard, while its lock is held and after it is released.
-use Rattle.std.proofs.Common.{◌≡◌, ◌⊎◌, ℕ, true, List, [], ◌∷◌, ◌++◌, length, Some, slice_get, refl, sym, ap, ◌∙◌, subst, ⊎_elim}
-use Rattle.std.specs.Prelude.{slice_set}
-use Rattle.crawl_gate.specs.Seat.{SeatId}
-use Rattle.crawl_queues.specs.declared.entry.Entry.{Entry}
-use Rattle.crawl_queues.specs.declared.log.LogLine.{LogLine}
+use Rattle.crawl_frontier.proofs.Prelude.{◌≡◌, ◌⊎◌, ℕ, List, [], ◌∷◌, ◌++◌, length, Some, slice_get, refl, sym, ap, ◌∙◌, subst, arith, slice_set, SeatId, Entry, LogLine, QueueId, count_of, entry, KnownList, begins_with, items_of, lists_of, log_of, ListsAre, AreKnown, ShardId, Stays, Replies, IsKnown, AreRaised}
 use Rattle.crawl_frontier.specs.declared.shard.Admit.{Admit}
 use Rattle.crawl_frontier.specs.declared.shard.Admit.TheVariants.{Admitted, Crossed, Seen, TooFar, NoMemory}
-use Rattle.crawl_queues.specs.QueueId.{QueueId}
-use Rattle.crawl_queues.specs.Entries.{has_url, count_of, entry}
-use Rattle.crawl_queues.specs.Known.{KnownList, begins_with}
-use Rattle.crawl_queues.specs.Logs.{items_of, lists_of, log_of, ListsAre, AreKnown}
-use Rattle.crawl_frontier.specs.Parts.{ShardId}
 use Rattle.crawl_frontier.specs.Admits.{Admits}
-use Rattle.crawl_queues.specs.Growing.{Stays}
-use Rattle.crawl_frontier.specs.Offers.{Replies, IsKnown}
-use Rattle.crawl_frontier.specs.Finishing.{AreRaised}
 use Rattle.crawl_frontier.proofs.Gets.{get_last, get_set_same}
 use Rattle.crawl_frontier.proofs.Logging.{at_map, has_url_at, raised_at, raised_log, raised_known}
 
@@ -34,12 +22,7 @@ Raises before after q url id hops answer =
 -- the result, if the entry at an index has the URL
 pub answered : (s t : ShardId) (url : List ℕ) (id own hops : ℕ) (unit : SeatId) (there : Entry) (k : ℕ) (a : Admit)
     → count_of id s.sent ≡ own → t ≡ s → slice_get s.sent k ≡ Some there → there.url ≡ url → (a ≡ Seen there.url k unit) ⊎ (a ≡ NoMemory unit) → Admits s t url id own hops unit a
-answered s t url id own hops unit there k a count same at is = ⊎_elim
-    (λ (e : a ≡ Seen there.url k unit). subst (Admits s t url id own hops unit) (sym e) (count, has, is, same, refl, (there, at, is)))
-    (λ (e : a ≡ NoMemory unit). subst (Admits s t url id own hops unit) (sym e) (same, refl))
-  where
-    has : has_url url s.sent ≡ true
-    has = subst (λ (u : List ℕ). has_url u s.sent ≡ true) is (has_url_at s.sent k there at)
+answered s t url id own hops unit there k a count same at is = grind (arith, has_url_at)
 
 module _ (s t : ShardId) (url : List ℕ) (id own hops : ℕ) (unit : SeatId) where
   pub same_queue : (a : Admit) → Admits s t url id own hops unit a → t.queue ≡ s.queue
@@ -82,11 +65,7 @@ module _ (s t : ShardId) (url : List ℕ) (id own hops : ℕ) (unit : SeatId) wh
   )
 
 known_of : (lists : List (List Entry)) (es : List Entry) (q : ℕ) (url : List ℕ) (id hops : ℕ) (a : Admit) → slice_get lists q ≡ Some es → IsTrueOf es url id hops a → IsKnown lists q url id hops a
-known_of lists es q url id hops (Admitted n i) at is = (es, at, is)
-known_of lists es q url id hops (Crossed found u) at is = tt
-known_of lists es q url id hops (Seen there i u) at is = (is.0, (es, at, is.1), is.2)
-known_of lists es q url id hops (TooFar u) at is = tt
-known_of lists es q url id hops (NoMemory u) at is = tt
+known_of lists es q url id hops a at is = grind arith
 
 -- what holds of books and logs still holds after more of queue q's list became known
 module _ (before after : List KnownList) (q : ℕ) (url : List ℕ) (id hops : ℕ) (a : Admit) (r : Raises before after q url id hops a) where

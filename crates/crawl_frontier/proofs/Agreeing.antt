@@ -1,17 +1,5 @@
 -- When the books of a part agree with the list of a subqueue.
-use Rattle.std.proofs.Common.{◌≡◌, ℕ, zero, suc, ◌+◌, ◌<◌, ◌≤◌, Bool, true, false, cond, eqb, List, [], ◌∷◌, ◌++◌, length, map, Some, refl, sym, ap, ◌∙◌, subst, ⊎_elim, arith}
-use Rattle.std.proofs.lemmas.Bool.{cases_lt}
-use Rattle.std.proofs.lemmas.List.{append_assoc, map-append}
-use Rattle.std.proofs.lemmas.Bool.Decides.{nat_tests}
-use Rattle.crawl_queues.specs.declared.entry.Entry.{Entry}
-use Rattle.crawl_queues.specs.declared.book.Logged.{Logged}
-use Rattle.crawl_queues.specs.declared.book.Logged.TheVariants.{Accepted, Seen}
-use Rattle.crawl_queues.specs.Entries.{KeepsRule, count_of, entries_of}
-use Rattle.crawl_queues.specs.declared.book.Book.{Book}
-use Rattle.crawl_queues.specs.Books.{BookId, sent_to, Numbered, IsBook, book_of, queue_of}
-use Rattle.crawl_frontier.specs.Accounts.{At}
-use Rattle.crawl_frontier.specs.Finishing.{Stands, LogStands, CountsStand, CountFails, AgreesBelow, DisagreesAt, OneDisagrees, AgreeTo, KeepRuleBelow}
-use Rattle.crawl_queues.proofs.Entries.{rule-numbered}
+use Rattle.crawl_frontier.proofs.Prelude.{nat_tests, ◌≡◌, ℕ, zero, suc, ◌+◌, ◌<◌, ◌≤◌, Bool, true, false, cond, eqb, List, [], ◌∷◌, ◌++◌, length, map, Some, refl, sym, ap, ◌∙◌, subst, ⊎_elim, arith, cases_lt, append_assoc, map-append, Entry, Logged, Accepted, Seen, count_of, entries_of, Book, BookId, sent_to, Numbered, IsBook, book_of, queue_of, At, Stands, LogStands, CountsStand, CountFails, AgreesBelow, DisagreesAt, OneDisagrees, AgreeTo, KeepRuleBelow, rule-numbered}
 
 -- the k-th entry of a numbered list has the k-th number
 numbered_at : (id n : ℕ) (xs : List Entry) (k : ℕ) (x : Entry) → Numbered id n xs → At xs k x → (x.sender ≡ id) × (x.number ≡ n + k)
@@ -42,11 +30,7 @@ same_numbered id n (x ∷ xs) (y ∷ ys) a b len stands =
 
 pub entries_of-length : (id : ℕ) (es : List Entry) → length (entries_of id es) ≡ count_of id es
 entries_of-length id [] = refl
-entries_of-length id (e ∷ es) = by_case (eqb e.sender id) (entries_of-length id es)
-  where
-    by_case : (t : Bool) → length (entries_of id es) ≡ count_of id es → length (cond t (e ∷ entries_of id es) (entries_of id es)) ≡ cond t 1 0 + count_of id es
-    by_case true r = omega arith
-    by_case false r = omega arith
+entries_of-length id (e ∷ es) = grind (arith, entries_of-length id es)
 
 pub entries_of-at : (id : ℕ) (es : List Entry) (k : ℕ) (x : Entry) → At es k x → x.sender ≡ id → (j : ℕ) × At (entries_of id es) j x
 entries_of-at id [] k x at own = absurd (cc (at))
@@ -104,14 +88,7 @@ agrees workers least below lists b is within rule under stands now under' counts
 
 -- a count that differs
 pub count_disagrees : (workers q : ℕ) (lists : List (List Entry)) (b : BookId) → IsBook workers b → q < workers → CountFails q lists b → DisagreesAt q lists b
-count_disagrees workers q lists b is lt (es, n, here, counted, differs) = (
-  es,
-  here,
-  λ agree.
-      let both : Some n ≡ Some (length (sent_to q b.log)) = sym counted ∙ is.counted q lt in
-      let same : n ≡ length (sent_to q b.log) = cc in
-      differs (same ∙ (ap length agree.sent ∙ entries_of-length b.id es)),
-)
+count_disagrees workers q lists b is lt (es, n, here, counted, differs) = grind (arith, entries_of-length)
 
 -- if the bound fell only to queues at which something fails, something fails at the bound
 pub fails_next : (P : ℕ → Type 0) (first old new : ℕ) → new ≤ old → (old < first → P old) → (new < old → P new) → new < first → P new
@@ -139,8 +116,7 @@ second_half (z ∷ zs) ys j x at = let r = second_half zs ys j x at in (suc r.0,
 
 -- the last of the books that are left is one of all
 pub last_one : (all : List BookId) (books left : List Book) (b : Book) (bs : List BookId) → all ≡ map book_of books ++ bs → books ≡ left ++ b ∷ [] → all ≡ map book_of left ++ book_of b ∷ bs
-last_one all books left b bs is last =
-    is ∙ (ap (λ xs. map book_of xs ++ bs) last ∙ (ap (λ xs. xs ++ bs) (map-append book_of left (b ∷ [])) ∙ append_assoc (map book_of left) (book_of b ∷ []) bs))
+last_one all books left b bs is last = grind (arith, map-append, append_assoc)
 
 pub is_one : (all : List BookId) (left : List BookId) (b : BookId) (bs : List BookId) → all ≡ left ++ b ∷ bs → (j : ℕ) × At all j b
 is_one all left b bs is = let here = second_half left (b ∷ bs) 0 b refl in (here.0, subst (λ xs. At xs here.0 b) (sym is) here.1)

@@ -1,18 +1,5 @@
 -- Why a run has no account, from what was found queue by queue.
-use Rattle.std.proofs.Common.{◌≡◌, ℕ, ◌<◌, ◌≤◌, true, false, true≢false, List, [], length, Option, Some, None, refl, sym, ap, ◌∙◌, subst, ⊎_elim, arith}
-use Rattle.std.proofs.lemmas.Bool.{cases_lt}
-use Rattle.std.specs.Ordering.{nat_cmp}
-use Rattle.std.specs.BTreeMap.{BTreeMap}
-use Rattle.std.specs.BTreeSet.{BTreeSet, contains}
-use Rattle.crawl_gate.specs.Seat.{GateId}
-use Rattle.crawl_queues.specs.declared.entry.Entry.{Entry}
-use Rattle.crawl_frontier.specs.declared.finish.settle.Doubt.{Doubt}
-use Rattle.crawl_queues.specs.QueueId.{QueueId}
-use Rattle.crawl_queues.specs.PassId.{PassId}
-use Rattle.crawl_queues.specs.Books.{BookId}
-use Rattle.crawl_frontier.specs.Parts.{WorkerId, SenderId, ShardId}
-use Rattle.crawl_frontier.specs.Accounts.{At, Agrees, HasSenders, HasStranger, Found, IsFound, AreFound, IsSettled, IsFirstUnsettled}
-use Rattle.crawl_frontier.specs.Finishing.{Slots, Placed, IsShared, SettlesAt, AllSettle, IdsOf, Stranger, AgreesBelow, OneDisagrees, Gathered, AllAre, SendersIn}
+use Rattle.crawl_frontier.proofs.Prelude.{◌≡◌, ℕ, ◌<◌, ◌≤◌, true, false, true≢false, List, [], length, Option, Some, None, refl, sym, ap, ◌∙◌, subst, ⊎_elim, arith, cases_lt, nat_cmp, BTreeMap, BTreeSet, contains, GateId, Entry, Doubt, QueueId, PassId, BookId, WorkerId, SenderId, ShardId, At, Agrees, HasSenders, HasStranger, Found, IsFound, AreFound, IsSettled, IsFirstUnsettled, Slots, Placed, IsShared, SettlesAt, AllSettle, IdsOf, Stranger, AgreesBelow, OneDisagrees, Gathered, AllAre, SendersIn}
 use Rattle.crawl_frontier.proofs.Gets.{get_within, has_at, same_at, list_of}
 use Rattle.crawl_frontier.proofs.Settling.{has_book}
 

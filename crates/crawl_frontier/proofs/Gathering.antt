@@ -1,21 +1,9 @@
 -- The parts of a run, taken apart one by one.
-use Rattle.std.proofs.Common.{◌≡◌, ◌⊎◌, ℕ, ◌<◌, List, [], ◌∷◌, ◌++◌, length, Some, sym, ◌∙◌, subst, inl, inr, ⊎_elim, arith, length-append}
-use Rattle.std.proofs.lemmas.Bool.{cases_lt}
-use Rattle.crawl_queues.specs.Books.{BookId, IsBook}
-use Rattle.crawl_frontier.specs.Parts.{WorkerId, SenderId}
-use Rattle.crawl_frontier.specs.Accounts.{At}
-use Rattle.crawl_frontier.specs.Finishing.{HasBook, Gathered}
+use Rattle.crawl_frontier.proofs.Prelude.{◌≡◌, ◌⊎◌, ℕ, ◌<◌, List, [], ◌∷◌, ◌++◌, length, Some, sym, ◌∙◌, subst, inl, inr, ⊎_elim, arith, length-append, cases_lt, BookId, IsBook, WorkerId, SenderId, At, HasBook, Gathered}
 use Rattle.crawl_frontier.proofs.Gets.{get_snoc, get_before, get_last, get_within}
 
 pub gather-none : (workers : ℕ) (closed : List WorkerId) (senders : List SenderId) → Gathered workers closed senders closed senders []
-gather-none workers closed senders = record {
-  begin = λ k x at. at;
-  begins = λ k x at. at;
-  closed_in = λ k w at. inl (get_within closed k w at);
-  senders_in = λ k s at. inl (get_within senders k s at);
-  parts = λ j b at. absurd (cc (at));
-  are_books = λ j b at. absurd (cc (at));
-}
+gather-none workers closed senders = grind (arith, get_within)
 
 more : (books : List BookId) (b c : BookId) → HasBook books b → HasBook (books ++ c ∷ []) b
 more books b c h = (h.0, get_before books c b h.0 h.1)

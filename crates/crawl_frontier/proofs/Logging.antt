@@ -1,22 +1,8 @@
 -- What the lines of a log say as what is known of the lists grows, and at the end.
-use Rattle.std.proofs.Common.{◌≡◌, ℕ, zero, suc, Bool, true, false, List, [], ◌∷◌, ◌++◌, map, set, Some, refl, sym, ap, ◌∙◌, subst, arith}
-use Rattle.std.specs.Prelude.{if◌then◌else◌, bytes_eq, ◌||◌}
+use Rattle.crawl_frontier.proofs.Prelude.{◌≡◌, ℕ, zero, suc, Bool, true, List, [], ◌∷◌, map, set, Some, refl, sym, ap, ◌∙◌, subst, arith, if◌then◌else◌, Entry, LogLine, Accepted, Seen, QueueId, has_url, Stays, KnownList, items_of, lists_of, says, line_of, log_of, AreThere, AllStay, ListsAre, AreKnown, queue_of, ShardId, At, Stands, AreRaised, IsHome, AreToldOf, LogIsOf, entry_there, log_stays, there_stays}
 use Rattle.std.proofs.lemmas.Slice.Eq.{bytes_eq-Decides}
 use mathlib.Core.Logic.{dite}
 use native.Mathlib.Decide.{ℕ_discrete}
-use Rattle.crawl_queues.specs.declared.entry.Entry.{Entry}
-use Rattle.crawl_queues.specs.declared.log.LogLine.{LogLine}
-use Rattle.crawl_queues.specs.declared.book.Logged.TheVariants.{Accepted, Seen}
-use Rattle.crawl_queues.specs.QueueId.{QueueId}
-use Rattle.crawl_queues.specs.Entries.{has_url}
-use Rattle.crawl_queues.specs.Growing.{Stays}
-use Rattle.crawl_queues.specs.Known.{KnownList}
-use Rattle.crawl_queues.specs.Logs.{items_of, lists_of, says, line_of, log_of, AreThere, AllStay, ListsAre, AreKnown}
-use Rattle.crawl_queues.specs.Books.{queue_of}
-use Rattle.crawl_frontier.specs.Parts.{ShardId}
-use Rattle.crawl_frontier.specs.Accounts.{At}
-use Rattle.crawl_frontier.specs.Finishing.{Stands, AreRaised, IsHome, AreToldOf, LogIsOf}
-use Rattle.crawl_queues.proofs.LogLines.{entry_there, log_stays, there_stays}
 use Rattle.crawl_frontier.proofs.Gets.{get_set_same, get_set_other, get_len_set, get_within, has_at, same_at}
 
 pub at_map : {X Y : Type 0} (f : X → Y) (xs : List X) (k : ℕ) (x : X) → At xs k x → At (map f xs) k (f x)
@@ -35,13 +21,7 @@ pub raised_none : (told : List KnownList) → AreRaised told told
 raised_none told = (refl, λ q t at. (t, at, refl, λ k x e. e))
 
 pub raised_on : (start before after : List KnownList) → AreRaised start before → AreRaised before after → AreRaised start after
-raised_on start before after r s = (
-  s.0 ∙ r.0,
-  λ q t at.
-      let u = r.1 q t at in
-      let v = s.1 q u.0 u.1 in
-      (v.0, v.1, v.2 ∙ u.2, λ k x e. v.3 k x (u.3 k x e)),
-)
+raised_on start before after r s = grind arith
 
 -- at one queue
 pub raised_at : (told : List KnownList) (q : ℕ) (t u : KnownList) → At told q t → u.list ≡ t.list → Stays t.items u.items → AreRaised told (set told q u)
@@ -79,33 +59,20 @@ raised_lists queues before after r are q s v there at =
     ap (λ (x : KnownList). x.list) (sym same) ∙ (u.2 ∙ are q s t.0 there t.1)
 
 pub raised_known : (queues : List QueueId) (workers : ℕ) (before after : List KnownList) (ls : List LogLine) → AreRaised before after → AreKnown queues workers before ls → AreKnown queues workers after ls
-raised_known queues workers before after ls r known = record {
-  len = r.0 ∙ known.len;
-  lists_are = raised_lists queues before after r known.lists_are;
-  there = there_stays (lists_of before) (lists_of after) ls (all_stay before after r) known.there;
-}
+raised_known queues workers before after ls r known = grind (arith, raised_lists, there_stays, all_stay)
 
 -- ---- what is known is in the shards
 
 pub has_url_at : (es : List Entry) (k : ℕ) (e : Entry) → At es k e → has_url e.url es ≡ true
 has_url_at [] k e at = absurd (cc (at))
-has_url_at (x ∷ xs) zero e at =
-    let same : x ≡ e = cc in
-    let equal : bytes_eq x.url e.url ≡ true = (bytes_eq-Decides x.url e.url).1 (ap (λ (z : Entry). z.url) same) in
-    ap (λ (b : Bool). b || has_url e.url xs) equal
-has_url_at (x ∷ xs) (suc k) e at = later (bytes_eq x.url e.url) (has_url e.url xs) (has_url_at xs k e at)
-  where
-    later : (b c : Bool) → c ≡ true → (b || c) ≡ true
-    later true c e = refl
-    later false c e = e
+has_url_at (x ∷ xs) zero e at = grind (arith, bytes_eq-Decides)
+has_url_at (x ∷ xs) (suc k) e at = grind (arith, has_url_at xs k e at)
 
 stands_says : (b : Bool) (es : List Entry) (i : ℕ) (e : Entry) (q : ℕ) → At es i e → Stands es (if b then Accepted e q else Seen e.url q)
-stands_says true es i e q at = (i, at)
-stands_says false es i e q at = has_url_at es i e at
+stands_says b es i e q at = grind (arith, has_url_at)
 
 queue_says : (b : Bool) (e : Entry) (q : ℕ) → queue_of (if b then Accepted e q else Seen e.url q) ≡ q
-queue_says true e q = refl
-queue_says false e q = refl
+queue_says b e q = grind arith
 
 pub lines_are_of : (shards : List ShardId) (told : List KnownList) (ls : List LogLine) → AreToldOf shards told → AreThere (lists_of told) ls → LogIsOf shards (log_of (lists_of told) ls)
 lines_are_of shards told [] of there k l s at home = absurd (cc (at))

@@ -1,25 +1,6 @@
 -- One more queue is settled, and what maps by number contain after a change.
-use Rattle.std.proofs.Common.{◌≡◌, ◌⊎◌, ℕ, ◌+◌, ◌<◌, ◌≤◌, Bool, true, false, true≢false, cond, eqb, List, [], ◌∷◌, ◌++◌, length, map, Option, Some, None, get_or, slice_get, refl, sym, ap, ◌∙◌, subst, inl, inr, ⊎_elim, arith}
-use Rattle.std.proofs.lemmas.Bool.{cases_lt}
-use Rattle.std.proofs.lemmas.Bool.Decides.{nat_tests}
-use Rattle.std.proofs.lemmas.Option.{slice_get_read, slice_get-map}
-use Rattle.std.specs.Prelude.{option_map, is_some}
+use Rattle.crawl_frontier.proofs.Prelude.{◌≡◌, ◌⊎◌, ℕ, ◌+◌, ◌<◌, ◌≤◌, Bool, true, false, true≢false, cond, eqb, List, [], ◌∷◌, ◌++◌, length, map, Option, Some, None, get_or, slice_get, refl, sym, ap, ◌∙◌, subst, inl, inr, ⊎_elim, arith, cases_lt, nat_tests, slice_get_read, slice_get-map, option_map, is_some, nat_cmp, BTreeMap, get, is_at, BTreeSet, contains, GateId, Entry, Book, Doubt, QueueId, PassId, KeepsRule, popping, home, BookId, book_of, WorkerId, SenderId, ShardId, At, IsPart, HasWorkers, Accounts, Slots, Placed, OwnRight, IsShared, SettlesAt, AllSettle, IdsOf, AgreesBelow, Gathered, AllAre, SendersIn, HasBook}
 use Rattle.std.specs.Cmp.{unsigned_ties}
-use Rattle.std.specs.Ordering.{nat_cmp}
-use Rattle.std.specs.BTreeMap.{BTreeMap, get, is_at}
-use Rattle.std.specs.BTreeSet.{BTreeSet, contains}
-use Rattle.crawl_gate.specs.Seat.{GateId}
-use Rattle.crawl_queues.specs.declared.entry.Entry.{Entry}
-use Rattle.crawl_queues.specs.declared.book.Book.{Book}
-use Rattle.crawl_frontier.specs.declared.finish.settle.Doubt.{Doubt}
-use Rattle.crawl_queues.specs.QueueId.{QueueId}
-use Rattle.crawl_queues.specs.PassId.{PassId}
-use Rattle.crawl_queues.specs.Entries.{KeepsRule}
-use Rattle.crawl_queues.specs.Rule.{popping, home}
-use Rattle.crawl_queues.specs.Books.{BookId, book_of}
-use Rattle.crawl_frontier.specs.Parts.{WorkerId, SenderId, ShardId}
-use Rattle.crawl_frontier.specs.Accounts.{At, IsPart, HasWorkers, Accounts}
-use Rattle.crawl_frontier.specs.Finishing.{Slots, Placed, OwnRight, IsShared, SettlesAt, AllSettle, IdsOf, AgreesBelow, Gathered, AllAre, SendersIn, HasBook}
 use Rattle.crawl_frontier.proofs.Gets.{get_both, get_within, has_at, same_at}
 
 key_is : (key q : ℕ) → is_at (nat_cmp key) q ≡ true → key ≡ q
@@ -37,24 +18,12 @@ mapped [] = refl
 mapped (b ∷ bs) = let r = mapped bs in omega arith
 
 pub removed : (key : ℕ) (m n : BTreeMap ℕ PassId) → ((q : ℕ) → get nat_cmp n q ≡ cond (is_at (nat_cmp key) q) None (get nat_cmp m q)) → (q : ℕ) → key < q → get nat_cmp n q ≡ get nat_cmp m q
-removed key m n h q lt = h q ∙ by_case (is_at (nat_cmp key) q) refl
-  where
-    by_case : (t : Bool) → is_at (nat_cmp key) q ≡ t → cond t None (get nat_cmp m q) ≡ get nat_cmp m q
-    by_case true is = let same : key ≡ q = key_is key q is in absurd (omega (arith, same, lt))
-    by_case false is = refl
+removed key m n h q lt = grind (arith, key_is)
 
 pub slots_more : (gate : GateId) (workers : ℕ) (queues : List QueueId) (closed : List WorkerId) (m n : BTreeMap ℕ PassId) (k : ℕ) (w : WorkerId) (r : PassId)
     → Slots gate workers queues closed m → ((q : ℕ) → get nat_cmp n q ≡ cond (is_at (nat_cmp w.queue) q) (Some r) (get nat_cmp m q)) → At closed k w
     → r.view ≡ popping (home gate workers w.queue) w.taken w.empty_pops → slice_get queues w.queue ≡ Some r.subqueue → Slots gate workers queues closed n
-slots_more gate workers queues closed m n k w r old h at view subqueue q p e = by_case (is_at (nat_cmp w.queue) q) refl (sym (h q) ∙ e)
-  where
-    by_case : (t : Bool) → is_at (nat_cmp w.queue) q ≡ t → cond t (Some r) (get nat_cmp m q) ≡ Some p
-        → (k : ℕ) × (w : WorkerId) × At closed k w × (w.queue ≡ q) × (p.view ≡ popping (home gate workers q) w.taken w.empty_pops) × (slice_get queues q ≡ Some p.subqueue)
-    by_case true is e =
-        let same : w.queue ≡ q = key_is w.queue q is in
-        let equal : r ≡ p = cc in
-        (k, w, at, same, ap (λ z. z.view) (sym equal) ∙ (view ∙ ap (λ (j : ℕ). popping (home gate workers j) w.taken w.empty_pops) same), ap (slice_get queues) (sym same) ∙ (subqueue ∙ ap (λ z. Some z.subqueue) equal))
-    by_case false is e = old q p e
+slots_more gate workers queues closed m n k w r old h at view subqueue q p e = grind (arith, key_is)
 
 some_not_none : (o : Option PassId) (p : PassId) → o ≡ Some p → o ≡ None → ⊥
 some_not_none o p a b = let both : Some p ≡ None = sym a ∙ b in absurd (cc (both))
@@ -62,16 +31,7 @@ some_not_none o p a b = let both : Some p ≡ None = sym a ∙ b in absurd (cc (
 -- no worker was taken apart
 pub placed-none : (gate : GateId) (workers : ℕ) (closed : List WorkerId) (rights : BTreeMap ℕ PassId) (alone : ℕ)
     → ((q : ℕ) → get nat_cmp rights q ≡ None) → Placed gate workers closed (length closed) rights alone
-placed-none gate workers closed rights alone none = record {
-  within = λ k w at from. past k w at from;
-  there = λ k w at from. past k w at from;
-  own = λ k w at from. past k w at from;
-  once = λ j k v w at there from from'. past j v at from;
-  whose = λ q has. absurd (true≢false (sym has ∙ ap is_some (none q)));
-}
-  where
-    past : {X : Type 0} → (k : ℕ) (w : WorkerId) → At closed k w → length closed ≤ k → X
-    past k w at from = let lt = get_within closed k w at in absurd (omega arith)
+placed-none gate workers closed rights alone none = grind (arith, get_within)
 
 -- one more closed worker, the n-th, was taken apart
 pub placed_more : (gate : GateId) (workers : ℕ) (closed : List WorkerId) (m m' : BTreeMap ℕ PassId) (n : ℕ) (w : WorkerId) (r : PassId) (alone alone' : ℕ)
@@ -144,10 +104,7 @@ shared_more gate workers closed m n w limit alone alone' old at le named before 
 pub settle_more : (workers : ℕ) (queues : List QueueId) (shards : List ShardId) (rights : BTreeMap ℕ PassId) (lists : List (List Entry)) (doubts : List (Option Doubt))
     (list : List Entry) (doubt : Option Doubt) → AllSettle workers queues shards rights lists doubts → length lists ≡ length doubts
     → SettlesAt workers queues shards rights (length lists) list doubt → AllSettle workers queues shards rights (lists ++ list ∷ []) (doubts ++ doubt ∷ [])
-settle_more workers queues shards rights lists doubts list doubt old len last q es d at there = ⊎_elim
-    (λ before. old q es d before.0 before.1)
-    (λ now. subst (λ (y : ℕ × List Entry × Option Doubt). SettlesAt workers queues shards rights y.0 y.1 y.2) (λ i. (sym now.0 i, now.1 i, now.2 i)) last)
-    (get_both lists doubts list es doubt d q len at there)
+settle_more workers queues shards rights lists doubts list doubt old len last q es d at there = grind (arith, get_both)
 
 -- below `least` each list is what the right to pop took, and keeps its rule
 abbrev pub Settled : ℕ → BTreeMap ℕ PassId → ℕ → List (List Entry) → Type 0
@@ -158,10 +115,7 @@ Settled workers rights least lists =
 -- if no queue below `least` is in doubt, all of them are settled
 pub settled : (workers : ℕ) (queues : List QueueId) (shards : List ShardId) (rights : BTreeMap ℕ PassId) (lists : List (List Entry)) (doubts : List (Option Doubt)) (least : ℕ)
     → AllSettle workers queues shards rights lists doubts → ((q : ℕ) → q < least → At doubts q None) → Settled workers rights least lists
-settled workers queues shards rights lists doubts least all none q es lt at =
-    let t = all q es None at (none q lt) in
-    let shows = t.6 in
-    ((t.2, t.5, shows.0 ∙ shows.2.1), subst (λ (n : ℕ). KeepsRule workers n [] es) shows.2.0 shows.1)
+settled workers queues shards rights lists doubts least all none q es lt at = grind arith
 
 -- the ids of the first books
 abbrev pub IdsBelow : List BookId → ℕ → BTreeSet ℕ → Type 0
@@ -171,34 +125,10 @@ IdsBelow books n ids =
 
 pub ids_more : (books : List BookId) (ids ids' : BTreeSet ℕ) (n : ℕ) (b : BookId) → IdsBelow books n ids → At books n b
     → ((q : ℕ) → contains nat_cmp ids' q ≡ cond (is_at (nat_cmp b.id) q) true (contains nat_cmp ids q)) → IdsBelow books (n + 1) ids'
-ids_more books ids ids' n b old at h = (of_books, all)
-  where
-    of_books : (s : ℕ) → contains nat_cmp ids' s ≡ true → (j : ℕ) × (b : BookId) × At books j b × (b.id ≡ s)
-    of_books s e = by_case (is_at (nat_cmp b.id) s) refl (sym (h s) ∙ e)
-      where
-        by_case : (t : Bool) → is_at (nat_cmp b.id) s ≡ t → cond t true (contains nat_cmp ids s) ≡ true → (j : ℕ) × (b : BookId) × At books j b × (b.id ≡ s)
-        by_case true is e = (n, b, at, key_is b.id s is)
-        by_case false is e = old.0 s e
-
-    kept : (s : ℕ) → contains nat_cmp ids s ≡ true → contains nat_cmp ids' s ≡ true
-    kept s had = h s ∙ by_case (is_at (nat_cmp b.id) s)
-      where
-        by_case : (t : Bool) → cond t true (contains nat_cmp ids s) ≡ true
-        by_case true = refl
-        by_case false = had
-
-    itself : contains nat_cmp ids' b.id ≡ true
-    itself = h b.id ∙ ap (λ t. cond t true (contains nat_cmp ids b.id)) (key_self b.id)
-
-    all : (k : ℕ) (c : BookId) → k < n + 1 → At books k c → contains nat_cmp ids' c.id ≡ true
-    all k c lt there = ⊎_elim (λ before. kept c.id (old.1 k c before there))
-        (λ after. let same : n ≡ k = omega arith in
-        subst (λ (d : BookId). contains nat_cmp ids' d.id ≡ true) (same_at books k b c (subst (λ m. At books m b) same at) there) itself)
-        (cases_lt k n)
+ids_more books ids ids' n b old at h = grind (arith, key_is, key_self, same_at, cases_lt)
 
 known_some : (o : Option PassId) → is_some o ≡ true → (p : PassId) × (o ≡ Some p)
-known_some None e = absurd (cc (e))
-known_some (Some p) e = (p, refl)
+known_some o e = grind arith
 
 -- if nothing is left to take apart, the book of each part was gathered
 pub has_book : (workers : ℕ) (closed : List WorkerId) (senders : List SenderId) (books : List BookId) → Gathered workers closed senders [] [] books → (b : BookId) → IsPart closed senders b → HasBook books b

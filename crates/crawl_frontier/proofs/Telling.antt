@@ -1,18 +1,5 @@
 -- What each part knows of the lists becomes what the shards have, queue by queue and book by book.
-use Rattle.std.proofs.Common.{◌≡◌, ◌≢◌, ℕ, zero, suc, ◌+◌, ◌<◌, ◌≤◌, List, [], ◌∷◌, ◌++◌, length, map, set, Option, None, refl, sym, ap, ◌∙◌, subst, ⊎_elim, arith}
-use Rattle.std.proofs.lemmas.Bool.{cases_lt}
-use Rattle.std.specs.BTreeMap.{BTreeMap}
-use Rattle.crawl_queues.specs.declared.entry.Entry.{Entry}
-use Rattle.crawl_queues.specs.declared.book.Book.{Book}
-use Rattle.crawl_frontier.specs.declared.finish.settle.Doubt.{Doubt}
-use Rattle.crawl_queues.specs.QueueId.{QueueId}
-use Rattle.crawl_queues.specs.PassId.{PassId}
-use Rattle.crawl_queues.specs.Growing.{Stays}
-use Rattle.crawl_queues.specs.Known.{KnownList}
-use Rattle.crawl_queues.specs.Books.{BookId, book_of, queue_of}
-use Rattle.crawl_frontier.specs.Parts.{ShardId}
-use Rattle.crawl_frontier.specs.Accounts.{At}
-use Rattle.crawl_frontier.specs.Finishing.{AllAre, AreRaised, IsHome, AreToldOf, LogIsOf, LogsAreOf, LogsStand, AllSettle, Stands}
+use Rattle.crawl_frontier.proofs.Prelude.{◌≡◌, ◌≢◌, ℕ, zero, suc, ◌+◌, ◌<◌, ◌≤◌, List, [], ◌∷◌, ◌++◌, length, map, set, Option, None, refl, sym, ap, ◌∙◌, subst, ⊎_elim, arith, cases_lt, BTreeMap, Entry, Book, Doubt, QueueId, PassId, Stays, KnownList, BookId, book_of, ShardId, At, AllAre, AreRaised, IsHome, AreToldOf, LogIsOf, LogsAreOf, LogsStand, AllSettle}
 use Rattle.crawl_frontier.proofs.Gets.{get_set_same, get_set_other, get_snoc, get_within, same_at}
 use Rattle.crawl_frontier.proofs.Logging.{at_map, raised_on, raised_at}
 
@@ -63,18 +50,9 @@ LogsBelow n shards books = (j : ℕ) (b : BookId) → j < n → At books j b →
 -- one more book
 pub book_more : (shards : List ShardId) (books : List BookId) (now : List Book) (n : ℕ) (b : Book)
     → map book_of now ≡ books → At now n b → LogsBelow n shards books → LogIsOf shards (book_of b).log → LogsBelow (n + 1) shards books
-book_more shards books now n b are at below new j c lt here = ⊎_elim
-    (λ (less : j < n). below j c less here)
-    (λ (not : n ≤ j).
-    let same : j ≡ n = omega (arith, not, lt) in
-    let is : book_of b ≡ c = same_at books n (book_of b) c (subst (λ (bs : List BookId). At bs n (book_of b)) are (at_map book_of now n b at)) (subst (λ (k : ℕ). At books k c) same here) in
-    subst (λ (x : BookId). LogIsOf shards x.log) is new)
-    (cases_lt j n)
+book_more shards books now n b are at below new j c lt here = grind (arith, same_at, at_map, cases_lt)
 
 -- if no queue below `least` is in doubt, what the logs say of the shards' lists holds of these lists
 pub logs_stand : (workers : ℕ) (queues : List QueueId) (shards : List ShardId) (rights : BTreeMap ℕ PassId) (lists : List (List Entry)) (doubts : List (Option Doubt)) (least : ℕ) (books : List BookId)
     → AllSettle workers queues shards rights lists doubts → ((q : ℕ) → q < least → At doubts q None) → LogsAreOf shards books → LogsStand least lists books
-logs_stand workers queues shards rights lists doubts least books all none are j b at k l here lt es there =
-    let t = all (queue_of l) es None there (none (queue_of l) lt) in
-    let shows = t.6 in
-    subst (λ (xs : List Entry). Stands xs l) (sym shows.0) (are j b at k l t.1 here (shows.2.0, (t.0, t.3, t.4)))
+logs_stand workers queues shards rights lists doubts least books all none are j b at k l here lt es there = grind arith

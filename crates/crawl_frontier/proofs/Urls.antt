@@ -1,23 +1,12 @@
 -- Entries by the indices of their URLs.
-use Rattle.std.proofs.Common.{◌≡◌, ℕ, suc, ◌<◌, Bool, true, false, List, [], ◌∷◌, map, slice_get, Option, Some, None, is_some, refl, sym, ap, ◌∙◌}
-use Rattle.std.specs.Prelude.{length, bytes_eq, ◌||◌}
-use Rattle.std.specs.Bool.{if◌then◌else◌}
+use Rattle.crawl_frontier.proofs.Prelude.{◌≡◌, ℕ, ◌<◌, List, [], ◌∷◌, map, slice_get, Option, Some, None, is_some, refl, sym, ap, ◌∙◌, arith, length, slice_get-map, slice_get_within, index_of, Entry, has_url}
 use Rattle.std.specs.Option.{option_map}
-use Rattle.std.proofs.lemmas.Option.{slice_get-map, slice_get_within}
-use Rattle.hash_index.specs.Lists.{index_of}
 use Rattle.hash_index.proofs.Listed.{found_at}
-use Rattle.crawl_queues.specs.declared.entry.Entry.{Entry}
-use Rattle.crawl_queues.specs.Entries.{has_url}
 
 -- a URL is in the list exactly if it has an index
 pub has_index : (es : List Entry) (url : List ℕ) → is_some (index_of (map (λ e. e.url) es) url) ≡ has_url url es
 has_index [] url = refl
-has_index (e ∷ es) url = by_first (bytes_eq e.url url) (index_of (map (λ e. e.url) es) url) (has_index es url)
-  where
-    by_first : (b : Bool) (o : Option ℕ) → is_some o ≡ has_url url es → is_some (if b then Some 0 else option_map suc o) ≡ (b || has_url url es)
-    by_first true o more = refl
-    by_first false None more = more
-    by_first false (Some k) more = more
+has_index (e ∷ es) url = grind (arith, has_index es url)
 
 -- the URL of the entry at an index
 pub url_at : (es : List Entry) (k : ℕ) (e : Entry) → slice_get es k ≡ Some e → slice_get (map (λ e. e.url) es) k ≡ Some e.url
@@ -36,6 +25,4 @@ index_within es url k found = let there = entry_there es url k found in slice_ge
 
 -- the entry at the URL's index has the URL
 pub url_there : (es : List Entry) (url : List ℕ) (k : ℕ) (e : Entry) → index_of (map (λ e. e.url) es) url ≡ Some k → slice_get es k ≡ Some e → e.url ≡ url
-url_there es url k e found at =
-    let both : Some e.url ≡ Some url = sym (url_at es k e at) ∙ found_at _ url k found in
-    cc
+url_there es url k e found at = grind (arith, url_at, found_at)

@@ -33,6 +33,7 @@ fn set_count(counts: &mut Counts, sender: u64, count: u64) -> Result<(), AllocEr
 }
 
 /// Makes sure that the sender has an entry, with its present count, so that raising the count allocates nothing.
+#[tactic(auto, using(crate::proofs::Undo::has_entry, crate::proofs::Undo::rewritten))]
 pub fn enter_sender(counts: &mut Counts, sender: u64, count: u64) -> Result<(), AllocError>
     requires { count_in counts.old sender ≡ count }
     ensures same { (s : ℕ) → count_in counts.new s ≡ count_in counts.old s }

@@ -1,6 +1,5 @@
 -- Subqueues of the machine and of the running frontier, one by one.
 use Rattle.crawl_tie.proofs.Prelude.{◌≡◌, ◌≢◌, ℕ, zero, suc, ◌+◌, true, ◌||◌, List, [], ◌∷◌, ◌++◌, length, map, set, slice_get, slice_set, Some, None, refl, sym, ap, ◌∙◌, arith, eqb-true, bytes_eq, length-append, map-append, length_push, length-map, nil_from_length, some, get_elem?, Subqueue, empty_subqueue, after_accepting, after_taking, set_cases, get_set_same, get_set_other, some_is, GateId, Entry, Message, Home, PassView, has_url, home, pushing, popping, undivided, reunited, spent, plain, no_home, step_moves, Lane, made, fresh_lane, Pushing, Popping, Counting, TakingIn, ShowsLane, HasLists, message_of, slice_get_past}
-use Rattle.std.proofs.lemmas.Bool.Decides.{nat_tests}
 use Rattle.std.proofs.lemmas.Grind.{common_steps}
 use Rattle.crawl_queues.specs.Entries.{count_of}
 use Rattle.std.proofs.lemmas.List.Sums.{sum_by-cons}
@@ -16,7 +15,7 @@ same_urls (e ∷ es) url = ap (λ b. bytes_eq e.url url || b) (same_urls es url)
 
 pub same_counts : (es : List Entry) (s : ℕ) → core.count_from (map message_of es) s ≡ count_of s es
 same_counts [] s = refl
-same_counts (e ∷ es) s = grind (arith, nat_tests, common_steps, sum_by-cons, same_counts es s)
+same_counts (e ∷ es) s = grind (arith, common_steps, sum_by-cons, same_counts es s)
 
 get_mid : {A B : Type 0} (f : A → B) (xs : List A) (y : A) (ys : List A) → slice_get (map f (xs ++ y ∷ ys)) (length xs) ≡ Some (f y)
 get_mid f [] y ys = refl
@@ -181,7 +180,7 @@ lens_of gate workers q s l shows = grind (arith, lists_split, length-append, len
 
 -- if the queue holds nothing, the machine has taken all
 pub none_waits : (gate : GateId) (workers q : ℕ) (s : Subqueue) (l : Lane) → ShowsLane gate workers q s l → l.moment.items ≡ [] → slice_get s.accepted s.taken ≡ None
-none_waits gate workers q s l shows none = grind (arith, nat_tests, common_steps, lens_of, slice_get_past)
+none_waits gate workers q s l shows none = grind (arith, common_steps, lens_of, slice_get_past)
 
 -- if the machine has taken all, the queue holds nothing
 pub all_taken : (gate : GateId) (workers q : ℕ) (s : Subqueue) (l : Lane) → ShowsLane gate workers q s l → s.taken ≡ length s.accepted → l.moment.items ≡ []

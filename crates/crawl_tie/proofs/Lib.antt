@@ -1,6 +1,5 @@
 pub mod Closing
 pub mod GateSteps
-pub mod LaneSteps
 pub mod Lanes
 pub mod Lists
 pub mod Owners

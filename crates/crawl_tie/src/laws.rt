@@ -80,6 +80,7 @@ pub fn no_step_left_out()
 
 /// The laws are about something: twenty-seven steps of two workers and two senders with one URL. One sender loses a try, and
 /// then finds the URL there; one worker fetches it; the gate is closed, and found closed.
+#[tactic(auto, using(crate::proofs::Samples::sample))]
 pub fn there_are_histories()
     ensures { (gate : GateId) → gate.max_pending ≡ 4 → (q : ℕ) × (other : ℕ) × (e : Entry) × (first : Whole) × (mid : Whole) × (last : Whole)
         × (q ≢ other) × IsFirst gate 2 first × History first (offers_made q e) mid × History mid (turns_made q other e) last }

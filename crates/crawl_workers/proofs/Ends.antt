@@ -1,29 +1,11 @@
 -- What follows from the turns of a worker.
-use Rattle.std.proofs.Common.{◌≡◌, ℕ, ◌+◌, ◌-◌, ◌^◌, ◌<◌, ◌≤◌, min, Bool, true, false, cond, List, [], ◌∷◌, ◌++◌, length, map, Option, None, Some, Ok, Err, refl, sym, ap, subst, ◌∙◌, arith}
-use Rattle.std.specs.List.{All, count_by, flat_map}
-use Rattle.std.proofs.lemmas.List.{length-append, length-map}
-use Rattle.std.proofs.lemmas.List.Elements.{All-nil, All-append, All-cons}
+use Rattle.crawl_workers.proofs.Prelude.{◌≡◌, ℕ, ◌+◌, ◌-◌, ◌^◌, ◌<◌, ◌≤◌, min, Bool, true, false, cond, List, [], ◌∷◌, ◌++◌, length, map, Option, None, Some, refl, sym, ap, subst, ◌∙◌, arith, All, count_by, flat_map, length-append, length-map, All-nil, All-append, All-cons, Page, PageResult, links_of, Entry, KeepsRule, BookId, WorkerId, Loss, LinkOffers, AllLogged, Grows, all_losses, no_losses, sum_of, with_loss, Answer, losses_by, with_losses, Outcome, Turn, IsTurn, AreTurns, IsTold, losses_at, found_at, entries_in, failed, unkept, kept, Fate, results_of, taken_in, most_lost_at, most_lost, Ran, IsTally, Progress, answers_few, answers_logged}
+use Rattle.std.proofs.lemmas.Grind.{common_steps}
 use Rattle.std.proofs.lemmas.List.Sums.{count_by-le-length, sum_by-append, sum_by-cons}
-use Rattle.crawl_pages.specs.declared.page.Page.{Page}
-use Rattle.crawl_pages.specs.declared.page.PageResult.{PageResult}
-use Rattle.crawl_pages.specs.Pages.{links_of}
-use Rattle.crawl_queues.specs.declared.entry.Entry.{Entry}
-use Rattle.crawl_queues.specs.Entries.{KeepsRule}
-use Rattle.crawl_queues.specs.Books.{BookId}
 use Rattle.crawl_frontier.specs.declared.error.OfferError.TheVariants as refused
-use Rattle.crawl_frontier.specs.Parts.{WorkerId}
-use Rattle.link_offers.specs.declared.losses.Loss.{Loss}
 use Rattle.link_offers.specs.declared.losses.Loss.TheVariants as loss
 use Rattle.link_offers.specs.declared.losses.Losses.{Losses}
-use Rattle.link_offers.specs.declared.offers.LinkOffers.{LinkOffers}
-use Rattle.link_offers.specs.Logs.{AllLogged, Grows}
-use Rattle.link_offers.specs.Losses.{all_losses, no_losses, sum_of, with_loss}
-use Rattle.link_offers.specs.Offers.{Answer, losses_by, with_losses}
-use Rattle.crawl_workers.specs.Outcomes.{Outcome, Turn, IsTurn, AreTurns, IsTold, losses_at, found_at, entries_in, failed, unkept, kept}
-use Rattle.crawl_workers.specs.Ran.{Fate, results_of, taken_in, most_lost_at, most_lost, Ran, IsTally}
-use Rattle.crawl_workers.specs.Turn.{Progress}
 use Rattle.link_offers.proofs.Logs.{grows_same, grows_on, all_logged_on}
-use Rattle.link_offers.proofs.LinkAnswers.{SameBusy, answers_few, answers_logged}
 use Rattle.crawl_workers.proofs.Outcomes.{goes_on_same}
 
 -- ## How many are lost
@@ -35,22 +17,10 @@ sum_more : (most : ℕ) (a b c d e f lost : ℕ) → lost ≡ min (a + b + c + d
     × (min (lost + 1) most ≡ min (a + b + c + min (d + 1) most + e + f) most)
     × (min (lost + 1) most ≡ min (a + b + c + d + min (e + 1) most + f) most)
     × (min (lost + 1) most ≡ min (a + b + c + d + e + min (f + 1) most) most)
-sum_more most a b c d e f lost is = (
-  omega (arith, is),
-  omega (arith, is),
-  omega (arith, is),
-  omega (arith, is),
-  omega (arith, is),
-  omega (arith, is),
-)
+sum_more most a b c d e f lost is = grind arith
 
 sum_with : (why : Loss) (losses : Losses) (lost : ℕ) → lost ≡ sum_of losses → min (lost + 1) (2 ^ 64 - 1) ≡ sum_of (with_loss why losses)
-sum_with loss.Failed l lost is = (sum_more (2 ^ 64 - 1) l.failed l.unkept l.full l.too_far l.crossed l.no_memory lost is).0
-sum_with loss.Unkept l lost is = (sum_more (2 ^ 64 - 1) l.failed l.unkept l.full l.too_far l.crossed l.no_memory lost is).1
-sum_with loss.Full l lost is = (sum_more (2 ^ 64 - 1) l.failed l.unkept l.full l.too_far l.crossed l.no_memory lost is).2
-sum_with loss.TooFar l lost is = (sum_more (2 ^ 64 - 1) l.failed l.unkept l.full l.too_far l.crossed l.no_memory lost is).3
-sum_with loss.Crossed l lost is = (sum_more (2 ^ 64 - 1) l.failed l.unkept l.full l.too_far l.crossed l.no_memory lost is).4
-sum_with loss.NoMemory l lost is = (sum_more (2 ^ 64 - 1) l.failed l.unkept l.full l.too_far l.crossed l.no_memory lost is).5
+sum_with why losses lost is = grind (arith, sum_more)
 
 -- the sum of losses is their number, up to the greatest count
 number_of : (why : List Loss) (losses : Losses) (lost : ℕ) → lost ≡ sum_of losses → min (lost + length why) (2 ^ 64 - 1) ≡ sum_of (with_losses why losses)
@@ -78,41 +48,22 @@ one_url_more most a b count = (λ less. omega (arith, less), λ less. omega (ari
 
 url_more : (why : Loss) (l : Losses) (count : ℕ) → (with_loss why l).failed + (with_loss why l).unkept + count < 2 ^ 64 - 1
     → (with_loss why l).failed + (with_loss why l).unkept ≡ l.failed + l.unkept + cond (is_of_url why) 1 0
-url_more loss.Failed l count less = (one_url_more (2 ^ 64 - 1) l.failed l.unkept count).0 less
-url_more loss.Unkept l count less = (one_url_more (2 ^ 64 - 1) l.failed l.unkept count).1 less
-url_more loss.Full l count less = (one_url_more (2 ^ 64 - 1) l.failed l.unkept count).2
-url_more loss.TooFar l count less = (one_url_more (2 ^ 64 - 1) l.failed l.unkept count).2
-url_more loss.Crossed l count less = (one_url_more (2 ^ 64 - 1) l.failed l.unkept count).2
-url_more loss.NoMemory l count less = (one_url_more (2 ^ 64 - 1) l.failed l.unkept count).2
+url_more why l count less = grind (arith, one_url_more)
 
 urls_counted : (why : List Loss) (l : Losses) → (with_losses why l).failed + (with_losses why l).unkept < 2 ^ 64 - 1
     → (with_losses why l).failed + (with_losses why l).unkept ≡ l.failed + l.unkept + count_by is_of_url why
 urls_counted [] l less = (one_url_more 0 l.failed l.unkept 0).2
-urls_counted (why ∷ more) l less =
-    let fewer : (with_losses more (with_loss why l)).failed + (with_losses more (with_loss why l)).unkept < 2 ^ 64 - 1 = less in
-    let rest = urls_counted more (with_loss why l) fewer in
-    let one = url_more why l (count_by is_of_url more) (omega (arith, rest, fewer)) in
-    let all : (with_losses more (with_loss why l)).failed + (with_losses more (with_loss why l)).unkept ≡ l.failed + l.unkept + (cond (is_of_url why) 1 0 + count_by is_of_url more) = omega (arith, rest, one) in
-    rw (sum_by-cons (λ (x : Loss). cond (is_of_url x) 1 0) why more) all
+urls_counted (why ∷ more) l less = grind (arith, common_steps, url_more, sum_by-cons, urls_counted more)
 
 answer_no_url : (answer : Answer) → count_by is_of_url (losses_by answer) ≡ 0
-answer_no_url None = refl
-answer_no_url (Some (Ok offer)) = refl
-answer_no_url (Some (Err refused.Filtered)) = refl
-answer_no_url (Some (Err refused.Closed)) = refl
-answer_no_url (Some (Err refused.Full)) = refl
-answer_no_url (Some (Err (refused.Crossed own found))) = refl
-answer_no_url (Some (Err refused.TooFar)) = refl
-answer_no_url (Some (Err refused.NoMemory)) = refl
+answer_no_url answer = grind arith
 
 counted_append : (xs ys : List Loss) → count_by is_of_url (xs ++ ys) ≡ count_by is_of_url xs + count_by is_of_url ys
 counted_append xs ys = sum_by-append (λ (x : Loss). cond (is_of_url x) 1 0) xs ys
 
 answers_no_url : (answers : List Answer) → count_by is_of_url (flat_map losses_by answers) ≡ 0
 answers_no_url [] = refl
-answers_no_url (a ∷ answers) =
-    let cut : count_by is_of_url (flat_map losses_by (a ∷ answers)) ≡ count_by is_of_url (losses_by a) + count_by is_of_url (flat_map losses_by answers) = counted_append (losses_by a) (flat_map losses_by answers) in
-    cut ∙ omega (arith, answer_no_url a, answers_no_url answers)
+answers_no_url (a ∷ answers) = grind (arith, counted_append, answer_no_url, answers_no_url answers)
 
 -- a URL has a result, or is lost as one
 one_of_each : (meaning : List ℕ → Page) (url : List ℕ) (outcome : Outcome) → count_by is_of_url (losses_at outcome) + length (found_at meaning url outcome) ≡ 1
@@ -133,12 +84,7 @@ found_in meaning turns = flat_map (λ (t : Turn). found_at meaning t.0.url t.1) 
 
 turns_counted : (meaning : List ℕ → Page) (turns : List Turn) → count_by is_of_url (losses_in turns) + length (found_in meaning turns) ≡ length turns
 turns_counted meaning [] = refl
-turns_counted meaning (t ∷ ts) =
-    let rest = turns_counted meaning ts in
-    let one = one_of_each meaning t.0.url t.1 in
-    let losses : count_by is_of_url (losses_in (t ∷ ts)) ≡ count_by is_of_url (losses_at t.1) + count_by is_of_url (losses_in ts) = counted_append (losses_at t.1) (losses_in ts) in
-    let found : length (found_in meaning (t ∷ ts)) ≡ length (found_at meaning t.0.url t.1) + length (found_in meaning ts) = length-append (found_at meaning t.0.url t.1) (found_in meaning ts) in
-    omega (arith, rest, one, losses, found)
+turns_counted meaning (t ∷ ts) = grind (arith, one_of_each, counted_append, length-append, turns_counted meaning ts)
 
 -- what became of a URL, as `Ran` says it
 abbrev page_at : (List ℕ → Page) → List ℕ → Outcome → Option Page
@@ -162,18 +108,12 @@ pages_right : (meaning : List ℕ → Page) (turns : List Turn) → All (λ r. r
 pages_right meaning [] = All-nil (λ (r : PageResult). r.page ≡ meaning r.url)
 pages_right meaning ((e, failed) ∷ ts) = pages_right meaning ts
 pages_right meaning ((e, unkept answers) ∷ ts) = pages_right meaning ts
-pages_right meaning ((e, kept answers) ∷ ts) =
-    All-cons (λ (r : PageResult). r.page ≡ meaning r.url) (record { url = e.url; page = meaning e.url }) (found_in meaning ts) refl (pages_right meaning ts)
+pages_right meaning ((e, kept answers) ∷ ts) = grind (arith, pages_right meaning ts)
 
 -- a turn loses no more than the links that are allowed, and the URL if it has no result
 turn_few : (workers : ℕ) (allowed : List ℕ → Bool) (meaning : List ℕ → Page) (b c : BookId) (e : Entry) (outcome : Outcome) → IsTurn workers allowed meaning b c e outcome
     → length (losses_at outcome) ≤ most_lost_at allowed (links_of (meaning e.url)) (page_at meaning e.url outcome)
-turn_few workers allowed meaning b c e failed turn = omega arith
-turn_few workers allowed meaning b c e (unkept answers) turn =
-    let few = answers_few workers allowed turn.before turn.after (links_of (meaning e.url)) answers turn.links in
-    let cut : length (losses_at (unkept answers)) ≡ length (flat_map losses_by answers) + 1 = length-append (flat_map losses_by answers) (loss.Unkept ∷ []) in
-    omega (arith, few, cut)
-turn_few workers allowed meaning b c e (kept answers) turn = answers_few workers allowed turn.before turn.after (links_of (meaning e.url)) answers turn.links
+turn_few workers allowed meaning b c e outcome turn = grind (arith, answers_few, length-append)
 
 turns_few : (workers : ℕ) (allowed : List ℕ → Bool) (meaning : List ℕ → Page) (b c : BookId) (turns : List Turn) → AreTurns workers allowed meaning b c turns
     → length (losses_in turns) ≤ most_lost allowed meaning (fates_in meaning turns)
@@ -187,9 +127,7 @@ turns_few workers allowed meaning b c (t ∷ ts) are =
     rw most (omega (arith, one, rest, losses))
 
 turn_grows : (workers : ℕ) (allowed : List ℕ → Bool) (meaning : List ℕ → Page) (b c : BookId) (e : Entry) (outcome : Outcome) → IsTurn workers allowed meaning b c e outcome → Grows b c
-turn_grows workers allowed meaning b c e outcome turn =
-    let same = goes_on_same workers allowed turn.before turn.after (links_of (meaning e.url)) outcome turn.links in
-    rw (← turn.first, ← turn.last) same.grows
+turn_grows workers allowed meaning b c e outcome turn = grind (arith, goes_on_same)
 
 turns_grow : (workers : ℕ) (allowed : List ℕ → Bool) (meaning : List ℕ → Page) (b c : BookId) (turns : List Turn) → AreTurns workers allowed meaning b c turns → Grows b c
 turns_grow workers allowed meaning b c [] are = grows_same b c are
@@ -199,12 +137,7 @@ turns_grow workers allowed meaning b c (t ∷ ts) are =
 -- the links of a turn that loses nothing have lines in the log at its end
 turn_logged : (workers : ℕ) (allowed : List ℕ → Bool) (meaning : List ℕ → Page) (b c : BookId) (e : Entry) (outcome : Outcome) → IsTurn workers allowed meaning b c e outcome → length (losses_at outcome) ≡ 0
     → AllLogged workers allowed c.log (links_of (meaning e.url))
-turn_logged workers allowed meaning b c e failed turn none = absurd (omega (arith, none))
-turn_logged workers allowed meaning b c e (unkept answers) turn none =
-    let cut : length (losses_at (unkept answers)) ≡ length (flat_map losses_by answers) + 1 = length-append (flat_map losses_by answers) (loss.Unkept ∷ []) in
-    absurd (omega (arith, none, cut))
-turn_logged workers allowed meaning b c e (kept answers) turn none =
-    rw (← turn.last) (answers_logged workers allowed turn.before turn.after (links_of (meaning e.url)) answers turn.links none)
+turn_logged workers allowed meaning b c e outcome turn none = grind (arith, length-append, answers_logged)
 
 turns_logged : (workers : ℕ) (allowed : List ℕ → Bool) (meaning : List ℕ → Page) (b c : BookId) (turns : List Turn) → AreTurns workers allowed meaning b c turns → length (losses_in turns) ≡ 0
     → All (λ r. AllLogged workers allowed c.log (links_of r.page)) (found_in meaning turns)

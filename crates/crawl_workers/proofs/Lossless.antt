@@ -1,25 +1,14 @@
 -- What a run without loss leaves.
-use Rattle.std.proofs.Common.{◌≡◌, inl, ℕ, zero, suc, ◌<◌, ◌≤◌, Bool, true, false, cond, eqb, List, [], ◌∷◌, ◌++◌, length, map, None, Some, refl, sym, ap, subst, ◌∙◌, arith, slice_get, slice_index_or, IsTrue}
+use Rattle.crawl_workers.proofs.Prelude.{◌≡◌, inl, ℕ, zero, suc, ◌<◌, ◌≤◌, Bool, true, List, [], ◌∷◌, length, map, None, Some, refl, sym, ap, subst, arith, slice_get, slice_index_or, IsTrue, All, All-weaker, Page, PageResult, links_of, Entry, has_url, entries_of, BookId, sent_to, WorkerId, SenderId, has_at, get_within, line_of, HasLine, AllLogged, Fate, results_of, taken_in, Ran}
 use Rattle.std.specs.Prelude.{◌||◌, bytes_eq}
-use Rattle.std.specs.List.{All}
 use Rattle.std.proofs.Math.Nat.{mod-lt}
-use Rattle.std.proofs.lemmas.Bool.Decides.{nat_tests}
+use Rattle.std.proofs.lemmas.Bool.{or_left, or_right}
 use Rattle.std.proofs.lemmas.Slice.Eq.{bytes_eq-Decides}
-use Rattle.std.proofs.lemmas.List.Elements.{All-weaker}
 use Rattle.crawl_keys.specs.Assignment.{subqueue_of, hash}
 use Rattle.crawl_keys.specs.HostKey.{host_key}
-use Rattle.crawl_pages.specs.declared.page.Page.{Page}
-use Rattle.crawl_pages.specs.declared.page.PageResult.{PageResult}
-use Rattle.crawl_pages.specs.Pages.{links_of}
-use Rattle.crawl_queues.specs.declared.entry.Entry.{Entry}
 use Rattle.crawl_queues.specs.declared.book.Logged.{Logged}
 use Rattle.crawl_queues.specs.declared.book.Logged.TheVariants.{Accepted, Seen}
-use Rattle.crawl_queues.specs.Entries.{has_url, entries_of}
-use Rattle.crawl_queues.specs.Books.{BookId, sent_to}
-use Rattle.crawl_frontier.specs.Parts.{WorkerId, SenderId}
 use Rattle.crawl_frontier.specs.Accounts.{At, IsPart, Agrees, Accounts}
-use Rattle.link_offers.specs.Logs.{line_of, HasLine, AllLogged}
-use Rattle.crawl_workers.specs.Ran.{Fate, results_of, taken_in, Ran}
 use Rattle.crawl_workers.specs.Lossless.{result_urls, entry_urls, IsAccepted, AllAccepted}
 
 few : (fates : List Fate) → length (results_of fates) ≤ length fates
@@ -35,12 +24,7 @@ all_found ((e, Some page) ∷ fs) le = ap (λ (us : List (List ℕ)). e.url ∷ 
 -- if nothing is lost the results have the URLs that were taken, in order
 pub all_taken_found : (workers : ℕ) (allowed : List ℕ → Bool) (meaning : List ℕ → Page) (start now : WorkerId) (results : List PageResult) → Ran workers allowed meaning start now results 0 → start.taken ≡ []
     → result_urls results ≡ entry_urls now.taken
-all_taken_found workers allowed meaning start now results ran fresh =
-    let counted = ran.counted (omega arith) in
-    let long : length results ≡ length (results_of ran.fates) = ap (λ (rs : List PageResult). length rs) ran.found in
-    let le : length ran.fates ≤ length (results_of ran.fates) = omega (arith, counted, long) in
-    let taken : now.taken ≡ taken_in ran.fates = ran.taken ∙ ap (λ (es : List Entry). es ++ taken_in ran.fates) fresh in
-    rw (ran.found, taken) (all_found ran.fates le)
+all_taken_found workers allowed meaning start now results ran fresh = grind (arith, all_found)
 
 -- ## From a line of a log to the account
 
@@ -61,46 +45,21 @@ find_line (l ∷ ls) p (suc k) less is =
 same_url : (url : List ℕ) → bytes_eq url url ≡ true
 same_url url = (bytes_eq-Decides url url).1 refl
 
-first_of : (a b : Bool) → a ≡ true → (a || b) ≡ true
-first_of true b is = refl
-first_of false b is = absurd (cc (is))
-
-second_of : (a b : Bool) → b ≡ true → (a || b) ≡ true
-second_of true b is = refl
-second_of false b is = is
-
 either_of : (a b c : Bool) → (b ≡ true → c ≡ true) → (a || b) ≡ true → (a || c) ≡ true
-either_of true b c goes is = refl
-either_of false b c goes is = goes is
+either_of a b c goes is = grind arith
 
 -- an accepted line of the log is in what was sent to its subqueue
 sent_has : (q : ℕ) (log : List Logged) (k : ℕ) (e : Entry) → At log k (Accepted e q) → has_url e.url (sent_to q log) ≡ true
 sent_has q [] k e at = absurd (cc (at))
 sent_has q (Seen u p ∷ ls) zero e at = absurd (cc (at))
 sent_has q (Seen u p ∷ ls) (suc k) e at = sent_has q ls k e at
-sent_has q (Accepted x p ∷ ls) zero e at = by_case (eqb p q) refl
-  where
-    by_case : (t : Bool) → eqb p q ≡ t → has_url e.url (cond t (x ∷ sent_to q ls) (sent_to q ls)) ≡ true
-    by_case true is =
-        let same : x ≡ e = cc (at) in
-        first_of (bytes_eq x.url e.url) (has_url e.url (sent_to q ls)) (subst (λ (z : Entry). bytes_eq z.url e.url ≡ true) (sym same) (same_url e.url))
-    by_case false is =
-        let same : p ≡ q = cc (at) in
-        absurd (grind (arith, nat_tests))
-sent_has q (Accepted x p ∷ ls) (suc k) e at = by_case (eqb p q) (sent_has q ls k e at)
-  where
-    by_case : (t : Bool) → has_url e.url (sent_to q ls) ≡ true → has_url e.url (cond t (x ∷ sent_to q ls) (sent_to q ls)) ≡ true
-    by_case true is = second_of (bytes_eq x.url e.url) (has_url e.url (sent_to q ls)) is
-    by_case false is = is
+sent_has q (Accepted x p ∷ ls) zero e at = grind (arith, or_left, same_url)
+sent_has q (Accepted x p ∷ ls) (suc k) e at = grind (arith, or_right, sent_has q ls k e at)
 
 -- the entries of one sender are among all
 entries_has : (id : ℕ) (url : List ℕ) (es : List Entry) → has_url url (entries_of id es) ≡ true → has_url url es ≡ true
 entries_has id url [] is = is
-entries_has id url (e ∷ es) is = by_case (eqb e.sender id) is (entries_has id url es)
-  where
-    by_case : (t : Bool) → has_url url (cond t (e ∷ entries_of id es) (entries_of id es)) ≡ true → (has_url url (entries_of id es) ≡ true → has_url url es ≡ true) → has_url url (e ∷ es) ≡ true
-    by_case true has rest = either_of (bytes_eq e.url url) (has_url url (entries_of id es)) (has_url url es) rest has
-    by_case false has rest = second_of (bytes_eq e.url url) (has_url url es) (rest has)
+entries_has id url (e ∷ es) is = grind (arith, either_of, or_right, entries_has id url es)
 
 line_stands : (q : ℕ) (es : List Entry) (b : BookId) (url : List ℕ) (k : ℕ) (l : Logged) → Agrees q es b → At b.log k l → line_of l ≡ (url, q) → has_url url es ≡ true
 line_stands q es b url k (Seen u p) agrees at is =
@@ -112,22 +71,12 @@ line_stands q es b url k (Accepted e p) agrees at is =
     let sent : has_url e.url (entries_of b.id es) ≡ true = subst (λ (xs : List Entry). has_url e.url xs ≡ true) agrees.sent (sent_has q b.log k e here) in
     subst (λ (u : List ℕ). has_url u es ≡ true) same (entries_has b.id e.url es sent)
 
-get_within : {A : Type 0} (xs : List A) (k : ℕ) → k < length xs → (x : A) × (slice_get xs k ≡ Some x)
-get_within [] k less = absurd (omega (arith, less))
-get_within (x ∷ xs) zero less = (x, refl)
-get_within (x ∷ xs) (suc k) less = get_within xs k (omega (arith, less))
-
-within_get : {A : Type 0} (xs : List A) (k : ℕ) (x : A) → slice_get xs k ≡ Some x → k < length xs
-within_get [] k x at = absurd (cc (at))
-within_get (y ∷ xs) zero x at = omega arith
-within_get (y ∷ xs) (suc k) x at = let less = within_get xs k x at in omega (arith, less)
-
 -- a URL with a line in the log of a part is accepted
 pub logged_accepted : (workers : ℕ) (closed : List WorkerId) (senders : List SenderId) (queues : List (List Entry)) → 0 < workers → Accounts workers closed senders queues
     → (b : BookId) → IsPart closed senders b → (url : List ℕ) → HasLine workers b.log url → IsAccepted workers queues url
 logged_accepted workers closed senders queues some account b part url has =
     let less : subqueue_of url workers < length queues = subst (λ (n : ℕ). subqueue_of url workers < n) (sym account.len) (mod-lt (hash (host_key url)) some) in
-    let found = get_within queues (subqueue_of url workers) less in
+    let found = has_at queues (subqueue_of url workers) less in
     let line = find_line b.log (url, subqueue_of url workers) has.0 has.1 has.2 in
     record {
       list = found.0;
@@ -140,7 +89,7 @@ pub links_accepted : (workers : ℕ) (allowed : List ℕ → Bool) (meaning : Li
     → All (λ (r : PageResult). AllAccepted workers allowed queues (links_of r.page)) results
 links_accepted workers allowed meaning closed senders queues account k start now results at ran =
     let own = account.taken k now at in
-    let less = within_get queues now.queue now.taken own in
+    let less = get_within queues now.queue now.taken own in
     let some : 0 < workers = let len = account.len in omega (arith, less, len) in
     All-weaker (λ (r : PageResult). AllLogged workers allowed now.book.log (links_of r.page)) (λ (r : PageResult). AllAccepted workers allowed queues (links_of r.page))
     (λ r. All-weaker (λ (url : List ℕ). IsTrue (allowed url) → HasLine workers now.book.log url) (λ (url : List ℕ). IsTrue (allowed url) → IsAccepted workers queues url)

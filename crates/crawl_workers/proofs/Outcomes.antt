@@ -1,43 +1,18 @@
 -- What becomes of URLs that a worker takes.
-use Rattle.std.proofs.Common.{◌≡◌, inl, inr, ℕ, ◌+◌, Bool, List, [], ◌∷◌, ◌++◌, map, refl, sym, ap, subst, ◌∙◌}
-use Rattle.std.specs.List.{flat_map}
-use Rattle.std.proofs.lemmas.List.{append-nil, append_assoc, map-append, flat_map_more}
-use Rattle.crawl_pages.specs.declared.page.Page.{Page}
-use Rattle.crawl_pages.specs.declared.page.PageResult.{PageResult}
-use Rattle.crawl_pages.specs.Pages.{links_of}
-use Rattle.crawl_queues.specs.declared.entry.Entry.{Entry}
-use Rattle.crawl_queues.specs.Entries.{MayFollow, KeepsRule}
-use Rattle.crawl_queues.specs.Books.{BookId}
-use Rattle.crawl_frontier.specs.Parts.{WorkerId, BusyId, worker}
-use Rattle.link_offers.specs.declared.losses.Loss.{Loss}
+use Rattle.crawl_workers.proofs.Prelude.{◌≡◌, inl, inr, ℕ, ◌+◌, Bool, List, [], ◌∷◌, ◌++◌, refl, sym, ap, subst, ◌∙◌, arith, flat_map, append-nil, append_assoc, map-append, flat_map_more, Page, PageResult, links_of, Entry, MayFollow, KeepsRule, BookId, WorkerId, BusyId, worker, Loss, LinkOffers, no_losses, with_loss, AllAnswered, LinkAnswers, losses_by, with_losses, Outcome, GoesOn, Turn, IsTurn, AreTurns, losses_at, found_at, entries_in, unkept, kept, Progress, UrlOutcome, HasRoomOrNot, SameBusy, busy_same, answers_same, losses_on}
 use Rattle.link_offers.specs.declared.losses.Loss.TheVariants as loss
-use Rattle.link_offers.specs.declared.losses.Losses.{Losses}
-use Rattle.link_offers.specs.declared.offers.LinkOffers.{LinkOffers}
 use Rattle.crawl_workers.specs.declared.output.WorkerOutput.{WorkerOutput}
-use Rattle.link_offers.specs.Losses.{no_losses, with_loss}
-use Rattle.link_offers.specs.Offers.{AllAnswered, LinkAnswers, losses_by, with_losses}
-use Rattle.crawl_workers.specs.Outcomes.{Outcome, GoesOn, Turn, IsTurn, AreTurns, losses_at, found_at, entries_in, failed, unkept, kept}
 use Rattle.link_offers.specs.Recent.{Knows}
-use Rattle.crawl_workers.specs.Turn.{Progress, UrlOutcome, HasRoomOrNot}
-use Rattle.link_offers.proofs.LinkAnswers.{SameBusy, busy_same, answers_same, losses_on}
 
 -- ## A URL
 
 pub goes_on_same : (workers : ℕ) (allowed : List ℕ → Bool) (b b' : BusyId) (links : List (List ℕ)) (outcome : Outcome) → GoesOn workers allowed b b' links outcome → SameBusy b b'
-goes_on_same workers allowed b b' links failed goes = busy_same b b' goes
-goes_on_same workers allowed b b' links (unkept answers) goes = answers_same workers allowed b b' links answers goes
-goes_on_same workers allowed b b' links (kept answers) goes = answers_same workers allowed b b' links answers goes
+goes_on_same workers allowed b b' links outcome goes = grind (arith, busy_same, answers_same)
 
 pub fetch_failed : (workers : ℕ) (allowed : List ℕ → Bool) (meaning : List ℕ → Page) (b : BusyId) (old new : WorkerOutput)
     → new.results.items ≡ old.results.items → new.offers.losses ≡ with_loss loss.Failed old.offers.losses → Knows workers b.worker.book.log new.offers.recent
     → UrlOutcome workers allowed meaning b b old new
-fetch_failed workers allowed meaning b old new results losses known = record {
-  outcome = failed;
-  links = refl;
-  results = results ∙ sym (append-nil old.results.items);
-  losses = losses;
-  known = known;
-}
+fetch_failed workers allowed meaning b old new results losses known = grind (arith, append-nil)
 
 -- its page was fetched, its links were offered, and its result kept or lost
 pub page_fetched : (workers : ℕ) (allowed : List ℕ → Bool) (meaning : List ℕ → Page) (b b' : BusyId) (page : Page) (old mid new : WorkerOutput)

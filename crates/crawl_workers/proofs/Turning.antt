@@ -1,15 +1,9 @@
 -- Workers and their ends, in order, and workers in turn.
-use Rattle.std.proofs.Common.{◌≡◌, ℕ, zero, suc, ◌+◌, ◌<◌, Bool, List, [], ◌∷◌, ◌++◌, length, Some, refl, ap, subst, ◌∙◌, arith, slice_get, slice_set, slice_index_or, take}
-use Rattle.std.proofs.lemmas.List.{length_push}
+use Rattle.crawl_workers.proofs.Prelude.{◌≡◌, ℕ, zero, suc, ◌+◌, ◌<◌, Bool, List, [], ◌∷◌, ◌++◌, length, Some, refl, ap, subst, ◌∙◌, arith, slice_get, slice_set, slice_index_or, take, length_push, AllZip, Page, WorkerId, get_before, get_last, RanTo, AllRan, AllGo, RunnerRan, IsEnded, EndedBelow}
 use Rattle.std.proofs.Math.Seq.{take-append_seam}
-use Rattle.std.specs.List.{AllZip}
-use Rattle.crawl_pages.specs.declared.page.Page.{Page}
-use Rattle.crawl_frontier.specs.Parts.{WorkerId}
 use Rattle.crawl_workers.specs.declared.worker_end.WorkerEnd.{WorkerEnd}
 use Rattle.crawl_workers.specs.declared.turns.Runner.{Runner}
-use Rattle.crawl_workers.specs.declared.turns.Runner.TheVariants.{Going, Ended, Moved}
-use Rattle.crawl_workers.specs.Runs.{RanTo, AllRan}
-use Rattle.crawl_workers.specs.Rounds.{AllGo, RunnerRan, IsEnded, EndedBelow}
+use Rattle.crawl_workers.specs.declared.turns.Runner.TheVariants.{Ended}
 
 all_zip_push : {A B : Type 0} (R : A → B → Type 0) (xs : List A) (ys : List B) (x : A) (y : B) → AllZip R xs ys → R x y → AllZip R (xs ++ x ∷ []) (ys ++ y ∷ [])
 all_zip_push R [] [] x y all last = (last, tt)
@@ -26,12 +20,10 @@ all_zip_length R (a ∷ xs) (b ∷ ys) all = ap (λ n. suc n) (all_zip_length R 
 -- the ends of all workers but the last, and that of the last
 pub all_ran_push : {K : _} (workers : ℕ) (allowed : List ℕ → Bool) (meaning : List ℕ → Page) (starts : List WorkerId) (ends : List (WorkerEnd K)) (w : WorkerId) (e : WorkerEnd K)
     → AllRan workers allowed meaning starts ends → RanTo workers allowed meaning w e → AllRan workers allowed meaning (starts ++ w ∷ []) (ends ++ e ∷ [])
-all_ran_push {K} workers allowed meaning starts ends w e all ran =
-    all_zip_push (λ (v : WorkerId) (f : WorkerEnd K). RanTo workers allowed meaning v f) starts ends w e all ran
+all_ran_push {K} workers allowed meaning starts ends w e all ran = grind (arith, all_zip_push)
 
 pub all_ran_length : {K : _} (workers : ℕ) (allowed : List ℕ → Bool) (meaning : List ℕ → Page) (starts : List WorkerId) (ends : List (WorkerEnd K)) → AllRan workers allowed meaning starts ends → length ends ≡ length starts
-all_ran_length {K} workers allowed meaning starts ends all =
-    all_zip_length (λ (v : WorkerId) (f : WorkerEnd K). RanTo workers allowed meaning v f) starts ends all
+all_ran_length {K} workers allowed meaning starts ends all = grind (arith, all_zip_length)
 
 -- an element is changed
 all_zip_set : {A B : Type 0} (R : A → B → Type 0) (xs : List A) (ys : List B) (i : ℕ) (y y' : B) → slice_get ys i ≡ Some y → ((x : A) → R x y → R x y') → AllZip R xs ys → AllZip R xs (slice_set ys i y')
@@ -64,15 +56,6 @@ all_zip_unsnoc R (a ∷ c ∷ xs) [] y all = absurd all.1
 all_zip_unsnoc R (a ∷ xs) (b ∷ ys) y all =
     let rest = all_zip_unsnoc R xs ys y all.1 in
     record { front = a ∷ rest.front; last = rest.last; is = ap (λ zs. a ∷ zs) rest.is; all = (all.0, rest.all); ran = rest.ran }
-
-get_before : {A : Type 0} (xs : List A) (a b : A) (k : ℕ) → slice_get xs k ≡ Some b → slice_get (xs ++ a ∷ []) k ≡ Some b
-get_before [] a b k at = absurd (cc)
-get_before (x ∷ xs) a b zero at = at
-get_before (x ∷ xs) a b (suc k) at = get_before xs a b k at
-
-get_last : {A : Type 0} (xs : List A) (a : A) → slice_get (xs ++ a ∷ []) (length xs) ≡ Some a
-get_last [] a = refl
-get_last (x ∷ xs) a = get_last xs a
 
 pub all_go_set : {K : _} (workers : ℕ) (allowed : List ℕ → Bool) (meaning : List ℕ → Page) (starts : List WorkerId) (rs : List (Runner K)) (i : ℕ) (r r' : Runner K) → slice_get rs i ≡ Some r
     → ((start : WorkerId) → RunnerRan workers allowed meaning start r → RunnerRan workers allowed meaning start r') → AllGo workers allowed meaning starts rs → AllGo workers allowed meaning starts (slice_set rs i r')
@@ -118,14 +101,8 @@ pub take_front : {X : Type 0} (n : ℕ) (xs ys : List X) → n ≡ length xs →
 take_front n xs ys e = ap (λ k. take k (xs ++ ys)) e ∙ take-append_seam xs ys
 
 pub not_ended : {K : _} (r : Runner K) → ((e : WorkerEnd K) → r ≡ Ended e → ⊥) → IsEnded r → ⊥
-not_ended (Ended e) never is = never e refl
-not_ended (Going w h) never is = is
-not_ended Moved never is = is
+not_ended r never is = grind arith
 
 pub ends_push : {K : _} (workers : ℕ) (allowed : List ℕ → Bool) (meaning : List ℕ → Page) (starts : List WorkerId) (rs all : List (Runner K)) (r : Runner K) (e : WorkerEnd K) (ends : List (WorkerEnd K))
     → all ≡ rs ++ r ∷ [] → r ≡ Ended e → ((ss : List WorkerId) → AllGo workers allowed meaning ss rs → AllRan workers allowed meaning ss ends) → AllGo workers allowed meaning starts all → AllRan workers allowed meaning starts (ends ++ e ∷ [])
-ends_push {K} workers allowed meaning starts rs all r e ends is end rest go =
-    let R : WorkerId → Runner K → Type 0 = λ w x. RunnerRan workers allowed meaning w x in
-    let cut = all_zip_unsnoc R starts rs r (subst (λ (xs : List (Runner K)). AllZip R starts xs) is go) in
-    let ran : RunnerRan workers allowed meaning cut.last (Ended e) = subst (λ (x : Runner K). RunnerRan workers allowed meaning cut.last x) end cut.ran in
-    rw cut.is (all_zip_push (λ (w : WorkerId) (f : WorkerEnd K). RanTo workers allowed meaning w f) cut.front ends cut.last e (rest cut.front cut.all) ran)
+ends_push {K} workers allowed meaning starts rs all r e ends is end rest go = grind (arith, all_zip_unsnoc, all_zip_push)

@@ -1,3 +1,2 @@
 pub mod LinkAnswers
 pub mod Logs
-pub mod Slots

@@ -1,5 +1,6 @@
 -- What becomes of links that a busy worker offers.
-use Rattle.std.proofs.Common.{◌≡◌, ◌↔◌, ℕ, ◌+◌, ◌≤◌, Bool, true, false, cond, List, [], ◌∷◌, ◌++◌, length, Option, None, Some, Result, Ok, Err, refl, sym, ap, subst, ◌∙◌, arith, IsTrue, slice_set, slice_index_or}
+use Rattle.std.proofs.lemmas.Grind.{common_steps}
+use Rattle.std.proofs.Common.{◌≡◌, ◌↔◌, ℕ, ◌+◌, ◌≤◌, Bool, false, cond, List, [], ◌∷◌, ◌++◌, length, Option, Some, Result, Err, refl, sym, ap, subst, ◌∙◌, arith, IsTrue, slice_set, slice_index_or}
 use Rattle.std.specs.List.{count_by, flat_map}
 use Rattle.std.proofs.lemmas.List.{length-append, set-get_or}
 use Rattle.std.proofs.lemmas.List.Elements.{All-nil, All-cons}
@@ -9,7 +10,7 @@ use Rattle.crawl_frontier.specs.declared.offer.Offer.{Offer}
 use Rattle.crawl_frontier.specs.declared.error.OfferError.{OfferError}
 use Rattle.crawl_frontier.specs.declared.error.OfferError.TheVariants as refused
 use Rattle.crawl_frontier.specs.Offers.{IsFiltered}
-use Rattle.crawl_frontier.specs.Parts.{WorkerId, BusyId, worker}
+use Rattle.crawl_frontier.specs.Parts.{BusyId, worker}
 use Rattle.link_offers.specs.declared.losses.Loss.{Loss}
 use Rattle.link_offers.specs.declared.losses.Losses.{Losses}
 use Rattle.link_offers.specs.declared.offers.LinkOffers.{LinkOffers}
@@ -46,26 +47,16 @@ pub busy_same : (b b' : BusyId) → b' ≡ b → SameBusy b b'
 busy_same b b' is = subst (λ (x : BusyId). SameBusy b x) (sym is) (record { entry = refl; worker = refl; grows = grows_same b.worker.book b.worker.book refl })
 
 busy_on : (a b c : BusyId) → SameBusy a b → SameBusy b c → SameBusy a c
-busy_on a b c first next = record {
-  entry = next.entry ∙ first.entry;
-  worker = next.worker ∙ ap (λ (w : WorkerId). worker w.queue c.worker.seat w.taken w.empty_pops c.worker.book) first.worker;
-  grows = grows_on a.worker.book b.worker.book c.worker.book first.grows next.grows;
-}
+busy_on a b c first next = grind (arith, grows_on)
 
 answer_same : (workers : ℕ) (allowed : List ℕ → Bool) (b b' : BusyId) (url : List ℕ) (answer : Answer) → Answers workers allowed b b' url answer → SameBusy b b'
-answer_same workers allowed b b' url None is = busy_same b b' is.0
-answer_same workers allowed b b' url (Some answer) is = record {
-  entry = is.entry;
-  worker = is.same;
-  grows = offer_grows workers b.worker.book b'.worker.book url (b.message.entry.hops + 1) answer is.books;
-}
+answer_same workers allowed b b' url answer is = grind (arith, busy_same, offer_grows)
 
 pub answers_same : (workers : ℕ) (allowed : List ℕ → Bool) (b b' : BusyId) (urls : List (List ℕ)) (answers : List Answer) → AllAnswered workers allowed b b' urls answers → SameBusy b b'
 answers_same workers allowed b b' [] [] all = busy_same b b' all
 answers_same workers allowed b b' [] (a ∷ answers) all = absurd all
 answers_same workers allowed b b' (url ∷ urls) [] all = absurd all
-answers_same workers allowed b b' (url ∷ urls) (a ∷ answers) all =
-    busy_on b all.0 b' (answer_same workers allowed b all.0 url a all.1) (answers_same workers allowed all.0 b' urls answers all.2)
+answers_same workers allowed b b' (url ∷ urls) (a ∷ answers) all = grind (arith, busy_on, answer_same, answers_same workers allowed all.0 b' urls answers all.2)
 
 -- ## Results one after another
 
@@ -74,19 +65,12 @@ answered_on : (workers : ℕ) (allowed : List ℕ → Bool) (urls more : List (L
 answered_on workers allowed [] more [] others b m c first next = subst (λ (x : BusyId). AllAnswered workers allowed x c more others) first next
 answered_on workers allowed [] more (a ∷ answers) others b m c first next = absurd first
 answered_on workers allowed (url ∷ urls) more [] others b m c first next = absurd first
-answered_on workers allowed (url ∷ urls) more (a ∷ answers) others b m c first next =
-    (first.0, first.1, answered_on workers allowed urls more answers others first.0 m c first.2 next)
+answered_on workers allowed (url ∷ urls) more (a ∷ answers) others b m c first next = grind (arith, answered_on workers allowed urls more answers others first.0 m c first.2 next)
 
 -- links, and those after them
 pub link_answers_on : (workers : ℕ) (allowed : List ℕ → Bool) (urls more : List (List ℕ)) (b m c : BusyId) (old mid new : LinkOffers)
     → LinkAnswers workers allowed urls b m old mid → LinkAnswers workers allowed more m c mid new → LinkAnswers workers allowed (urls ++ more) b c old new
-link_answers_on workers allowed urls more b m c old mid new first next = record {
-  answers = first.answers ++ next.answers;
-  each = answered_on workers allowed urls more first.answers next.answers b m c first.each next.each;
-  losses = losses_on (flat_map losses_by first.answers) (flat_map losses_by next.answers) old.losses mid.losses new.losses first.losses next.losses
-      ∙ ap (λ (xs : List Loss). with_losses xs old.losses) (sym (flat_map-append losses_by first.answers next.answers));
-  known = next.known;
-}
+link_answers_on workers allowed urls more b m c old mid new first next = grind (arith, answered_on, losses_on, flat_map-append)
 
 -- a link that is offered, by the very URL that was looked for
 pub link_offered : (workers : ℕ) (allowed : List ℕ → Bool) (b b' : BusyId) (asked url : List ℕ) (answer : Result Offer OfferError) (old new : LinkOffers)
@@ -102,8 +86,7 @@ link_offered workers allowed b b' asked url answer old new is offer losses known
 -- what is remembered stays known after an offer
 pub known_after : (workers : ℕ) (allowed : List ℕ → Bool) (b b' : BusyId) (url : List ℕ) (answer : Result Offer OfferError) (recent : RecentUrls)
     → IsOffer workers allowed b b' url answer → Knows workers b.worker.book.log recent → Knows workers b'.worker.book.log recent
-known_after workers allowed b b' url answer recent offer known =
-    knows_on workers b.worker.book b'.worker.book recent (offer_grows workers b.worker.book b'.worker.book url (b.message.entry.hops + 1) answer offer.books) known
+known_after workers allowed b b' url answer recent offer known = grind (arith, knows_on, offer_grows)
 
 -- a refusal is counted as what it is
 pub lost_as : (error : OfferError) (why : Loss) (old new : Losses) → Some why ≡ loss_of error → new ≡ with_loss why old → new ≡ with_losses (losses_by (Some (Err error)) ++ []) old
@@ -117,23 +100,10 @@ lost_none error losses is = subst (λ (e : OfferError). losses ≡ with_losses (
 
 -- a link that is lost is allowed
 lost_allowed : (may : Bool) (answer : Result Offer OfferError) → (IsFiltered answer ↔ (may ≡ false)) → length (losses_by (Some answer)) ≤ cond may 1 0
-lost_allowed may (Ok offer) filtered = omega arith
-lost_allowed true (Err refused.Filtered) filtered = omega arith
-lost_allowed true (Err refused.Closed) filtered = omega arith
-lost_allowed true (Err refused.Full) filtered = omega arith
-lost_allowed true (Err (refused.Crossed own found)) filtered = omega arith
-lost_allowed true (Err refused.TooFar) filtered = omega arith
-lost_allowed true (Err refused.NoMemory) filtered = omega arith
-lost_allowed false (Err refused.Filtered) filtered = omega arith
-lost_allowed false (Err refused.Closed) filtered = omega arith
-lost_allowed false (Err refused.Full) filtered = absurd (filtered.1 refl)
-lost_allowed false (Err (refused.Crossed own found)) filtered = absurd (filtered.1 refl)
-lost_allowed false (Err refused.TooFar) filtered = absurd (filtered.1 refl)
-lost_allowed false (Err refused.NoMemory) filtered = absurd (filtered.1 refl)
+lost_allowed may answer filtered = grind arith
 
 answer_few : (workers : ℕ) (allowed : List ℕ → Bool) (b b' : BusyId) (url : List ℕ) (answer : Answer) → Answers workers allowed b b' url answer → length (losses_by answer) ≤ cond (allowed url) 1 0
-answer_few workers allowed b b' url None is = omega arith
-answer_few workers allowed b b' url (Some answer) is = lost_allowed (allowed url) answer is.filtered
+answer_few workers allowed b b' url answer is = grind (arith, lost_allowed)
 
 -- no more is lost than links that are allowed
 pub answers_few : (workers : ℕ) (allowed : List ℕ → Bool) (b b' : BusyId) (urls : List (List ℕ)) (answers : List Answer) → AllAnswered workers allowed b b' urls answers
@@ -141,24 +111,13 @@ pub answers_few : (workers : ℕ) (allowed : List ℕ → Bool) (b b' : BusyId) 
 answers_few workers allowed b b' [] [] all = omega arith
 answers_few workers allowed b b' [] (a ∷ answers) all = absurd all
 answers_few workers allowed b b' (url ∷ urls) [] all = absurd all
-answers_few workers allowed b b' (url ∷ urls) (a ∷ answers) all =
-    let one = answer_few workers allowed b all.0 url a all.1 in
-    let rest = answers_few workers allowed all.0 b' urls answers all.2 in
-    let cut : length (flat_map losses_by (a ∷ answers)) ≡ length (losses_by a) + length (flat_map losses_by answers) = length-append (losses_by a) (flat_map losses_by answers) in
-    rw (sum_by-cons (λ (u : List ℕ). cond (allowed u) 1 0) url urls) (omega (arith, cut, one, rest))
+answers_few workers allowed b b' (url ∷ urls) (a ∷ answers) all = grind (arith, common_steps, answer_few, length-append, sum_by-cons, answers_few workers allowed all.0 b' urls answers all.2)
 
 -- ## Lines of links
 
 answer_line : (workers : ℕ) (allowed : List ℕ → Bool) (b b' : BusyId) (url : List ℕ) (answer : Answer) → Answers workers allowed b b' url answer → length (losses_by answer) ≡ 0
     → IsTrue (allowed url) → HasLine workers b'.worker.book.log url
-answer_line workers allowed b b' url None is none may = subst (λ (x : BusyId). HasLine workers x.worker.book.log url) (sym is.0) is.1
-answer_line workers allowed b b' url (Some (Ok offer)) is none may = offer_line workers b.worker.book b'.worker.book url (b.message.entry.hops + 1) offer is.books
-answer_line workers allowed b b' url (Some (Err refused.Filtered)) is none may = absurd (let no = sym (is.filtered.0 tt) ∙ may in cc)
-answer_line workers allowed b b' url (Some (Err refused.Closed)) is none may = absurd is.words
-answer_line workers allowed b b' url (Some (Err refused.Full)) is none may = absurd (omega (arith, none))
-answer_line workers allowed b b' url (Some (Err (refused.Crossed own found))) is none may = absurd (omega (arith, none))
-answer_line workers allowed b b' url (Some (Err refused.TooFar)) is none may = absurd (omega (arith, none))
-answer_line workers allowed b b' url (Some (Err refused.NoMemory)) is none may = absurd (omega (arith, none))
+answer_line workers allowed b b' url answer is none may = grind (arith, offer_line)
 
 -- if nothing is lost, each link that is allowed has a line
 pub answers_logged : (workers : ℕ) (allowed : List ℕ → Bool) (b b' : BusyId) (urls : List (List ℕ)) (answers : List Answer) → AllAnswered workers allowed b b' urls answers

@@ -1,5 +1,6 @@
 -- How a log grows, and what it then says of links.
-use Rattle.std.proofs.Common.{◌≡◌, ℕ, ◌+◌, Bool, List, [], ◌∷◌, ◌++◌, map, Option, None, Some, Result, Ok, Err, refl, sym, ap, ◌∙◌, IsTrue, IfSome}
+use Rattle.std.proofs.lemmas.Grind.{common_steps}
+use Rattle.std.proofs.Common.{◌≡◌, ℕ, ◌+◌, Bool, List, [], ◌∷◌, ◌++◌, map, Option, Result, Ok, refl, sym, ap, ◌∙◌, IsTrue, IfSome, arith}
 use Rattle.std.proofs.lemmas.List.{append-nil, append_assoc, map-append}
 use Rattle.std.proofs.lemmas.List.Elements.{All-push, All-weaker, Contains-append_left, Contains-push}
 use Rattle.crawl_keys.specs.Assignment.{subqueue_of}
@@ -10,7 +11,7 @@ use Rattle.crawl_frontier.specs.declared.offer.Offer.TheVariants.{Accepted, Seen
 use Rattle.crawl_frontier.specs.declared.error.OfferError.{OfferError}
 use Rattle.crawl_frontier.specs.declared.error.OfferError.TheVariants as refused
 use Rattle.crawl_queues.specs.Entries.{entry}
-use Rattle.crawl_queues.specs.Books.{BookId, book_accepting, book_seeing}
+use Rattle.crawl_queues.specs.Books.{BookId}
 use Rattle.crawl_frontier.specs.Offers.{OfferBooks}
 use Rattle.link_offers.specs.declared.recent.RecentUrls.{RecentUrls}
 use Rattle.link_offers.specs.Logs.{line_of, HasLine, AllLogged, Grows}
@@ -20,25 +21,14 @@ pub grows_same : (b b' : BookId) → b' ≡ b → Grows b b'
 grows_same b b' same = record { more = []; id = ap (λ (x : BookId). x.id) same; log = ap (λ (x : BookId). x.log) same ∙ sym (append-nil b.log) }
 
 pub grows_on : (a b c : BookId) → Grows a b → Grows b c → Grows a c
-grows_on a b c first next = record {
-  more = first.more ++ next.more;
-  id = next.id ∙ first.id;
-  log = next.log ∙ (ap (λ xs. xs ++ next.more) first.log ∙ append_assoc a.log first.more next.more);
-}
+grows_on a b c first next = grind (arith, append_assoc)
 
 grows_line : (b b' : BookId) (l : Logged) → b'.id ≡ b.id → b'.log ≡ b.log ++ l ∷ [] → Grows b b'
 grows_line b b' l id log = record { more = l ∷ []; id = id; log = log }
 
 -- an offer only adds to the book
 pub offer_grows : (workers : ℕ) (b b' : BookId) (url : List ℕ) (hops : ℕ) (r : Result Offer OfferError) → OfferBooks workers b b' url hops r → Grows b b'
-offer_grows workers b b' url hops (Ok (Accepted q n)) books = rw books.3 (grows_line b (book_accepting b q n (entry url b.id n hops)) (logged.Accepted (entry url b.id n hops) q) refl refl)
-offer_grows workers b b' url hops (Ok Seen) books = rw books (grows_line b (book_seeing b url (subqueue_of url workers)) (logged.Seen url (subqueue_of url workers)) refl refl)
-offer_grows workers b b' url hops (Err refused.Filtered) books = grows_same b b' books
-offer_grows workers b b' url hops (Err refused.Closed) books = grows_same b b' books
-offer_grows workers b b' url hops (Err refused.Full) books = grows_same b b' books
-offer_grows workers b b' url hops (Err (refused.Crossed own found)) books = grows_same b b' books.0
-offer_grows workers b b' url hops (Err refused.TooFar) books = grows_same b b' books.0
-offer_grows workers b b' url hops (Err refused.NoMemory) books = grows_same b b' books
+offer_grows workers b b' url hops r books = grind (arith, grows_line, grows_same)
 
 has_last : (workers : ℕ) (log : List Logged) (l : Logged) (url : List ℕ) → line_of l ≡ (url, subqueue_of url workers) → HasLine workers (log ++ l ∷ []) url
 has_last workers log l url is = rw (map-append line_of log (l ∷ []), ← is) (Contains-push (map line_of log) (line_of l))
@@ -54,16 +44,14 @@ pub has_line_on : (workers : ℕ) (b b' : BookId) (url : List ℕ) → Grows b b
 has_line_on workers b b' url grows has = rw (grows.log, map-append line_of b.log grows.more) (Contains-append_left (map line_of b.log) (map line_of grows.more) (url, subqueue_of url workers) has)
 
 pub all_logged_on : (workers : ℕ) (allowed : List ℕ → Bool) (b b' : BookId) (urls : List (List ℕ)) → Grows b b' → AllLogged workers allowed b.log urls → AllLogged workers allowed b'.log urls
-all_logged_on workers allowed b b' urls grows all =
-    All-weaker (λ url. IsTrue (allowed url) → HasLine workers b.log url) (λ url. IsTrue (allowed url) → HasLine workers b'.log url) (λ url has may. has_line_on workers b b' url grows (has may)) urls all
+all_logged_on workers allowed b b' urls grows all = grind (arith, common_steps, has_line_on)
 
 pub all_logged_more : (workers : ℕ) (allowed : List ℕ → Bool) (b b' : BookId) (urls : List (List ℕ)) (url : List ℕ) → Grows b b' → AllLogged workers allowed b.log urls → (IsTrue (allowed url) → HasLine workers b'.log url) → AllLogged workers allowed b'.log (urls ++ url ∷ [])
 all_logged_more workers allowed b b' urls url grows all has =
     All-push (λ u. IsTrue (allowed u) → HasLine workers b'.log u) urls url (all_logged_on workers allowed b b' urls grows all) has
 
 slot_on : (workers : ℕ) (b b' : BookId) (slot : Option (List ℕ)) → Grows b b' → IfSome slot (HasLine workers b.log) → IfSome slot (HasLine workers b'.log)
-slot_on workers b b' (Some url) grows has = has_line_on workers b b' url grows has
-slot_on workers b b' None grows has = tt
+slot_on workers b b' slot grows has = grind (arith, common_steps, has_line_on)
 
 -- what is remembered stays known
 pub knows_on : (workers : ℕ) (b b' : BookId) (recent : RecentUrls) → Grows b b' → Knows workers b.log recent → Knows workers b'.log recent

@@ -12,6 +12,7 @@ use std::alloc::{AllocError, Global};
 use std::collections::BTreeSet;
 
 // The ids of all parts.
+#[tactic(auto, using(crate::proofs::Settling::ids_more, crate::proofs::Settling::at_book))]
 fn ids_of(alloc: Global, books: &[Book]) -> Result<BTreeSet<u64>, AllocError>
     ensures { IfOk result (λ ids. IdsOf (map book_of books.now) ids) }
 {

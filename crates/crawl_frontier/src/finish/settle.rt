@@ -86,6 +86,7 @@ fn settle<K: Name>(
 }
 
 // The last of the shards, settled with the right to pop of this queue.
+#[tactic(auto, using(crate::proofs::Settling::removed))]
 fn settle_last<K: Name>(
     subqueue: &Subqueue,
     shards: &mut Vec<Shard<K>>,

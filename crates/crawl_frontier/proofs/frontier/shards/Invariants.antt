@@ -1,5 +1,4 @@
-use Rattle.std.proofs.Common.{◌≡◌, ◌+◌, length, vec_len}
-use Rattle.crawl_frontier.specs.FreshParts.{AllPush}
+use Rattle.crawl_frontier.proofs.Prelude.{◌≡◌, ◌+◌, length, vec_len, AllPush}
 use Rattle.crawl_frontier.proofs.frontier.shards.Given as goal
 
 abbrev pub invariant-loop-right : goal.invariant-loop-right

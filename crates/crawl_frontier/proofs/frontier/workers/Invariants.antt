@@ -1,7 +1,4 @@
-use Rattle.std.proofs.Common.{◌≡◌, ◌≤◌, ◌+◌, length, vec_len}
-use Rattle.std.specs.Prelude.{vec_capacity}
-use Rattle.crawl_queues.specs.Books.{Knows, book_of}
-use Rattle.crawl_frontier.specs.FreshParts.{AllPop, AllFresh}
+use Rattle.crawl_frontier.proofs.Prelude.{◌≡◌, ◌≤◌, ◌+◌, length, vec_len, vec_capacity, Knows, book_of, AllPop, AllFresh}
 use Rattle.crawl_frontier.proofs.frontier.workers.Given as goal
 
 abbrev pub invariant-loop-right : goal.invariant-loop-right

@@ -1,8 +1,4 @@
-use Rattle.std.proofs.Common.{◌≡◌, ◌∙◌, length, set, refl, sym, ap, subst, arith}
-use Rattle.std.proofs.lemmas.Option.{slice_get_read}
-use Rattle.crawl_queues.specs.Known.{begins_with}
-use Rattle.crawl_queues.specs.Books.{Knows, book_of}
-use Rattle.crawl_frontier.specs.Parts.{ShardId}
+use Rattle.crawl_frontier.proofs.Prelude.{◌≡◌, ◌∙◌, length, set, refl, sym, ap, subst, arith, slice_get_read, begins_with, Knows, book_of, ShardId}
 use Rattle.crawl_frontier.proofs.Admitting.{raises, told_log, told_known, told_index}
 use Rattle.crawl_frontier.proofs.offer.admit.Goals as goal
 

@@ -1,9 +1,5 @@
-use Rattle.std.proofs.Common.{◌≡◌, ◌<◌, ◌∙◌, ap, sym, refl, Some, slice_get, length, vec_len, arith, subst}
-use Rattle.std.specs.Prelude.{vec_capacity}
-use Rattle.std.proofs.lemmas.Option.{slice_get_read}
+use Rattle.crawl_frontier.proofs.Prelude.{◌≡◌, ◌<◌, ◌∙◌, ap, sym, refl, Some, slice_get, length, vec_len, arith, subst, vec_capacity, slice_get_read, entry, BookId, IsBook, book_of, book_accepting, book_seeing}
 use Rattle.crawl_keys.specs.Assignment.{subqueue_of}
-use Rattle.crawl_queues.specs.Entries.{entry}
-use Rattle.crawl_queues.specs.Books.{BookId, IsBook, book_of, book_accepting, book_seeing}
 use Rattle.crawl_frontier.proofs.BookKeeping.{book_accepts, book_sees}
 use Rattle.crawl_frontier.proofs.offer.deliver.Goals as goal
 

@@ -1,7 +1,4 @@
-use Rattle.std.proofs.Common.{rules, arith, List, sym, subst}
-use Rattle.crawl_queues.specs.QueueId.{QueueId}
-use Rattle.crawl_queues.specs.Known.{KnownList}
-use Rattle.crawl_queues.specs.Logs.{ListsAre}
+use Rattle.crawl_frontier.proofs.Prelude.{rules, arith, List, sym, subst, QueueId, KnownList, ListsAre}
 use Rattle.crawl_frontier.proofs.Lines.{line-snoc, lists_are-snoc}
 use Rattle.crawl_frontier.proofs.setup.subqueues.Goals as goal
 

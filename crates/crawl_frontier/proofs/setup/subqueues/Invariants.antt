@@ -1,8 +1,5 @@
-use Rattle.std.proofs.Common.{◌≡◌, ◌≤◌, vec_len}
-use Rattle.std.specs.Prelude.{vec_capacity}
+use Rattle.crawl_frontier.proofs.Prelude.{◌≡◌, ◌≤◌, vec_len, vec_capacity, Line, ListsAre}
 use Rattle.std.specs.VecDeque.{deque_capacity}
-use Rattle.crawl_frontier.specs.FreshParts.{Line}
-use Rattle.crawl_queues.specs.Logs.{ListsAre}
 use Rattle.crawl_frontier.proofs.setup.subqueues.Given as goal
 
 abbrev pub invariant-loop-queue : goal.invariant-loop-queue

@@ -1,6 +1,4 @@
-use Rattle.std.proofs.Common.{ap, ◌∙◌}
-use Rattle.crawl_keys.specs.HostFilter.{allows}
-use Rattle.link_offers.specs.Losses.{sum_of}
+use Rattle.crawl_workers.proofs.Prelude.{ap, ◌∙◌, allows, sum_of}
 use Rattle.crawl_workers.proofs.Ends.{ran_by}
 use Rattle.crawl_workers.proofs.Outcomes.{progress_none}
 use Rattle.crawl_workers.proofs.run.run_worker.Goals as goal

@@ -1,5 +1,4 @@
-use Rattle.crawl_keys.specs.HostFilter.{allows}
-use Rattle.crawl_workers.specs.Turn.{Goes}
+use Rattle.crawl_workers.proofs.Prelude.{allows, Goes}
 use Rattle.crawl_workers.proofs.run.run_worker.Given as goal
 
 abbrev pub invariant-loop : goal.invariant-loop

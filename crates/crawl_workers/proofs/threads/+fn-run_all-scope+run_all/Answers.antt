@@ -1,6 +1,4 @@
-use Rattle.std.proofs.Common.{arith, ◌∙◌}
-use Rattle.crawl_keys.specs.HostFilter.{allows}
-use Rattle.crawl_workers.specs.Runs.{RanTo}
+use Rattle.crawl_workers.proofs.Prelude.{arith, ◌∙◌, allows, RanTo}
 use Rattle.crawl_workers.proofs.Turning.{all_ran_push, all_ran_length}
 use Rattle.crawl_workers.proofs.threads.+fn-run_all-scope+run_all.Goals as goal
 

@@ -1,6 +1,4 @@
-use Rattle.std.proofs.Common.{ap}
-use Rattle.crawl_frontier.specs.Parts.{WorkerId}
-use Rattle.crawl_keys.specs.HostFilter.{allows}
+use Rattle.crawl_workers.proofs.Prelude.{ap, WorkerId, allows}
 use Rattle.crawl_workers.proofs.Outcomes.{progress_more, progress_still}
 use Rattle.crawl_workers.proofs.turn.take.Goals as goal
 

@@ -1,8 +1,4 @@
-use Rattle.std.proofs.Common.{◌≡◌, refl, sym, ap, subst, ◌∙◌}
-use Rattle.crawl_keys.specs.HostFilter.{allows}
-use Rattle.crawl_pages.specs.Pages.{links_of}
-use Rattle.link_offers.specs.Offers.{LinkAnswers}
-use Rattle.link_offers.proofs.LinkAnswers.{answers_same}
+use Rattle.crawl_workers.proofs.Prelude.{◌≡◌, refl, sym, ap, subst, ◌∙◌, allows, links_of, LinkAnswers, answers_same}
 use Rattle.crawl_workers.proofs.Outcomes.{fetch_failed, page_fetched}
 use Rattle.crawl_workers.proofs.turn.work.Goals as goal
 

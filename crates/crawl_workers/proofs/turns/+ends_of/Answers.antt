@@ -3,8 +3,7 @@ use Rattle.crawl_workers.proofs.Turning.{ends_none, ended_front, ended_last, not
 use Rattle.crawl_workers.proofs.turns.+ends_of.Goals as goal
 
 pub returns-in_default-clause-ran : goal.returns-in_default-clause-ran
-returns-in_default-clause-ran g t c = λ allowed meaning starts go.
-    ends_none g.K.Name.workers allowed meaning starts c.args.runners.items c.args.ends.items (omega (arith, c.in_default.ensures.cases.0, c.args.runners.ok.0)) c.requires.none go
+returns-in_default-clause-ran g t c = grind (arith, ends_none)
 
 pub ends_of-ends-requires : goal.ends_of-ends-requires
 ends_of-ends-requires g t c κs within =
@@ -15,6 +14,4 @@ unreachable-requires g t c =
     not_ended c.in-Some.runner c.in_default-runner.not-Ended (ended_last c.pop.new.self.items c.in-Some.runner c.args.runners.items c.in-Some.ensures.items c.requires.ended)
 
 pub returns-clause-ran : goal.returns-clause-ran
-returns-clause-ran g t c = λ allowed meaning starts go.
-    rw c.push_reserved.ensures.items
-    (ends_push g.K.Name.workers allowed meaning starts c.pop.new.self.items c.args.runners.items c.in-Some.runner c.in-Ended.end c.ends_of-ends.result.items c.in-Some.ensures.items c.in-Ended.is (c.ends_of-ends.ensures.ran allowed meaning) go)
+returns-clause-ran g t c = grind (arith, ends_push)

@@ -1,7 +1,4 @@
-use Rattle.std.proofs.Common.{ap, sym, subst, ◌∙◌}
-use Rattle.crawl_keys.specs.HostFilter.{allows}
-use Rattle.link_offers.specs.Losses.{sum_of}
-use Rattle.crawl_workers.specs.Rounds.{RunnerRan}
+use Rattle.crawl_workers.proofs.Prelude.{ap, sym, subst, ◌∙◌, allows, sum_of, RunnerRan}
 use Rattle.crawl_workers.proofs.Ends.{ran_by}
 use Rattle.crawl_workers.proofs.turns.advance.Goals as goal
 

@@ -1,5 +1,4 @@
-use Rattle.std.proofs.Common.{◌∙◌, slice_index_or, sym, arith}
-use Rattle.crawl_keys.specs.HostFilter.{allows}
+use Rattle.crawl_workers.proofs.Prelude.{◌∙◌, slice_index_or, sym, arith, allows}
 use Rattle.crawl_workers.proofs.Turning.{all_go_set, ended_set, go_ran, length_set, get_at}
 use Rattle.crawl_workers.proofs.turns.round.Goals.{then-advance, else-advance}
 use Rattle.crawl_workers.proofs.turns.round.Goals as goal

@@ -1,7 +1,4 @@
-use Rattle.std.proofs.Common.{◌≡◌, false, List, length}
-use Rattle.crawl_keys.specs.HostFilter.{allows}
-use Rattle.crawl_frontier.specs.Parts.{WorkerId}
-use Rattle.crawl_workers.specs.Rounds.{AllGo, EndedBelow}
+use Rattle.crawl_workers.proofs.Prelude.{◌≡◌, false, List, length, allows, WorkerId, AllGo, EndedBelow}
 use Rattle.crawl_workers.proofs.turns.round.Given as goal
 
 abbrev pub invariant-loop-i : goal.invariant-loop-i

@@ -1,7 +1,4 @@
-use Rattle.std.proofs.Common.{◌≡◌, List, length}
-use Rattle.crawl_keys.specs.HostFilter.{allows}
-use Rattle.crawl_frontier.specs.Parts.{WorkerId}
-use Rattle.crawl_workers.specs.Rounds.{AllGo}
+use Rattle.crawl_workers.proofs.Prelude.{◌≡◌, List, length, allows, WorkerId, AllGo}
 use Rattle.crawl_workers.proofs.turns.rounds.Given as goal
 
 abbrev pub invariant-loop : goal.invariant-loop

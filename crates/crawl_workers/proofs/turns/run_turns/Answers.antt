@@ -1,5 +1,4 @@
-use Rattle.std.proofs.Common.{arith}
-use Rattle.crawl_keys.specs.HostFilter.{allows}
+use Rattle.crawl_workers.proofs.Prelude.{arith, allows}
 use Rattle.crawl_workers.proofs.Turning.{take_front}
 use Rattle.crawl_workers.proofs.turns.run_turns.Goals as goal
 

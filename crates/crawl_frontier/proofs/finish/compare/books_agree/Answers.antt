@@ -1,8 +1,4 @@
-use Rattle.std.proofs.Common.{◌≡◌, ◌<◌, ◌+◌, ◌∷◌, ◌++◌, ◌∙◌, [], None, length, map, vec_len, sym, ap, subst, arith, rules}
-use Rattle.std.proofs.lemmas.List.{nil_from_length}
-use Rattle.std.specs.Prelude.{MatchOption}
-use Rattle.crawl_queues.specs.Books.{book_of}
-use Rattle.crawl_frontier.specs.Finishing.{AgreesBelow, DisagreesAt, AgreeTo}
+use Rattle.crawl_frontier.proofs.Prelude.{◌≡◌, ◌<◌, ◌+◌, ◌∷◌, ◌++◌, ◌∙◌, [], None, length, map, vec_len, sym, ap, subst, arith, rules, nil_from_length, MatchOption, book_of, AgreesBelow, DisagreesAt, AgreeTo}
 use Rattle.crawl_frontier.proofs.Agreeing.{agrees, count_disagrees, agree_first, last_one, is_one}
 use Rattle.crawl_frontier.proofs.finish.compare.books_agree.Goals as goal
 

@@ -1,6 +1,4 @@
-use Rattle.std.proofs.Common.{◌≡◌, ◌++◌, List, map, vec_len}
-use Rattle.crawl_queues.specs.Books.{BookId, book_of}
-use Rattle.crawl_frontier.specs.Finishing.{AgreeTo}
+use Rattle.crawl_frontier.proofs.Prelude.{◌≡◌, ◌++◌, List, map, vec_len, BookId, book_of, AgreeTo}
 use Rattle.crawl_frontier.proofs.finish.compare.books_agree.Given as goal
 
 abbrev pub invariant-loop-book : goal.invariant-loop-book

@@ -1,5 +1,4 @@
-use Rattle.crawl_queues.specs.Books.{book_of}
-use Rattle.crawl_frontier.specs.Finishing.{CountsStand}
+use Rattle.crawl_frontier.proofs.Prelude.{book_of, CountsStand}
 use Rattle.crawl_frontier.proofs.finish.compare.counts_stand.Given as goal
 
 abbrev pub invariant-loop-queue : goal.invariant-loop-queue

@@ -1,5 +1,4 @@
-use Rattle.std.proofs.Common.{map}
-use Rattle.crawl_queues.specs.Books.{book_of}
+use Rattle.crawl_frontier.proofs.Prelude.{map, book_of}
 use Rattle.crawl_frontier.proofs.Settling.{IdsBelow}
 use Rattle.crawl_frontier.proofs.finish.compare.ids_of.Given as goal
 

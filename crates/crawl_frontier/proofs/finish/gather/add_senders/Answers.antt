@@ -1,9 +1,4 @@
-use Rattle.std.proofs.Common.{rules, arith, ◌≡◌, ◌+◌, ◌∙◌, ◌++◌, ◌∷◌, [], List, None, map, vec_len, sym, ap, subst}
-use Rattle.std.proofs.lemmas.List.{map-append, nil_from_length}
-use Rattle.std.specs.Prelude.{MatchOption}
-use Rattle.crawl_queues.specs.Books.{BookId, Knows, book_of, IsBook}
-use Rattle.crawl_frontier.specs.Parts.{SenderId}
-use Rattle.crawl_frontier.specs.Finishing.{AllAre, Gathered}
+use Rattle.crawl_frontier.proofs.Prelude.{rules, arith, ◌≡◌, ◌+◌, ◌∙◌, ◌++◌, ◌∷◌, [], List, None, map, vec_len, sym, ap, subst, map-append, nil_from_length, MatchOption, BookId, Knows, book_of, IsBook, SenderId, AllAre, Gathered}
 use Rattle.crawl_frontier.proofs.Telling.{all_snoc}
 use Rattle.crawl_frontier.proofs.Gathering.{gather-sender}
 use Rattle.crawl_frontier.proofs.finish.gather.add_senders.Goals as goal

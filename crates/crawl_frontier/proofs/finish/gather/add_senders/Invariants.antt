@@ -1,7 +1,4 @@
-use Rattle.std.proofs.Common.{List, [], map, vec_len}
-use Rattle.crawl_frontier.specs.Parts.{WorkerId}
-use Rattle.crawl_queues.specs.Books.{Knows, book_of}
-use Rattle.crawl_frontier.specs.Finishing.{AllAre, Gathered}
+use Rattle.crawl_frontier.proofs.Prelude.{List, [], map, vec_len, WorkerId, Knows, book_of, AllAre, Gathered}
 use Rattle.crawl_frontier.proofs.finish.gather.add_senders.Given as goal
 
 abbrev pub invariant-loop-sender : goal.invariant-loop-sender

@@ -1,13 +1,4 @@
-use Rattle.std.proofs.Common.{rules, ◌≡◌, ◌∙◌, ◌+◌, ◌<◌, ◌++◌, ◌∷◌, [], ℕ, List, map, sym, ap, subst, length, length-append, cond, true, None, Some, arith}
-use Rattle.std.specs.Prelude.{is_some, vec_len, MatchOption}
-use Rattle.std.specs.Ordering.{nat_cmp}
-use Rattle.std.specs.BTreeMap.{get, is_at}
-use Rattle.std.proofs.lemmas.List.{map-append, nil_from_length}
-use Rattle.crawl_queues.specs.declared.book.Book.{Book}
-use Rattle.crawl_queues.specs.Books.{BookId, Knows, book_of, IsBook}
-use Rattle.crawl_frontier.specs.Parts.{WorkerId}
-use Rattle.crawl_frontier.specs.Accounts.{At}
-use Rattle.crawl_frontier.specs.Finishing.{AllAre, Placed, Gathered}
+use Rattle.crawl_frontier.proofs.Prelude.{rules, ◌≡◌, ◌∙◌, ◌+◌, ◌<◌, ◌++◌, ◌∷◌, [], ℕ, List, map, sym, ap, subst, length, length-append, cond, true, None, Some, arith, is_some, vec_len, MatchOption, nat_cmp, get, is_at, map-append, nil_from_length, Book, BookId, Knows, book_of, IsBook, WorkerId, At, AllAre, Placed, Gathered}
 use Rattle.crawl_frontier.proofs.Gets.{get_last}
 use Rattle.crawl_frontier.proofs.Telling.{all_snoc}
 use Rattle.crawl_frontier.proofs.Gathering.{gather-none, gather-worker}

@@ -1,6 +1,4 @@
-use Rattle.std.proofs.Common.{◌<◌, ◌≤◌, map, vec_len, length}
-use Rattle.crawl_queues.specs.Books.{Knows, book_of}
-use Rattle.crawl_frontier.specs.Finishing.{AllAre, Slots, Placed, Gathered, IsShared}
+use Rattle.crawl_frontier.proofs.Prelude.{◌<◌, ◌≤◌, map, vec_len, length, Knows, book_of, AllAre, Slots, Placed, Gathered, IsShared}
 use Rattle.crawl_frontier.proofs.finish.gather.gather.Given as goal
 
 abbrev pub invariant-loop-worker : goal.invariant-loop-worker

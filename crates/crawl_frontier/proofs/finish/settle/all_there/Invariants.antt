@@ -1,7 +1,4 @@
-use Rattle.std.proofs.Common.{◌≡◌, ◌<◌, ℕ, true}
-use Rattle.std.specs.Prelude.{is_some}
-use Rattle.std.specs.Ordering.{nat_cmp}
-use Rattle.std.specs.BTreeMap.{get}
+use Rattle.crawl_frontier.proofs.Prelude.{◌≡◌, ◌<◌, ℕ, true, is_some, nat_cmp, get}
 use Rattle.crawl_frontier.proofs.finish.settle.all_there.Given as goal
 
 abbrev pub invariant-loop-queue : goal.invariant-loop-queue

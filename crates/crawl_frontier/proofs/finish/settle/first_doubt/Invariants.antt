@@ -1,5 +1,4 @@
-use Rattle.std.proofs.Common.{◌<◌, ℕ, None}
-use Rattle.crawl_frontier.specs.Accounts.{At}
+use Rattle.crawl_frontier.proofs.Prelude.{◌<◌, ℕ, None, At}
 use Rattle.crawl_frontier.proofs.finish.settle.first_doubt.Given as goal
 
 abbrev pub invariant-loop-queue : goal.invariant-loop-queue

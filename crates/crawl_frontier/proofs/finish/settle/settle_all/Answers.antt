@@ -1,8 +1,4 @@
-use Rattle.std.proofs.Common.{rules, ◌≡◌, ◌∙◌, ◌++◌, ◌∷◌, ◌+◌, ℕ, List, Option, sym, ap, arith, length, length-append, subst, []}
-use Rattle.crawl_queues.specs.declared.entry.Entry.{Entry}
-use Rattle.crawl_frontier.specs.declared.finish.settle.Doubt.{Doubt}
-use Rattle.crawl_frontier.specs.Parts.{ShardId}
-use Rattle.crawl_frontier.specs.Finishing.{Begins, SettlesAt, AllSettle}
+use Rattle.crawl_frontier.proofs.Prelude.{rules, ◌≡◌, ◌∙◌, ◌++◌, ◌∷◌, ◌+◌, ℕ, List, Option, sym, ap, arith, length, length-append, subst, [], Entry, Doubt, ShardId, Begins, SettlesAt, AllSettle}
 use Rattle.crawl_frontier.proofs.Gets.{get_before, get_last}
 use Rattle.crawl_frontier.proofs.Settling.{settle_more}
 use Rattle.crawl_frontier.proofs.finish.settle.settle_all.Goals as goal

@@ -1,8 +1,4 @@
-use Rattle.std.proofs.Common.{◌≡◌, ◌≤◌, ◌+◌, ℕ, vec_len}
-use Rattle.std.specs.Prelude.{vec_capacity}
-use Rattle.std.specs.Ordering.{nat_cmp}
-use Rattle.std.specs.BTreeMap.{get}
-use Rattle.crawl_frontier.specs.Finishing.{Begins, AllSettle}
+use Rattle.crawl_frontier.proofs.Prelude.{◌≡◌, ◌≤◌, ◌+◌, ℕ, vec_len, vec_capacity, nat_cmp, get, Begins, AllSettle}
 use Rattle.crawl_frontier.proofs.finish.settle.settle_all.Given as goal
 
 abbrev pub invariant-loop-queue : goal.invariant-loop-queue

@@ -1,14 +1,4 @@
-use Rattle.std.proofs.Common.{◌≡◌, ◌<◌, ℕ, List, [], Option, true, None, Some, map, sym, ap, subst, inl, inr, length, arith}
-use Rattle.std.specs.Prelude.{is_some}
-use Rattle.std.specs.Ordering.{nat_cmp}
-use Rattle.std.specs.BTreeMap.{get}
-use Rattle.crawl_queues.specs.declared.book.Book.{Book}
-use Rattle.crawl_queues.specs.declared.entry.Entry.{Entry}
-use Rattle.crawl_frontier.specs.declared.finish.settle.Doubt.{Doubt}
-use Rattle.crawl_queues.specs.Books.{BookId, IsBook, book_of}
-use Rattle.crawl_frontier.specs.Parts.{ShardId}
-use Rattle.crawl_frontier.specs.Accounts.{At, HasWorkers}
-use Rattle.crawl_frontier.specs.Finishing.{AllAre, Gathered, LogsAreOf, SendersIn, IdsOf, KeepRuleBelow, Stranger}
+use Rattle.crawl_frontier.proofs.Prelude.{◌≡◌, ◌<◌, ℕ, List, [], Option, true, None, Some, map, sym, subst, inl, inr, length, arith, is_some, nat_cmp, get, Book, Entry, Doubt, BookId, IsBook, book_of, ShardId, At, HasWorkers, AllAre, Gathered, LogsAreOf, SendersIn, IdsOf, KeepRuleBelow, Stranger}
 use Rattle.crawl_frontier.proofs.Telling.{logs_stand}
 use Rattle.crawl_frontier.proofs.Settling.{Settled, settled, accounts, all_work, one_is_missing}
 use Rattle.crawl_frontier.proofs.Disagreeing.{found, strangers, all_senders, first_unsettled}
@@ -38,10 +28,6 @@ returns-then-not-complete g c =
     let work : HasWorkers g.K.Name.workers c.args.closed.items =
     all_work g.K.Name.gate g.K.Name.workers g.K.Name.queues c.args.closed.items c.in_ok-rights.rights gathered.0 (λ q lt. c.all_there.ensures.all c.if-not-all_there.false q (omega (arith, lt, is))) in
     inr (work, (fs.0, fs.1, strangers g.K.Name.workers c.args.closed.items c.args.senders.items lists.items doubts.items books c.in_ok-complete.ensures.0 fs.0 all_books ids fs.1 fs.2 len gone))
-
-pub first_doubt-least-requires : goal.first_doubt-least-requires
-first_doubt-least-requires g c =
-    omega (arith, c.in_ok-rights.ensures.3, c.parts_of-workers.ensures.workers.0, c.in_ok-lists.ensures.1, c.in_ok-lists.doubts.ok.0, ap length c.as_slice-3.ensures.value)
 
 pub returns : goal.returns
 returns g c =

@@ -1,9 +1,5 @@
-use Rattle.std.proofs.Common.{◌-◌, ◌∙◌, List, set, length, refl, ap, subst, arith}
-use Rattle.std.proofs.lemmas.Option.{slice_get_read}
-use Rattle.crawl_frontier.specs.Parts.{ShardId}
-use Rattle.crawl_frontier.specs.Accounts.{At}
+use Rattle.crawl_frontier.proofs.Prelude.{◌-◌, ◌∙◌, List, set, length, refl, ap, subst, arith, slice_get_read, ShardId, At, set_same}
 use Rattle.crawl_frontier.proofs.Logging.{raised_lists, raised_none}
-use Rattle.crawl_queues.proofs.LogLines.{set_same}
 use Rattle.crawl_frontier.proofs.Telling.{told_more, told_of}
 use Rattle.crawl_frontier.proofs.finish.tell.tell_all.Goals as goal
 

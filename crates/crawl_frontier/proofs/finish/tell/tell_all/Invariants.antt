@@ -1,5 +1,4 @@
-use Rattle.std.proofs.Common.{◌≡◌}
-use Rattle.crawl_frontier.specs.Finishing.{AreRaised}
+use Rattle.crawl_frontier.proofs.Prelude.{◌≡◌, AreRaised}
 use Rattle.crawl_frontier.proofs.Telling.{ToldBelow}
 use Rattle.crawl_frontier.proofs.finish.tell.tell_all.Given as goal
 

@@ -1,6 +1,4 @@
-use Rattle.std.proofs.Common.{List, subst}
-use Rattle.crawl_queues.specs.declared.book.Logged.{Logged}
-use Rattle.crawl_frontier.specs.Finishing.{LogIsOf}
+use Rattle.crawl_frontier.proofs.Prelude.{List, subst, Logged, LogIsOf}
 use Rattle.crawl_frontier.proofs.Logging.{raised_log, raised_known, lines_are_of}
 use Rattle.crawl_frontier.proofs.finish.tell.tell_book.Goals as goal
 

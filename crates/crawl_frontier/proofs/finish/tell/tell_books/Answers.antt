@@ -1,9 +1,4 @@
-use Rattle.std.proofs.Common.{◌≡◌, ◌≢◌, ◌∙◌, List, map, length, refl, sym, ap, subst, arith}
-use Rattle.std.proofs.lemmas.Option.{slice_get_read}
-use Rattle.crawl_queues.specs.Books.{book_of}
-use Rattle.crawl_frontier.specs.Parts.{ShardId}
-use Rattle.crawl_frontier.specs.Accounts.{At}
-use Rattle.crawl_frontier.specs.Finishing.{LogIsOf}
+use Rattle.crawl_frontier.proofs.Prelude.{◌≡◌, ◌≢◌, ◌∙◌, List, map, length, refl, sym, ap, subst, arith, slice_get_read, book_of, ShardId, At, LogIsOf}
 use Rattle.crawl_frontier.proofs.Gets.{get_set_other, get_within}
 use Rattle.crawl_frontier.proofs.Settling.{mapped}
 use Rattle.crawl_frontier.proofs.Telling.{map_set_same, book_more}
@@ -13,15 +8,7 @@ pub loop-index-init : goal.loop-index-init
 loop-index-init g c = (refl, refl, λ k le. refl, λ j b lt at. absurd (omega (arith, lt)))
 
 pub tell_book-requires-clause-known : goal.tell_book-requires-clause-known
-tell_book-requires-clause-known g c =
-    let i = c.loop-index.invariant in
-    let n = c.loop-index.index in
-    let start = c.args.books.now.items in
-    let cur = c.loop-index.books.items in
-    let b = c.index_mut.result.now in
-    let len : length cur ≡ length start = sym (mapped cur) ∙ (ap length i.1 ∙ mapped start) in
-    let here : At cur n b = slice_get_read cur (length cur) n b refl (omega (arith, len, c.args.books.now.ok.0)) c.index_mut.ensures.value in
-    c.requires.known n b (sym (i.2 n (omega arith)) ∙ here)
+tell_book-requires-clause-known g c = grind (arith, mapped, slice_get_read)
 
 pub loop-index-preserved : goal.loop-index-preserved
 loop-index-preserved g c =

@@ -1,5 +1,4 @@
-use Rattle.std.proofs.Common.{◌≡◌, ◌≤◌, ℕ, map, slice_get}
-use Rattle.crawl_queues.specs.Books.{book_of}
+use Rattle.crawl_frontier.proofs.Prelude.{◌≡◌, ◌≤◌, ℕ, map, slice_get, book_of}
 use Rattle.crawl_frontier.proofs.Telling.{LogsBelow}
 use Rattle.crawl_frontier.proofs.finish.tell.tell_books.Given as goal
 

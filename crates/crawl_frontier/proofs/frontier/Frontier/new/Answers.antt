@@ -1,8 +1,5 @@
-use Rattle.std.proofs.Common.{◌∙◌, List, ap, subst, arith}
-use Rattle.crawl_queues.specs.QueueId.{QueueId}
+use Rattle.crawl_frontier.proofs.Prelude.{◌∙◌, List, ap, subst, QueueId, ListsAre, AllPush, AllPop}
 use Rattle.crawl_frontier.specs.SetupId.{SetupId}
-use Rattle.crawl_queues.specs.Logs.{ListsAre}
-use Rattle.crawl_frontier.specs.FreshParts.{AllPush, AllPop}
 use Rattle.crawl_frontier.proofs.Lines.{line-push, line-pop}
 use Rattle.crawl_frontier.proofs.frontier.Frontier.new.Goals as goal
 
@@ -26,9 +23,3 @@ new-requires-clause-len g c = c.setup.invariant.4 ∙ (ap (λ z. z.workers) c.se
 pub new-requires-clause-lists : goal.new-requires-clause-lists
 new-requires-clause-lists g c =
     subst (λ (qs : List QueueId). ListsAre qs c.setup.inside.told.items) (ap (λ z. z.queues) c.setup.view_is ∙ c.requires.queues) c.setup.invariant.5
-
-pub workers-requires-clause-queues : goal.workers-requires-clause-queues
-workers-requires-clause-queues g c = (
-  ap (λ z. z.queues) c.setup.view_is ∙ c.requires.queues,
-  omega (arith, c.setup.invariant.3.queues_len, c.setup.inside.queues.ok.0, ap (λ z. z.workers) c.setup.view_is, c.requires.workers),
-)

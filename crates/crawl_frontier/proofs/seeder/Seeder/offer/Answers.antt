@@ -1,6 +1,4 @@
-use Rattle.std.proofs.Common.{subst}
-use Rattle.crawl_frontier.specs.Parts.{SeederId}
-use Rattle.crawl_frontier.specs.Offers.{OfferWordsBeside}
+use Rattle.crawl_frontier.proofs.Prelude.{subst, SeederId, OfferWordsBeside}
 use Rattle.crawl_frontier.proofs.seeder.Seeder.offer.Goals as goal
 
 pub returns-clause-words : goal.returns-clause-words

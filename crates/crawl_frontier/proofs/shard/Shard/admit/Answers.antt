@@ -1,10 +1,4 @@
-use Rattle.std.proofs.Common.{rules, ◌≡◌, ◌∙◌, List, false, Some, None, refl, sym, ap, subst, arith, length, map, slice_get}
-use Rattle.std.specs.Prelude.{is_some}
-use Rattle.std.proofs.lemmas.Option.{slice_get_read}
-use Rattle.hash_index.specs.Lists.{index_of}
-use Rattle.crawl_queues.specs.declared.entry.Entry.{Entry}
-use Rattle.crawl_queues.specs.Entries.{has_url}
-use Rattle.crawl_frontier.specs.Parts.{ShardId}
+use Rattle.crawl_frontier.proofs.Prelude.{rules, ◌≡◌, ◌∙◌, List, false, Some, None, refl, sym, ap, subst, arith, length, map, slice_get, is_some, slice_get_read, index_of, Entry, has_url, ShardId}
 use Rattle.crawl_frontier.proofs.Urls.{has_index, index_within, url_there}
 use Rattle.crawl_frontier.proofs.Admitting.{answered}
 use Rattle.crawl_frontier.proofs.shard.Shard.admit.Goals as goal

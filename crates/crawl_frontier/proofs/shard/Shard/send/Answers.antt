@@ -1,25 +1,15 @@
-use Rattle.std.proofs.Common.{rules, ◌≡◌, ◌+◌, ◌<◌, ◌∙◌, ◌++◌, ◌∷◌, [], List, length, length-append, map, slice_get, false, Some, None, cond, eqb, ap, refl, sym, subst, arith}
-use Rattle.std.specs.Prelude.{is_some}
-use Rattle.std.proofs.lemmas.Option.{slice_get_read}
+use Rattle.crawl_frontier.proofs.Prelude.{rules, ◌≡◌, ◌+◌, ◌<◌, ◌∙◌, ◌++◌, ◌∷◌, [], List, length, length-append, map, slice_get, false, Some, None, cond, eqb, ap, refl, sym, subst, arith, is_some, slice_get_read, index_of, Entry, ShardId, shard, MayFollow, KeepsRule, has_url, count_of, entry, rule-snoc, count_of-le}
 use Rattle.hash_order.specs.HashOrder.{hash_of}
-use Rattle.hash_index.specs.Lists.{index_of}
 use Rattle.hash_index.specs.Index.{IsIndexOf}
 use Rattle.hash_index.proofs.Keeping.{pushed_item}
-use Rattle.crawl_queues.specs.declared.entry.Entry.{Entry}
 use Rattle.crawl_queues.specs.declared.rule.PassView.{PassView}
-use Rattle.crawl_frontier.specs.Parts.{ShardId, shard}
-use Rattle.crawl_queues.specs.Entries.{MayFollow, KeepsRule, has_url, count_of, entry}
-use Rattle.crawl_queues.proofs.Entries.{rule-snoc, count_of-le}
 use Rattle.crawl_frontier.proofs.Urls.{has_index, index_within, url_there}
 use Rattle.crawl_frontier.proofs.Undo.{raised}
 use Rattle.crawl_frontier.proofs.Admitting.{answered}
 use Rattle.crawl_frontier.proofs.shard.Shard.send.Goals as goal
 
 pub overflow_add-own : goal.overflow_add-own
-overflow_add-own g c =
-    let v = c.self.inside.sent in
-    let is : count_of c.args.offered.now.id v.items ≡ c.args.offered.now.own = search rules in
-    omega (arith, is, count_of-le c.args.offered.now.id v.items, v.ok.0, v.ok.1, v.small)
+overflow_add-own g c = grind (arith, count_of-le)
 
 pub index-requires : goal.index-requires
 index-requires g c =

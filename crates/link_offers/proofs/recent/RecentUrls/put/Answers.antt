@@ -1,16 +1,18 @@
-use Rattle.std.proofs.Common.{IfSome, sym, subst, ◌∙◌, arith}
+use Rattle.std.proofs.lemmas.Grind.{common_steps}
+use Rattle.std.proofs.Common.{IfSome, arith, ◌≡◌, ◌<◌, ℕ, List, length, slice_set, slice_index_or}
 use Rattle.link_offers.specs.declared.recent.Slot.{Slot}
 use Rattle.link_offers.specs.Logs.{HasLine}
-use Rattle.link_offers.specs.Recent.{url_in}
-use Rattle.link_offers.proofs.Slots.{moved_on}
+use Rattle.link_offers.specs.Recent.{url_in, AllKnown}
+use Rattle.crawl_queues.specs.declared.book.Logged.{Logged}
 use Rattle.link_offers.proofs.recent.RecentUrls.put.Goals as goal
 
+-- a slot whose URL has a line comes to a place, and what was there to another
+moved_on : (workers : ℕ) (log : List Logged) (slots : List Slot) (i j : ℕ) (first second d : Slot) → AllKnown workers log slots → IfSome (url_in first) (HasLine workers log)
+    → second ≡ slice_index_or slots i d → i < length slots → AllKnown workers log (slice_set (slice_set slots i first) j second)
+moved_on workers log slots i j first second d known now was less = grind (arith, common_steps)
+
 pub returns-then-is_some : goal.returns-then-is_some
-returns-then-is_some c = λ workers log known line.
-    moved_on workers log _ _ _ _ _ _ known (subst (λ (s : Slot). IfSome (url_in s) (HasLine workers log)) (sym c.replace-before.ensures.after) line)
-    (c.replace-out.ensures.after ∙ (c.replace-before.ensures.value ∙ c.index_mut.ensures.value)) (omega (arith, c.pair_of-first.ensures, c.len-2.ensures))
+returns-then-is_some c = grind (arith, moved_on)
 
 pub returns : goal.returns
-returns c = λ workers log known line.
-    moved_on workers log _ _ _ _ _ _ known (subst (λ (s : Slot). IfSome (url_in s) (HasLine workers log)) (sym c.replace-before.ensures.after) line)
-    (c.replace-out.ensures.after ∙ (c.replace-before.ensures.value ∙ c.index_mut.ensures.value)) (omega (arith, c.pair_of-first.ensures, c.len-2.ensures))
+returns c = grind (arith, moved_on)
