@@ -93,6 +93,7 @@ pub fn again(core: &Core, queue: u32) -> Result<Reply, NoMemory>
 }
 
 /// After an allocation failed: the client's unit is given back.
+#[tactic(auto, using(crate::proofs::Steps::gave_back))]
 fn give_back(core: &mut Core) -> NoMemory
     ensures { Leads core.old (Event.Back spec.client) core.new }
 {

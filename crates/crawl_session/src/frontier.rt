@@ -75,6 +75,7 @@ impl Frontier {
     // frontier what its call does to the machine.
 
     /// Offers the URL to the machine's queue, for the session's client.
+    #[tactic(auto, using(crate::proofs::Lifts::gives_up_lifts))]
     fn offer(&mut self, url: Text, queue: u32) -> Result<Reply, NoMemory>
         ensures comes { IfOk result (λ reply. Comes (λ state. spec.by_machine state (spec.offering state.machine url queue)) self.old (Answer.Told reply) self.new) }
         ensures err { OnErr result (GivesUp self.old self.new) }
@@ -83,6 +84,7 @@ impl Frontier {
     }
 
     /// Gives back the opening unit: no more seeds will come.
+    #[tactic(auto, using(crate::proofs::Lifts::same_lifts))]
     fn end_seeds(&mut self) -> Result<Reply, NoMemory>
         ensures comes { IfOk result (λ reply. Comes (λ state. spec.by_machine state (spec.seeds_ended state.machine)) self.old (Answer.Told reply) self.new) }
         ensures err { OnErr result (self.new ≡ self.old) }
@@ -132,6 +134,7 @@ impl Frontier {
     }
 
     /// Takes a URL from the machine's queue. If the queue is empty, tries to close the gate.
+    #[tactic(auto, using(crate::proofs::Steps::never_refused))]
     fn take(&mut self, queue: u32) -> Result<Reply, NoMemory>
         ensures comes { IfOk result (λ reply. Comes (λ state. spec.by_machine state (spec.taking state.machine queue)) self.old (Answer.Told reply) self.new) }
         ensures err { OnErr result (self.new ≡ self.old) }
@@ -161,6 +164,7 @@ impl Frontier {
     }
 
     /// Finishes the URL that the machine's queue is busy with, which gives back its unit.
+    #[tactic(auto, using(crate::proofs::Lifts::same_lifts))]
     fn finish(&mut self, queue: u32) -> Result<Reply, NoMemory>
         ensures comes { IfOk result (λ reply. Comes (λ state. spec.by_machine state (spec.done_with state.machine queue)) self.old (Answer.Told reply) self.new) }
         ensures err { OnErr result (self.new ≡ self.old) }

@@ -29,6 +29,7 @@ ghost use Rattle.crawl_session.specs.declared.request.Request.TheVariants.{Later
 ghost use Rattle.crawl_session.specs.declared.request.RequestError.TheVariants as wrong;
 
 /// The events of a session are a run of the machine, from any state. So the laws of `crawl_core` hold for them.
+#[tactic(auto, using(crate::proofs::Runs::session_runs))]
 pub fn sessions_are_runs()
     ensures { (settings : Settings) (state : Frontier) (lines : List (List ℕ)) → Run state.machine (history_of settings state lines) (state_after settings state lines).machine }
 {}
@@ -43,6 +44,7 @@ pub fn sessions_go_on()
 
 /// A compacted log is as good as the whole one: a new session that is given only the lines of these bytes that are needed answers
 /// any further lines like one that was given all of them.
+#[tactic(auto, using(crate::proofs::Compactions::compacted_answers))]
 pub fn a_compacted_log_goes_on()
     ensures { (settings : Settings) (max : ℕ) (bytes : List ℕ) (more : List (List ℕ)) → 1 ≤ settings.workers → answers settings (state_after settings (start settings.workers max) (lines (log_text (needed settings had_none (start settings.workers max) (lines bytes))))) more
         ≡ answers settings (state_after settings (start settings.workers max) (lines bytes)) more }
@@ -50,12 +52,14 @@ pub fn a_compacted_log_goes_on()
 
 /// A compacted log has the same answers `elsewhere` as the whole one, one for each URL, in the order in which the URLs came first.
 /// So the URLs of other parts can be sent to them again.
+#[tactic(auto, using(crate::proofs::Elsewheres::compacted_tells))]
 pub fn a_compacted_log_tells_elsewhere()
     ensures { (settings : Settings) (max : ℕ) (bytes : List ℕ) → elsewhere_of (asked settings (start settings.workers max) (lines (log_text (needed settings had_none (start settings.workers max) (lines bytes))))) ≡ first_of_each [] (elsewhere_of (asked settings (start settings.workers max) (lines bytes))) }
 {}
 
 /// No answer depends on the words that senders remember. So if a line runs out of memory, each later line is answered as if that
 /// line had not been sent.
+#[tactic(auto, using(crate::proofs::Words::words_forgotten))]
 pub fn words_are_forgotten()
     ensures { (settings : Settings) (state : Frontier) (words : List (ℕ × Word)) (lines : List (List ℕ)) → answers settings (with_words state words) lines ≡ answers settings state lines }
 {}
@@ -69,17 +73,20 @@ pub fn clients_see_the_events()
 {}
 
 /// No URL is accepted twice, and each subqueue gives out its URLs in order: those of its hosts.
+#[tactic(auto, using(crate::proofs::Onces::each_once))]
 pub fn each_once_in_order()
     ensures { (settings : Settings) (max : ℕ) (lines : List (List ℕ)) → EachOnceInOrder settings.workers (asked settings (start settings.workers max) lines) }
 {}
 
 /// A URL is taken again only if it was put back: at most once more than it was put back, only from its host's subqueue, and never
 /// while it is in progress. It is done at most once.
+#[tactic(auto, using(crate::proofs::Returns::again_if_put_back))]
 pub fn taken_again_if_put_back()
     ensures { (settings : Settings) (max : ℕ) (lines : List (List ℕ)) → AgainIfPutBack settings.workers (asked settings (start settings.workers max) lines) }
 {}
 
 /// `later` puts a URL back if and only if its subqueue is busy, by the answers before. So it is then never refused.
+#[tactic(auto, using(crate::proofs::Rooms::later_if_busy))]
 pub fn later_needs_a_busy_queue()
     ensures { (settings : Settings) (max : ℕ) (front : List (List ℕ)) (line : List ℕ) (queue : ℕ) → HasRoom max → request_for settings line ≡ Ok (Later queue)
         → puts_back queue (Ok (Later queue)) (line_exchange settings (state_after settings (start settings.workers max) front) line).answer ≡ is_some (busy_in queue (asked settings (start settings.workers max) front)) }
@@ -87,11 +94,13 @@ pub fn later_needs_a_busy_queue()
 
 /// The numbers of a subqueue are those of the answers before: how many URLs were accepted and are done, and whether the subqueue
 /// is busy. All others are waiting.
+#[tactic(auto, using(crate::proofs::Counting::stats_told))]
 pub fn stats_are_what_was_told()
     ensures { (settings : Settings) (max : ℕ) (lines : List (List ℕ)) (queue : ℕ) (stats : Stats) → stats_at (state_after settings (start settings.workers max) lines) queue ≡ Some stats → IsTold queue (asked settings (start settings.workers max) lines) stats }
 {}
 
 /// A request has one of the answers that the table has for it. The answer to a line that is no request says why.
+#[tactic(auto, using(crate::proofs::Rests::answers_fit))]
 pub fn answers_are_those_of_the_table()
     ensures { (settings : Settings) (max : ℕ) (lines : List (List ℕ)) → 1 ≤ settings.workers → All (λ x. CanBeAnswered x.request x.answer) (asked settings (start settings.workers max) lines) }
 {}
@@ -105,6 +114,7 @@ pub fn closed_means_done()
 {}
 
 /// A frontier that is not a part answers each line as if there were no parts.
+#[tactic(auto, using(crate::proofs::PartLaws::alone_asks))]
 pub fn a_frontier_alone_has_no_parts()
     ensures { (settings : Settings) (state : Frontier) (line : List ℕ) → settings.part ≡ None → line_exchange settings state line ≡ answered state (request_of settings.workers settings.suffixes line) }
 {}
@@ -116,6 +126,7 @@ pub fn a_part_accepts_its_own()
 {}
 
 /// No two parts of a crawl accept the same URL.
+#[tactic(auto, using(crate::proofs::PartLaws::shares_no_url))]
 pub fn parts_share_no_url()
     ensures { (first second : Settings) (own other : Part) (old older : Frontier) (lines others : List (List ℕ)) (queue there k l : ℕ) (url : List ℕ) → first.part ≡ Some own → second.part ≡ Some other → first.workers ≡ second.workers → own.queues ≡ other.queues
         → slice_get (accepted_of queue (asked first old lines)) k ≡ Some url → slice_get (accepted_of there (asked second older others)) l ≡ Some url → (queue ≡ there) × (own.number ≡ other.number) }
@@ -123,6 +134,7 @@ pub fn parts_share_no_url()
 
 /// The answer to an offer is `elsewhere` if and only if the URL's queue belongs to another part. It has that part's number, and
 /// nothing changes. Any other offer is answered as if there were no parts.
+#[tactic(auto, using(crate::proofs::PartLaws::tells_elsewhere, crate::proofs::PartLaws::offers_its_own))]
 pub fn others_are_told_elsewhere()
     ensures other { (settings : Settings) (part : Part) (state : Frontier) (line url : List ℕ) (queue : ℕ) → settings.part ≡ Some part → request_of settings.workers settings.suffixes line ≡ Ok (Offer url queue) → part_with part queue ≢ part.number
         → line_exchange settings state line ≡ record { history = []; answer = Unasked (wrong.Elsewhere (part_with part queue) url); state = state } }
@@ -131,6 +143,7 @@ pub fn others_are_told_elsewhere()
 {}
 
 /// The part and the identity in the first line of a log are read as they were written, whatever settings follow.
+#[tactic(auto, using(crate::proofs::LogStarts::starts_back))]
 pub fn log_starts_come_back()
     ensures { (part : Option (ℕ × ℕ)) (identity : Option (List ℕ)) (workers max : ℕ) (suffixes : List (List ℕ)) → IfSome part (λ p. (p.0 < 2 ^ 32) × (p.1 < 2 ^ 32)) → IfSome identity (λ text. list_all (λ b. not (is_space b)) text ≡ true) → read_start (start_text part identity ++ settings_line workers max suffixes) ≡ (part, (identity, settings_line workers max suffixes)) }
 {}
