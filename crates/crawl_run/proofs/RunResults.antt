@@ -9,7 +9,8 @@ use Rattle.crawl_certificate.specs.declared.error.CertError.TheVariants as cert
 use Rattle.crawl_certificate.specs.Culprits.{IsCulprit, is_at_fault, no_memory}
 use Rattle.crawl_certificate.specs.Least.{IsLeast}
 use Rattle.crawl_certificate.specs.declared.culprit.Culprit.{Culprit}
-use Rattle.crawl_certificate.proofs.Places.{get_push, get_last}
+use Rattle.crawl_frontier.proofs.Gets.{get_last}
+use Rattle.crawl_certificate.proofs.Places.{get_push}
 use Rattle.crawl_frontier.specs.Accounts.{AccountId}
 use Rattle.crawl_frontier.specs.Parts.{WorkerId}
 use Rattle.crawl_queues.specs.declared.entry.Entry.{Entry}
