@@ -1,20 +1,5 @@
 -- What is said of the pages of a run of an account, from its verdict and its order.
-use Rattle.std.proofs.Common.{◌≡◌, ℕ, Bool, List, None, subst}
-use Rattle.std.specs.Cmp.Lexicographic.{slice_cmp}
-use Rattle.std.specs.Ordering.{nat_cmp}
-use Rattle.std.specs.List.{All}
-use Rattle.std.specs.List.Sorted.{IsPermutation, IsSortedByKey}
-use Rattle.std.specs.Prelude.{take}
-use Rattle.crawl_queues.specs.declared.entry.Entry.{Entry}
-use Rattle.crawl_frontier.specs.Accounts.{AccountId}
-use Rattle.crawl_keys.specs.Assignment.{subqueue_of}
-use Rattle.crawl_pages.specs.declared.page.PageResult.{PageResult}
-use Rattle.crawl_certificate.specs.AccountEntries.{entries_of, DifferByUrl}
-use Rattle.crawl_certificate.specs.CertFaults.{first_fault}
-use Rattle.crawl_certificate.specs.Certificate.{entry_urls, result_urls, IsAscending, AreReachable, CountsOf}
-use Rattle.crawl_certificate.specs.Queues.{AreQueues}
-use Rattle.crawl_certificate.specs.Reachable.{WalkOf}
-use Rattle.crawl_certificate.specs.ResultPages.{page_in}
+use Rattle.crawl_certificate.proofs.Prelude.{◌≡◌, ℕ, Bool, List, None, subst, slice_cmp, nat_cmp, All, IsPermutation, IsSortedByKey, take, Entry, AccountId, subqueue_of, PageResult, entries_of, DifferByUrl, first_fault, entry_urls, result_urls, IsAscending, AreReachable, CountsOf, AreQueues, WalkOf, page_in}
 use Rattle.crawl_certificate.proofs.Crawls.{pages_reached, own_pages, pages_ascend, one_each, entries_walk}
 use Rattle.crawl_certificate.proofs.KeptRules.{account_counts}
 

@@ -1,16 +1,5 @@
 -- A run without errors has the pages of exactly the URLs that can be reached.
-use Rattle.std.proofs.Common.{◌≡◌, ◌↔◌, inl, inr, ℕ, zero, suc, ◌+◌, ◌==◌, Bool, true, false, ◌&&◌, not, IsTrue, List, [], ◌∷◌, ◌++◌, map, None, refl, sym, ap, subst, ◌∙◌, arith, length-append}
-use Rattle.std.proofs.lemmas.Grind.{common_steps}
-use Rattle.std.proofs.lemmas.Bool.Decides.{nat_tests}
-use Rattle.std.specs.List.{Contains}
-use Rattle.std.specs.Str.{bytes_eq}
-use Rattle.std.proofs.lemmas.Bool.{or_parts, and_parts, both_ways, false_from_ne_true, not-false, cond-true, cond-false, eqb-true, ne_eqb}
-use Rattle.crawl_queues.specs.declared.entry.Entry.{Entry}
-use Rattle.crawl_pages.specs.declared.page.Page.{Page}
-use Rattle.crawl_pages.specs.declared.page.PageResult.{PageResult}
-use Rattle.crawl_certificate.specs.CertFaults.{is_accepted, has_result, stands_in, some_missing, seed_missing, not_fetched, link_missing, is_behind, is_linked, is_founded, unfounded, twice, first_fault}
-use Rattle.crawl_pages.specs.Pages.{links_of}
-use Rattle.crawl_certificate.specs.ResultPages.{page_in}
+use Rattle.crawl_certificate.proofs.Prelude.{◌≡◌, ◌↔◌, inl, inr, ℕ, zero, suc, ◌+◌, ◌==◌, Bool, true, false, ◌&&◌, not, IsTrue, List, [], ◌∷◌, ◌++◌, map, None, refl, sym, ap, subst, ◌∙◌, arith, length-append, common_steps, Contains, bytes_eq, or_parts, and_parts, both_ways, false_from_ne_true, not-false, cond-true, cond-false, eqb-true, ne_eqb, Entry, Page, PageResult, is_accepted, has_result, stands_in, some_missing, seed_missing, not_fetched, link_missing, is_behind, is_linked, is_founded, unfounded, twice, first_fault, links_of, page_in}
 use Rattle.crawl_certificate.specs.Reachable.{GoesOn, IsWalk, Reachable, WalkOf}
 use Rattle.crawl_certificate.proofs.Lists.{no_element, here, there, first_or_later, some_has, any_from, none_has, same_text, text_itself}
 
@@ -47,7 +36,7 @@ text_stands : (urls : List (List ℕ)) (url : List ℕ) → stands_in urls url �
 text_stands urls url h = grind (arith, some_has, same_text)
 
 pub in_map : {X Y : Type 0} (f : X → Y) (xs : List X) (x : X) → Contains xs x → Contains (map f xs) (f x)
-in_map f xs x has = grind (arith, nat_tests, common_steps, no_element, first_or_later, here, there)
+in_map f xs x has = grind (arith, common_steps, no_element, first_or_later, here, there)
 
 pub from_map : {X Y : Type 0} (f : X → Y) (xs : List X) (y : Y) → Contains (map f xs) y → (x : X) × Contains xs x × (f x ≡ y)
 from_map f [] y has = absurd (no_element y has)
@@ -102,18 +91,11 @@ linked_walk page allowed seeds entries results hops agrees before e far allows l
     }
 
 founded_entry : (allowed : List ℕ → Bool) (seeds : List (List ℕ)) (entries : List Entry) (results : List PageResult) → NoFault allowed seeds entries results → (e : Entry) → Contains entries e → is_founded allowed seeds entries results e ≡ true
-founded_entry allowed seeds entries results clear e among = grind (arith, nat_tests, common_steps, or_parts, not-false, none_has)
+founded_entry allowed seeds entries results clear e among = grind (arith, common_steps, or_parts, not-false, none_has)
 
 pub entry_walk : (page : List ℕ → Page) (allowed : List ℕ → Bool) (seeds : List (List ℕ)) (entries : List Entry) (results : List PageResult) → ((r : PageResult) → Contains results r → page r.url ≡ r.page) → NoFault allowed seeds entries results → (hops : ℕ) (e : Entry) → Contains entries e → e.hops ≡ hops → WalkOf page allowed seeds hops e.url
-entry_walk page allowed seeds entries results agrees clear zero e among far =
-    let founded = and_parts (allowed e.url) _ (founded_entry allowed seeds entries results clear e among) in
-    let seed : stands_in seeds e.url ≡ true = sym (cond-true (e.hops == 0) (stands_in seeds e.url) (is_linked entries results e) (subst (λ n. (n == 0) ≡ true) (sym far) refl)) ∙ founded.1 in
-    record { walk = e.url ∷ []; leads = (text_stands seeds e.url seed, founded.0, refl); long = refl }
-entry_walk page allowed seeds entries results agrees clear (suc hops) e among far =
-    let founded = and_parts (allowed e.url) _ (founded_entry allowed seeds entries results clear e among) in
-    let later : (e.hops == 0) ≡ false = ne_eqb e.hops 0 (λ none. omega (arith, none, far)) in
-    let linked : is_linked entries results e ≡ true = sym (cond-false (e.hops == 0) (stands_in seeds e.url) (is_linked entries results e) later) ∙ founded.1 in
-    linked_walk page allowed seeds entries results hops agrees (entry_walk page allowed seeds entries results agrees clear hops) e far founded.0 linked
+entry_walk page allowed seeds entries results agrees clear zero e among far = grind (arith, common_steps, and_parts, founded_entry, cond-true, text_stands)
+entry_walk page allowed seeds entries results agrees clear (suc hops) e among far = grind (arith, common_steps, and_parts, founded_entry, ne_eqb, cond-false, linked_walk, entry_walk page allowed seeds entries results agrees clear hops)
 
 -- ---- what a walk reaches is accepted, by induction on the walk
 
@@ -121,7 +103,7 @@ second_false : (a b : Bool) → a ≡ true → (a && b) ≡ false → b ≡ fals
 second_false a b h none = grind arith
 
 accepted_missing : (allowed accepted : List ℕ → Bool) (urls : List (List ℕ)) (url : List ℕ) → some_missing allowed accepted urls ≡ false → Contains urls url → IsTrue (allowed url) → accepted url ≡ true
-accepted_missing allowed accepted urls url none has allows = grind (arith, nat_tests, common_steps, none_has, not-false, second_false)
+accepted_missing allowed accepted urls url none has allows = grind (arith, common_steps, none_has, not-false, second_false)
 
 pub accepted_has_result : (entries : List Entry) (results : List PageResult) (url : List ℕ) → not_fetched entries results ≡ false → is_accepted entries url ≡ true → ResultWith results url
 accepted_has_result entries results url fetched accepted =
@@ -142,12 +124,12 @@ walk_accepted page allowed seeds entries results agrees clear url (next ∷ rest
     walk_accepted page allowed seeds entries results agrees clear next rest end (next_accepted page allowed seeds entries results agrees clear url next accepted goes.0 goes.1) goes.2
 
 pub reached_accepted : (page : List ℕ → Page) (allowed : List ℕ → Bool) (seeds : List (List ℕ)) (entries : List Entry) (results : List PageResult) → ((r : PageResult) → Contains results r → page r.url ≡ r.page) → NoFault allowed seeds entries results → (walk : List (List ℕ)) (end : List ℕ) → IsWalk page allowed seeds walk end → is_accepted entries end ≡ true
-reached_accepted page allowed seeds entries results agrees clear walk end walks = grind (arith, nat_tests, common_steps, walk_accepted, accepted_missing)
+reached_accepted page allowed seeds entries results agrees clear walk end walks = grind (arith, common_steps, walk_accepted, accepted_missing)
 
 -- ---- together
 
 pub result_accepted : (allowed : List ℕ → Bool) (seeds : List (List ℕ)) (entries : List Entry) (results : List PageResult) → NoFault allowed seeds entries results → (r : PageResult) → Contains results r → is_accepted entries r.url ≡ true
-result_accepted allowed seeds entries results clear r among = grind (arith, nat_tests, common_steps, or_parts, not-false, none_has)
+result_accepted allowed seeds entries results clear r among = grind (arith, common_steps, or_parts, not-false, none_has)
 
 pub results_reached : (page : List ℕ → Page) (allowed : List ℕ → Bool) (seeds : List (List ℕ)) (entries : List Entry) (results : List PageResult) → ((r : PageResult) → Contains results r → page r.url ≡ r.page) → NoFault allowed seeds entries results → (url : List ℕ) → Contains (map (λ r. r.url) results) url ↔ Reachable page allowed seeds url
 results_reached page allowed seeds entries results agrees clear url = (

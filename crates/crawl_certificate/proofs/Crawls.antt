@@ -1,19 +1,5 @@
 -- What a certificate says, derived from its errors and from the order of its pages.
-use Rattle.std.proofs.Common.{◌≡◌, ℕ, Bool, true, List, None, sym, subst, ◌∙◌, arith}
-use Rattle.std.specs.Cmp.Lexicographic.{slice_cmp}
-use Rattle.std.specs.Ordering.{nat_cmp}
-use Rattle.std.specs.List.{All, Contains}
-use Rattle.std.specs.List.Sorted.{IsPermutation, IsSortedByKey}
-use Rattle.std.proofs.lemmas.List.Elements.{All-contains, All-weaker, All-contains_itself}
-use Rattle.std.proofs.lemmas.List.Sorted.{All-permutation, Contains-permutation, IsPermutation-sym, IsPermutation-map, IsPermutation-trans}
-use Rattle.crawl_queues.specs.declared.entry.Entry.{Entry}
-use Rattle.crawl_pages.specs.declared.page.Page.{Page}
-use Rattle.crawl_pages.specs.declared.page.PageResult.{PageResult}
-use Rattle.crawl_certificate.specs.CertFaults.{first_fault, is_accepted}
-use Rattle.crawl_certificate.specs.Certificate.{entry_urls, result_urls, IsAscending, ArePages, AreReachable, IsCrawl}
-use Rattle.crawl_certificate.specs.ResultPages.{page_in}
-use Rattle.crawl_certificate.specs.AccountEntries.{DifferByUrl}
-use Rattle.crawl_certificate.specs.Reachable.{WalkOf}
+use Rattle.crawl_certificate.proofs.Prelude.{◌≡◌, ℕ, Bool, true, List, None, sym, subst, ◌∙◌, arith, slice_cmp, nat_cmp, All, Contains, IsPermutation, IsSortedByKey, All-contains, All-weaker, All-contains_itself, All-permutation, Contains-permutation, IsPermutation-sym, IsPermutation-map, IsPermutation-trans, Entry, Page, PageResult, first_fault, is_accepted, entry_urls, result_urls, IsAscending, ArePages, AreReachable, IsCrawl, page_in, DifferByUrl, WalkOf}
 use Rattle.crawl_certificate.proofs.Lists.{any_from, text_itself}
 use Rattle.crawl_certificate.proofs.Certified.{no_fault, entry_walk, results_reached, result_accepted, entry_with, accepted_has_result, in_map, from_map, page_at_result}
 use Rattle.crawl_certificate.proofs.Order.{distinct_results, distinct_entries, distinct_permuted, ascends, same_elements}

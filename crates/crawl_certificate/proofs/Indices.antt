@@ -1,30 +1,14 @@
 -- The index of a URL among the entries of all queues, computed from its index in its own queue.
-use Rattle.std.proofs.Common.{◌≡◌, inl, inr, ℕ, zero, suc, ◌+◌, ◌<◌, Bool, true, List, [], ◌∷◌, ◌++◌, length, take, get_or, slice_get, Option, Some, None, is_some, refl, sym, ap, subst, ◌∙◌, arith, length-append}
-use Rattle.std.proofs.lemmas.Grind.{common_steps}
-use Rattle.std.proofs.lemmas.Bool.Decides.{nat_tests}
+use Rattle.crawl_certificate.proofs.Prelude.{◌≡◌, inl, inr, ℕ, zero, suc, ◌+◌, ◌<◌, Bool, true, List, [], ◌∷◌, ◌++◌, length, take, get_or, slice_get, Option, Some, None, is_some, refl, sym, ap, subst, ◌∙◌, arith, length-append, common_steps, Contains, bytes_eq, cases_lt, false_from_ne_true, length-map, map-append, All-contains, slice_get_within, get_or_from_slice_get, subqueue_of, Entry, AccountId, get_last, entries_in, DifferByUrl, is_accepted, entry_urls, at_this, stands_at, Finds, AreFirsts, AreLaidOut}
 use Rattle.std.specs.Bool.{if◌then◌else◌}
-use Rattle.std.specs.List.{Contains}
 use Rattle.std.specs.Option.{option_map}
-use Rattle.std.specs.Str.{bytes_eq}
-use Rattle.std.proofs.lemmas.Bool.{cases_lt, false_from_ne_true}
-use Rattle.std.proofs.lemmas.List.{length-map, map-append}
-use Rattle.std.proofs.lemmas.List.Elements.{All-contains}
-use Rattle.std.proofs.lemmas.Option.{slice_get_within, get_or_from_slice_get}
 use Rattle.hash_index.specs.Lists.{index_of}
 use Rattle.hash_index.proofs.Listed.{found_at, absent_at, has_index}
-use Rattle.crawl_keys.specs.Assignment.{subqueue_of}
-use Rattle.crawl_queues.specs.declared.entry.Entry.{Entry}
-use Rattle.crawl_frontier.specs.Accounts.{AccountId}
 use Rattle.crawl_frontier.proofs.Urls.{entry_there, url_at}
-use Rattle.crawl_certificate.specs.AccountEntries.{entries_in, DifferByUrl}
-use Rattle.crawl_certificate.specs.CertFaults.{is_accepted}
-use Rattle.crawl_certificate.specs.Certificate.{entry_urls}
-use Rattle.crawl_certificate.specs.Lookups.{at_this, stands_at, Finds}
-use Rattle.crawl_certificate.specs.Queues.{AreFirsts, AreLaidOut}
 use Rattle.crawl_certificate.proofs.Certified.{from_map}
 use Rattle.crawl_certificate.proofs.KeptRules.{account_differs, at_whole}
 use Rattle.crawl_certificate.proofs.Lists.{same_text, any_from}
-use Rattle.crawl_certificate.proofs.Places.{among_at, any_map, get_push, get_last}
+use Rattle.crawl_certificate.proofs.Places.{among_at, any_map, get_push}
 use Rattle.crawl_certificate.proofs.Queues.{QueuesFrom, at_least, from_first}
 
 -- ---- numbers in options
@@ -44,8 +28,7 @@ later_step b o whole rest n none more = grind arith
 -- if the first list does not have the text, its index is that in the second list, plus the length of the first
 behind : (front back : List (List ℕ)) (key : List ℕ) → index_of front key ≡ None → index_of (front ++ back) key ≡ option_map (λ i. length front + i) (index_of back key)
 behind [] back key none = add_none (index_of back key)
-behind (text ∷ front) back key none =
-    later_step (bytes_eq text key) (index_of front key) (index_of (front ++ back) key) (index_of back key) (length front) none (behind front back key)
+behind (text ∷ front) back key none = grind (arith, later_step, behind front back key)
 
 -- if the second list does not have the text, its index is that in the first list
 ahead : (front back : List (List ℕ)) (key : List ℕ) → index_of back key ≡ None → index_of (front ++ back) key ≡ index_of front key
@@ -88,7 +71,7 @@ in_queues subqueue n (es ∷ rest) from url (suc queue) own here at =
     ∙ add_both (length (entry_urls es)) (length before) (length (es ++ before)) long (index_of (entry_urls own) url)
 
 take_less : {X : Type 0} (n k : ℕ) (xs : List X) → k < n → take k (take n xs) ≡ take k xs
-take_less n k xs below = grind (arith, nat_tests, common_steps)
+take_less n k xs below = grind (arith, common_steps)
 
 module _ (account : AccountId) (all : List Entry) (firsts : List ℕ) (are : AreLaidOut account all firsts) (url : List ℕ) (queue : ℕ) (own : queue ≡ subqueue_of url account.workers) (below : queue < account.workers) where
   abbrev before : ℕ

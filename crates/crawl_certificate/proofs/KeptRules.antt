@@ -1,19 +1,7 @@
 -- The lists of an account are queues: by the rule that they keep, no list has a URL twice, and each URL belongs to its list.
-use Rattle.std.proofs.Common.{◌≡◌, ℕ, zero, suc, ◌+◌, ◌<◌, false, List, [], ◌∷◌, ◌++◌, take, refl, arith}
-use Rattle.std.proofs.lemmas.Bool.Decides.{nat_tests}
+use Rattle.crawl_certificate.proofs.Prelude.{◌≡◌, ℕ, zero, suc, ◌+◌, ◌<◌, false, List, [], ◌∷◌, ◌++◌, take, refl, arith, nat_tests, IsPermutation, bytes_eq, or_parts, or_from, All-from_recursion, subqueue_of, Entry, At, AccountId, DifferByUrl, entries_of, entry_urls, CountsOf, AreQueues}
 use Rattle.std.specs.List.{AllByRecursion, IsDistinct}
-use Rattle.std.specs.List.Sorted.{IsPermutation}
-use Rattle.std.specs.Str.{bytes_eq}
-use Rattle.std.proofs.lemmas.Bool.{or_parts, or_from}
-use Rattle.std.proofs.lemmas.List.Elements.{All-from_recursion}
-use Rattle.crawl_keys.specs.Assignment.{subqueue_of}
-use Rattle.crawl_queues.specs.declared.entry.Entry.{Entry}
 use Rattle.crawl_queues.specs.Entries.{has_url, KeepsRule}
-use Rattle.crawl_frontier.specs.Accounts.{At, AccountId}
-use Rattle.crawl_certificate.specs.AccountEntries.{DifferByUrl}
-use Rattle.crawl_certificate.specs.AccountEntries.{DifferByUrl, entries_of}
-use Rattle.crawl_certificate.specs.Certificate.{entry_urls, CountsOf}
-use Rattle.crawl_certificate.specs.Queues.{AreQueues}
 use Rattle.crawl_certificate.proofs.Order.{Distinct}
 use Rattle.crawl_certificate.proofs.Queues.{differ_from, queues_differ, queue_counts}
 
@@ -29,10 +17,7 @@ not_the_last url (x ∷ xs) e none = grind (arith, nat_tests, not_the_last url x
 -- an entry that is in `before`, as `knows` states, has another URL than each of these entries
 earlier_differs : (workers place : ℕ) (before es : List Entry) (x : Entry) → ((url : List ℕ) → has_url url before ≡ false → bytes_eq x.url url ≡ false) → KeepsRule workers place before es → AllByRecursion (λ url. bytes_eq x.url url ≡ false) (entry_urls es)
 earlier_differs workers place before [] x knows keeps = tt
-earlier_differs workers place before (e ∷ es) x knows keeps = (
-  knows e.url keeps.0.new,
-  earlier_differs workers place (before ++ e ∷ []) es x (λ url none. knows url (not_in_front url before (e ∷ []) none)) keeps.1,
-)
+earlier_differs workers place before (e ∷ es) x knows keeps = grind (arith, not_in_front, earlier_differs workers place (before ++ e ∷ []) es x)
 
 kept_distinct : (workers place : ℕ) (before es : List Entry) → KeepsRule workers place before es → Distinct (entry_urls es)
 unfolding IsDistinct

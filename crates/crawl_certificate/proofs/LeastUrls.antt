@@ -1,27 +1,10 @@
 -- The least text that passes a test, and how two of these are combined.
-use Rattle.std.proofs.Common.{◌≡◌, inl, inr, ℕ, ◌+◌, ◌<◌, ◌≤◌, Bool, true, false, ◌||◌, ◌&&◌, List, [], ◌∷◌, ◌++◌, length, take, get_or, Option, Some, None, is_some, refl, sym, ap, subst, ◌∙◌, arith}
-use Rattle.std.proofs.lemmas.Grind.{common_steps}
-use Rattle.std.proofs.lemmas.Bool.Decides.{nat_tests}
-use Rattle.std.specs.Borrow.{Bor}
+use Rattle.crawl_certificate.proofs.Prelude.{◌≡◌, inl, inr, ℕ, ◌+◌, ◌<◌, ◌≤◌, Bool, true, false, ◌||◌, ◌&&◌, List, [], ◌∷◌, ◌++◌, length, take, get_or, Option, Some, None, is_some, refl, sym, ap, subst, ◌∙◌, arith, common_steps, nat_tests, Bor, slice_cmp, nat_cmp, is_lt, is_eq, ordering_reverse, Ordering, Less, Equal, Greater, is_eq-slice_cmp, list_any, bytes_eq, or-false, cases_Bool, and_parts, and_from, or_cases, or_left, or_right, or_from, both_ways, false_from_ne_true, take_more, take_all, map_more, list_any-append, ranks_by, Entry, is_below, IsLeast, url_if, lesser, pointed}
 use Rattle.std.specs.Bool.{if◌then◌else◌}
 use Rattle.std.specs.Cmp.{IsStrictWeakOrder}
-use Rattle.std.specs.Cmp.Lexicographic.{slice_cmp}
-use Rattle.std.specs.Ordering.{nat_cmp, is_lt, is_eq, ordering_reverse}
-use Rattle.std.specs.declared.cmp.Ordering.{Ordering}
-use Rattle.std.specs.declared.cmp.Ordering.TheVariants.{Less, Equal, Greater}
-use Rattle.std.proofs.lemmas.Map.Text.{is_eq-slice_cmp}
-use Rattle.std.specs.List.{list_any}
-use Rattle.std.specs.Str.{bytes_eq}
-use Rattle.std.proofs.lemmas.Bool.{cases_Bool, and_parts, and_from, or_cases, or_left, or_right, or_from, both_ways, false_from_ne_true}
 use Rattle.std.proofs.lemmas.Cmp.{nat_list_cmp_total}
-use Rattle.std.proofs.lemmas.List.{take_more, take_all, map_more}
-use Rattle.std.proofs.lemmas.List.Folds.{list_any-append}
-use Rattle.std.proofs.lemmas.List.Sorted.{ranks_by}
-use Rattle.crawl_queues.specs.declared.entry.Entry.{Entry}
-use Rattle.crawl_certificate.specs.Least.{is_below, IsLeast, url_if, lesser}
-use Rattle.crawl_certificate.specs.Lookups.{pointed}
 use Rattle.crawl_certificate.proofs.Lists.{some_has, any_from, same_text, text_itself}
-use Rattle.crawl_certificate.proofs.Places.{any_push, or_false}
+use Rattle.crawl_certificate.proofs.Places.{any_push}
 
 -- ---- the order
 
@@ -82,8 +65,7 @@ pub least_append : {X : Type 0} (at : X → List ℕ → Bool) (bad : List ℕ �
 least_append at bad xs ys told one before now = grind (arith, by_test, or_and, list_any-append, least_of_both)
 
 pub least_more : {X : Type 0} (at : X → List ℕ → Bool) (bad : List ℕ → Bool) (xs : List X) (x : X) (told one : Option (List ℕ)) → IsLeast (λ t. list_any (λ y. at y t) xs && bad t) told → IsLeast (λ t. at x t && bad t) one → IsLeast (λ t. list_any (λ y. at y t) (xs ++ x ∷ []) && bad t) (lesser told one)
-least_more at bad xs x told one before now =
-    least_append at bad xs (x ∷ []) told one before (by_test _ _ one (λ t. ap (λ b. b && bad t) (sym (or_false (at x t)))) now)
+least_more at bad xs x told one before now = grind (arith, least_append, by_test, or-false)
 
 -- a text is the URL of an element whose URL passes the test exactly if it is the URL of an element and passes the test
 pub at_urls : {X : Type 0} (url : X → List ℕ) (test : List ℕ → Bool) (xs : List X) (text : List ℕ) → list_any (λ x. bytes_eq (url x) text && test (url x)) xs ≡ (list_any (λ x. bytes_eq (url x) text) xs && test text)
@@ -104,11 +86,11 @@ urls_at url bad xs t passes =
     any_from (λ y. bad (url y)) xs x.0 x.1 (subst (λ u. bad u ≡ true) (sym (same_text (url x.0) t x.2)) parts.1)
 
 pub some_of_urls : {X : Type 0} (url : X → List ℕ) (bad : List ℕ → Bool) (xs : List X) (told : Option (List ℕ)) → IsLeast (λ t. list_any (λ x. bytes_eq (url x) t) xs && bad t) told → is_some told ≡ list_any (λ x. bad (url x)) xs
-some_of_urls url bad xs told is = grind (arith, nat_tests, common_steps, some_least, some_has, and_from, any_from, text_itself, urls_at)
+some_of_urls url bad xs told is = grind (arith, common_steps, some_least, some_has, and_from, any_from, text_itself, urls_at)
 
 -- elements that are wrong themselves
 pub elements_at : {X : Type 0} (url : X → List ℕ) (bad : X → Bool) (xs : List X) (t : List ℕ) → list_any (λ x. bytes_eq (url x) t && bad x) xs ≡ true → list_any bad xs ≡ true
-elements_at url bad xs t passes = grind (arith, nat_tests, common_steps, some_has, any_from, and_parts)
+elements_at url bad xs t passes = grind (arith, common_steps, some_has, any_from, and_parts)
 
 pub some_of_elements : {X : Type 0} (url : X → List ℕ) (bad : X → Bool) (xs : List X) (told : Option (List ℕ)) → IsLeast (λ t. list_any (λ x. bytes_eq (url x) t && bad x) xs) told → is_some told ≡ list_any bad xs
 some_of_elements url bad xs told is =
@@ -127,13 +109,7 @@ lists_at texts bad xs t passes =
     any_from (λ y. list_any bad (texts y)) xs x.0 x.1 (any_from bad (texts x.0) own.0 own.1 (subst (λ u. bad u ≡ true) (sym (same_text own.0 t own.2)) parts.1))
 
 pub some_of_lists : {X : Type 0} (texts : X → List (List ℕ)) (bad : List ℕ → Bool) (xs : List X) (told : Option (List ℕ)) → IsLeast (λ t. list_any (λ x. list_any (λ own. bytes_eq own t) (texts x)) xs && bad t) told → is_some told ≡ list_any (λ x. list_any bad (texts x)) xs
-some_of_lists texts bad xs told is =
-    some_least (list_any (λ x. list_any bad (texts x)) xs) (λ t. list_any (λ x. list_any (λ own. bytes_eq own t) (texts x)) xs && bad t) told is
-    (λ yes.
-    let x = some_has (λ y. list_any bad (texts y)) xs yes in
-    let t = some_has bad (texts x.0) x.2 in
-    (t.0, and_from _ _ (any_from (λ y. list_any (λ own. bytes_eq own t.0) (texts y)) xs x.0 x.1 (any_from (λ own. bytes_eq own t.0) (texts x.0) t.0 t.1 (text_itself t.0))) t.2))
-    (lists_at texts bad xs)
+some_of_lists texts bad xs told is = grind (arith, common_steps, some_least, some_has, and_from, any_from, text_itself, lists_at)
 
 -- ---- loops
 

@@ -1,3 +1,4 @@
+pub mod Prelude
 pub mod Lists
 pub mod Certified
 pub mod Order
@@ -9,8 +10,6 @@ pub mod KeptRules
 pub mod Places
 pub mod LeastUrls
 pub mod Twice
-pub mod Culprits
-pub mod OneCulprit
 pub mod Indices
 pub mod Certificates
 pub mod Together

@@ -1,14 +1,5 @@
 -- A run that lost nothing has none of the first three errors.
-use Rattle.std.proofs.Common.{◌≡◌, ℕ, Bool, true, false, not, List, subst, arith}
-use Rattle.std.specs.List.{Contains}
-use Rattle.std.proofs.lemmas.Bool.{and_right, not_from_true, and_left, cases_Bool}
-use Rattle.std.proofs.lemmas.List.Elements.{All-weaker}
-use Rattle.std.proofs.lemmas.List.Folds.{list_any_none}
-use Rattle.crawl_queues.specs.declared.entry.Entry.{Entry}
-use Rattle.crawl_pages.specs.declared.page.PageResult.{PageResult}
-use Rattle.crawl_certificate.specs.CertFaults.{is_accepted, has_result, some_missing, seed_missing, not_fetched, link_missing}
-use Rattle.crawl_certificate.specs.Certificate.{entry_urls, result_urls, NothingLost, AllowedAreIn}
-use Rattle.crawl_pages.specs.Pages.{links_of}
+use Rattle.crawl_certificate.proofs.Prelude.{◌≡◌, ℕ, Bool, true, false, not, List, subst, arith, Contains, and_right, not_from_true, and_left, cases_Bool, All-weaker, list_any_none, Entry, PageResult, is_accepted, has_result, some_missing, seed_missing, not_fetched, link_missing, entry_urls, result_urls, NothingLost, AllowedAreIn, links_of}
 use Rattle.crawl_certificate.proofs.Lists.{any_from, text_itself}
 use Rattle.crawl_certificate.proofs.Certified.{from_map}
 

@@ -1,14 +1,5 @@
 -- The pages of a whole crawl are one list.
-use Rattle.std.proofs.Common.{◌≡◌, inl, inr, ℕ, zero, suc, Bool, List, [], ◌∷◌, map, refl, sym, ap, subst, ◌∙◌, suc-le-suc, zero-le, arith}
-use Rattle.std.proofs.lemmas.Bool.Decides.{nat_tests}
-use Rattle.std.specs.Cmp.Lexicographic.{slice_cmp, nat_list_cmp_total}
-use Rattle.std.specs.Ordering.{nat_cmp, ordering_reverse}
-use Rattle.std.specs.declared.cmp.Ordering.TheVariants.{Less, Greater}
-use Rattle.std.specs.List.{AllByRecursion, Contains}
-use Rattle.std.proofs.lemmas.List.Elements.{recursion_from_All}
-use Rattle.crawl_pages.specs.declared.page.Page.{Page}
-use Rattle.crawl_pages.specs.declared.page.PageResult.{PageResult}
-use Rattle.crawl_certificate.specs.Certificate.{result_urls, IsAscending, IsCrawl}
+use Rattle.crawl_certificate.proofs.Prelude.{◌≡◌, inl, inr, ℕ, zero, suc, Bool, List, [], ◌∷◌, map, refl, sym, ap, subst, ◌∙◌, suc-le-suc, zero-le, arith, nat_tests, slice_cmp, nat_list_cmp_total, nat_cmp, ordering_reverse, Less, Greater, AllByRecursion, Contains, recursion_from_All, Page, PageResult, result_urls, IsAscending, IsCrawl}
 use Rattle.crawl_certificate.proofs.Lists.{no_element, here, there, first_or_later}
 
 head_below : (x : List ℕ) (xs : List (List ℕ)) → IsAscending (x ∷ xs) → (z : List ℕ) → Contains xs z → slice_cmp nat_cmp x z ≡ Less

@@ -1,23 +1,7 @@
 -- Lists without repeats: sorted they ascend, and two with the same elements are one in another order.
-use Rattle.std.proofs.Common.{◌≡◌, ◌≢◌, inl, inr, ℕ, zero, suc, ◌<◌, true, false, List, [], ◌∷◌, ◌++◌, length, get_or, refl, sym, ap, subst, ◌∙◌, arith, suc-le-suc, zero-le}
-use Rattle.std.specs.Cmp.Lexicographic.{slice_cmp, nat_list_cmp_total}
-use Rattle.std.specs.Ordering.{nat_cmp, is_lt, is_eq, ordering_reverse}
-use Rattle.std.specs.declared.cmp.Ordering.{Ordering}
-use Rattle.std.specs.declared.cmp.Ordering.TheVariants.{Less, Equal, Greater}
+use Rattle.crawl_certificate.proofs.Prelude.{◌≡◌, ◌≢◌, inl, inr, ℕ, zero, suc, ◌<◌, true, false, List, [], ◌∷◌, ◌++◌, length, get_or, refl, sym, ap, subst, ◌∙◌, arith, suc-le-suc, zero-le, slice_cmp, nat_list_cmp_total, nat_cmp, is_lt, is_eq, ordering_reverse, Ordering, Less, Equal, Greater, IsPermutation, IsSortedByKey, bytes_eq, or_parts, both_ways, false_from_ne_true, cases_Bool, get_or-map, length-map, All-contains, All-from_recursion, sorted_far, ranks_by, IsPermutation-refl, IsPermutation-cons, IsPermutation-trans, IsPermutation-sym, IsPermutation-middle, Contains-permutation, is_eq-slice_cmp, Entry, PageResult, has_result, twice, entry_urls, result_urls, IsAscending, DifferByUrl}
 use Rattle.std.specs.List.{Contains, AllByRecursion, IsDistinct}
-use Rattle.std.specs.List.Sorted.{IsPermutation, IsSortedByKey}
-use Rattle.std.specs.Str.{bytes_eq}
-use Rattle.std.proofs.lemmas.Bool.{or_parts, both_ways, false_from_ne_true, cases_Bool}
-use Rattle.std.proofs.lemmas.List.{get_or-map, length-map}
-use Rattle.std.proofs.lemmas.List.Elements.{All-contains, All-from_recursion}
-use Rattle.std.proofs.lemmas.List.Sorted.{sorted_far, ranks_by, IsPermutation-refl, IsPermutation-cons, IsPermutation-trans, IsPermutation-sym, IsPermutation-middle, Contains-permutation}
 use Rattle.std.proofs.lemmas.Map.Keys.{IsDistinct-IsPermutation}
-use Rattle.std.proofs.lemmas.Map.Text.{is_eq-slice_cmp}
-use Rattle.crawl_queues.specs.declared.entry.Entry.{Entry}
-use Rattle.crawl_pages.specs.declared.page.PageResult.{PageResult}
-use Rattle.crawl_certificate.specs.CertFaults.{has_result, twice}
-use Rattle.crawl_certificate.specs.Certificate.{entry_urls, result_urls, IsAscending}
-use Rattle.crawl_certificate.specs.AccountEntries.{DifferByUrl}
 use Rattle.crawl_certificate.proofs.Lists.{no_element, here, there, first_or_later, same_text, text_itself}
 
 -- ---- texts that differ

@@ -1,32 +1,14 @@
 -- What is known while entries, seeds and results are looked up.
-use Rattle.std.proofs.Common.{◌≡◌, inl, inr, ℕ, zero, suc, ◌+◌, ◌<◌, ◌==◌, Bool, true, false, ◌||◌, ◌&&◌, cond, List, [], ◌∷◌, ◌++◌, length, map, replicate, get_or, set, slice_get, Some, None, refl, sym, ap, subst, ◌∙◌, arith}
-use Rattle.std.proofs.lemmas.Grind.{common_steps}
-use Rattle.std.proofs.lemmas.Bool.Decides.{nat_tests}
-use Rattle.std.specs.Borrow.{Bor}
+use Rattle.crawl_certificate.proofs.Prelude.{◌≡◌, inl, inr, ℕ, zero, suc, ◌+◌, ◌<◌, ◌==◌, Bool, true, false, ◌||◌, ◌&&◌, cond, List, [], ◌∷◌, ◌++◌, length, map, replicate, get_or, set, slice_get, Some, None, refl, sym, ap, subst, ◌∙◌, arith, common_steps, Bor, Contains, list_any, bytes_eq, or-false, cases_Bool, both_ways, false_from_ne_true, and_parts, and_from, or_right, slice_get_within, get_or_from_slice_get, get_or-map, list_any-append, Entry, same_at, PageResult, has_result, stands_in, is_behind, is_linked, links_of, Finds, Urls, is_in, pointed}
 use Rattle.std.specs.BTreeSet as sorted
 use Rattle.hash_order.specs.HashOrder.{by_hash, by_hash_ties}
-use Rattle.std.specs.List.{Contains, list_any}
-use Rattle.std.specs.Str.{bytes_eq}
-use Rattle.std.proofs.lemmas.Bool.{cases_Bool, both_ways, false_from_ne_true, and_parts, and_from, or_right}
-use Rattle.std.proofs.lemmas.Option.{slice_get_within, get_or_from_slice_get}
-use Rattle.std.proofs.lemmas.List.{get_or-map}
-use Rattle.std.proofs.lemmas.List.Folds.{list_any-append}
-use Rattle.crawl_queues.specs.declared.entry.Entry.{Entry}
-use Rattle.crawl_frontier.proofs.Gets.{same_at}
-use Rattle.crawl_pages.specs.declared.page.PageResult.{PageResult}
-use Rattle.crawl_certificate.specs.CertFaults.{has_result, stands_in, is_behind, is_linked}
-use Rattle.crawl_pages.specs.Pages.{links_of}
-use Rattle.crawl_certificate.specs.Lookups.{Finds, Urls, is_in, pointed}
 use Rattle.crawl_certificate.proofs.Lists.{no_element, first_or_later, some_has, any_from, same_text, text_itself}
 
 -- ---- lists
 
-pub or_false : (b : Bool) → (b || false) ≡ b
-or_false b = grind arith
-
 -- one more element to look at
 pub any_push : {X : Type 0} (p : X → Bool) (xs : List X) (x : X) → list_any p (xs ++ x ∷ []) ≡ (list_any p xs || p x)
-any_push p xs x = list_any-append p xs (x ∷ []) ∙ ap (λ b. list_any p xs || b) (or_false (p x))
+any_push p xs x = list_any-append p xs (x ∷ []) ∙ ap (λ b. list_any p xs || b) (or-false (p x))
 
 pub any_map : {X Y : Type 0} (p : X → Bool) (f : Y → X) (ys : List Y) → list_any p (map f ys) ≡ list_any (λ y. p (f y)) ys
 any_map p f [] = refl
@@ -48,19 +30,15 @@ get_push [] y k x at = absurd (cc)
 get_push (z ∷ zs) y zero x at = at
 get_push (z ∷ zs) y (suc k) x at = get_push zs y k x at
 
-pub get_last : {X : Type 0} (xs : List X) (y : X) → slice_get (xs ++ y ∷ []) (length xs) ≡ Some y
-get_last [] y = refl
-get_last (z ∷ zs) y = get_last zs y
-
 -- what the reference at an index points to
 pub get_pointed : {X : Type 0} (xs : List (Bor X)) (k : ℕ) (d : Bor X) → get_or (pointed xs) k d.now ≡ (get_or xs k d).now
-get_pointed xs k d = grind (arith, nat_tests, common_steps)
+get_pointed xs k d = grind (arith, common_steps)
 
 pub read_pointed : {X : Type 0} (xs : List (Bor X)) (k : ℕ) (x : Bor X) → x ≡ get_or xs k x → get_or (pointed xs) k x.now ≡ x.now
 read_pointed xs k x is = get_pointed xs k x ∙ ap (λ (y : Bor _). y.now) (sym is)
 
 pub length_pointed : {X : Type 0} (xs : List (Bor X)) → length (pointed xs) ≡ length xs
-length_pointed xs = grind (arith, nat_tests, common_steps)
+length_pointed xs = grind (arith, common_steps)
 
 -- the mark of an entry
 pub mark_of : {X : Type 0} (linked : X → Bool) (xs : List (Bor X)) (marks : List Bool) (k : ℕ) (x : Bor X) (d : Bool) → marks ≡ map linked (pointed xs) → k < length xs → x ≡ get_or xs k x → get_or marks k d ≡ linked x.now

@@ -1,18 +1,6 @@
 -- Entries in the subqueues of their URLs differ across subqueues too, and are counted by subqueue.
-use Rattle.std.proofs.Common.{◌≡◌, inl, inr, ℕ, zero, suc, ◌+◌, ◌==◌, ◌≤◌, Bool, true, false, cond, List, [], ◌∷◌, ◌++◌, length, get_or, slice_get, Some, refl, sym, ap, subst, ◌∙◌, arith}
+use Rattle.crawl_certificate.proofs.Prelude.{◌≡◌, inl, inr, ℕ, zero, suc, ◌+◌, ◌==◌, ◌≤◌, Bool, true, false, cond, List, [], ◌∷◌, ◌++◌, length, get_or, slice_get, Some, refl, sym, ap, subst, ◌∙◌, arith, IsPermutation, bytes_eq, both_ways, false_from_ne_true, eq-eqb, ne_eqb, get_or-map, length-map, map-append, All-contains, All-contains_itself, All-weaker, All-append, recursion_from_All, All-from_recursion, Contains-append_cases, sum_by-IsPermutation, sum_by-append, sum_by-cons, Entry, entries_in, entry_urls, DifferByUrl, AreQueues}
 use Rattle.std.specs.List.{All, AllByRecursion, Contains, IsDistinct, count_by}
-use Rattle.std.specs.List.Sorted.{IsPermutation}
-use Rattle.std.specs.Str.{bytes_eq}
-use Rattle.std.proofs.lemmas.Bool.{both_ways, false_from_ne_true, eq-eqb, ne_eqb}
-use Rattle.std.proofs.lemmas.List.{get_or-map, length-map, map-append}
-use Rattle.std.proofs.lemmas.List.Elements.{All-contains, All-contains_itself, All-weaker, All-append, recursion_from_All, All-from_recursion, Contains-append_cases}
-use Rattle.std.proofs.lemmas.List.Sorted.{sum_by-IsPermutation}
-use Rattle.std.proofs.lemmas.List.Sums.{sum_by-append, sum_by-cons}
-use Rattle.crawl_queues.specs.declared.entry.Entry.{Entry}
-use Rattle.crawl_certificate.specs.AccountEntries.{entries_in}
-use Rattle.crawl_certificate.specs.Certificate.{entry_urls}
-use Rattle.crawl_certificate.specs.AccountEntries.{DifferByUrl}
-use Rattle.crawl_certificate.specs.Queues.{AreQueues}
 use Rattle.crawl_certificate.proofs.Lists.{no_element, same_text, text_itself}
 use Rattle.crawl_certificate.proofs.Certified.{from_map}
 use Rattle.crawl_certificate.proofs.Order.{Distinct, distinct_entries, distinct_at}

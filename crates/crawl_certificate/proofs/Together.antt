@@ -1,17 +1,5 @@
 -- What two passes over results found, put together.
-use Rattle.std.proofs.Common.{◌≡◌, ℕ, zero, suc, ◌<◌, ◌≤◌, Bool, ◌||◌, ◌&&◌, not, List, [], ◌∷◌, ◌++◌, length, map, set, get_or, refl, sym, ap, subst, ◌∙◌, arith}
-use Rattle.std.specs.List.{list_any}
-use Rattle.std.specs.Str.{bytes_eq}
-use Rattle.std.proofs.lemmas.List.{length-map}
-use Rattle.std.proofs.lemmas.List.Folds.{list_any-append}
-use Rattle.crawl_queues.specs.declared.entry.Entry.{Entry}
-use Rattle.crawl_pages.specs.declared.page.PageResult.{PageResult}
-use Rattle.crawl_pages.specs.Pages.{links_of}
-use Rattle.crawl_certificate.specs.CertFaults.{is_accepted, has_result, stands_in, is_behind}
-use Rattle.crawl_certificate.specs.Culprits.{is_lost, is_a_link, is_a_stray, is_twice}
-use Rattle.crawl_certificate.specs.Least.{IsLeast, url_of}
-use Rattle.crawl_certificate.specs.Marks.{AreMarks, AreTogether, in_one}
-use Rattle.crawl_certificate.specs.declared.marks.Marks.{Marks}
+use Rattle.crawl_certificate.proofs.Prelude.{◌≡◌, ℕ, zero, suc, ◌<◌, ◌≤◌, Bool, ◌||◌, ◌&&◌, not, List, [], ◌∷◌, ◌++◌, length, map, set, get_or, refl, sym, ap, subst, ◌∙◌, arith, list_any, bytes_eq, length-map, list_any-append, Entry, PageResult, links_of, is_accepted, has_result, stands_in, is_behind, is_lost, is_a_link, is_a_stray, is_twice, IsLeast, url_of, AreMarks, AreTogether, in_one, Marks}
 use Rattle.crawl_certificate.proofs.LeastUrls.{least_append, lesser_none}
 use Rattle.crawl_certificate.proofs.Twice.{least_twice_of_both}
 

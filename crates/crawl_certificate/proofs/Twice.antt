@@ -1,16 +1,6 @@
 -- URLs that two results have.
-use Rattle.std.proofs.Common.{◌≡◌, inl, inr, ℕ, ◌+◌, Bool, true, false, cond, ◌||◌, ◌&&◌, not, List, [], ◌∷◌, ◌++◌, Option, None, is_some, refl, sym, ap, subst, ◌∙◌, arith}
-use Rattle.std.proofs.lemmas.Bool.Decides.{nat_tests}
-use Rattle.std.specs.List.{list_any, count_by}
-use Rattle.std.specs.Str.{bytes_eq}
+use Rattle.crawl_certificate.proofs.Prelude.{common_steps, ◌≡◌, inl, inr, ℕ, ◌+◌, Bool, true, false, cond, ◌||◌, ◌&&◌, not, List, [], ◌∷◌, ◌++◌, Option, None, is_some, refl, sym, ap, subst, ◌∙◌, arith, nat_tests, list_any, count_by, bytes_eq, cases_lt, and_parts, and_from, or_cases, or_left, or_right, both_ways, true_from_ne_false, lt-ltb, ltb-true, sum_by-append, sum_by-cons, Entry, PageResult, has_result, is_accepted, twice, is_a_stray, is_twice, IsLeast, url_if, lesser}
 use Rattle.std.proofs.Math.Dec.{ltb}
-use Rattle.std.proofs.lemmas.Bool.{cases_lt, and_parts, and_from, or_cases, or_left, or_right, both_ways, true_from_ne_false, lt-ltb, ltb-true}
-use Rattle.std.proofs.lemmas.List.Sums.{sum_by-append, sum_by-cons}
-use Rattle.crawl_queues.specs.declared.entry.Entry.{Entry}
-use Rattle.crawl_pages.specs.declared.page.PageResult.{PageResult}
-use Rattle.crawl_certificate.specs.CertFaults.{has_result, is_accepted, twice}
-use Rattle.crawl_certificate.specs.Culprits.{is_a_stray, is_twice}
-use Rattle.crawl_certificate.specs.Least.{IsLeast, url_if, lesser}
 use Rattle.crawl_certificate.proofs.LeastUrls.{same_bool, by_test, only_one, least_of_both, lesser_none, at_urls, some_least}
 use Rattle.crawl_certificate.proofs.Lists.{same_text, text_itself}
 
@@ -86,13 +76,7 @@ least_twice_of_both entries xs ys first second both none p q shared =
 
 -- two results have a URL exactly if the first and a later one have it, or two later ones have it
 more_twice : (r : PageResult) (rest : List PageResult) (url : List ℕ) → is_twice (r ∷ rest) url ≡ (is_twice rest url || (bytes_eq r.url url && has_result rest url))
-more_twice r rest url =
-    let p : PageResult → Bool = λ x. bytes_eq x.url url in
-    ap (ltb 1) (count_more p r rest) ∙ two_of (cond (p r) 1 0) (count_by p rest) ∙ sides (p r)
-  where
-    sides : (b : Bool) → ((ltb 1 (cond b 1 0) || is_twice rest url) || (ltb 0 (cond b 1 0) && ltb 0 (count_by (λ (x : PageResult). bytes_eq x.url url) rest))) ≡ (is_twice rest url || (b && has_result rest url))
-    sides true = ap (λ c. is_twice rest url || c) (sym (any_counts (λ (x : PageResult). bytes_eq x.url url) rest))
-    sides false = refl
+more_twice r rest url = grind (arith, common_steps, ltb, count_more, two_of, any_counts)
 
 some_url_twice : (results : List PageResult) → twice results ≡ true → (u : List ℕ) × (is_twice results u ≡ true)
 some_url_twice [] h = absurd (cc)

@@ -1,56 +1,27 @@
 -- Marks that only linked entries have, and a run that lost nothing.
-use Rattle.std.proofs.Common.{◌≡◌, inl, inr, ℕ, zero, suc, ◌+◌, ◌<◌, ◌^◌, ◌==◌, Bool, true, false, not, ◌||◌, ◌&&◌, List, [], ◌∷◌, ◌++◌, length, map, get_or, slice_get, Option, Some, None, IfSome, IsSomeAnd, Vec, Global, refl, sym, ap, subst, ◌∙◌, arith, length-append, if◌then◌else◌}
-use Rattle.std.specs.Borrow.{Bor}
+use Rattle.crawl_certificate.proofs.Prelude.{common_steps, ◌≡◌, ℕ, zero, suc, ◌+◌, ◌<◌, ◌^◌, ◌==◌, Bool, true, false, not, ◌||◌, ◌&&◌, List, [], ◌∷◌, ◌++◌, length, get_or, slice_get, Option, Some, None, IfSome, IsSomeAnd, Vec, Global, refl, sym, ap, subst, ◌∙◌, arith, length-append, if◌then◌else◌, Bor, bytes_eq, and_from, cases_lt, eq-eqb, not_from_true, or_from, or_left, or_right, slice_get_read, All-contains_itself, All-weaker, list_any-append, list_any_none, Entry, same_at, PageResult, links_of, DifferByUrl, first_fault, has_result, is_accepted, is_behind, is_founded, is_linked, stands_in, twice, NothingLost, entry_urls, result_urls, Urls, at_this, is_in, pointed, stands_at, MarksOnly, in_one, AreFrom, IsWalk}
 use Rattle.std.specs.List.{AllByRecursion, Contains, IsDistinct, list_any}
-use Rattle.std.specs.Str.{bytes_eq}
-use Rattle.std.proofs.lemmas.Bool.{and_from, cases_lt, eq-eqb, not_from_true, or_left, or_right}
-use Rattle.std.proofs.lemmas.Option.{slice_get_read}
-use Rattle.std.proofs.lemmas.List.Elements.{All-contains_itself, All-weaker}
-use Rattle.std.proofs.lemmas.List.Folds.{list_any-append, list_any_none}
-use Rattle.crawl_queues.specs.declared.entry.Entry.{Entry}
-use Rattle.crawl_frontier.proofs.Gets.{same_at}
-use Rattle.crawl_pages.specs.declared.page.PageResult.{PageResult}
-use Rattle.crawl_pages.specs.Pages.{links_of}
-use Rattle.crawl_certificate.specs.AccountEntries.{DifferByUrl}
-use Rattle.crawl_certificate.specs.CertFaults.{first_fault, has_result, is_accepted, is_behind, is_founded, is_linked, stands_in, twice, unfounded}
-use Rattle.crawl_certificate.specs.Certificate.{NothingLost, entry_urls, result_urls}
-use Rattle.crawl_certificate.specs.Lookups.{Urls, at_this, is_in, pointed, stands_at}
-use Rattle.crawl_certificate.specs.Marks.{MarksOnly, in_one}
-use Rattle.crawl_certificate.specs.Walks.{AreFrom, IsWalk}
 use Rattle.crawl_certificate.proofs.Certified.{in_map}
 use Rattle.crawl_certificate.proofs.Lists.{any_from, same_text, text_itself}
 use Rattle.crawl_certificate.proofs.NothingLost.{accepted_in, nothing_lost}
 use Rattle.crawl_certificate.proofs.Order.{Distinct, distinct_entries, text_swap}
 use Rattle.crawl_certificate.proofs.Places.{among_at, length_pointed, read_pointed}
 
--- no mark is set
-pub none_set : (test : Entry → Bool) (entries : List Entry) → MarksOnly test entries (map (λ _. false) entries)
-none_set test [] k e at mark = absurd (cc)
-none_set test (y ∷ ys) zero e at mark = absurd (cc)
-none_set test (y ∷ ys) (suc k) e at mark = none_set test ys k e at mark
-
 -- an entry that is linked from the result of the entry before it
 pub linked_from : (entries : List Entry) (results : List PageResult) (i j : ℕ) (r : PageResult) (before : Entry) → slice_get results i ≡ Some r → slice_get entries j ≡ Some before → before.url ≡ r.url
     → (e : Entry) → stands_in (links_of r.page) e.url ≡ true → e.hops ≡ before.hops + 1 → is_linked entries results e ≡ true
-linked_from entries results i j r before at there same e link far =
-    any_from (λ (x : PageResult). stands_in (links_of x.page) e.url && is_behind entries x.url e) results r (among_at results i r at)
-    (and_from _ _ link
-    (any_from (λ (b : Entry). bytes_eq b.url r.url && e.hops == b.hops + 1) entries before (among_at entries j before there)
-    (and_from _ _ (subst (λ u. bytes_eq before.url u ≡ true) same (text_itself before.url)) (eq-eqb e.hops (before.hops + 1) far))))
+linked_from entries results i j r before at there same e link far = grind (arith, common_steps, any_from, among_at, and_from, text_itself, eq-eqb)
 
 -- ---- no error
 
-neither : (a b : Bool) → a ≡ false → b ≡ false → (a || b) ≡ false
-neither a b p q = grind arith
-
 none_with : (url : List ℕ) (results : List PageResult) → AllByRecursion (λ y. bytes_eq url y ≡ false) (result_urls results) → has_result results url ≡ false
 none_with url [] none = refl
-none_with url (r ∷ rs) none = neither (bytes_eq r.url url) (has_result rs url) (text_swap r.url url ∙ none.0) (none_with url rs none.1)
+none_with url (r ∷ rs) none = or_from (bytes_eq r.url url) (has_result rs url) (text_swap r.url url ∙ none.0) (none_with url rs none.1)
 
 once : (results : List PageResult) → Distinct (result_urls results) → twice results ≡ false
 unfolding IsDistinct
 once [] distinct = refl
-once (r ∷ rs) distinct = neither (has_result rs r.url) (twice rs) (none_with r.url rs distinct.0) (once rs distinct.1)
+once (r ∷ rs) distinct = or_from (has_result rs r.url) (twice rs) (none_with r.url rs distinct.0) (once rs distinct.1)
 
 all_listed : (entries : List Entry) (results : List PageResult) → entry_urls entries ≡ result_urls results → list_any (λ r. not (is_accepted entries r.url)) results ≡ false
 all_listed entries results same =
@@ -67,11 +38,7 @@ all_founded allowed seeds entries results each =
 -- a run that lost nothing, whose results are those of its entries in their order
 pub faultless : (allowed : List ℕ → Bool) (seeds : List (List ℕ)) (entries : List Entry) (results : List PageResult) → NothingLost allowed seeds entries results → DifferByUrl entries → entry_urls entries ≡ result_urls results
     → ((e : Entry) → Contains entries e → is_founded allowed seeds entries results e ≡ true) → first_fault allowed seeds entries results ≡ None
-faultless allowed seeds entries results kept apart same each =
-    let none = nothing_lost allowed seeds entries results kept in
-    let founded : unfounded allowed seeds entries results ≡ false = neither _ _ (all_founded allowed seeds entries results each) (all_listed entries results same) in
-    let single : twice results ≡ false = once results (subst Distinct same (distinct_entries entries apart)) in
-    rw (none.0, none.1, none.2, founded, single) refl
+faultless allowed seeds entries results kept apart same each = grind (arith, nothing_lost, or_from, all_founded, all_listed, once, distinct_entries)
 
 -- ---- steps of the walk
 
@@ -90,13 +57,7 @@ stands_here entries k e url at same = subst (λ o. at_this o url ≡ true) (sym 
 -- one more result
 pub own_more : (entries : List Entry) (first : ℕ) (results : List PageResult) (i : ℕ) (r : PageResult) → ((k : ℕ) (x : PageResult) → k < i → slice_get results k ≡ Some x → stands_at entries (first + k) x.url ≡ true)
     → slice_get results i ≡ Some r → stands_at entries (first + i) r.url ≡ true → (k : ℕ) (x : PageResult) → k < i + 1 → slice_get results k ≡ Some x → stands_at entries (first + k) x.url ≡ true
-own_more entries first results i r so_far at stands k x below there = elim (cases_lt k i) [
-  | inl before ↦ so_far k x before there
-  | inr behind ↦
-      let same : k ≡ i = omega (arith, below, behind) in
-      let one : r ≡ x = same_at results i r x at (subst (λ n. slice_get results n ≡ Some x) same there) in
-      subst (λ n. stands_at entries (first + n) x.url ≡ true) (sym same) (subst (λ y. stands_at entries (first + i) y.url ≡ true) one stands)
-]
+own_more entries first results i r so_far at stands k x below there = grind (arith, cases_lt, same_at)
 
 stays : (a z s m : Bool) → (a && (if z then s else false)) ≡ true → (a && (if z then s else m)) ≡ true
 stays a z s m h = grind arith
@@ -129,11 +90,7 @@ all_urls entries results long own =
 
 -- if the test `stands_at` passes at an index, an entry with the URL is there
 pub stands_there : (entries : List Entry) (k : ℕ) (url : List ℕ) → stands_at entries k url ≡ true → (e : Entry) × (slice_get entries k ≡ Some e) × (e.url ≡ url)
-stands_there entries k url h = by_case (slice_get entries k) refl h
-  where
-    by_case : (o : Option Entry) → slice_get entries k ≡ o → at_this o url ≡ true → (e : Entry) × (slice_get entries k ≡ Some e) × (e.url ≡ url)
-    by_case None is there = absurd (cc)
-    by_case (Some e) is there = (e, is, same_text e.url url there)
+stands_there entries k url h = grind (arith, same_text)
 
 -- ---- two walks combined
 
@@ -200,7 +157,4 @@ parts_together entries here' there' e f first front behind at xs ys whole joined
 -- a property of the combined marks of two walks that follows from properties of the marks of each
 pub both_told : (P Q R : List Bool → Type 0) → ((one other all : List Bool) → P one → Q other → all ≡ in_one one other → R all) → (first second told : Option (Vec Bool Global))
     → IfSome first (λ v. P v.items) → IfSome second (λ v. Q v.items) → IfSome told (λ all. IsSomeAnd first (λ one. IsSomeAnd second (λ other. all.items ≡ in_one one.items other.items))) → IfSome told (λ v. R v.items)
-both_told P Q R sum first second None p q t = tt
-both_told P Q R sum None second (Some c) p q t = absurd t
-both_told P Q R sum (Some a) None (Some c) p q t = absurd t
-both_told P Q R sum (Some a) (Some b) (Some c) p q t = sum a.items b.items c.items p q t
+both_told P Q R sum first second told p q t = grind arith

@@ -225,6 +225,7 @@ fn sorted_copies(alloc: Global, results: &[PageResult]) -> Result<Vec<PageResult
 }
 
 /// Returns copies of these results, in the same order.
+#[tactic(auto, using(std::proofs::lemmas::List::map_more, std::proofs::lemmas::List::take_all))]
 fn copies(alloc: Global, results: &[&PageResult]) -> Result<Vec<PageResult>, AllocError>
     ensures { IfOk result (λ copies. copies.items ≡ pointed results.now) }
 {

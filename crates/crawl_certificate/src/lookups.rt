@@ -121,6 +121,7 @@ impl<'a> Accepted<'a> {
     }
 
     /// The entry at the index, if it has the URL.
+    #[tactic(auto, using(crate::proofs::Walks::stands_there, std::proofs::lemmas::Option::slice_get_within, crawl_frontier::proofs::Gets::same_at))]
     pub fn with_url(&self, index: usize, url: &CanonUrl) -> Option<&Entry>
         ensures { IfSome result (λ entry. (slice_get self.now index ≡ Some entry.now) × (entry.now.url ≡ url.now)) }
     {

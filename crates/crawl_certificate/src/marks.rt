@@ -78,6 +78,7 @@ pub fn marks_of<'r, 'e>(
 }
 
 /// No mark of any entry.
+#[tactic(auto, using(crate::proofs::Places::none_marked))]
 pub fn no_marks(alloc: Global, accepted: &Accepted<'_>) -> Result<Vec<bool>, AllocError>
     ensures { IfOk result (λ marks. marks.items ≡ map (λ _. false) accepted.now) }
 {

@@ -1,9 +1,5 @@
 -- Lists of entries, with one more entry or cut in two.
-use Rattle.std.proofs.lemmas.Grind.{common_steps}
-use Rattle.std.proofs.Common.{◌≡◌, ℕ, ◌+◌, cond, eqb, ◌≤◌, length, List, [], ◌∷◌, ◌++◌, sym, subst, append_assoc, arith, Bool, true, false, refl, ap, ◌∙◌}
-use Rattle.std.proofs.lemmas.List.{append-nil}
-use Rattle.crawl_queues.specs.declared.entry.Entry.{Entry}
-use Rattle.crawl_queues.specs.Entries.{MayFollow, KeepsRule, count_of, entries_of}
+use Rattle.crawl_queues.proofs.Prelude.{common_steps, ◌≡◌, ℕ, ◌+◌, cond, eqb, ◌≤◌, length, List, [], ◌∷◌, ◌++◌, sym, subst, append_assoc, arith, Bool, true, false, refl, ap, ◌∙◌, append-nil, Entry, MayFollow, KeepsRule, count_of, entries_of}
 use Rattle.crawl_queues.specs.Books.{Numbered}
 use Rattle.std.proofs.lemmas.Bool.Decides.{nat_tests}
 

@@ -1,18 +1,10 @@
 -- The laws of a subqueue.
-use Rattle.std.proofs.lemmas.Grind.{common_steps}
-use Rattle.std.proofs.Common.{◌≡◌, ◌≢◌, ℕ, zero, suc, ◌<◌, true, List, [], ◌∷◌, ◌++◌, take, set, Some, slice_get, refl, ap, arith, true≢false, length, sym, ◌∙◌, subst, ⊎_elim, append_assoc}
-use Rattle.std.proofs.lemmas.List.{append-nil}
+use Rattle.crawl_queues.proofs.Prelude.{common_steps, ◌≡◌, ◌≢◌, ℕ, zero, suc, ◌<◌, true, List, [], ◌∷◌, ◌++◌, take, set, Some, slice_get, refl, ap, arith, true≢false, length, sym, ◌∙◌, subst, ⊎_elim, append_assoc, append-nil, get_elem?, Entry, PassView, MayFollow, KeepsRule, has_url, SubqueueInvariant, pushing, popping, undivided, reunited, plain, Message}
 use Rattle.std.proofs.lemmas.Bool.{cases_order}
 use Rattle.std.proofs.lemmas.Slice.Eq.{bytes_eq-Decides}
-use lib.ListN.{get_elem?}
-use Rattle.crawl_queues.specs.declared.entry.Entry.{Entry}
-use Rattle.crawl_queues.specs.declared.rule.PassView.{PassView}
-use Rattle.crawl_queues.specs.Entries.{MayFollow, KeepsRule, has_url}
-use Rattle.crawl_queues.specs.Rule.{SubqueueInvariant, pushing, popping, undivided, reunited, plain}
 use Rattle.crawl_queues.specs.History.{IsAcceptedList, Moment, SubqueueStep, ListsMove, settles, divides, IsHistory, first_moment, AllKept, pushes, pops, finds_nothing, takes_in}
 use Rattle.crawl_queues.proofs.Entries.{rule-numbered}
 use Rattle.crawl_queues.proofs.Passing as pass
-use Rattle.crawl_queues.specs.declared.entry.Message.{Message}
 
 -- the k-th entry may follow those before it
 rule-get : (n q : ℕ) (before es : List Entry) (k : ℕ) (e : Entry) → KeepsRule n q before es → slice_get es k ≡ Some e → MayFollow n q (before ++ take k es) e

@@ -1,3 +1,4 @@
+pub mod Prelude
 pub mod Entries
 pub mod Moves
 pub mod Passing

@@ -1,12 +1,5 @@
 -- What the lines of a log state after the known lists have grown, and after one more line.
-use Rattle.std.proofs.lemmas.Grind.{common_steps}
-use Rattle.std.proofs.Common.{◌≡◌, ℕ, zero, suc, List, [], ◌∷◌, ◌++◌, set, Some, slice_get, refl, ap, ◌∙◌, arith, sym}
-use Rattle.std.proofs.lemmas.Option.{get_or_from_slice_get}
-use Rattle.crawl_queues.specs.declared.entry.Entry.{Entry}
-use Rattle.crawl_queues.specs.declared.log.LogLine.{LogLine}
-use Rattle.crawl_queues.specs.Logs.{entry_at, says, line_of, log_of, Has, AreThere, AllStay}
-use Rattle.std.specs.Prelude.{slice_index_or}
-use Rattle.crawl_queues.specs.Growing.{no_entry}
+use Rattle.crawl_queues.proofs.Prelude.{common_steps, ◌≡◌, ℕ, zero, suc, List, [], ◌∷◌, ◌++◌, set, Some, slice_get, refl, ap, ◌∙◌, arith, sym, get_or_from_slice_get, Entry, LogLine, entry_at, says, line_of, log_of, Has, AreThere, AllStay, slice_index_or, no_entry}
 
 pub entry_there : (lists : List (List Entry)) (q i : ℕ) (e : Entry) → Has lists q i e → entry_at lists q i ≡ e
 entry_there lists q i e has =

@@ -1,13 +1,7 @@
 -- Each move of a seat keeps the rule of a list that only grows.
-use Rattle.std.proofs.lemmas.Grind.{common_steps}
-use Rattle.std.proofs.Common.{◌≡◌, ◌≢◌, ℕ, zero, suc, List, [], ◌∷◌, ◌++◌, set, true, false, true≢false, refl, sym, ap, ◌∙◌, subst, arith}
-use mathlib.Core.Option.{some, some-ne-none, some-injective}
-use lib.ListN.{get_elem?}
+use Rattle.crawl_queues.proofs.Prelude.{common_steps, ◌≡◌, ◌≢◌, ℕ, zero, suc, List, [], ◌∷◌, ◌++◌, set, true, false, true≢false, refl, sym, ap, ◌∙◌, subst, arith, some, some-ne-none, some-injective, get_elem?, Entry, ListView, holding, owning, beginning, Stays, Fits, Grows, Adding, Compares}
 use Rattle.atomic_table.specs.Table.{Me, Allows, Splits, Joins, keeps, opening}
 use Rattle.atomic_table.proofs.Lists.{at_set, at_snoc, set_again}
-use Rattle.crawl_queues.specs.declared.entry.Entry.{Entry}
-use Rattle.crawl_queues.specs.declared.growing.rule.ListView.{ListView}
-use Rattle.crawl_queues.specs.Growing.{holding, owning, beginning, Stays, Fits, Grows, Adding, Compares}
 
 abbrev pub Sitting : Type 0
 Sitting = Me (Unit {0}) ListView

@@ -1,18 +1,9 @@
 -- Each move of a pass keeps the rule of a subqueue.
-use Rattle.std.proofs.lemmas.Grind.{common_steps}
-use Rattle.std.proofs.Common.{◌≡◌, ◌≢◌, ◌⊎◌, ℕ, zero, suc, ◌+◌, true, false, true≢false, List, [], ◌∷◌, ◌++◌, length, map, set, sym, refl, ap, ◌∙◌, subst, inl, inr, ⊎_elim, append_assoc, arith}
-use mathlib.Core.Option.{some, some-injective, some-ne-none}
+use Rattle.crawl_queues.proofs.Prelude.{common_steps, ◌≡◌, ◌≢◌, ◌⊎◌, ℕ, zero, suc, ◌+◌, true, false, true≢false, List, [], ◌∷◌, ◌++◌, length, map, set, sym, refl, ap, ◌∙◌, subst, inl, inr, ⊎_elim, append_assoc, arith, some, some-injective, some-ne-none, get_elem?, GateId, IsSeatOf, Entry, Message, PassView, MayFollow, KeepsRule, pushing, popping, undivided, reunited, spent, no_home, plain, AllOfGate, PassFits, SubqueueInvariant}
 use mathlib.Core.List.{map-append}
-use lib.ListN.{get_elem?}
 use Rattle.crossbeam_queue.specs.Fifo.{Pushes, Pops, Forks, Merges, Learns}
 use Rattle.crossbeam_queue.proofs.Lists.{at_set}
-use Rattle.crawl_gate.specs.Seat.{GateId, IsSeatOf}
-use Rattle.crawl_queues.specs.declared.entry.Entry.{Entry}
-use Rattle.crawl_queues.specs.declared.entry.Message.{Message}
 use Rattle.crawl_queues.specs.declared.rule.Home.{Home}
-use Rattle.crawl_queues.specs.declared.rule.PassView.{PassView}
-use Rattle.crawl_queues.specs.Entries.{MayFollow, KeepsRule}
-use Rattle.crawl_queues.specs.Rule.{pushing, popping, undivided, reunited, spent, no_home, plain, AllOfGate, PassFits, SubqueueInvariant}
 use Rattle.crawl_queues.proofs.Entries.{rule-snoc, rule-at}
 
 pub no : {X : Type 0} → false ≡ true → X

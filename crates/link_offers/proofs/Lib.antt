@@ -1,2 +1,3 @@
+pub mod Prelude
 pub mod LinkAnswers
 pub mod Logs

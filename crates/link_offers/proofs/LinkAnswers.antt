@@ -1,24 +1,13 @@
 -- What becomes of links that a busy worker offers.
-use Rattle.std.proofs.lemmas.Grind.{common_steps}
-use Rattle.std.proofs.Common.{◌≡◌, ◌↔◌, ℕ, ◌+◌, ◌≤◌, Bool, false, cond, List, [], ◌∷◌, ◌++◌, length, Option, Some, Result, Err, refl, sym, ap, subst, ◌∙◌, arith, IsTrue, slice_set, slice_index_or}
+use Rattle.link_offers.proofs.Prelude.{common_steps, ◌≡◌, ◌↔◌, ℕ, ◌+◌, ◌≤◌, Bool, false, cond, List, [], ◌∷◌, ◌++◌, length, Option, Some, Result, Err, refl, sym, ap, subst, ◌∙◌, arith, IsTrue, slice_set, slice_index_or, length-append, set-get_or, All-nil, All-cons, flat_map-append, Offer, OfferError, IsFiltered, RecentUrls, HasLine, AllLogged, Grows, Answer, IsOffer, Answers, AllAnswered, LinkAnswers, listed, losses_by, with_losses, Knows}
 use Rattle.std.specs.List.{count_by, flat_map}
-use Rattle.std.proofs.lemmas.List.{length-append, set-get_or}
-use Rattle.std.proofs.lemmas.List.Elements.{All-nil, All-cons}
 use Rattle.std.proofs.lemmas.List.Sums.{sum_by-cons}
-use Rattle.std.proofs.lemmas.Grind.{flat_map-append}
-use Rattle.crawl_frontier.specs.declared.offer.Offer.{Offer}
-use Rattle.crawl_frontier.specs.declared.error.OfferError.{OfferError}
 use Rattle.crawl_frontier.specs.declared.error.OfferError.TheVariants as refused
-use Rattle.crawl_frontier.specs.Offers.{IsFiltered}
 use Rattle.crawl_frontier.specs.Parts.{BusyId, worker}
 use Rattle.link_offers.specs.declared.losses.Loss.{Loss}
 use Rattle.link_offers.specs.declared.losses.Losses.{Losses}
 use Rattle.link_offers.specs.declared.offers.LinkOffers.{LinkOffers}
-use Rattle.link_offers.specs.declared.recent.RecentUrls.{RecentUrls}
-use Rattle.link_offers.specs.Logs.{HasLine, AllLogged, Grows}
 use Rattle.link_offers.specs.Losses.{loss_of, with_loss}
-use Rattle.link_offers.specs.Offers.{Answer, IsOffer, Answers, AllAnswered, LinkAnswers, listed, losses_by, with_losses}
-use Rattle.link_offers.specs.Recent.{Knows}
 use Rattle.link_offers.proofs.Logs.{grows_same, grows_on, offer_grows, offer_line, has_line_on, knows_on}
 
 -- a list with the same element written once more

@@ -1,21 +1,11 @@
 -- How a log grows, and what it then says of links.
-use Rattle.std.proofs.lemmas.Grind.{common_steps}
-use Rattle.std.proofs.Common.{◌≡◌, ℕ, ◌+◌, Bool, List, [], ◌∷◌, ◌++◌, map, Option, Result, Ok, refl, sym, ap, ◌∙◌, IsTrue, IfSome, arith}
-use Rattle.std.proofs.lemmas.List.{append-nil, append_assoc, map-append}
-use Rattle.std.proofs.lemmas.List.Elements.{All-push, All-weaker, Contains-append_left, Contains-push}
+use Rattle.link_offers.proofs.Prelude.{common_steps, ◌≡◌, ℕ, ◌+◌, Bool, List, [], ◌∷◌, ◌++◌, map, Option, Result, Ok, refl, sym, ap, ◌∙◌, IsTrue, IfSome, arith, append-nil, append_assoc, map-append, All-push, All-weaker, Contains-append_left, Contains-push, Logged, Offer, OfferError, OfferBooks, RecentUrls, line_of, HasLine, AllLogged, Grows, Knows, url_in}
 use Rattle.crawl_keys.specs.Assignment.{subqueue_of}
-use Rattle.crawl_queues.specs.declared.book.Logged.{Logged}
 use Rattle.crawl_queues.specs.declared.book.Logged.TheVariants as logged
-use Rattle.crawl_frontier.specs.declared.offer.Offer.{Offer}
 use Rattle.crawl_frontier.specs.declared.offer.Offer.TheVariants.{Accepted, Seen}
-use Rattle.crawl_frontier.specs.declared.error.OfferError.{OfferError}
 use Rattle.crawl_frontier.specs.declared.error.OfferError.TheVariants as refused
 use Rattle.crawl_queues.specs.Entries.{entry}
 use Rattle.crawl_queues.specs.Books.{BookId}
-use Rattle.crawl_frontier.specs.Offers.{OfferBooks}
-use Rattle.link_offers.specs.declared.recent.RecentUrls.{RecentUrls}
-use Rattle.link_offers.specs.Logs.{line_of, HasLine, AllLogged, Grows}
-use Rattle.link_offers.specs.Recent.{Knows, url_in}
 
 pub grows_same : (b b' : BookId) → b' ≡ b → Grows b b'
 grows_same b b' same = record { more = []; id = ap (λ (x : BookId). x.id) same; log = ap (λ (x : BookId). x.log) same ∙ sym (append-nil b.log) }

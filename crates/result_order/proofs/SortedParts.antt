@@ -1,18 +1,7 @@
 -- Results with their numbers: what begins alike, and what is sorted in two parts.
-use Rattle.std.proofs.Common.{◌≡◌, ℕ, zero, suc, ◌+◌, ◌-◌, ◌*◌, ◌<◌, ◌≤◌, Bool, false, List, [], ◌∷◌, ◌++◌, length, take, drop, get_or, slice_index, refl, sym, ap, subst, ◌∙◌, arith, inl, inr}
-use Rattle.std.specs.List.{All, Contains}
-use Rattle.std.specs.List.Sorted.{IsPermutation, IsNonDecreasingBy, IsSortedBy, IsSortedByKey}
-use Rattle.std.specs.Cmp.Lexicographic.{slice_cmp, nat_list_cmp_total}
-use Rattle.std.specs.Ordering.{nat_cmp, is_lt, ordering_then, ordering_reverse}
-use Rattle.std.proofs.lemmas.Bool.{cases_lt, cases_order, cases_eq}
-use Rattle.std.proofs.lemmas.List.{map-append, length-append, length-map, take-append-drop, get_or_append_left, get_or-append_right, get_or-map}
+use Rattle.result_order.proofs.Prelude.{◌≡◌, ℕ, zero, suc, ◌+◌, ◌-◌, ◌*◌, ◌<◌, ◌≤◌, Bool, false, List, [], ◌∷◌, ◌++◌, length, take, drop, get_or, slice_index, refl, sym, ap, subst, ◌∙◌, arith, inl, inr, All, Contains, IsPermutation, IsNonDecreasingBy, IsSortedBy, IsSortedByKey, slice_cmp, nat_list_cmp_total, nat_cmp, is_lt, ordering_then, ordering_reverse, cases_lt, cases_order, cases_eq, map-append, length-append, length-map, take-append-drop, get_or_append_left, get_or-append_right, get_or-map, All-permutation, IsPermutation-append, IsPermutation-map, IsPermutation-sym, IsNonDecreasingBy-take, IsNonDecreasingBy-drop, Contains-permutation, PageResult, Numbered, AreAlikeWithin, BeginAlike, bytes_from, IsSixteen, AllBeginAlike, AreInOrder, ArePrepared, AllEqual, ArePartedAt, IsNumbered, pages_of}
 use Rattle.std.proofs.Math.Seq.{take-append_seam}
 use Rattle.std.proofs.lemmas.List.Elements.{All-contains, All-take, All-drop, Contains-get_or, Contains-append_left, Contains-append_right}
-use Rattle.std.proofs.lemmas.List.Sorted.{All-permutation, IsPermutation-append, IsPermutation-map, IsPermutation-sym, IsNonDecreasingBy-take, IsNonDecreasingBy-drop, Contains-permutation}
-use Rattle.crawl_pages.specs.declared.page.PageResult.{PageResult}
-use Rattle.result_order.specs.declared.numbered.Numbered.{Numbered}
-use Rattle.result_order.specs.Sixteens.{AreAlikeWithin, BeginAlike, bytes_from, IsSixteen}
-use Rattle.result_order.specs.Sorting.{AllBeginAlike, AreInOrder, ArePrepared, AllEqual, ArePartedAt, IsNumbered, pages_of}
 use Rattle.std.specs.Int.Digits.{number_from_digits_after, AllBelowBase}
 use Rattle.std.specs.declared.cmp.Ordering.TheVariants.{Less, Equal}
 use Rattle.std.proofs.lemmas.Bool.Decides.{nat_tests}

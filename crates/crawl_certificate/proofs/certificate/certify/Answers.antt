@@ -1,14 +1,7 @@
-use Rattle.std.proofs.Common.{ap, subst, sym}
-use Rattle.std.specs.Cmp.Lexicographic.{slice_cmp}
-use Rattle.std.specs.List.Sorted.{IsPermutation, IsSortedByKey}
-use Rattle.std.specs.Ordering.{nat_cmp}
-use Rattle.crawl_keys.specs.HostFilter.{allows}
+use Rattle.crawl_certificate.proofs.Prelude.{ap, subst, sym, slice_cmp, IsPermutation, IsSortedByKey, nat_cmp, allows, PageResult, DifferByUrl, unless_fault}
 use Rattle.crawl_pages.specs.ResultOrder.{is_before}
-use Rattle.crawl_pages.specs.declared.page.PageResult.{PageResult}
 use Rattle.crawl_pages.proofs.OrderLaws.{results_by_url-in_order}
 use Rattle.crawl_pages.proofs.StableSort.{IsPermutation-stable_sort}
-use Rattle.crawl_certificate.specs.AccountEntries.{DifferByUrl}
-use Rattle.crawl_certificate.specs.Certificate.{unless_fault}
 use Rattle.crawl_certificate.proofs.Certificates.{certified}
 use Rattle.crawl_certificate.proofs.certificate.certify.Goals as goal
 

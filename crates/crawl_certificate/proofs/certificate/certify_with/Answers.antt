@@ -1,7 +1,4 @@
-use Rattle.std.proofs.Common.{◌≡◌, None, subst, ◌∙◌}
-use Rattle.crawl_keys.specs.HostFilter.{allows}
-use Rattle.crawl_certificate.specs.AccountEntries.{DifferByUrl}
-use Rattle.crawl_certificate.specs.CertFaults.{first_fault}
+use Rattle.crawl_certificate.proofs.Prelude.{◌≡◌, None, subst, ◌∙◌, allows, DifferByUrl, first_fault}
 use Rattle.crawl_certificate.proofs.Certificates.{certified}
 use Rattle.crawl_certificate.proofs.certificate.certify_with.Goals as goal
 

@@ -1,5 +1,4 @@
-use Rattle.std.proofs.Common.{◌≡◌, take}
-use Rattle.crawl_certificate.specs.Lookups.{pointed}
+use Rattle.crawl_certificate.proofs.Prelude.{◌≡◌, take, pointed}
 use Rattle.crawl_certificate.proofs.certificate.copies.Given as goal
 
 abbrev pub invariant-loop-one : goal.invariant-loop-one

@@ -1,14 +1,67 @@
-use Rattle.std.proofs.Common.{◌==◌, not, ◌&&◌, map, sym, ap, subst, ◌∙◌, if◌then◌else◌}
-use Rattle.std.specs.List.{list_any}
-use Rattle.std.specs.Str.{bytes_eq}
-use Rattle.crawl_queues.specs.declared.entry.Entry.{Entry}
-use Rattle.crawl_keys.specs.HostFilter.{allows}
-use Rattle.crawl_certificate.specs.CertFaults.{has_result, is_linked}
-use Rattle.crawl_certificate.specs.Culprits.{first_named, NamesFirst}
-use Rattle.crawl_certificate.specs.Least.{IsLeast, url_of}
-use Rattle.crawl_certificate.specs.Lookups.{is_in}
-use Rattle.crawl_certificate.proofs.Culprits.{founded_known, culprit_named}
+use Rattle.crawl_certificate.proofs.Prelude.{◌==◌, not, ◌&&◌, map, sym, ap, subst, ◌∙◌, if◌then◌else◌, list_any, bytes_eq, Entry, allows, has_result, is_linked, first_named, NamesFirst, IsLeast, url_of, is_in, ◌≡◌, inl, inr, ℕ, Bool, ◌||◌, List, Option, Some, None, is_some, Result, Ok, Err, arith, PageResult, links_of, CertError, Culprit, Marks, first_of, is_accepted, stands_in, is_founded, seed_missing, not_fetched, link_missing, unfounded, twice, is_lost, is_unfounded, is_a_stray, is_at_fault, IsCulprit, Names, NamesCulprit, lesser, AreMarks, Urls}
+use Rattle.crawl_certificate.specs.declared.error.CertError.TheVariants as fault
+use Rattle.crawl_certificate.proofs.LeastUrls.{by_test, least_of_both, lesser_none, some_lesser, at_urls, some_of_urls, some_of_elements, some_of_lists}
+use Rattle.crawl_certificate.proofs.Twice.{some_twice}
 use Rattle.crawl_certificate.proofs.certificate.fault_by_marks.Goals as goal
+
+-- ---- the least URL of each error
+
+fetched_known : (entries : List Entry) (results : List PageResult) (told : Option (List ℕ)) → IsLeast (λ url. list_any (λ e. bytes_eq e.url url && not (has_result results e.url)) entries) told → IsLeast (λ url. is_accepted entries url && not (has_result results url)) told
+fetched_known entries results told is = by_test _ _ told (at_urls (λ (e : Entry). e.url) (λ url. not (has_result results url)) entries) is
+
+-- an entry that is not founded, by the set of the seeds
+founded_known : (allowed : List ℕ → Bool) (seeds : List (List ℕ)) (entries : List Entry) (results : List PageResult) (known : Urls) → ((url : List ℕ) → is_in known url ≡ stands_in seeds url) → (told : Option (List ℕ)) → IsLeast (λ url. list_any (λ e. bytes_eq e.url url && not (allowed e.url && (if e.hops == 0 then is_in known e.url else is_linked entries results e))) entries) told → IsLeast (is_unfounded allowed seeds entries results) told
+founded_known allowed seeds entries results known says told is =
+    subst (λ t. IsLeast t told) (λ i url. list_any (λ (e : Entry). bytes_eq e.url url && not (allowed e.url && (if e.hops == 0 then says e.url i else is_linked entries results e))) entries) is
+
+-- ---- the first of the errors
+
+-- the first error, with its least URL, is the culprit
+module _ (at : CertError → List ℕ → Bool) (cause : CertError) (url : List ℕ) (least : IsLeast (at cause) (Some url)) where
+  pub names_it : (first : Option (CertError × List ℕ)) → first ≡ Some (cause, url) → (culprit : Culprit) → (u : List ℕ) → first ≡ Some (culprit.cause, u) → culprit.url ≡ Some u → IsCulprit (Some cause) at culprit
+  names_it first here' culprit u there' named =
+      let both : ◌≡◌ {A = Option (CertError × List ℕ)} (Some (cause, url)) (Some (culprit.cause, u)) = sym here' ∙ there' in
+      let pair : ◌≡◌ {A = CertError × List ℕ} (cause, url) (culprit.cause, u) = cc in
+      record {
+        url = u;
+        cause = ap (λ p. Some p.0) pair;
+        named = named;
+        least = subst (λ p. IsLeast (at p.0) (Some p.1)) pair least;
+      }
+
+  pub names_one : (first : Option (CertError × List ℕ)) → first ≡ Some (cause, url) → (result : Result (Unit {0}) Culprit) → NamesFirst first result → Names result (Some cause) at
+  names_one first here' (Ok x) none = let clash : ◌≡◌ {A = Option (CertError × List ℕ)} (Some (cause, url)) None = sym here' ∙ none in absurd (cc)
+  names_one first here' (Err culprit) (inl told) = inl (names_it first here' culprit told.0 told.1 told.2)
+  names_one first here' (Err culprit) (inr refused) = inr refused
+
+named : (at : CertError → List ℕ → Bool) (a b c d e : Option (List ℕ)) (again : Bool) → IsLeast (at fault.SeedMissing) a → IsLeast (at fault.NotFetched) b → IsLeast (at fault.LinkMissing) c → IsLeast (at fault.Unfounded) d → (d ≡ None → IsLeast (at fault.Twice) e × (is_some e ≡ again)) → (result : Result (Unit {0}) Culprit) → NamesFirst (first_named a b c d e) result → Names result (first_of (is_some a) (is_some b) (is_some c) (is_some d) again) at
+named at a b c d e again p q r s t result told = grind arith
+
+-- the culprit, from what a pass over the results found, and from what was found about seeds and entries
+culprit_named : (allowed : List ℕ → Bool) (seeds : List (List ℕ)) (entries : List Entry) (results : List PageResult) (marks : Marks) → AreMarks allowed entries results marks → (seed fetched groundless : Option (List ℕ))
+    → IsLeast (λ url. stands_in seeds url && is_lost allowed entries url) seed
+    → IsLeast (λ url. list_any (λ e. bytes_eq e.url url && not (has_result results e.url)) entries) fetched
+    → IsLeast (is_unfounded allowed seeds entries results) groundless
+    → (result : Result (Unit {0}) Culprit) → NamesFirst (first_named seed fetched (url_of marks.told.missing) (lesser groundless (url_of marks.told.stray)) (url_of marks.told.twice)) result
+    → NamesCulprit allowed seeds entries results result
+culprit_named allowed seeds entries results marks found seed fetched groundless of_seeds of_entries of_founded result told =
+    let at = is_at_fault allowed seeds entries results in
+    let missing = url_of marks.told.missing in
+    let stray = url_of marks.told.stray in
+    let again = url_of marks.told.twice in
+    let fetched' = fetched_known entries results fetched of_entries in
+    let unfounded' : IsLeast (at fault.Unfounded) (lesser groundless stray) = least_of_both (is_unfounded allowed seeds entries results) (is_a_stray entries results) groundless stray of_founded found.stray in
+    let is_seed : is_some seed ≡ seed_missing allowed seeds entries = some_of_urls (λ (s : List ℕ). s) (is_lost allowed entries) seeds seed of_seeds in
+    let is_fetched : is_some fetched ≡ not_fetched entries results = some_of_urls (λ (e : Entry). e.url) (λ url. not (has_result results url)) entries fetched fetched' in
+    let is_missing : is_some missing ≡ link_missing allowed entries results = some_of_lists (λ (r : PageResult). links_of r.page) (is_lost allowed entries) results missing found.missing in
+    let is_groundless = some_of_elements (λ (e : Entry). e.url) (λ (e : Entry). not (is_founded allowed seeds entries results e)) entries groundless of_founded in
+    let is_stray = some_of_urls (λ (r : PageResult). r.url) (λ url. not (is_accepted entries url)) results stray found.stray in
+    let is_unfounded' : is_some (lesser groundless stray) ≡ unfounded allowed seeds entries results = some_lesser groundless stray ∙ (λ i. is_groundless i || is_stray i) in
+    subst (λ f. Names result f at)
+    (λ i. first_of (is_seed i) (is_fetched i) (is_missing i) (is_unfounded' i) (twice results))
+    (named at seed fetched missing (lesser groundless stray) again (twice results) of_seeds fetched' found.missing unfounded'
+    (λ none. let twice' = found.twice (lesser_none groundless stray none).1 in (twice', some_twice results again twice'))
+    result told)
 
 pub returns : goal.returns
 returns c = λ results marks.

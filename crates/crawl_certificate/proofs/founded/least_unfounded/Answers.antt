@@ -1,8 +1,4 @@
-use Rattle.std.proofs.Common.{◌==◌, Bool, false, not, ◌&&◌, ap, ◌∙◌, if◌then◌else◌}
-use Rattle.crawl_queues.specs.declared.entry.Entry.{Entry}
-use Rattle.crawl_keys.specs.HostFilter.{allows}
-use Rattle.crawl_certificate.specs.Least.{url_of}
-use Rattle.crawl_certificate.specs.Lookups.{is_in}
+use Rattle.crawl_certificate.proofs.Prelude.{◌==◌, Bool, false, not, ◌&&◌, ap, ◌∙◌, if◌then◌else◌, Entry, allows, url_of, is_in}
 use Rattle.crawl_certificate.proofs.LeastUrls.{entry_more, entries_all}
 use Rattle.crawl_certificate.proofs.Places.{mark_of}
 use Rattle.crawl_certificate.proofs.founded.least_unfounded.Goals as goal

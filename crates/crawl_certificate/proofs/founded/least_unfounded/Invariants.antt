@@ -1,10 +1,4 @@
-use Rattle.std.proofs.Common.{◌≡◌, ◌==◌, Bool, not, ◌&&◌, map, take, if◌then◌else◌}
-use Rattle.std.specs.List.{list_any}
-use Rattle.std.specs.Str.{bytes_eq}
-use Rattle.crawl_queues.specs.declared.entry.Entry.{Entry}
-use Rattle.crawl_keys.specs.HostFilter.{allows}
-use Rattle.crawl_certificate.specs.Least.{IsLeast, url_of}
-use Rattle.crawl_certificate.specs.Lookups.{pointed, is_in}
+use Rattle.crawl_certificate.proofs.Prelude.{◌≡◌, ◌==◌, Bool, not, ◌&&◌, map, take, if◌then◌else◌, list_any, bytes_eq, Entry, allows, IsLeast, url_of, pointed, is_in}
 use Rattle.crawl_certificate.proofs.founded.least_unfounded.Given as goal
 
 abbrev pub invariant-loop-index : goal.invariant-loop-index

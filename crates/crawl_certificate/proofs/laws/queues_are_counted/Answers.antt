@@ -1,6 +1,4 @@
-use Rattle.std.proofs.Common.{ap, arith}
-use Rattle.std.proofs.lemmas.List.{take_all}
-use Rattle.crawl_certificate.specs.AccountEntries.{entries_in}
+use Rattle.crawl_certificate.proofs.Prelude.{ap, arith, take_all, entries_in}
 use Rattle.crawl_certificate.proofs.KeptRules.{kept_queues}
 use Rattle.crawl_certificate.proofs.Queues.{queues_differ, queue_counts}
 use Rattle.crawl_certificate.proofs.laws.queues_are_counted.Goals as goal

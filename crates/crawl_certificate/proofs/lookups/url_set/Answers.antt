@@ -1,7 +1,4 @@
-use Rattle.std.proofs.Common.{◌||◌, [], ◌∷◌, ◌++◌, take, sym, ap, ◌∙◌}
-use Rattle.std.proofs.lemmas.List.{take_more}
-use Rattle.std.specs.Str.{bytes_eq}
-use Rattle.crawl_certificate.specs.CertFaults.{stands_in}
+use Rattle.crawl_certificate.proofs.Prelude.{◌||◌, [], ◌∷◌, ◌++◌, take, sym, ap, ◌∙◌, take_more, bytes_eq, stands_in}
 use Rattle.crawl_certificate.proofs.Places.{any_push, set_put}
 use Rattle.crawl_certificate.proofs.lookups.url_set.Goals as goal
 

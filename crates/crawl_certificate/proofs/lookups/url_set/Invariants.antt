@@ -1,6 +1,4 @@
-use Rattle.std.proofs.Common.{◌≡◌, ℕ, List, take}
-use Rattle.crawl_certificate.specs.CertFaults.{stands_in}
-use Rattle.crawl_certificate.specs.Lookups.{is_in}
+use Rattle.crawl_certificate.proofs.Prelude.{◌≡◌, ℕ, List, take, stands_in, is_in}
 use Rattle.crawl_certificate.proofs.lookups.url_set.Given as goal
 
 abbrev pub invariant-loop-url : goal.invariant-loop-url

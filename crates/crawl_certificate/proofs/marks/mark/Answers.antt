@@ -1,5 +1,4 @@
-use Rattle.std.proofs.Common.{◌+◌, ◌==◌, Bool, true, set, sym, ap, ◌∙◌}
-use Rattle.crawl_queues.specs.declared.entry.Entry.{Entry}
+use Rattle.crawl_certificate.proofs.Prelude.{◌+◌, ◌==◌, Bool, true, set, sym, ap, ◌∙◌, Entry}
 use Rattle.crawl_certificate.proofs.Places.{marked, unmarked, unmarked_unknown}
 use Rattle.crawl_certificate.proofs.marks.mark.Goals as goal
 

@@ -1,10 +1,4 @@
-use Rattle.std.proofs.Common.{◌+◌, ◌==◌, Bool, ◌&&◌, ◌||◌, [], ◌∷◌, ◌++◌, map, take, sym, ap, ◌∙◌}
-use Rattle.std.proofs.lemmas.List.{take_more}
-use Rattle.crawl_queues.specs.declared.entry.Entry.{Entry}
-use Rattle.crawl_keys.specs.HostFilter.{allows}
-use Rattle.crawl_certificate.specs.CertFaults.{stands_in}
-use Rattle.crawl_certificate.specs.Culprits.{is_lost}
-use Rattle.crawl_certificate.specs.Least.{url_of}
+use Rattle.crawl_certificate.proofs.Prelude.{◌+◌, ◌==◌, Bool, ◌&&◌, ◌||◌, [], ◌∷◌, ◌++◌, map, take, sym, ap, ◌∙◌, take_more, Entry, allows, stands_in, is_lost, url_of}
 use Rattle.crawl_certificate.proofs.LeastUrls.{text_more}
 use Rattle.crawl_certificate.proofs.Places.{marks_push}
 use Rattle.crawl_certificate.proofs.marks.mark_links.Goals as goal

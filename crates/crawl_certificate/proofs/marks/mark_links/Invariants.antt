@@ -1,9 +1,4 @@
-use Rattle.std.proofs.Common.{◌≡◌, ◌+◌, ◌==◌, Bool, ◌||◌, ◌&&◌, map, take}
-use Rattle.crawl_queues.specs.declared.entry.Entry.{Entry}
-use Rattle.crawl_keys.specs.HostFilter.{allows}
-use Rattle.crawl_certificate.specs.CertFaults.{stands_in}
-use Rattle.crawl_certificate.specs.Culprits.{is_lost}
-use Rattle.crawl_certificate.specs.Least.{IsLeast, url_of}
+use Rattle.crawl_certificate.proofs.Prelude.{◌≡◌, ◌+◌, ◌==◌, Bool, ◌||◌, ◌&&◌, map, take, Entry, allows, stands_in, is_lost, IsLeast, url_of}
 use Rattle.crawl_certificate.proofs.marks.mark_links.Given as goal
 
 abbrev pub invariant-loop-link : goal.invariant-loop-link

@@ -1,7 +1,4 @@
-use Rattle.std.proofs.Common.{◌≡◌, ◌+◌, ◌==◌, true, false, ◌&&◌, ◌||◌, map, set, get_or, Option, Some, sym, ap, ◌∙◌}
-use Rattle.crawl_queues.specs.declared.entry.Entry.{Entry}
-use Rattle.crawl_certificate.specs.CertFaults.{stands_in}
-use Rattle.crawl_certificate.specs.Least.{url_if}
+use Rattle.crawl_certificate.proofs.Prelude.{◌≡◌, ◌+◌, ◌==◌, true, false, ◌&&◌, ◌||◌, map, set, get_or, Option, Some, sym, ap, ◌∙◌, Entry, stands_in, url_if}
 use Rattle.crawl_certificate.proofs.Places.{behind_marks, behind_no_marks, fetched_before, fetched_marked, fetched_unmarked}
 use Rattle.crawl_certificate.proofs.marks.mark_result.Goals as goal
 

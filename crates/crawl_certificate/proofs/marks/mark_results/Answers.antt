@@ -1,13 +1,4 @@
-use Rattle.std.proofs.Common.{ℕ, List, Bool, false, not, ◌&&◌, [], ◌∷◌, ◌++◌, map, take, sym, ap, subst, ◌∙◌}
-use Rattle.std.specs.Str.{bytes_eq}
-use Rattle.std.proofs.lemmas.List.{take_more}
-use Rattle.crawl_queues.specs.declared.entry.Entry.{Entry}
-use Rattle.crawl_pages.specs.declared.page.PageResult.{PageResult}
-use Rattle.crawl_keys.specs.HostFilter.{allows}
-use Rattle.crawl_pages.specs.Pages.{links_of}
-use Rattle.crawl_certificate.specs.CertFaults.{is_accepted, has_result, is_linked, stands_in}
-use Rattle.crawl_certificate.specs.Culprits.{is_lost, is_a_link, is_twice}
-use Rattle.crawl_certificate.specs.Least.{IsLeast, url_of}
+use Rattle.crawl_certificate.proofs.Prelude.{ℕ, List, Bool, false, not, ◌&&◌, [], ◌∷◌, ◌++◌, map, take, sym, ap, subst, ◌∙◌, bytes_eq, take_more, Entry, PageResult, allows, links_of, is_accepted, has_result, is_linked, stands_in, is_lost, is_a_link, is_twice, IsLeast, url_of}
 use Rattle.crawl_certificate.proofs.LeastUrls.{only_one, least_more}
 use Rattle.crawl_certificate.proofs.Places.{linked_push, fetched_push}
 use Rattle.crawl_certificate.proofs.Twice.{least_twice}

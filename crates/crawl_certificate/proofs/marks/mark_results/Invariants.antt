@@ -1,8 +1,4 @@
-use Rattle.std.proofs.Common.{◌≡◌, ◌&&◌, map, take, None}
-use Rattle.crawl_keys.specs.HostFilter.{allows}
-use Rattle.crawl_certificate.specs.CertFaults.{has_result, is_linked}
-use Rattle.crawl_certificate.specs.Culprits.{is_lost, is_a_link, is_a_stray, is_twice}
-use Rattle.crawl_certificate.specs.Least.{IsLeast, url_of}
+use Rattle.crawl_certificate.proofs.Prelude.{◌≡◌, ◌&&◌, map, take, None, allows, has_result, is_linked, is_lost, is_a_link, is_a_stray, is_twice, IsLeast, url_of}
 use Rattle.crawl_certificate.proofs.marks.mark_results.Given as goal
 
 abbrev pub invariant-loop-one : goal.invariant-loop-one

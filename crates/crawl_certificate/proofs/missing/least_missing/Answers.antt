@@ -1,7 +1,4 @@
-use Rattle.std.proofs.Common.{ap, ◌∙◌}
-use Rattle.crawl_keys.specs.HostFilter.{allows}
-use Rattle.crawl_certificate.specs.Culprits.{is_lost}
-use Rattle.crawl_certificate.specs.Least.{url_of, url_if}
+use Rattle.crawl_certificate.proofs.Prelude.{ap, ◌∙◌, allows, is_lost, url_of, url_if}
 use Rattle.crawl_certificate.proofs.LeastUrls.{text_more}
 use Rattle.crawl_certificate.proofs.missing.least_missing.Goals as goal
 

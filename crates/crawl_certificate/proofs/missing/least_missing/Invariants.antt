@@ -1,8 +1,4 @@
-use Rattle.std.proofs.Common.{◌&&◌, take}
-use Rattle.crawl_keys.specs.HostFilter.{allows}
-use Rattle.crawl_certificate.specs.CertFaults.{stands_in}
-use Rattle.crawl_certificate.specs.Culprits.{is_lost}
-use Rattle.crawl_certificate.specs.Least.{IsLeast, url_of}
+use Rattle.crawl_certificate.proofs.Prelude.{◌&&◌, take, allows, stands_in, is_lost, IsLeast, url_of}
 use Rattle.crawl_certificate.proofs.missing.least_missing.Given as goal
 
 abbrev pub invariant-loop-url : goal.invariant-loop-url

@@ -1,6 +1,4 @@
-use Rattle.std.proofs.Common.{false, not, get_or, ap}
-use Rattle.crawl_queues.specs.declared.entry.Entry.{Entry}
-use Rattle.crawl_certificate.specs.Least.{url_of}
+use Rattle.crawl_certificate.proofs.Prelude.{false, not, get_or, ap, Entry, url_of}
 use Rattle.crawl_certificate.proofs.LeastUrls.{entry_more, entries_all}
 use Rattle.crawl_certificate.proofs.Places.{mark_of}
 use Rattle.crawl_certificate.proofs.missing.least_unmarked.Goals as goal

@@ -1,8 +1,4 @@
-use Rattle.std.proofs.Common.{◌≡◌, ℕ, Bool, List, not, ◌&&◌, map, take}
-use Rattle.std.specs.List.{list_any}
-use Rattle.std.specs.Str.{bytes_eq}
-use Rattle.crawl_certificate.specs.Least.{IsLeast, url_of}
-use Rattle.crawl_certificate.specs.Lookups.{pointed}
+use Rattle.crawl_certificate.proofs.Prelude.{◌≡◌, ℕ, Bool, List, not, ◌&&◌, map, take, list_any, bytes_eq, IsLeast, url_of, pointed}
 use Rattle.crawl_certificate.proofs.missing.least_unmarked.Given as goal
 
 abbrev pub invariant-loop-index : goal.invariant-loop-index

@@ -1,37 +1,18 @@
-use Rattle.std.proofs.Common.{ap, arith, length}
-use Rattle.std.proofs.lemmas.Result.{IfOk-at_ok}
-use Rattle.crawl_keys.specs.HostFilter.{allows}
-use Rattle.crawl_certificate.specs.Marks.{AreMarks}
+use Rattle.crawl_certificate.proofs.Prelude.{common_steps, arith, IfOk-at_ok, allows, AreMarks}
 use Rattle.crawl_certificate.proofs.Together.{halves_together, marks_long}
 use Rattle.crawl_certificate.proofs.threads.+fn-marks_by-of_back+fn-marks_by-of_front+marks_by.Goals as goal
 
 pub together-requires-clause-fetched : goal.together-requires-clause-fetched
-together-requires-clause-fetched g t c =
-    let half = c.split_at.result.0 in
-    let found = IfOk-at_ok (AreMarks (allows c.args.filter.now) half.accepted.now half.results.now) c.in_ok-first.was c.join-first.ensures.first in
-    let long = marks_long (allows c.args.filter.now) half.accepted.now half.results.now c.in_ok-first.first found in
-    omega (arith, long.0, ap length c.split_at.ensures.accepted.0, c.entries.ensures.len, c.in_ok-first.first.fetched.ok.0)
+together-requires-clause-fetched g t c = grind (arith, common_steps, marks_long)
 
 pub together-requires-clause-more_fetched : goal.together-requires-clause-more_fetched
-together-requires-clause-more_fetched g t c =
-    let half = c.split_at.result.1 in
-    let found = IfOk-at_ok (AreMarks (allows c.args.filter.now) half.accepted.now half.results.now) c.in_ok-second.was c.join-first.ensures.second in
-    let long = marks_long (allows c.args.filter.now) half.accepted.now half.results.now c.in_ok-second.second found in
-    omega (arith, long.0, ap length c.split_at.ensures.accepted.1, c.entries.ensures.len, c.in_ok-second.second.fetched.ok.0)
+together-requires-clause-more_fetched g t c = grind (arith, common_steps, marks_long)
 
 pub together-requires-clause-linked : goal.together-requires-clause-linked
-together-requires-clause-linked g t c =
-    let half = c.split_at.result.0 in
-    let found = IfOk-at_ok (AreMarks (allows c.args.filter.now) half.accepted.now half.results.now) c.in_ok-first.was c.join-first.ensures.first in
-    let long = marks_long (allows c.args.filter.now) half.accepted.now half.results.now c.in_ok-first.first found in
-    omega (arith, long.1, ap length c.split_at.ensures.accepted.0, c.entries.ensures.len, c.in_ok-first.first.linked.ok.0)
+together-requires-clause-linked g t c = grind (arith, common_steps, marks_long)
 
 pub together-requires-clause-more_linked : goal.together-requires-clause-more_linked
-together-requires-clause-more_linked g t c =
-    let half = c.split_at.result.1 in
-    let found = IfOk-at_ok (AreMarks (allows c.args.filter.now) half.accepted.now half.results.now) c.in_ok-second.was c.join-first.ensures.second in
-    let long = marks_long (allows c.args.filter.now) half.accepted.now half.results.now c.in_ok-second.second found in
-    omega (arith, long.1, ap length c.split_at.ensures.accepted.1, c.entries.ensures.len, c.in_ok-second.second.linked.ok.0)
+together-requires-clause-more_linked g t c = grind (arith, common_steps, marks_long)
 
 pub returns : goal.returns
 returns g t c =

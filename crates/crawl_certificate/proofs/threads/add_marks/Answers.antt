@@ -1,7 +1,4 @@
-use Rattle.std.proofs.Common.{◌≡◌, ◌+◌, ◌<◌, Bool, false, ◌||◌, ◌&&◌, [], ◌∷◌, ◌++◌, length, take, set, get_or, sym, ap, ◌∙◌, arith}
-use Rattle.std.proofs.lemmas.List.{take_more, take_all, length-take-le}
-use Rattle.crawl_certificate.specs.Least.{url_of}
-use Rattle.crawl_certificate.specs.Marks.{in_one}
+use Rattle.crawl_certificate.proofs.Prelude.{◌≡◌, ◌+◌, ◌<◌, Bool, false, ◌||◌, ◌&&◌, [], ◌∷◌, ◌++◌, length, take, set, get_or, sym, ap, ◌∙◌, arith, take_more, take_all, length-take-le, url_of, in_one}
 use Rattle.crawl_certificate.proofs.LeastUrls.{entry_more, entries_all}
 use Rattle.crawl_certificate.proofs.Places.{mark_of}
 use Rattle.crawl_certificate.proofs.Together.{in_one_push, in_one_beyond}

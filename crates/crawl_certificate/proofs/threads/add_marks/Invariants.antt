@@ -1,10 +1,4 @@
-use Rattle.std.proofs.Common.{◌≡◌, Bool, ◌&&◌, map, take}
-use Rattle.std.specs.List.{list_any}
-use Rattle.std.specs.Str.{bytes_eq}
-use Rattle.crawl_queues.specs.declared.entry.Entry.{Entry}
-use Rattle.crawl_certificate.specs.Least.{IsLeast, url_of}
-use Rattle.crawl_certificate.specs.Marks.{in_one}
-use Rattle.crawl_certificate.specs.Lookups.{pointed}
+use Rattle.crawl_certificate.proofs.Prelude.{◌≡◌, Bool, ◌&&◌, map, take, list_any, bytes_eq, Entry, IsLeast, url_of, in_one, pointed}
 use Rattle.crawl_certificate.proofs.threads.add_marks.Given as goal
 
 abbrev pub invariant-loop-index : goal.invariant-loop-index

@@ -1,21 +1,6 @@
-use Rattle.std.proofs.Common.{IfSome, ap, arith, length}
-use Rattle.std.proofs.lemmas.Option.{IfSome_then}
-use Rattle.std.proofs.lemmas.Result.{IfOk-at_ok}
-use Rattle.crawl_certificate.specs.Walks.{IsWalk}
+use Rattle.crawl_certificate.proofs.Prelude.{IfSome, IfOk-at_ok, IsWalk}
 use Rattle.crawl_certificate.proofs.Walks.{both_told, parts_together}
 use Rattle.crawl_certificate.proofs.walk.+fn-walked_by-of_back+fn-walked_by-of_front+walked_by.Goals as goal
-
-pub together-requires-clause-first : goal.together-requires-clause-first
-together-requires-clause-first g t c =
-    let half = c.split_at.result.0 in
-    let found = IfOk-at_ok (λ told. IfSome told (λ m. IsWalk half.accepted.now half.first half.results.now m.items)) c.in_ok-first.was c.join-first.ensures.first in
-    IfSome_then c.in_ok-first.first found (λ m walk. omega (arith, walk.long, m.ok.0, ap length c.split_at.ensures.accepted.0, c.entries.ensures.len))
-
-pub together-requires-clause-second : goal.together-requires-clause-second
-together-requires-clause-second g t c =
-    let half = c.split_at.result.1 in
-    let found = IfOk-at_ok (λ told. IfSome told (λ m. IsWalk half.accepted.now half.first half.results.now m.items)) c.in_ok-second.was c.join-first.ensures.second in
-    IfSome_then c.in_ok-second.second found (λ m walk. omega (arith, walk.long, m.ok.0, ap length c.split_at.ensures.accepted.1, c.entries.ensures.len))
 
 pub returns : goal.returns
 returns g t c =

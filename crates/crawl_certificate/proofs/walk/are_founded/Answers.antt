@@ -1,11 +1,4 @@
-use Rattle.std.proofs.Common.{◌≡◌, ◌==◌, ◌&&◌, true, false, [], ◌∷◌, ◌++◌, take, get_or, sym, ap, subst, ◌∙◌, arith, if◌then◌else◌}
-use Rattle.std.specs.List.{All}
-use Rattle.std.proofs.lemmas.List.{take_more, take_all}
-use Rattle.std.proofs.lemmas.List.Elements.{All-append, All-contains, All-from_recursion}
-use Rattle.std.proofs.lemmas.Option.{slice_get-get_or}
-use Rattle.crawl_queues.specs.declared.entry.Entry.{Entry}
-use Rattle.crawl_keys.specs.HostFilter.{allows}
-use Rattle.crawl_certificate.specs.Lookups.{is_in, pointed}
+use Rattle.crawl_certificate.proofs.Prelude.{◌≡◌, ◌==◌, ◌&&◌, true, false, [], ◌∷◌, ◌++◌, take, get_or, sym, ap, subst, ◌∙◌, arith, if◌then◌else◌, All, take_more, take_all, All-append, All-contains, All-from_recursion, slice_get-get_or, Entry, allows, is_in, pointed}
 use Rattle.crawl_certificate.proofs.Places.{length_pointed, read_pointed}
 use Rattle.crawl_certificate.proofs.Walks.{founded_more}
 use Rattle.crawl_certificate.proofs.walk.are_founded.Goals as goal

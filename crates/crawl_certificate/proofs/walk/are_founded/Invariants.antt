@@ -1,9 +1,4 @@
-use Rattle.std.proofs.Common.{◌≡◌, ◌==◌, Bool, true, ◌&&◌, take, if◌then◌else◌}
-use Rattle.std.specs.List.{All}
-use Rattle.crawl_queues.specs.declared.entry.Entry.{Entry}
-use Rattle.crawl_keys.specs.HostFilter.{allows}
-use Rattle.crawl_certificate.specs.Lookups.{is_in, pointed}
-use Rattle.crawl_certificate.specs.Marks.{MarksOnly}
+use Rattle.crawl_certificate.proofs.Prelude.{◌≡◌, ◌==◌, Bool, true, ◌&&◌, take, if◌then◌else◌, All, Entry, allows, is_in, pointed, MarksOnly}
 use Rattle.crawl_certificate.proofs.walk.are_founded.Given as goal
 
 abbrev pub invariant-loop-index : goal.invariant-loop-index

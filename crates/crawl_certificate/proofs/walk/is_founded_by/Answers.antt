@@ -1,10 +1,4 @@
-use Rattle.std.proofs.Common.{◌≡◌, ◌+◌, ◌<◌, ◌^◌, ◌==◌, ◌&&◌, true, length, IfSome, sym, subst, arith, if◌then◌else◌}
-use Rattle.std.specs.List.{Contains}
-use Rattle.crawl_queues.specs.declared.entry.Entry.{Entry}
-use Rattle.crawl_keys.specs.HostFilter.{allows}
-use Rattle.crawl_certificate.specs.CertFaults.{is_founded, is_linked}
-use Rattle.crawl_certificate.specs.Marks.{MarksOnly}
-use Rattle.crawl_certificate.specs.Walks.{IsWalk}
+use Rattle.crawl_certificate.proofs.Prelude.{◌≡◌, ◌+◌, ◌<◌, ◌^◌, ◌==◌, ◌&&◌, true, length, IfSome, sym, subst, arith, if◌then◌else◌, Contains, Entry, allows, is_founded, is_linked, MarksOnly, IsWalk}
 use Rattle.crawl_certificate.proofs.Walks.{all_urls, faultless}
 use Rattle.crawl_certificate.proofs.walk.is_founded_by.Goals as goal
 

@@ -1,5 +1,4 @@
-use Rattle.std.proofs.Common.{◌≡◌, ◌+◌, true, Some, slice_get, subst, ◌∙◌, arith}
-use Rattle.crawl_certificate.specs.CertFaults.{is_linked, stands_in}
+use Rattle.crawl_certificate.proofs.Prelude.{◌≡◌, ◌+◌, true, Some, slice_get, subst, ◌∙◌, arith, is_linked, stands_in}
 use Rattle.crawl_certificate.proofs.Walks.{linked_from, own_more, read_at, stands_here}
 use Rattle.crawl_certificate.proofs.walk.walk.Goals as goal
 

@@ -1,8 +1,4 @@
-use Rattle.std.proofs.Common.{◌≡◌, ℕ, ◌+◌, ◌<◌, ◌^◌, true, length, slice_get, Some}
-use Rattle.crawl_pages.specs.declared.page.PageResult.{PageResult}
-use Rattle.crawl_certificate.specs.CertFaults.{is_linked}
-use Rattle.crawl_certificate.specs.Lookups.{stands_at}
-use Rattle.crawl_certificate.specs.Marks.{MarksOnly}
+use Rattle.crawl_certificate.proofs.Prelude.{◌≡◌, ℕ, ◌+◌, ◌<◌, ◌^◌, true, length, slice_get, Some, PageResult, is_linked, stands_at, MarksOnly}
 use Rattle.crawl_certificate.proofs.walk.walk.Given as goal
 
 abbrev pub invariant-loop-index : goal.invariant-loop-index

@@ -1,7 +1,4 @@
-use Rattle.std.proofs.Common.{◌≡◌, ◌+◌, Bool, true, length}
-use Rattle.crawl_queues.specs.declared.entry.Entry.{Entry}
-use Rattle.crawl_certificate.specs.CertFaults.{stands_in}
-use Rattle.crawl_certificate.specs.Marks.{MarksOnly}
+use Rattle.crawl_certificate.proofs.Prelude.{◌≡◌, ◌+◌, Bool, true, length, Entry, stands_in, MarksOnly}
 use Rattle.crawl_certificate.proofs.walk.walk_page.Given as goal
 
 abbrev pub invariant-loop-link : goal.invariant-loop-link

@@ -1,7 +1,4 @@
-use Rattle.std.proofs.lemmas.Grind.{common_steps}
-use Rattle.std.proofs.Common.{◌∙◌, arith}
-use Rattle.std.proofs.lemmas.List.{take_more, take_all}
-use Rattle.std.proofs.lemmas.Option.{slice_get_read, get_or_from_slice_get}
+use Rattle.crawl_queues.proofs.Prelude.{common_steps, ◌∙◌, arith, take_more, take_all, slice_get_read, get_or_from_slice_get}
 use Rattle.crawl_queues.proofs.LogLines.{set_same}
 use Rattle.crawl_queues.proofs.book.all_again.Goals as goal
 

@@ -1,5 +1,4 @@
-use Rattle.std.proofs.Common.{◌≡◌, ◌≤◌, take, vec_len}
-use Rattle.std.specs.Prelude.{vec_capacity}
+use Rattle.crawl_queues.proofs.Prelude.{◌≡◌, ◌≤◌, take, vec_len, vec_capacity}
 use Rattle.crawl_queues.proofs.book.all_again.Given as goal
 
 abbrev pub invariant-loop-queue : goal.invariant-loop-queue

@@ -1,6 +1,4 @@
-use Rattle.std.proofs.Common.{ℕ, List}
-use Rattle.crawl_queues.specs.declared.book.Logged.{Logged}
-use Rattle.link_offers.specs.Recent.{AllKnown}
+use Rattle.link_offers.proofs.Prelude.{ℕ, List, Logged, AllKnown}
 use Rattle.link_offers.proofs.recent.empty_slots.Given as goal
 
 abbrev pub invariant-loop : goal.invariant-loop

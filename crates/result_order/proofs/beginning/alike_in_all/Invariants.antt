@@ -1,6 +1,4 @@
-use Rattle.std.proofs.Common.{◌≤◌}
-use Rattle.std.specs.List.{AllWithin}
-use Rattle.result_order.specs.Sixteens.{AreAlikeWithin}
+use Rattle.result_order.proofs.Prelude.{◌≤◌, AllWithin, AreAlikeWithin}
 use Rattle.result_order.proofs.beginning.alike_in_all.Given as goal
 
 abbrev pub invariant-loop-one : goal.invariant-loop-one

@@ -1,10 +1,4 @@
-use Rattle.std.proofs.Common.{refl, subst, arith, rules}
-use Rattle.std.specs.List.Sorted.{IsPermutation}
-use Rattle.std.specs.Cmp.Lexicographic.{slice_cmp, nat_list_cmp_total}
-use Rattle.std.specs.Ordering.{nat_cmp, is_lt}
-use Rattle.std.proofs.lemmas.List.Sorted.{answers_always, ranks_by, IsPermutation-map, IsPermutation-trans}
-use Rattle.result_order.specs.declared.numbered.Numbered.{Numbered}
-use Rattle.result_order.specs.Sorting.{pages_of}
+use Rattle.result_order.proofs.Prelude.{refl, subst, arith, rules, IsPermutation, slice_cmp, nat_list_cmp_total, nat_cmp, is_lt, answers_always, ranks_by, IsPermutation-map, IsPermutation-trans, Numbered, pages_of}
 use Rattle.result_order.proofs.SortedParts.{prepared, prepared_front, prepared_back, alike_further, parted_in_order, parts_permuted}
 use Rattle.result_order.proofs.sorting.+sort.Goals as goal
 

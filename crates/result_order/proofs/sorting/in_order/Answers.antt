@@ -1,10 +1,5 @@
-use Rattle.std.proofs.Common.{Vec, Global, sym, subst, ap, ◌∙◌, arith}
-use Rattle.std.specs.List.Sorted.{IsPermutation}
-use Rattle.std.proofs.lemmas.List.Sorted.{IsPermutation-trans}
+use Rattle.result_order.proofs.Prelude.{Vec, Global, sym, subst, ap, ◌∙◌, arith, IsPermutation, IsPermutation-trans, PageResult, pages_of}
 use Rattle.std.proofs.lemmas.Result.{IfOk-weaker}
-use Rattle.crawl_pages.specs.declared.page.PageResult.{PageResult}
-use Rattle.result_order.specs.Sorting.{pages_of}
-use Rattle.result_order.proofs.SortedParts.{take_front}
 use Rattle.result_order.proofs.SortedParts.{pages_in_order, take_front}
 use Rattle.result_order.proofs.sorting.in_order.Goals as goal
 

@@ -1,10 +1,4 @@
-use Rattle.std.proofs.Common.{ltb, leb, arith, rules, ◌≡◌, ℕ, ◌<◌, ◌≤◌, true, false, List, length, get_or, zero-le}
-use Rattle.std.proofs.lemmas.List.Sorted.{IsPartitionPoint-from_clause, IsPartitionedBy-leb, IsPartitionedBy-ltb}
-use Rattle.result_order.specs.declared.numbered.Numbered.{Numbered}
-use Rattle.std.specs.List.Sorted.{IsPartitionPoint}
-use Rattle.std.proofs.lemmas.Bool.{leb-true, leb-false, ltb-true, ltb-false, cases_lt}
-use Rattle.std.proofs.lemmas.List.{length-take-le, length-drop, get_or-take, get_or-drop}
-use Rattle.result_order.specs.Sorting.{AllEqual, ArePartedAt}
+use Rattle.result_order.proofs.Prelude.{ltb, leb, arith, rules, ◌≡◌, ℕ, ◌<◌, ◌≤◌, true, false, List, length, get_or, zero-le, IsPartitionPoint-from_clause, IsPartitionedBy-leb, IsPartitionedBy-ltb, Numbered, IsPartitionPoint, leb-true, leb-false, ltb-true, ltb-false, cases_lt, length-take-le, length-drop, get_or-take, get_or-drop, AllEqual, ArePartedAt}
 use Rattle.result_order.proofs.sorting.middle.Goals as goal
 
 -- the numbers before the index are less than one that is somewhere

@@ -1,6 +1,4 @@
-use Rattle.std.proofs.Common.{rules}
-use Rattle.std.proofs.lemmas.List.Sorted.{IsNonDecreasingBy-from_sort_by_key}
-use Rattle.result_order.specs.declared.numbered.Numbered.{Numbered}
+use Rattle.result_order.proofs.Prelude.{rules, IsNonDecreasingBy-from_sort_by_key, Numbered}
 use Rattle.result_order.proofs.sorting.sort_by_number.Goals as goal
 
 pub returns-then-parts-lt2-clause-rising : goal.returns-then-parts-lt2-clause-rising

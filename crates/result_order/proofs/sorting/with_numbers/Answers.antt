@@ -1,7 +1,4 @@
-use Rattle.std.proofs.Common.{rules, ◌≡◌, reverse, sym, subst}
-use Rattle.std.specs.List.Sorted.{IsPermutation}
-use Rattle.std.proofs.lemmas.List.Sorted.{IsPermutation-sym, IsPermutation-reverse}
-use Rattle.result_order.specs.Sorting.{pages_of}
+use Rattle.result_order.proofs.Prelude.{rules, ◌≡◌, reverse, sym, subst, IsPermutation, IsPermutation-sym, IsPermutation-reverse, pages_of}
 use Rattle.result_order.proofs.sorting.with_numbers.Goals as goal
 
 pub returns : goal.returns

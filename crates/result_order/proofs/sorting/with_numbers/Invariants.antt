@@ -1,5 +1,4 @@
-use Rattle.std.proofs.Common.{◌≡◌, ◌++◌, reverse, vec_len}
-use Rattle.result_order.specs.Sorting.{pages_of}
+use Rattle.result_order.proofs.Prelude.{◌≡◌, ◌++◌, reverse, vec_len, pages_of}
 use Rattle.result_order.proofs.sorting.with_numbers.Given as goal
 
 abbrev pub invariant-loop-page : goal.invariant-loop-page

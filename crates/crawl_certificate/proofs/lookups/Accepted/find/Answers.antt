@@ -1,7 +1,4 @@
-use Rattle.std.proofs.Common.{rules, ◌≡◌, ◌+◌, ◌%◌, ◌<◌, Some, is_some, sym, subst, arith}
-use Rattle.crawl_keys.specs.Assignment.{subqueue_of}
-use Rattle.crawl_certificate.specs.CertFaults.{is_accepted}
-use Rattle.crawl_certificate.specs.Lookups.{pointed, Finds}
+use Rattle.crawl_certificate.proofs.Prelude.{rules, ◌≡◌, ◌+◌, ◌%◌, ◌<◌, Some, is_some, sym, subst, arith, subqueue_of, is_accepted, pointed, Finds}
 use Rattle.crawl_certificate.proofs.Indices.{IsAnswer, answers_absent, answers_there, queue_within}
 use Rattle.crawl_certificate.proofs.Places.{found_within, length_pointed}
 use Rattle.crawl_certificate.proofs.lookups.Accepted.find.Goals as goal

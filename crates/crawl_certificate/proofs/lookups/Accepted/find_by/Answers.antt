@@ -1,5 +1,4 @@
-use Rattle.std.proofs.Common.{rules, ◌≡◌, true, Some}
-use Rattle.crawl_certificate.specs.Lookups.{stands_at}
+use Rattle.crawl_certificate.proofs.Prelude.{rules, ◌≡◌, true, Some, stands_at}
 use Rattle.crawl_certificate.proofs.Indices.{IsAnswer, answers_guess}
 use Rattle.crawl_certificate.proofs.Places.{found_within}
 use Rattle.crawl_certificate.proofs.lookups.Accepted.find_by.Goals as goal

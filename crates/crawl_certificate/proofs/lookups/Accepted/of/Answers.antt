@@ -1,10 +1,4 @@
-use Rattle.std.proofs.Common.{rules, ◌≡◌, ◌+◌, List, [], ◌∷◌, ◌++◌, length, take, get_or, sym, ap, subst, ◌∙◌, arith}
-use Rattle.std.proofs.lemmas.Grind.{flat_map-append}
-use Rattle.std.proofs.lemmas.List.{take_more, take_all, append-nil, length_push}
-use Rattle.std.proofs.lemmas.Option.{slice_get_within, get_or_from_slice_get}
-use Rattle.crawl_queues.specs.declared.entry.Entry.{Entry}
-use Rattle.crawl_certificate.specs.AccountEntries.{entries_in}
-use Rattle.crawl_certificate.specs.Queues.{AreFirsts}
+use Rattle.crawl_certificate.proofs.Prelude.{rules, ◌≡◌, ◌+◌, List, [], ◌∷◌, ◌++◌, length, take, get_or, sym, ap, subst, ◌∙◌, arith, flat_map-append, take_more, take_all, append-nil, length_push, slice_get_within, get_or_from_slice_get, Entry, entries_in, AreFirsts}
 use Rattle.crawl_certificate.proofs.Indices.{no_firsts, firsts_push}
 use Rattle.crawl_certificate.proofs.Places.{length_pointed}
 use Rattle.crawl_certificate.proofs.KeptRules.{KeptBelow, none_kept, one_more_kept, account_queues, account_differs}

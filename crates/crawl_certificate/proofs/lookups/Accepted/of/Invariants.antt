@@ -1,7 +1,4 @@
-use Rattle.std.proofs.Common.{◌≡◌, ◌++◌, length, take}
-use Rattle.crawl_certificate.specs.AccountEntries.{entries_in}
-use Rattle.crawl_certificate.specs.Lookups.{pointed}
-use Rattle.crawl_certificate.specs.Queues.{AreFirsts}
+use Rattle.crawl_certificate.proofs.Prelude.{◌≡◌, ◌++◌, length, take, entries_in, pointed, AreFirsts}
 use Rattle.crawl_certificate.proofs.KeptRules.{KeptBelow}
 use Rattle.crawl_certificate.proofs.lookups.Accepted.of.Given as goal
 

@@ -1,6 +1,4 @@
-use Rattle.std.proofs.Common.{◌+◌, ◌∙◌, true, sym, ap, subst, set}
-use Rattle.crawl_queues.specs.declared.log.LogLine.{LogLine}
-use Rattle.crawl_queues.specs.Logs.{AreThere, lists_of, log_of}
+use Rattle.crawl_queues.proofs.Prelude.{◌+◌, ◌∙◌, true, sym, ap, subst, set, LogLine, AreThere, lists_of, log_of}
 use Rattle.crawl_queues.proofs.LogLines.{line_more, there_more}
 use Rattle.crawl_queues.proofs.book.Book.accept.Goals as goal
 

@@ -1,6 +1,4 @@
-use Rattle.std.proofs.Common.{◌∙◌, false, sym, ap, subst}
-use Rattle.crawl_queues.specs.declared.log.LogLine.{LogLine}
-use Rattle.crawl_queues.specs.Logs.{AreThere, lists_of, log_of}
+use Rattle.crawl_queues.proofs.Prelude.{◌∙◌, false, sym, ap, subst, LogLine, AreThere, lists_of, log_of}
 use Rattle.crawl_queues.proofs.LogLines.{line_more, there_more}
 use Rattle.crawl_queues.proofs.book.Book.see.Goals as goal
 

@@ -1,6 +1,4 @@
-use Rattle.std.proofs.Common.{rules, ap, subst}
-use Rattle.crawl_queues.specs.declared.growing.rule.ListView.{ListView}
-use Rattle.crawl_queues.specs.Growing.{Stays}
+use Rattle.crawl_queues.proofs.Prelude.{rules, ap, subst, ListView, Stays}
 use Rattle.crawl_queues.specs.Known.{KnownList}
 use Rattle.crawl_queues.proofs.Moves.{compares, hands_in}
 use Rattle.crawl_queues.proofs.growing.Growing.compare.Goals as goal

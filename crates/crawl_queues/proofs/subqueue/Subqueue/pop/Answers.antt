@@ -1,7 +1,4 @@
-use Rattle.std.proofs.Common.{◌≡◌, rules, ap, sym, ◌∙◌}
-use Rattle.crawl_queues.specs.Rule.{popping}
-use Rattle.crawl_queues.specs.QueueId.{QueueId}
-use Rattle.crawl_queues.specs.PassId.{PassId}
+use Rattle.crawl_queues.proofs.Prelude.{◌≡◌, rules, ap, sym, ◌∙◌, popping, QueueId, PassId}
 use Rattle.crawl_queues.proofs.Passing.{takes, counts}
 use Rattle.crawl_queues.proofs.subqueue.Subqueue.pop.Goals as goal
 

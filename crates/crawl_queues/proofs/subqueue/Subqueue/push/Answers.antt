@@ -1,9 +1,4 @@
-use Rattle.std.proofs.Common.{◌≡◌, ◌∙◌, rules, ap, sym, subst}
-use Rattle.crawl_gate.specs.Seat.{IsSeatOf}
-use Rattle.crawl_queues.specs.declared.rule.PassView.{PassView}
-use Rattle.crawl_queues.specs.Entries.{MayFollow}
-use Rattle.crawl_queues.specs.QueueId.{QueueId}
-use Rattle.crawl_queues.specs.PassId.{PassId}
+use Rattle.crawl_queues.proofs.Prelude.{◌≡◌, ◌∙◌, rules, ap, sym, subst, IsSeatOf, PassView, MayFollow, QueueId, PassId}
 use Rattle.crawl_queues.proofs.Passing.{sends}
 use Rattle.crawl_queues.proofs.subqueue.Subqueue.push.Goals as goal
 

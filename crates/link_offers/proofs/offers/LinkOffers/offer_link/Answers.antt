@@ -1,7 +1,4 @@
-use Rattle.std.proofs.Common.{◌∷◌, [], None, Ok, Err, refl, sym, subst}
-use Rattle.crawl_keys.specs.HostFilter.{allows}
-use Rattle.link_offers.specs.Logs.{HasLine}
-use Rattle.link_offers.specs.Offers.{IsOffer}
+use Rattle.link_offers.proofs.Prelude.{◌∷◌, [], None, Ok, Err, refl, sym, subst, allows, HasLine, IsOffer}
 use Rattle.link_offers.proofs.Logs.{offer_line}
 use Rattle.link_offers.proofs.LinkAnswers.{link_offered, known_after, lost_as, lost_none}
 use Rattle.link_offers.proofs.offers.LinkOffers.offer_link.Goals as goal

@@ -1,7 +1,4 @@
-use Rattle.std.proofs.Common.{List, ℕ, [], ◌∷◌, refl, take, subst, ◌∙◌, slice_index_or}
-use Rattle.std.proofs.lemmas.List.{take_more}
-use Rattle.crawl_keys.specs.HostFilter.{allows}
-use Rattle.link_offers.specs.Offers.{LinkAnswers}
+use Rattle.link_offers.proofs.Prelude.{List, ℕ, [], ◌∷◌, refl, take, subst, ◌∙◌, slice_index_or, take_more, allows, LinkAnswers}
 use Rattle.link_offers.proofs.LinkAnswers.{link_answers_on, unchanged_at}
 use Rattle.link_offers.proofs.offers.LinkOffers.offer_links.Goals as goal
 

@@ -1,7 +1,4 @@
-use Rattle.std.proofs.Common.{◌≡◌, take}
-use Rattle.crawl_keys.specs.HostFilter.{allows}
-use Rattle.link_offers.specs.Recent.{Knows}
-use Rattle.link_offers.specs.Offers.{LinkAnswers}
+use Rattle.link_offers.proofs.Prelude.{◌≡◌, take, allows, Knows, LinkAnswers}
 use Rattle.link_offers.proofs.offers.LinkOffers.offer_links.Given as goal
 
 abbrev pub invariant-loop-index : goal.invariant-loop-index

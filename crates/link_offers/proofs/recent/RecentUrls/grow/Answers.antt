@@ -1,8 +1,4 @@
-use Rattle.std.proofs.Common.{IfSome, Some}
-use Rattle.std.proofs.lemmas.List.Elements.{All-pop}
-use Rattle.link_offers.specs.declared.recent.Slot.{Slot}
-use Rattle.link_offers.specs.Logs.{HasLine}
-use Rattle.link_offers.specs.Recent.{url_in}
+use Rattle.link_offers.proofs.Prelude.{IfSome, Some, All-pop, Slot, HasLine, url_in}
 use Rattle.link_offers.proofs.recent.RecentUrls.grow.Goals as goal
 
 pub loop-slot-preserved : goal.loop-slot-preserved

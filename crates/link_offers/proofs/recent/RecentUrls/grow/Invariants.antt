@@ -1,6 +1,4 @@
-use Rattle.std.proofs.Common.{ℕ, List, vec_len}
-use Rattle.crawl_queues.specs.declared.book.Logged.{Logged}
-use Rattle.link_offers.specs.Recent.{AllKnown, Knows}
+use Rattle.link_offers.proofs.Prelude.{ℕ, List, vec_len, Logged, AllKnown, Knows}
 use Rattle.link_offers.proofs.recent.RecentUrls.grow.Given as goal
 
 abbrev pub invariant-loop-slot : goal.invariant-loop-slot

@@ -1,9 +1,4 @@
-use Rattle.std.proofs.lemmas.Grind.{common_steps}
-use Rattle.std.proofs.Common.{IfSome, arith, ◌≡◌, ◌<◌, ℕ, List, length, slice_set, slice_index_or}
-use Rattle.link_offers.specs.declared.recent.Slot.{Slot}
-use Rattle.link_offers.specs.Logs.{HasLine}
-use Rattle.link_offers.specs.Recent.{url_in, AllKnown}
-use Rattle.crawl_queues.specs.declared.book.Logged.{Logged}
+use Rattle.link_offers.proofs.Prelude.{common_steps, IfSome, arith, ◌≡◌, ◌<◌, ℕ, List, length, slice_set, slice_index_or, Slot, HasLine, url_in, AllKnown, Logged}
 use Rattle.link_offers.proofs.recent.RecentUrls.put.Goals as goal
 
 -- a slot whose URL has a line comes to a place, and what was there to another
