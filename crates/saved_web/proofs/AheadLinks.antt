@@ -1,20 +1,8 @@
 -- The links of pages that are found ahead.
+use Rattle.saved_web.proofs.Prelude.{nat_tests, common_steps, ◌≡◌, ℕ, ◌+◌, ◌<◌, List, [], ◌∷◌, ◌++◌, length, map, take, get_or, slice_get, Option, Some, IfSome, refl, sym, ap, ◌∙◌, map_more, map_push, push_cases, with_url, lead_still, LeadTo, KeepIndices, shown_page, IsAhead, AreAhead, known_page, PageRead, page_with, Page, PageAhead}
 use native.Mathlib.Omega.{arith}
-use Rattle.std.proofs.lemmas.Bool.Decides.{nat_tests}
-use Rattle.std.proofs.lemmas.Grind.{common_steps}
-use Rattle.std.proofs.Common.{◌≡◌, ℕ, ◌+◌, ◌<◌, List, [], ◌∷◌, ◌++◌, length, map, take, get_or, slice_get, Option, Some, IfSome, refl, sym, ap, ◌∙◌}
-use Rattle.std.proofs.lemmas.List.{map_more, map_push}
-use Rattle.hash_index.proofs.Listed.{push_cases}
-use Rattle.saved_pages.proofs.PageIndex.{with_url}
-use Rattle.saved_pages.proofs.UrlIndices.{lead_still}
-use Rattle.saved_pages.specs.UrlIndices.{LeadTo, KeepIndices}
-use Rattle.saved_web.specs.Ahead.{shown_page, IsAhead, AreAhead}
-use Rattle.saved_web.specs.KnownPages.{known_page}
-use Rattle.saved_pages.specs.PageLists.{PageRead, page_with}
-use Rattle.crawl_pages.specs.declared.page.Page.{Page}
 use Rattle.crawl_pages.specs.declared.page.Page.TheVariants.{Found}
 use Rattle.saved_web.specs.declared.ahead.chunk.LinksAhead.{LinksAhead}
-use Rattle.saved_web.specs.declared.ahead.chunk.PageAhead.{PageAhead}
 
 -- ---- links by the indices of their URLs
 

@@ -1,30 +1,11 @@
 -- Two parts of a saved web, each read after the header, and joined.
-use Rattle.std.proofs.Common.{◌≡◌, ℕ, ◌+◌, ◌<◌, ◌==◌, Bool, true, false, ◌||◌, List, [], ◌∷◌, ◌++◌, length, Option, Some, None, IfSome, is_some, Result, Ok, Err, refl, sym, ap, subst, ◌∙◌, arith, append_assoc, append-nil, length-append, ne_eqb}
-use Rattle.std.specs.Bool.{if◌then◌else◌}
-use Rattle.std.specs.List.{list_any, cons_option}
-use Rattle.std.specs.Option.{option_or, option_map_or}
-use Rattle.std.specs.Str.{bytes_eq}
-use Rattle.std.specs.Str.Lines.{lines}
-use Rattle.std.proofs.lemmas.Bool.{cond-true, cond-false, or_parts, or_right}
-use Rattle.std.proofs.lemmas.List.{map-append}
-use Rattle.std.proofs.lemmas.List.Elements.{filter_map-append}
-use Rattle.std.proofs.lemmas.List.Folds.{list_any-append}
-use Rattle.std.proofs.lemmas.Slice.Eq.{bytes_eq-Decides}
+use Rattle.saved_web.proofs.Prelude.{◌≡◌, ℕ, ◌+◌, ◌<◌, ◌==◌, Bool, true, false, ◌||◌, List, [], ◌∷◌, ◌++◌, length, Option, Some, None, IfSome, is_some, Result, Ok, Err, refl, sym, ap, subst, ◌∙◌, arith, append_assoc, append-nil, length-append, ne_eqb, if◌then◌else◌, list_any, cons_option, option_or, option_map_or, bytes_eq, lines, cond-true, cond-false, or_parts, or_right, map-append, filter_map-append, list_any-append, bytes_eq-Decides, KnownPages, known_page, SoundAfter, PageRead, urls, has, AreRead, AreReadBehind, IsHeader, Before, page_fault, under_fault, said_fault, text_fault, line_fault, under_last_page, before, fault_after, line_of_text, line_of, says_page, url_said, is_page, is_page_at, page_url, TooLong, NotText, Line}
 use Rattle.crawl_keys.specs.declared.error.KeyError.{KeyError}
 use Rattle.saved_web.proofs.MovedPages.{said_passes}
 use Rattle.saved_web.proofs.ReadWeb.{known_urls, with_url-append}
-use Rattle.saved_web.specs.KnownPages.{KnownPages, known_page}
-use Rattle.text_lines.specs.LeastFault.{SoundAfter}
-use Rattle.saved_pages.specs.PageLists.{PageRead, urls, has}
 use Rattle.saved_pages.specs.PageLists as list
-use Rattle.saved_web.specs.Reading.{AreRead, AreReadBehind, IsHeader}
 use Rattle.saved_pages.specs.SavedWeb.{lines_behind, put_link, link_texts, put_moved, moved_text, page_with, page_behind, page_of, page_urls}
-use Rattle.saved_pages.specs.WebChecks.{Before, page_fault, under_fault, said_fault, text_fault, line_fault}
-use Rattle.saved_pages.specs.WebFaults.{under_last_page, before, fault_after}
-use Rattle.saved_pages.specs.WebLines.{line_of_text, line_of, says_page, url_said, is_page, is_page_at, page_url}
-use Rattle.text_lines.specs.declared.lines.LineError.TheVariants.{TooLong, NotText}
 use Rattle.saved_pages.specs.declared.error.WebError.TheVariants as wrong
-use Rattle.saved_pages.specs.declared.line.Line.{Line}
 use Rattle.saved_pages.specs.declared.line.Line.TheVariants as says
 
 -- ---- a line that passes after some lines passes after others

@@ -1,13 +1,6 @@
 -- The links that are known by their texts, and the indices of these.
-use Rattle.std.proofs.Common.{◌≡◌, ℕ, ◌<◌, true, List, [], ◌∷◌, ◌++◌, length, map, get_or, Some, sym, subst, ◌∙◌, arith}
-use Rattle.std.specs.List.{Contains, filter_map}
+use Rattle.saved_web.proofs.Prelude.{◌≡◌, ℕ, ◌<◌, true, List, [], ◌∷◌, ◌++◌, length, map, get_or, Some, sym, subst, ◌∙◌, arith, Contains, filter_map, Contains-get_or, slice_get_within, get_or_from_slice_get, index_of, found_at, TextLink, AreLinks, AreOfFolder, link_url}
 use Rattle.std.proofs.lemmas.List.{get_or-map, length-map, append_assoc}
-use Rattle.std.proofs.lemmas.List.Elements.{Contains-get_or}
-use Rattle.std.proofs.lemmas.Option.{slice_get_within, get_or_from_slice_get}
-use Rattle.hash_index.specs.Lists.{index_of}
-use Rattle.hash_index.proofs.Listed.{found_at}
-use Rattle.saved_web.specs.KnownLinks.{TextLink, AreLinks, AreOfFolder}
-use Rattle.saved_pages.specs.SavedWeb.{link_url}
 use Rattle.crawl_keys.specs.CanonicalText.{resolve}
 use Rattle.crawl_keys.specs.Folders.{is_of_folder}
 

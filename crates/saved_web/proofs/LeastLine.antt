@@ -1,10 +1,5 @@
 -- Lines that are sound have no error, and lines that are not sound have one.
-use Rattle.std.proofs.Common.{◌≡◌, ℕ, List, [], ◌∷◌, ◌++◌, Option, Some, None, Ok, Err, refl, sym, ap, subst, ◌∙◌, append_assoc, append-nil, arith}
-use Rattle.std.specs.Option.{option_or}
-use Rattle.crawl_keys.specs.Outcome.{IsRefusal}
-use Rattle.text_lines.specs.LeastFault.{SoundAfter, IsLeastFault}
-use Rattle.saved_pages.specs.WebFaults.{fault_after, IsSound, IsWebFault, IsWebRefusal}
-use Rattle.saved_pages.specs.declared.error.WebError.{WebError}
+use Rattle.saved_web.proofs.Prelude.{◌≡◌, ℕ, List, [], ◌∷◌, ◌++◌, Option, Some, None, Ok, Err, refl, sym, ap, subst, ◌∙◌, append_assoc, append-nil, arith, option_or, IsRefusal, SoundAfter, IsLeastFault, fault_after, IsSound, IsWebFault, IsWebRefusal, WebError}
 use Rattle.saved_pages.specs.declared.error.WebError.TheVariants as wrong
 
 -- the error of the first of these lines that has one, after the earlier lines

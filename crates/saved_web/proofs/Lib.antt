@@ -1,3 +1,4 @@
+pub mod Prelude
 pub mod AheadLinks
 pub mod JoinedParts
 pub mod KnownLinks

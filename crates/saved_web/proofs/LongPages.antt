@@ -1,16 +1,7 @@
 -- The links of two parts of a page, put together.
+use Rattle.saved_web.proofs.Prelude.{◌≡◌, ℕ, ◌+◌, Bool, true, false, cond, List, [], ◌∷◌, ◌++◌, Option, Some, None, IfSome, refl, ap, ◌∙◌, count_by, list_any, or_parts, filter_map-append, sum_by-append, AreFound, put_link, link_texts, moved_text, found_page, page_behind, Page, line_of, says_page, is_page, Line}
 use native.Mathlib.Omega.{arith}
-use Rattle.std.proofs.Common.{◌≡◌, ℕ, ◌+◌, Bool, true, false, cond, List, [], ◌∷◌, ◌++◌, Option, Some, None, IfSome, refl, ap, ◌∙◌}
-use Rattle.std.specs.List.{count_by, list_any}
-use Rattle.std.proofs.lemmas.Bool.{or_parts}
-use Rattle.std.proofs.lemmas.List.Elements.{filter_map-append}
-use Rattle.std.proofs.lemmas.List.Sums.{sum_by-append}
-use Rattle.saved_web.specs.LongPages.{AreFound}
 use Rattle.saved_web.proofs.JoinedParts.{links_end}
-use Rattle.saved_pages.specs.SavedWeb.{put_link, link_texts, moved_text, found_page, page_behind}
-use Rattle.crawl_pages.specs.declared.page.Page.{Page}
-use Rattle.saved_pages.specs.WebLines.{line_of, says_page, is_page}
-use Rattle.saved_pages.specs.declared.line.Line.{Line}
 use Rattle.saved_pages.specs.declared.line.Line.TheVariants as says
 use Rattle.saved_web.specs.declared.long.LinksFound.{LinksFound}
 

@@ -1,24 +1,9 @@
 -- The laws of moved pages: in version 1 no page has moved, and under a page are only links, or only one moved line.
-use Rattle.std.proofs.Common.{◌≡◌, ℕ, ◌==◌, Bool, false, List, length, nat_lt, None, Ok, Err, ◌+◌, [], ◌∷◌, ◌++◌, Option, Some, refl, ap, arith, ne_eqb, inl, inr, ◌<◌, true, not, cond, sym, subst, ◌∙◌, length-append, append_assoc, append-nil}
-use Rattle.std.specs.Bool.{if◌then◌else◌}
-use Rattle.std.specs.Str.{is_utf8, bytes_eq}
+use Rattle.saved_web.proofs.Prelude.{◌≡◌, ℕ, ◌==◌, Bool, false, List, length, nat_lt, None, Ok, Err, ◌+◌, [], ◌∷◌, ◌++◌, Option, Some, refl, ap, arith, ne_eqb, inl, inr, ◌<◌, true, not, cond, sym, subst, ◌∙◌, length-append, append_assoc, append-nil, if◌then◌else◌, is_utf8, bytes_eq, Before, said_fault, text_fault, line_fault, under_fault, line_of_text, line_of, says_moved, is_moved_line, says_page, url_said, is_page, is_link, is_page_at, TooLong, NotText, or_parts, cases_Bool, cond-true, cond-false, list_any, count_by, SoundAfter, is_second, before, fault_after, IsSound, under_last_page, Line, nat_tests, common_steps, sum_by-append, take_while-cons, under_more, option_map_or}
 use Rattle.crawl_limits.specs.Limits.{line_limit}
-use Rattle.saved_pages.specs.WebChecks.{Before, said_fault, text_fault, line_fault, under_fault}
-use Rattle.saved_pages.specs.WebLines.{line_of_text, line_of, says_moved, is_moved_line, says_page, url_said, is_page, is_link, is_page_at}
-use Rattle.text_lines.specs.declared.lines.LineError.TheVariants.{TooLong, NotText}
 use Rattle.saved_pages.specs.declared.line.Line.TheVariants as says
-use Rattle.std.proofs.lemmas.Bool.{or_parts, cases_Bool, cond-true, cond-false}
-use Rattle.std.specs.List.{list_any, count_by}
-use Rattle.text_lines.specs.LeastFault.{SoundAfter}
 use Rattle.crawl_pages.specs.Pages.{is_moved}
 use Rattle.saved_pages.specs.SavedWeb.{lines_behind, put_moved, moved_text, link_texts, page_with, page_behind, page_of, up_to_page, IsUnmixed}
-use Rattle.saved_pages.specs.WebFaults.{is_second, before, fault_after, IsSound, under_last_page}
-use Rattle.saved_pages.specs.declared.line.Line.{Line}
-use Rattle.std.proofs.lemmas.Bool.Decides.{nat_tests}
-use Rattle.std.proofs.lemmas.Grind.{common_steps}
-use Rattle.std.proofs.lemmas.List.Sums.{sum_by-append, take_while-cons}
-use Rattle.saved_pages.proofs.WebLines.{under_more}
-use Rattle.std.specs.Option.{option_map_or}
 use Rattle.saved_pages.specs.declared.error.WebError.TheVariants as wrong
 
 -- ---- what a line that passes its checks says, after the first one

@@ -1,17 +1,9 @@
 -- Pages in parts, one after another.
+use Rattle.saved_web.proofs.Prelude.{nat_tests, common_steps, ◌≡◌, ℕ, ◌+◌, ◌<◌, Bool, true, false, ◌||◌, List, ◌++◌, length, take, drop, get_or, Option, Some, None, refl, sym, ◌∙◌, append-nil, flat_map, option_or, or_parts, drop_more, map-append, take_more, bytes_eq-Decides, PageRead, urls, page_with, has}
 use native.Mathlib.Omega.{arith}
-use Rattle.std.proofs.lemmas.Bool.Decides.{nat_tests}
-use Rattle.std.proofs.lemmas.Grind.{common_steps}
-use Rattle.std.proofs.Common.{◌≡◌, ℕ, ◌+◌, ◌<◌, Bool, true, false, ◌||◌, List, ◌++◌, length, take, drop, get_or, Option, Some, None, refl, sym, ◌∙◌, append-nil}
-use Rattle.std.specs.List.{flat_map}
-use Rattle.std.specs.Option.{option_or}
-use Rattle.std.proofs.lemmas.Bool.{or_parts}
-use Rattle.std.proofs.lemmas.List.{drop_more, map-append, take_more}
 use Rattle.std.proofs.lemmas.List.Concat.{flat_map-append}
-use Rattle.std.proofs.lemmas.Slice.Eq.{bytes_eq-Decides}
 use Rattle.saved_web.proofs.JoinedParts.{has-append}
 use Rattle.saved_web.proofs.ReadWeb.{with_url-append}
-use Rattle.saved_pages.specs.PageLists.{PageRead, urls, page_with, has}
 
 or_none : (o : Option PageRead) → o ≡ None → (later : Option PageRead) → option_or o later ≡ later
 or_none o is later = grind arith

@@ -1,18 +1,7 @@
 -- Pages in parts, by their indices among all.
-use Rattle.std.proofs.lemmas.Bool.Decides.{nat_tests}
-use Rattle.std.proofs.lemmas.Grind.{common_steps}
-use Rattle.std.proofs.Common.{◌≡◌, ℕ, suc, ◌+◌, ◌<◌, List, [], ◌∷◌, ◌++◌, length, drop, get_or, slice_get, Option, Some, IfSome, SomeIff, sym, ap, subst, ◌∙◌, arith}
+use Rattle.saved_web.proofs.Prelude.{nat_tests, common_steps, ◌≡◌, ℕ, suc, ◌+◌, ◌<◌, List, [], ◌∷◌, ◌++◌, length, drop, get_or, slice_get, Option, Some, IfSome, SomeIff, sym, ap, subst, ◌∙◌, arith, flat_map, option_map, drop_more, length-map, slice_get-get_or, slice_get_within, index_of, found_at, page_there, get_front, PageRead, urls, page_with}
 use Rattle.std.specs.Borrow.{Bor}
-use Rattle.std.specs.List.{flat_map}
-use Rattle.std.specs.Option.{option_map}
-use Rattle.std.proofs.lemmas.List.{drop_more, length-map}
-use Rattle.std.proofs.lemmas.Option.{slice_get-get_or, slice_get_within}
-use Rattle.hash_index.specs.Lists.{index_of}
-use Rattle.hash_index.proofs.Listed.{found_at}
-use Rattle.saved_pages.proofs.PageIndex.{page_there}
-use Rattle.saved_pages.proofs.UrlIndices.{get_front}
 use Rattle.saved_web.proofs.PartPages.{found_part}
-use Rattle.saved_pages.specs.PageLists.{PageRead, urls, page_with}
 
 -- an element after the first list is one of the second
 get_behind : {X : Type 0} (xs ys : List X) (k : ℕ) → slice_get (xs ++ ys) (length xs + k) ≡ slice_get ys k

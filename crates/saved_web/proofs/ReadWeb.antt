@@ -1,30 +1,9 @@
 -- What is known of a saved web while its lines are read one by one.
-use Rattle.std.proofs.Common.{◌≡◌, inl, inr, ℕ, ◌+◌, ◌<◌, ◌==◌, Bool, false, ◌||◌, List, [], ◌∷◌, ◌++◌, length, Option, Some, None, Result, Ok, Err, IfOk, IfErr, codes, is_some, refl, sym, ap, subst, ◌∙◌, arith, append_assoc, append-nil, length-append}
+use Rattle.saved_web.proofs.Prelude.{◌≡◌, inl, inr, ℕ, ◌+◌, ◌<◌, ◌==◌, Bool, false, ◌||◌, List, [], ◌∷◌, ◌++◌, length, Option, Some, None, Result, Ok, Err, IfOk, IfErr, codes, is_some, refl, sym, ap, subst, ◌∙◌, arith, append_assoc, append-nil, length-append, if◌then◌else◌, list_any, position, cons_option, option_map, option_or, option_map_or, bytes_eq, lines, cond-false, or_right, map-append, filter_map-append, list_any-append, IsRefusal, SoundAfter, IsLeastFault, under_more, ReadTo, AllFound, FoundTo, AreRead, IsHeader, page_of, page_urls, says_page, says_link, says_moved, url_said, is_page, is_link, is_moved_line, is_page_at, page_url, is_second, under_last_page, fault_after, IsSound, IsWebFault, IsWebRefusal, line_fault, checked, behind_line, KnownPages, known_behind, known_page, PageRead, urls, page_with, has, WebError}
 use Rattle.std.proofs.Math.Bool.{or-false}
-use Rattle.std.specs.Bool.{if◌then◌else◌}
-use Rattle.std.specs.List.{list_any, position, cons_option}
-use Rattle.std.specs.Option.{option_map, option_or, option_map_or}
-use Rattle.std.specs.Str.{bytes_eq}
-use Rattle.std.specs.Str.Lines.{lines}
-use Rattle.std.proofs.lemmas.Bool.{cond-false, or_right}
-use Rattle.std.proofs.lemmas.List.{map-append}
-use Rattle.std.proofs.lemmas.List.Elements.{filter_map-append}
-use Rattle.std.proofs.lemmas.List.Folds.{list_any-append}
-use Rattle.crawl_keys.specs.Outcome.{IsRefusal}
 use Rattle.text_lines.proofs.CutLines.{is_lf, lines_at, lines_only}
-use Rattle.text_lines.specs.LeastFault.{SoundAfter, IsLeastFault}
-use Rattle.saved_pages.proofs.WebLines.{under_more}
-use Rattle.saved_web.specs.Reading.{ReadTo, AllFound, FoundTo, AreRead, IsHeader}
-use Rattle.saved_pages.specs.SavedWeb.{page_of, page_urls}
-use Rattle.saved_pages.specs.WebLines.{says_page, says_link, says_moved, url_said, is_page, is_link, is_moved_line, is_page_at, page_url}
-use Rattle.saved_pages.specs.WebFaults.{is_second, under_last_page, fault_after, IsSound, IsWebFault, IsWebRefusal}
-use Rattle.saved_pages.specs.WebChecks.{line_fault, checked}
-use Rattle.text_lines.specs.FirstLine.{behind_line}
-use Rattle.saved_web.specs.KnownPages.{KnownPages, known_behind, known_page}
 use Rattle.saved_pages.specs.AddedPages.{has_some, kept_before, Adds, Follows}
-use Rattle.saved_pages.specs.PageLists.{PageRead, urls, page_with, has}
 use Rattle.saved_pages.specs.declared.add.Above.{Above}
-use Rattle.saved_pages.specs.declared.error.WebError.{WebError}
 use Rattle.saved_pages.specs.declared.error.WebError.TheVariants as wrong
 
 -- ---- one more page

@@ -1,9 +1,4 @@
-use denote.Shadow.{shadow}
-use denote.Text.{Utf8}
-use Rattle.std.proofs.Common.{◌≡◌, length}
-use Rattle.std.specs.List.{list_any}
-use Rattle.std.specs.Str.Lines.{lines}
-use Rattle.saved_pages.specs.WebLines.{is_page}
+use Rattle.saved_web.proofs.Prelude.{shadow, Utf8, ◌≡◌, length, list_any, lines, is_page}
 use Rattle.saved_web.proofs.long.has_page.Given as goal
 
 abbrev pub invariant-loop-line : goal.invariant-loop-line

@@ -1,5 +1,4 @@
-use Rattle.std.proofs.Common.{rules, arith}
-use Rattle.std.proofs.lemmas.Result.{err_from_is_err_and}
+use Rattle.saved_web.proofs.Prelude.{rules, arith, err_from_is_err_and}
 use Rattle.saved_web.proofs.ReadWeb.{read_fault, found_on, all_read}
 use Rattle.saved_web.proofs.reader.pages_behind.Goals as goal
 

@@ -1,8 +1,4 @@
-use denote.Shadow.{shadow}
-use denote.Text.{Utf8}
-use Rattle.std.proofs.Common.{◌+◌, ◌≤◌, ℕ, List, [], length}
-use Rattle.std.specs.Str.Lines.{lines}
-use Rattle.saved_web.specs.Reading.{FoundTo}
+use Rattle.saved_web.proofs.Prelude.{shadow, Utf8, ◌+◌, ◌≤◌, ℕ, List, [], length, lines, FoundTo}
 use Rattle.saved_web.proofs.reader.pages_behind.Given as goal
 
 abbrev pub invariant-loop-line : goal.invariant-loop-line

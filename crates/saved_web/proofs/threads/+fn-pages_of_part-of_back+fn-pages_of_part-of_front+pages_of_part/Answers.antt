@@ -1,7 +1,5 @@
-use Rattle.std.proofs.Common.{subst}
-use Rattle.std.specs.Str.Lines.{lines}
+use Rattle.saved_web.proofs.Prelude.{subst, lines, AreReadBehind}
 use Rattle.saved_web.proofs.JoinedParts.{both_read, at_some}
-use Rattle.saved_web.specs.Reading.{AreReadBehind}
 use Rattle.saved_web.proofs.threads.+fn-pages_of_part-of_back+fn-pages_of_part-of_front+pages_of_part.Goals as goal
 
 pub returns : goal.returns

@@ -1,7 +1,5 @@
-use Rattle.std.proofs.Common.{◌∷◌, sym, subst}
-use Rattle.std.specs.Str.Lines.{lines}
+use Rattle.saved_web.proofs.Prelude.{◌∷◌, sym, subst, lines, AreRead}
 use Rattle.saved_web.proofs.ReadWeb.{header_read}
-use Rattle.saved_web.specs.Reading.{AreRead}
 use Rattle.saved_web.proofs.threads.read_text.Goals as goal
 
 pub returns-in-Ok-one : goal.returns-in-Ok-one

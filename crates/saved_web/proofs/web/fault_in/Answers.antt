@@ -1,6 +1,4 @@
-use Rattle.std.proofs.Common.{arith}
-use Rattle.std.specs.Str.Lines.{lines}
-use Rattle.text_lines.specs.FirstLine.{behind_line}
+use Rattle.saved_web.proofs.Prelude.{arith, lines, behind_line}
 use Rattle.saved_web.proofs.ReadWeb.{read_more, read_fault}
 use Rattle.saved_web.proofs.web.fault_in.Goals as goal
 

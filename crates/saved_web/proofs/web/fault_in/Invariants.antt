@@ -1,7 +1,4 @@
-use Rattle.std.proofs.Common.{◌+◌, ◌≤◌, length}
-use Rattle.std.specs.Str.{IsUtf8}
-use Rattle.std.specs.Str.Lines.{lines}
-use Rattle.saved_web.specs.Reading.{ReadTo}
+use Rattle.saved_web.proofs.Prelude.{◌+◌, ◌≤◌, length, IsUtf8, lines, ReadTo}
 use Rattle.saved_web.proofs.web.fault_in.Given as goal
 
 abbrev pub invariant-loop-line : goal.invariant-loop-line

@@ -1,6 +1,4 @@
-use Rattle.std.proofs.Common.{◌≡◌, drop}
-use Rattle.std.specs.List.{flat_map}
-use Rattle.saved_pages.specs.PageLists.{page_with}
+use Rattle.saved_web.proofs.Prelude.{◌≡◌, drop, flat_map, page_with}
 use Rattle.saved_web.proofs.web_pages.first_with.Given as goal
 
 abbrev pub invariant-loop-part : goal.invariant-loop-part

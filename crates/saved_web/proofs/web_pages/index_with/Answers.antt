@@ -1,8 +1,4 @@
-use Rattle.std.proofs.Common.{rules, ◌≡◌, None, sym, ◌∙◌}
-use Rattle.std.specs.List.{flat_map}
-use Rattle.hash_index.specs.Lists.{index_of}
-use Rattle.saved_pages.specs.PageLists.{urls}
-use Rattle.saved_pages.proofs.PageIndex.{no_page}
+use Rattle.saved_web.proofs.Prelude.{rules, ◌≡◌, None, sym, ◌∙◌, flat_map, index_of, urls, no_page}
 use Rattle.saved_web.proofs.PartPages.{passed_part}
 use Rattle.saved_web.proofs.PartPlaces.{passed_index}
 use Rattle.saved_web.proofs.web_pages.index_with.Goals as goal

@@ -1,6 +1,4 @@
-use Rattle.std.proofs.Common.{◌≡◌, ℕ, ◌+◌, slice_get}
-use Rattle.std.specs.List.{flat_map}
-use Rattle.saved_pages.specs.PageLists.{page_with}
+use Rattle.saved_web.proofs.Prelude.{◌≡◌, ℕ, ◌+◌, slice_get, flat_map, page_with}
 use Rattle.saved_web.proofs.PartPlaces.{from_part}
 use Rattle.saved_web.proofs.web_pages.index_with.Given as goal
 

@@ -1,6 +1,4 @@
-use Rattle.std.proofs.Common.{◌≡◌, ℕ, List, true, false, take}
-use Rattle.std.specs.List.{flat_map}
-use Rattle.saved_pages.specs.PageLists.{has}
+use Rattle.saved_web.proofs.Prelude.{◌≡◌, ℕ, List, true, false, take, flat_map, has}
 use Rattle.saved_web.proofs.web_pages.is_known.Given as goal
 
 abbrev pub invariant-loop-part : goal.invariant-loop-part

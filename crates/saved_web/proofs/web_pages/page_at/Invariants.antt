@@ -1,5 +1,4 @@
-use Rattle.std.proofs.Common.{◌≡◌, slice_get}
-use Rattle.std.specs.List.{flat_map}
+use Rattle.saved_web.proofs.Prelude.{◌≡◌, slice_get, flat_map}
 use Rattle.saved_web.proofs.PartPlaces.{from_part}
 use Rattle.saved_web.proofs.web_pages.page_at.Given as goal
 

@@ -1,5 +1,4 @@
-use Rattle.std.proofs.Common.{◌≡◌, ℕ, List, true, false, take}
-use Rattle.saved_pages.specs.PageLists.{has}
+use Rattle.saved_web.proofs.Prelude.{◌≡◌, ℕ, List, true, false, take, has}
 use Rattle.saved_web.proofs.web_pages.some_has.Given as goal
 
 abbrev pub invariant-loop-page : goal.invariant-loop-page

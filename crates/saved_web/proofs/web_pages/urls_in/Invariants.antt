@@ -1,6 +1,4 @@
-use Rattle.std.proofs.Common.{◌≡◌, take}
-use Rattle.std.specs.List.{flat_map}
-use Rattle.saved_pages.specs.PageLists.{urls}
+use Rattle.saved_web.proofs.Prelude.{◌≡◌, take, flat_map, urls}
 use Rattle.saved_web.proofs.web_pages.urls_in.Given as goal
 
 abbrev pub invariant-loop-part : goal.invariant-loop-part

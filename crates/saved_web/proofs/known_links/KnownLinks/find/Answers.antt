@@ -1,6 +1,4 @@
-use Rattle.std.proofs.Common.{rules, ◌≡◌, [], get_or, Some, None, sym, subst}
-use Rattle.std.specs.List.{Contains}
-use Rattle.hash_index.specs.Lists.{index_of}
+use Rattle.saved_web.proofs.Prelude.{rules, ◌≡◌, [], get_or, Some, None, sym, subst, Contains, index_of}
 use Rattle.saved_web.proofs.KnownLinks.{texts, contains_at}
 use Rattle.saved_web.proofs.known_links.KnownLinks.find.Goals as goal
 

@@ -1,11 +1,6 @@
-use Rattle.std.proofs.Common.{rules, ◌≡◌, [], ◌∷◌, ◌++◌, get_or, Some, None, sym, subst, ◌∙◌}
-use Rattle.std.specs.List.{All}
-use Rattle.std.proofs.lemmas.List.Elements.{All-push, All-contains}
+use Rattle.saved_web.proofs.Prelude.{rules, ◌≡◌, [], ◌∷◌, ◌++◌, get_or, Some, None, sym, subst, ◌∙◌, All, All-push, All-contains, index_of, TextLink, link_url}
 use Rattle.hash_order.specs.HashOrder.{hash_of}
-use Rattle.hash_index.specs.Lists.{index_of}
 use Rattle.hash_index.proofs.Keeping.{pushed_item}
-use Rattle.saved_web.specs.KnownLinks.{TextLink}
-use Rattle.saved_pages.specs.SavedWeb.{link_url}
 use Rattle.saved_web.proofs.KnownLinks.{texts, contains_at}
 use Rattle.saved_web.proofs.known_links.KnownLinks.learn.Goals as goal
 

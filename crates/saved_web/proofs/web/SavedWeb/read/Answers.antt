@@ -1,5 +1,4 @@
-use Rattle.std.proofs.lemmas.Result.{err_from_is_err_and}
-use Rattle.std.specs.Str.Lines.{lines}
+use Rattle.saved_web.proofs.Prelude.{err_from_is_err_and, lines}
 use Rattle.saved_web.proofs.LeastLine.{same_fault}
 use Rattle.saved_web.proofs.web.SavedWeb.read.Goals as goal
 

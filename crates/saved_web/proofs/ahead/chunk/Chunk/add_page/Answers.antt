@@ -1,7 +1,5 @@
-use Rattle.std.proofs.Common.{rules, ◌≡◌, [], ◌∷◌, ◌++◌, slice_get}
-use Rattle.saved_web.specs.Ahead.{IsAhead, shown_page}
+use Rattle.saved_web.proofs.Prelude.{rules, ◌≡◌, [], ◌∷◌, ◌++◌, slice_get, IsAhead, shown_page, PageAhead}
 use Rattle.saved_web.proofs.AheadLinks.{still_ahead, more_ahead}
-use Rattle.saved_web.specs.declared.ahead.chunk.PageAhead.{PageAhead}
 use Rattle.saved_web.proofs.ahead.chunk.Chunk.add_page.Goals as goal
 
 pub returns-in_err-links : goal.returns-in_err-links
