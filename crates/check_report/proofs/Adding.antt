@@ -1,5 +1,6 @@
 -- Bytes that are printed one joined the other.
-use Rattle.check_report.proofs.Prelude.{common_steps, ◌≡◌, ℕ, ◌+◌, ◌<◌, ◌≤◌, List, [], ◌∷◌, ◌++◌, length, map, take, get_or, Result, IfOk, OnOk, Vec, Global, append-nil, sym, ap, subst, ◌∙◌, arith, Option, append_assoc, map_more, take_more, take_all, flat_map-append, flat_map, Adds, Line, begin, edge, finish, in_part, count_if_at, count_tokens}
+use Rattle.check_report.proofs.Prelude.{common_steps, ◌≡◌, ℕ, ◌+◌, ◌<◌, ◌≤◌, List, [], ◌∷◌, ◌++◌, length, map, take, get_or, Result, IfOk, OnOk, Vec, Global, append-nil, sym, ap, subst, ◌∙◌, arith, Option, append_assoc, map_more, take_more, take_all, flat_map-append, flat_map, Adds, Line, begin, edge, finish, in_part}
+use Rattle.check_report.specs.Json.{count_if_at, count_tokens}
 use Rattle.check_report.specs.declared.form.Form.{Form}
 use Rattle.check_report.specs.declared.row.Part.{Part}
 use Rattle.json.specs.Json.{Members}

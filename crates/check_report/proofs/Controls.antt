@@ -21,11 +21,8 @@ pub record Holds (P : List ℕ → Type 0) : Type 0 where
 data_holds : (P : List ℕ → Type 0) → Holds P → (c : ℕ) → P (shown_char c) → P (data_char c)
 data_holds P all c other = grind (arith, cond_both)
 
-char_holds : (P : List ℕ → Type 0) → Holds P → (how : Escape) (c : ℕ) → P (shown_char c) → P (escaped_char how c)
-char_holds P all escape.Shown c other = other
-char_holds P all escape.Data c other = grind (arith, cond_both)
-char_holds P all escape.Property c other = grind (arith, cond_both, data_holds)
-char_holds P all escape.Html c other = grind (arith, cond_both)
+pub char_holds : (P : List ℕ → Type 0) → Holds P → (how : Escape) (c : ℕ) → P (shown_char c) → P (escaped_char how c)
+char_holds P all how c other = grind (arith, cond_both, data_holds)
 
 -- ---- bytes
 
@@ -62,7 +59,7 @@ other_first : (b : ℕ) (rest : List ℕ) → (b ≡ 194 → ⊥) → has_no_c1 
 other_first b rest other none = grind (arith, ne_eqb)
 
 -- a text before one without C1 controls makes none
-abbrev Apart : List ℕ → Type 0
+abbrev pub Apart : List ℕ → Type 0
 Apart text = (rest : List ℕ) → has_no_c1 rest ≡ true → has_no_c1 (text ++ rest) ≡ true
 
 ascii_apart : (text : List ℕ) → list_all is_low text ≡ true → Apart text
@@ -92,16 +89,13 @@ encode_apart c seen = λ rest none.
     other_first (240 + c / 262144) ((128 + c / 4096 % 64) ∷ (128 + c / 64 % 64) ∷ (128 + c % 64) ∷ rest) (λ e. omega (arith, e))
     (next_first (c / 4096) ((128 + c / 64 % 64) ∷ (128 + c % 64) ∷ rest) (next_first (c / 64) ((128 + c % 64) ∷ rest) (next_first c rest none))))))
 
-shown_apart : (c : ℕ) → Apart (shown_char c)
+pub shown_apart : (c : ℕ) → Apart (shown_char c)
 shown_apart c = cond_both (is_hidden c) (escape_of c) (encode_utf8 c) Apart (λ hidden. ascii_apart (escape_of c) (escape_passes is_low low_passes c hidden)) (encode_apart c)
 
-apart_each : Holds Apart
+pub apart_each : Holds Apart
 unfolding is_low
 apart_each = grind (arith, ascii_apart)
 
-none_each : (f : ℕ → List ℕ) → ((c : ℕ) → Apart (f c)) → (cs : List ℕ) → has_no_c1 (flat_map f cs) ≡ true
+pub none_each : (f : ℕ → List ℕ) → ((c : ℕ) → Apart (f c)) → (cs : List ℕ) → has_no_c1 (flat_map f cs) ≡ true
 none_each f each [] = refl
 none_each f each (c ∷ cs) = each c (flat_map f cs) (none_each f each cs)
-
-pub escaped_has_no_c1 : (how : Escape) (text : List ℕ) → has_no_c1 (escaped how text) ≡ true
-escaped_has_no_c1 how text = none_each (escaped_char how) (λ c. char_holds Apart apart_each how c (shown_apart c)) (chars text)

@@ -1,6 +1,6 @@
 -- Escaped text does not leave its place.
 use Rattle.check_report.proofs.Prelude.{◌≡◌, ℕ, ◌≤◌, ◌==◌, Bool, true, false, ◌&&◌, not, List, [], ◌∷◌, ◌++◌, chars, refl, arith, and_from, and_parts, cond_both, not-true, not_from_false, nat_tests, flat_map, list_all, escaped, html_char, is_in_property, is_inert, is_markup, property_char}
-use Rattle.shown_text.proofs.Visible.{PassesEscapes, PassesHigh, each_passes, seen_printed, shown_char_passes}
+use Rattle.shown_text.proofs.Visible.{PassesEscapes, PassesHigh, seen_printed, shown_char_passes}
 use Rattle.check_report.specs.declared.escape.Escape.TheVariants as escape
 
 -- ---- HTML
@@ -28,7 +28,7 @@ other_text : (b : ℕ) → (b == 38) ≡ false → (b == 60) ≡ false → (b ==
 unfolding is_text
 other_text b no_ampersand no_less no_greater no_quote no_apostrophe = grind arith
 
-each_inert : (cs : List ℕ) → is_inert (flat_map html_char cs) ≡ true
+pub each_inert : (cs : List ℕ) → is_inert (flat_map html_char cs) ≡ true
 each_inert [] = refl
 each_inert (c ∷ cs) = grind (arith, each_inert cs, cond_both, text_inert, shown_char_passes, is_text, escapes_text, high_text, other_text)
 
@@ -43,8 +43,5 @@ escapes_inside = grind arith
 high_inside : PassesHigh is_in_property
 high_inside b high = grind arith
 
-property_char_inside : (c : ℕ) → list_all is_in_property (property_char c) ≡ true
+pub property_char_inside : (c : ℕ) → list_all is_in_property (property_char c) ≡ true
 property_char_inside c = grind (arith, cond_both, shown_char_passes, escapes_inside, high_inside, and_from, seen_printed, not_from_false)
-
-pub property_inside : (text : List ℕ) → list_all is_in_property (escaped escape.Property text) ≡ true
-property_inside text = each_passes is_in_property property_char property_char_inside (chars text)

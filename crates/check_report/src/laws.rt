@@ -20,7 +20,7 @@ pub fn shown_text_has_no_control_byte()
 {}
 
 /// An escaped text has no C1 control, which could also control a terminal.
-#[tactic(auto, using(crate::proofs::Controls::escaped_has_no_c1))]
+#[tactic(auto, using(crate::proofs::Controls::none_each, crate::proofs::Controls::char_holds, crate::proofs::Controls::apart_each, crate::proofs::Controls::shown_apart))]
 pub fn text_for_people_has_no_c1()
     ensures { (how : Escape) (text : List ℕ) → has_no_c1 (escaped how text) ≡ true }
 {}
@@ -32,7 +32,7 @@ pub fn escaped_text_has_no_hidden_character()
 {}
 
 /// An escaped text in an annotation has no line end, and in a property nothing that ends the property.
-#[tactic(auto, using(crate::proofs::Controls::escaped_printed, crate::proofs::Inert::property_inside))]
+#[tactic(auto, using(crate::proofs::Controls::escaped_printed, shown_text::proofs::Visible::each_passes, crate::proofs::Inert::property_char_inside))]
 pub fn annotation_text_stays_in_its_line()
     ensures message { (text : List ℕ) → list_all is_printed (escaped escape.Data text) ≡ true }
     ensures property { (text : List ℕ) → list_all is_in_property (escaped escape.Property text) ≡ true }

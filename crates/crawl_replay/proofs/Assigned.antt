@@ -1,5 +1,5 @@
 -- What the admission at a place names.
-use Rattle.crawl_replay.proofs.Prelude.{◌≡◌, ℕ, zero, suc, List, [], ◌∷◌, slice_get, Some, Result, IfOk, subst, arith, AllByRecursion, recursion_from_All, Event, IsPlaced, IsAssigned, AreAddressed, Script, ScriptError}
+use Rattle.crawl_replay.proofs.Prelude.{◌≡◌, ℕ, zero, suc, List, [], ◌∷◌, slice_get, Some, subst, AllByRecursion, recursion_from_All, Event, IsPlaced, IsAssigned}
 
 pub all_at : {X : Type 0} (P : X → Type 0) (xs : List X) (i : ℕ) (x : X) → AllByRecursion P xs → slice_get xs i ≡ Some x → P x
 all_at P [] i x all at = absurd (cc)
@@ -8,7 +8,3 @@ all_at P (y ∷ ys) (suc i) x all at = all_at P ys i x all.1 at
 
 pub placed_at : (workers : ℕ) (events : List Event) (place : ℕ) (event : Event) → IsAssigned workers events → slice_get events place ≡ Some event → IsPlaced workers event
 placed_at workers events place event assigned at = all_at (IsPlaced workers) events place event (recursion_from_All (IsPlaced workers) events assigned) at
-
--- the admissions of a script that was read
-pub assigned_script : (read : Result Script ScriptError) → IfOk read (λ script. AreAddressed script.workers script.events.items) → IfOk read (λ script. IsAssigned script.workers script.events.items)
-assigned_script read are = grind arith

@@ -1,9 +1,7 @@
 -- A script's error is that of the first of its lines that has one.
-use Rattle.crawl_replay.proofs.Prelude.{◌≡◌, ◌⊎◌, ℕ, ◌+◌, List, [], ◌∷◌, ◌++◌, length, Option, Some, Result, Ok, Err, IfErr, refl, ap, subst, ◌∙◌, arith, append-nil, append_assoc, length-append, result_err, lines, Event, Script, Header, ScriptError, script_of, script_in, header_in, said_by, said_from, least_fault, events_in, unless_fault, with_events, with_header}
-use Rattle.crawl_keys.specs.Outcome.{Gives}
+use Rattle.crawl_replay.proofs.Prelude.{◌≡◌, ℕ, ◌+◌, List, [], ◌∷◌, ◌++◌, length, Option, Some, Result, Ok, Err, refl, ap, subst, ◌∙◌, arith, append-nil, append_assoc, length-append, result_err, lines, Event, Header, ScriptError, script_in, header_in, said_by, said_from, least_fault, events_in, unless_fault, with_events, with_header}
 use Rattle.text_lines.specs.LeastFault.{SoundAfter, IsLeastFault}
 use Rattle.crawl_replay.specs.declared.script.error.ScriptError.TheVariants as wrong
-use Rattle.crawl_replay.specs.ScriptContent.{content}
 use Rattle.crawl_replay.specs.LeastFault.{fault_after, IsScriptFault}
 
 -- the least error of lines that follow a header and these earlier lines
@@ -67,6 +65,3 @@ at_header line more fault (Ok header) e fails =
 
 pub least : (lines : List (List ℕ)) (fault : ScriptError) → script_in lines ≡ Err fault → IsScriptFault lines fault
 least lines fault fails = grind (arith, at_header)
-
-pub least_of_script : (bytes : List ℕ) (read : Result Script ScriptError) → Gives wrong.NoMemory content read (script_of bytes) → IfErr read (λ fault. IsScriptFault (lines bytes) fault ⊎ (fault ≡ wrong.NoMemory))
-least_of_script bytes read gives = grind (arith, least)

@@ -22,11 +22,8 @@ not_below a b h = grind (arith, nat_tests, h)
 text_by_utf8 : (number : ℕ) (line : List ℕ) (utf8 : Bool) → length line ≤ line_limit → is_utf8 line ≡ utf8 → TextStands number line (if utf8 then Ok line else Err (without.NotText number))
 text_by_utf8 number line utf8 short is = grind (arith, IsUtf8-from_is_utf8, is_utf8-from_IsUtf8)
 
-text_by_length : (number : ℕ) (line : List ℕ) (long : Bool) → nat_lt line_limit (length line) ≡ long → TextStands number line (if long then Err (without.TooLong number) else if is_utf8 line then Ok line else Err (without.NotText number))
-text_by_length number line long is = grind (arith, ltb-true, text_by_utf8, below_not)
-
 pub text_stands : (number : ℕ) (line : List ℕ) → TextStands number line (text_of number line)
-text_stands number line = text_by_length number line (nat_lt line_limit (length line)) refl
+text_stands number line = grind (arith, ltb-true, text_by_utf8, below_not)
 
 pub text_of-too_long : (number : ℕ) (line : List ℕ) → line_limit < length line → text_of number line ≡ Err (without.TooLong number)
 text_of-too_long number line long = rw (lt-ltb line_limit (length line) long) refl
@@ -49,11 +46,8 @@ not_empty workers number line some = grind arith
 line_by_event : (workers number : ℕ) (line : List ℕ) (said : Result Event ScriptError) → IsLineText line → line ≢ [] → event_of workers number line ≡ said → Stands workers number line said → LineSays workers number line (some_event said)
 line_by_event workers number line said text some is there = grind (arith, event_said, bad_url_said)
 
-line_by_text : (workers number : ℕ) (line : List ℕ) → IsLineText line → LineSays workers number line (some_said workers number line)
-line_by_text workers number line text = grind (arith, not_empty, line_by_event, stands)
-
 line_stands : (workers number : ℕ) (line : List ℕ) → LineSays workers number line (said_by workers number line)
-line_stands workers number line = grind (arith, line_by_text, text_by_length)
+line_stands workers number line = grind (arith, ltb-true, text_by_utf8, below_not, not_empty, line_by_event, stands)
 
 -- an event line is not empty
 never_empty : (workers number : ℕ) (line : List ℕ) (said : Result Event ScriptError) → event_of workers number line ≡ said → (said ≡ Err (wrong.BadLine number) → ⊥) → line ≢ []

@@ -1,5 +1,5 @@
 -- Which texts are numbers, and the position of the first space of a text.
-use Rattle.crawl_replay.proofs.Prelude.{◌≡◌, ℕ, suc, ◌+◌, ◌<◌, ◌≤◌, ◌^◌, Bool, true, false, not, ◌&&◌, List, [], ◌∷◌, ◌++◌, length, take, drop, get_or, nat_lt, nat_eq, nat_le, Option, Some, None, refl, sym, ap, subst, ◌∙◌, arith, lt-ltb, ltb-true, append_assoc, Result, rules, if◌then◌else◌, Decides, All, list_all, position_or_len, prefix_len, before_first, after_first, le-leb, leb-true, and_parts, Decides-by_and, nat_tests, is_space, at_space, is_number, number_of, IsNumber, common_steps, OkIff, result_ok}
+use Rattle.crawl_replay.proofs.Prelude.{◌≡◌, ℕ, suc, ◌+◌, ◌<◌, ◌≤◌, Bool, true, false, not, ◌&&◌, List, [], ◌∷◌, ◌++◌, length, take, drop, get_or, nat_lt, nat_eq, Option, Some, None, refl, sym, ap, ◌∙◌, arith, lt-ltb, ltb-true, append_assoc, Result, rules, if◌then◌else◌, Decides, All, list_all, position_or_len, prefix_len, before_first, after_first, le-leb, leb-true, and_parts, Decides-by_and, nat_tests, is_space, at_space, is_number, number_of, IsNumber, common_steps, OkIff, result_ok}
 use Rattle.std.specs.Char.{is_ascii_digit}
 use Rattle.std.specs.Str.Parse.{digits_value, ParsesUnsigned}
 use Rattle.std.proofs.lemmas.Option.{cond_some}
@@ -17,24 +17,14 @@ some_length : (n : ℕ) → not (nat_eq n 0) ≡ true → 1 ≤ n
 some_length n e = grind arith
 
 pub number_is : (bits : ℕ) (text : List ℕ) (value : ℕ) → number_of bits text ≡ Some value → IsNumber bits value text
-number_is bits text value e =
-    let found = cond_some (is_number text && nat_lt (digits_value 10 text) (2 ^ bits)) (digits_value 10 text) value e in
-    let fits = and_parts (is_number text) (nat_lt (digits_value 10 text) (2 ^ bits)) found.0 in
-    let shape = and_parts (not (nat_eq (length text) 0) && nat_le (length text) 20) (list_all is_ascii_digit text) fits.0 in
-    let sized = and_parts (not (nat_eq (length text) 0)) (nat_le (length text) 20) shape.0 in record {
-      digits = (digits text).0 shape.1;
-      some = some_length (length text) sized.0;
-      few = leb-true (length text) 20 sized.1;
-      means = found.1;
-      fits = subst (λ n. n < 2 ^ bits) found.1 (ltb-true (digits_value 10 text) (2 ^ bits) fits.1);
-    }
+number_is bits text value e = grind (arith, cond_some, and_parts, digits, some_length, leb-true, ltb-true)
 
 pub number_of_is : (bits : ℕ) (text : List ℕ) (value : ℕ) → IsNumber bits value text → number_of bits text ≡ Some value
 number_of_is bits text value is = grind (arith, le-leb, digits, lt-ltb)
 
 -- ---- the first space
 
-abbrev no_space : ℕ → Bool
+abbrev pub no_space : ℕ → Bool
 no_space b = not (is_space b)
 
 space_is : (b : ℕ) → no_space b ≡ false → b ≡ 32

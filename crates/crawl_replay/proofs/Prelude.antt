@@ -4,12 +4,11 @@ pub use Rattle.crawl_core.specs.declared.event.Event.TheVariants.{Admit, Back, C
 pub use Rattle.crawl_limits.specs.Limits.{AreLimits, line_limit, pending_limit, worker_limit}
 pub use Rattle.crawl_replay.specs.Assignment.{AreAddressed, IsAddressed, IsAssigned, IsPlaced}
 pub use Rattle.crawl_replay.specs.Numbers.{is_number, number_of}
-pub use Rattle.crawl_replay.specs.Script.{Said, address_from, admit_at, admit_parts, admit_with, event_from, event_of, events_in, events_of, header_in, header_of, is_within, least_fault, numbered_event, plain_event, said_by, said_from, script_in, script_of, some_event, unless_fault, with_events, with_header, with_text}
+pub use Rattle.crawl_replay.specs.Script.{Said, address_from, admit_at, admit_parts, admit_with, event_from, event_of, events_in, events_of, header_in, header_of, is_within, least_fault, numbered_event, plain_event, said_by, said_from, script_in, some_event, unless_fault, with_events, with_header, with_text}
 pub use Rattle.crawl_replay.specs.ScriptLines.{HeaderSays, IsAdmit, IsBadAdmission, IsEventLine, IsHeaderLine, IsLineText, IsNumber, IsNumbered, IsScript, LineSays, LinesSay}
-pub use Rattle.crawl_replay.specs.declared.script.Script.{Script}
 pub use Rattle.crawl_replay.specs.declared.script.error.ScriptError.{ScriptError}
 pub use Rattle.crawl_replay.specs.declared.script.header.Header.{Header}
-pub use Rattle.std.proofs.Common.{Bool, Err, IfErr, IfOk, List, None, Ok, Option, Result, Some, [], ap, append-nil, append_assoc, arith, codes, drop, false, get_or, inl, inr, length, length-append, lt-ltb, ltb-true, nat_eq, nat_le, nat_lt, not, ok_or, option_and_then, refl, rules, slice_get, subst, suc, sym, take, true, zero, ℕ, ◌&&◌, ◌++◌, ◌+◌, ◌<◌, ◌^◌, ◌∙◌, ◌∷◌, ◌≡◌, ◌≢◌, ◌≤◌, ◌⊎◌}
+pub use Rattle.std.proofs.Common.{Bool, Err, List, None, Ok, Option, Result, Some, [], ap, append-nil, append_assoc, arith, codes, drop, false, get_or, inl, inr, length, length-append, lt-ltb, ltb-true, nat_eq, nat_lt, not, ok_or, option_and_then, refl, rules, slice_get, subst, suc, sym, take, true, zero, ℕ, ◌&&◌, ◌++◌, ◌+◌, ◌<◌, ◌∙◌, ◌∷◌, ◌≡◌, ◌≢◌, ◌≤◌, ◌⊎◌}
 pub use Rattle.std.proofs.lemmas.Bool.{and_parts, le-leb, leb-true}
 pub use Rattle.std.proofs.lemmas.Bool.Decides.{Decides-by_and, nat_tests}
 pub use Rattle.std.proofs.lemmas.Grind.{common_steps}

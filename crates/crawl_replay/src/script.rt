@@ -40,7 +40,7 @@ pub struct Script {
 /// # Errors
 /// That of the least line that has an error, and there the first of the checks, in the order of [`ScriptError`];
 /// `NoMemory` if an allocation failed.
-#[tactic(auto, using(crate::proofs::Least::least_of_script, crate::proofs::Assigned::assigned_script))]
+#[tactic(auto, using(crate::proofs::Least::least))]
 pub fn read_script(alloc: Global, bytes: &[u8]) -> Result<Script, ScriptError>
     ensures exact { Gives ScriptError.NoMemory content result (script_of bytes.now) }
     ensures limits { IfOk result (λ script. AreLimits script.workers script.max) }

@@ -1,5 +1,5 @@
 -- Lines that are printed after each other.
-use Rattle.crawl_report.proofs.Prelude.{common_steps, ◌≡◌, ℕ, ◌+◌, ◌<◌, ◌≤◌, List, [], ◌∷◌, ◌++◌, length, map, take, get_or, Result, IfOk, append-nil, refl, sym, ap, subst, ◌∙◌, arith, append_assoc, map-append, map_more, take_more, take_all, length-take-le, flat_map-append, Bor, enumerate_from, flat_map, PageResult, printed_line, Line, Adds, bytes_of, is_json, pointed, Out, pointed_more}
+use Rattle.crawl_report.proofs.Prelude.{common_steps, ◌≡◌, ℕ, ◌+◌, ◌<◌, ◌≤◌, List, [], ◌∷◌, ◌++◌, length, map, take, get_or, Result, IfOk, append-nil, refl, sym, ap, subst, ◌∙◌, arith, append_assoc, map-append, map_more, take_more, take_all, length-take-le, flat_map-append, Bor, enumerate_from, flat_map, PageResult, Line, Adds, bytes_of, pointed, Out, pointed_more}
 use Rattle.crawl_report.specs.Lines as line
 
 pub adds_none : (out : Out) → Adds out out []
@@ -31,11 +31,6 @@ pub pointed_line_at : {X : Type 0} (f : X → Line) (out mid more : Out) (xs : L
 pointed_line_at {X} f out mid more xs k d below p q = grind (arith, common_steps, adds_same, map-append, map_more, adds_both)
 
 -- ---- a whole report
-
--- the lines after those of the results
-pub rest_printed : (b c d e : Out) (queues parts : List Line) (sum : Line)
-    → Adds b c (sum ∷ []) → Adds c d queues → Adds d e parts → bytes_of e ≡ bytes_of b ++ flat_map (printed_line (is_json b)) ((sum ∷ queues) ++ parts)
-rest_printed b c d e queues parts sum of_sum of_queues of_parts = grind (arith, common_steps, adds_both)
 
 -- lines more, for one result more
 pub told_more : (f : PageResult → List Line) (out mid more : Out) (xs : List (Bor PageResult)) (k : ℕ) (x : Bor PageResult) → k < length xs → x ≡ get_or xs k x → Adds out mid (flat_map f (pointed (take k xs))) → Adds mid more (f x.now) → Adds out more (flat_map f (pointed (take (k + 1) xs)))

@@ -6,7 +6,6 @@ pub use Rattle.crawl_pages.specs.Pages.{is_found, is_missing, is_moved}
 pub use Rattle.crawl_pages.specs.ResultOrder.{HasEachUrlOnce, is_before, results_at, results_by_url}
 pub use Rattle.crawl_pages.specs.declared.page.Page.TheVariants.{Missing}
 pub use Rattle.crawl_pages.specs.declared.page.PageResult.{PageResult}
-pub use Rattle.crawl_report.specs.Json.{printed_line}
 pub use Rattle.crawl_report.specs.Lines.{Line, text_line}
 pub use Rattle.crawl_report.specs.Printing.{Adds, bytes_of, is_json, joined}
 pub use Rattle.crawl_report.specs.ReportText.{report, result_line, total_line}

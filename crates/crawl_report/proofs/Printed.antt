@@ -1,5 +1,6 @@
 -- Chunks of lines, and what they are together.
-use Rattle.crawl_report.proofs.Prelude.{◌≡◌, ℕ, Bool, Global, List, [], ◌∷◌, ◌++◌, Vec, append-nil, ap, ◌∙◌, arith, suc, ◌+◌, ◌^◌, ◌<◌, ◌≤◌, false, cond, ◌==◌, ◌%◌, length, drop, get_or, Some, option_and_then, decimal, refl, length-append, append_assoc, drop_all, flat_map-append, flat_map, prefix_len, printed_line, Line, Adds, bytes_of, is_json, joined, result_lines, rows_behind, printed, Out, common_steps, ne_eqb, le-leb, and_from}
+use Rattle.crawl_report.proofs.Prelude.{◌≡◌, ℕ, Bool, Global, List, [], ◌∷◌, ◌++◌, Vec, append-nil, ap, ◌∙◌, arith, suc, ◌+◌, ◌^◌, ◌<◌, ◌≤◌, false, cond, ◌==◌, ◌%◌, length, drop, get_or, Some, option_and_then, decimal, refl, length-append, append_assoc, drop_all, flat_map-append, flat_map, prefix_len, Line, Adds, bytes_of, is_json, joined, result_lines, rows_behind, printed, Out, common_steps, ne_eqb, le-leb, and_from}
+use Rattle.crawl_report.specs.Json.{printed_line}
 use Rattle.crawl_report.specs.declared.report.Report.{Report}
 use lib.ListN.{get_or-append}
 use Rattle.std.proofs.lemmas.Fmt.{decimal_is_IsNumeral_wide, decimal_by_steps_wide, decimal_digit}
@@ -38,7 +39,7 @@ first_decimal : (n : ℕ) → 0 < n → n < 10 ^ 64 → 48 < get_or (decimal n) 
 first_decimal n some small = (decimal_by_steps_wide (λ m ds. (0 < length ds) × (0 < m → 48 < get_or ds 0 0)) (λ m l. (omega arith, λ a. omega arith))
     (λ m ds l h. (omega (arith, length-append ds ((48 + m % 10) ∷ [])), λ a. omega (arith, get_or-append ds ((48 + m % 10) ∷ []) 0 0 h.0, h.1 (omega arith)))) n small).1 some
 
-whole_decimal : (n : ℕ) → n < 10 ^ 64 → (after_whole (decimal n) ≡ Some []) × ((head (decimal n) == 45) ≡ false)
+pub whole_decimal : (n : ℕ) → n < 10 ^ 64 → (after_whole (decimal n) ≡ Some []) × ((head (decimal n) == 45) ≡ false)
 whole_decimal n h = grind (arith, common_steps, decimal_digit, whole_digits, first_decimal, all_digits, digit_at, decimal_is_IsNumeral_wide)
 
 pub decimal_IsNumber : (n : ℕ) → n < 10 ^ 64 → IsNumber (decimal n)

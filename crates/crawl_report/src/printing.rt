@@ -46,7 +46,7 @@ pub fn print_in_parts<R: Threads + Sync>(
 }
 
 /// Returns all lines except those of the results.
-#[tactic(auto, using(crate::proofs::Adding::rest_printed, crate::proofs::Adding::adds_same))]
+#[tactic(auto, using(crate::proofs::Adding::adds_both, crate::proofs::Adding::adds_same))]
 fn rest_of(alloc: Global, report: &Report<'_>, json: bool) -> Result<Vec<u8>, NoMemory>
     ensures { IfOk result (λ text. text.items ≡ flat_map (printed_line json) (rows_behind report.now)) }
 {

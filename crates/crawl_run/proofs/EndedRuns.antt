@@ -1,8 +1,6 @@
 -- From the ends of a run's workers to what the run left: its workers, its results, and what it lost.
-use Rattle.crawl_run.proofs.Prelude.{◌≡◌, ◌⊎◌, ℕ, ◌+◌, ◌-◌, ◌^◌, ◌<◌, ◌≤◌, min, Bool, true, false, List, [], ◌∷◌, ◌++◌, map, refl, sym, ap, subst, ◌∙◌, arith, Option, Some, Result, Ok, Err, IfOk, cases_lt, All-nil, All-cons, All-head, All-tail, All, flat_map, here, ArePages, NothingLost, first_fault, first_of, link_missing, not_fetched, seed_missing, IsCulprit, is_at_fault, no_memory, Culprit, CertError, entries_in, entries_of, Accounts, AccountId, AllFresh, OfferError, WorkerId, SenderId, Entry, GateId, SeatId, Page, PageResult, AllLogged, all_losses, both_losses, with_refusal, AllRan, Losses, WorkerEnd, IsUncertified, losses_at, of_cert, IsLost, losses_with, IsWithoutLoss, Share, all_closed, all_found, CrawlError}
-use Rattle.std.proofs.lemmas.List.{append_assoc, take_all}
+use Rattle.crawl_run.proofs.Prelude.{◌≡◌, ◌⊎◌, ℕ, ◌+◌, ◌-◌, ◌^◌, ◌<◌, ◌≤◌, min, Bool, true, false, List, [], ◌∷◌, ◌++◌, map, refl, sym, ap, subst, ◌∙◌, arith, Option, Some, Result, Ok, Err, IfOk, cases_lt, All-nil, All-cons, All-head, All-tail, All, flat_map, here, NothingLost, first_fault, link_missing, not_fetched, seed_missing, IsCulprit, is_at_fault, no_memory, Culprit, CertError, entries_in, entries_of, Accounts, AccountId, AllFresh, WorkerId, SenderId, Entry, GateId, Page, PageResult, AllLogged, all_losses, both_losses, AllRan, Losses, WorkerEnd, losses_at, of_cert, IsLost, losses_with, IsWithoutLoss, Share, all_closed, all_found, take_all}
 use Rattle.crawl_certificate.specs.declared.error.CertError.TheVariants as cert
-use Rattle.crawl_frontier.specs.Offers.{IsFiltered, OfferWordsBeside}
 use Rattle.crawl_frontier.specs.declared.error.OfferError.TheVariants as refused
 use Rattle.crawl_workers.specs.Ran.{Ran}
 use Rattle.crawl_run.specs.declared.run_output.RunOutput as left
@@ -11,28 +9,10 @@ use Rattle.crawl_run.proofs.WithoutLoss.{run_without_loss}
 
 -- ---- one more end
 
-pub closed_on : {K : _} (e : WorkerEnd K) (rest all : List (WorkerEnd K)) (so_far whole : List WorkerId) → all ≡ e ∷ rest → so_far ++ all_closed all ≡ whole → (so_far ++ e.closed ∷ []) ++ all_closed rest ≡ whole
-closed_on {K} e rest all so_far whole is before = append_assoc so_far (e.closed ∷ []) (all_closed rest) ∙ ap (λ (es : List (WorkerEnd K)). so_far ++ all_closed es) (sym is) ∙ before
-
-pub found_on : {K : _} (e : WorkerEnd K) (rest all : List (WorkerEnd K)) (so_far whole : List PageResult) → all ≡ e ∷ rest → so_far ++ all_found all ≡ whole → (so_far ++ e.results.items) ++ all_found rest ≡ whole
-found_on {K} e rest all so_far whole is before = append_assoc so_far e.results.items (all_found rest) ∙ ap (λ (es : List (WorkerEnd K)). so_far ++ all_found es) (sym is) ∙ before
-
-pub losses_on : {K : _} (e : WorkerEnd K) (rest all : List (WorkerEnd K)) (so_far whole : Losses) → all ≡ e ∷ rest → losses_with so_far all ≡ whole → losses_with (both_losses so_far e.losses) rest ≡ whole
-losses_on {K} e rest all so_far whole is before = ap (λ (es : List (WorkerEnd K)). losses_with so_far es) (sym is) ∙ before
-
 -- ---- no losses
 
-sum_none : (most a b : ℕ) → 0 < most → min (a + b) most ≡ 0 → (a ≡ 0) × (b ≡ 0)
-sum_none most a b some none = (omega (arith, some, none), omega (arith, some, none))
-
-all_none : (a b c d e f : ℕ) → a + b + c + d + e + f ≡ 0 → (a ≡ 0) × (b ≡ 0) × (c ≡ 0) × (d ≡ 0) × (e ≡ 0) × (f ≡ 0)
-all_none a b c d e f none = (omega (arith, none), omega (arith, none), omega (arith, none), omega (arith, none), omega (arith, none), omega (arith, none))
-
-none_of_all : (a b c d e f : ℕ) → (a ≡ 0) × (b ≡ 0) × (c ≡ 0) × (d ≡ 0) × (e ≡ 0) × (f ≡ 0) → a + b + c + d + e + f ≡ 0
-none_of_all a b c d e f each = omega (arith, each.0, each.1, each.2, each.3, each.4, each.5)
-
 both_none : (a b : Losses) → all_losses (both_losses a b) ≡ 0 → (all_losses a ≡ 0) × (all_losses b ≡ 0)
-both_none a b none = grind (arith, all_none, sum_none, none_of_all)
+both_none a b none = grind arith
 
 none_with : {K : _} (before : Losses) (ends : List (WorkerEnd K)) → all_losses (losses_with before ends) ≡ 0 → (all_losses before ≡ 0) × All (λ (e : WorkerEnd K). all_losses e.losses ≡ 0) ends
 none_with {K} before [] none = (none, All-nil (λ (e : WorkerEnd K). all_losses e.losses ≡ 0))
@@ -88,17 +68,11 @@ nothing_lost {K} gate workers allowed meaning seeds starts ends sender before lo
 
 -- ---- errors that report something missing
 
-one_at_least : (n : ℕ) → (n ≡ 0 → ⊥) → 1 ≤ n
-one_at_least n some = grind (arith, cases_lt)
-
 abbrev tells_missing : Option CertError → Bool
 tells_missing (Some cert.SeedMissing) = true
 tells_missing (Some cert.NotFetched) = true
 tells_missing (Some cert.LinkMissing) = true
 tells_missing _ = false
-
-none_missing : (d e : Bool) → tells_missing (first_of false false false d e) ≡ false
-none_missing d e = grind arith
 
 -- if nothing was lost, nothing is missing
 abbrev pub LacksNothing : (List ℕ → Bool) → List (List ℕ) → List Entry → List PageResult → Losses → Type 0
@@ -107,7 +81,7 @@ LacksNothing allowed seeds entries results losses =
 
 missing_lost : (allowed : List ℕ → Bool) (seeds : List (List ℕ)) (entries : List Entry) (results : List PageResult) (cause : CertError) (losses : Losses) → tells_missing (Some cause) ≡ true → LacksNothing allowed seeds entries results losses
     → first_fault allowed seeds entries results ≡ Some cause → 1 ≤ all_losses losses
-missing_lost allowed seeds entries results cause losses tells lacks first = grind (arith, one_at_least, none_missing)
+missing_lost allowed seeds entries results cause losses tells lacks first = grind (arith, cases_lt)
 
 cause_lost : (allowed : List ℕ → Bool) (seeds : List (List ℕ)) (entries : List Entry) (results : List PageResult) (cause : CertError) (losses : Losses) → LacksNothing allowed seeds entries results losses → first_fault allowed seeds entries results ≡ Some cause → IsLost (of_cert cause) losses
 cause_lost allowed seeds entries results cause losses lacks first = grind (arith, missing_lost)
@@ -117,23 +91,9 @@ pub culprit_lost : (allowed : List ℕ → Bool) (seeds : List (List ℕ)) (entr
     → IsCulprit (first_fault allowed seeds entries results) (is_at_fault allowed seeds entries results) culprit ⊎ (culprit ≡ no_memory) → IsLost (of_cert culprit.cause) (losses_at culprit.url losses)
 culprit_lost allowed seeds entries results culprit losses lacks told = grind (arith, cause_lost)
 
--- an error without a certificate reports nothing missing
-pub uncertified_lost : (error : CrawlError) (losses : Losses) → IsUncertified error → IsLost error losses
-uncertified_lost error losses is = grind arith
-
 -- ---- a seed that is refused
 
-one_lost : (most a b c d e f : ℕ) → 0 < most → (a + b + min (c + 1) most + d + e + f ≡ 0 → ⊥) × (a + b + c + min (d + 1) most + e + f ≡ 0 → ⊥) × (a + b + c + d + min (e + 1) most + f ≡ 0 → ⊥) × (a + b + c + d + e + min (f + 1) most ≡ 0 → ⊥)
-one_lost most a b c d e f some = (λ none. omega (arith, some, none), λ none. omega (arith, some, none), λ none. omega (arith, some, none), λ none. omega (arith, some, none))
-
--- a seed that is refused is lost, unless the filter does not allow it
-pub refusal_line : (error : OfferError) (before : Losses) (allowed : Bool) (Line : Type 0) (held held' pass pass' : SeatId) → OfferWordsBeside held held' pass pass' (Err error) → (IsFiltered (Err error) → allowed ≡ false) → all_losses (with_refusal error before) ≡ 0 → (all_losses before ≡ 0) × (allowed ≡ true → Line)
-refusal_line error before allowed Line held held' pass pass' words filtered none = grind (arith, one_lost)
-
 -- ---- what a run returns
-
-pub found_of : {E : Type 0} (result : Result left.RunOutput E) (meaning : List ℕ → Page) (found : List PageResult) → ArePages meaning found → IfOk result (λ ran. ran.results.items ≡ found) → IfOk result (λ ran. ArePages meaning ran.results.items)
-found_of result meaning found pages is = grind arith
 
 pub nothing_lost_of : {K : _} {E : Type 0} (result : Result left.RunOutput E) (gate : GateId) (workers : ℕ) (allowed : List ℕ → Bool) (meaning : List ℕ → Page) (seeds : List (List ℕ)) (starts : List WorkerId) (ends : List (WorkerEnd K)) (sender : SenderId) (before : Losses)
     → 0 < workers → AllFresh gate workers 0 starts → AllRan workers allowed meaning starts ends → (all_losses before ≡ 0 → AllLogged workers allowed sender.book.log seeds)

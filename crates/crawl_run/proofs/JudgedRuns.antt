@@ -1,6 +1,5 @@
 -- What the seeds and the workers of a run lost together, and the run that lost it.
-use Rattle.crawl_run.proofs.Prelude.{◌≡◌, ◌⊎◌, ℕ, ◌+◌, ◌-◌, ◌^◌, min, Bool, List, [], ◌∷◌, ◌++◌, map, append-nil, append_assoc, refl, sym, ap, subst, ◌∙◌, arith, Some, Result, Ok, Err, IfOk, map-append, take_all, sum_by_push, sum_by, entries_in, entries_of, first_fault, IsCulprit, is_at_fault, no_memory, IsLeast, Culprit, CertError, Accounts, AllFresh, SeederId, SenderId, WorkerId, Entry, OfferError, Offer, GateId, Page, PageResult, both_losses, no_losses, with_refusal, AllRan, Losses, WorkerEnd, losses_at, of_cert, AllOffered, AreOffered, CountsLosses, IsRun, IsSeedOffer, losses_with, lost_seed, together, all_closed, all_found, all_lost}
-use Rattle.std.proofs.lemmas.Grind.{common_steps}
+use Rattle.crawl_run.proofs.Prelude.{◌≡◌, ◌⊎◌, ℕ, ◌+◌, ◌-◌, ◌^◌, min, Bool, List, [], ◌∷◌, ◌++◌, map, append-nil, append_assoc, refl, sym, ap, subst, ◌∙◌, arith, Result, Ok, Err, IfOk, map-append, take_all, sum_by_push, sum_by, entries_in, entries_of, first_fault, IsCulprit, is_at_fault, no_memory, Culprit, Accounts, AllFresh, SeederId, SenderId, WorkerId, Entry, OfferError, Offer, GateId, Page, PageResult, both_losses, no_losses, with_refusal, AllRan, Losses, WorkerEnd, losses_at, of_cert, AllOffered, AreOffered, CountsLosses, IsRun, IsSeedOffer, losses_with, lost_seed, together, all_closed, all_found, all_lost}
 use Rattle.crawl_certificate.specs.declared.error.CertError.TheVariants as cert
 use Rattle.crawl_queues.specs.Books.{fresh_book}
 use Rattle.crawl_frontier.specs.declared.error.OfferError.TheVariants as refused
@@ -8,11 +7,8 @@ use Rattle.crawl_run.specs.declared.run_output.RunOutput as left
 
 -- ---- one more
 
-kind_more : (kind : Losses → ℕ) (all : List Losses) (l : Losses) → min (min (sum_by kind all) (2 ^ 64 - 1) + kind l) (2 ^ 64 - 1) ≡ min (sum_by kind (all ++ l ∷ [])) (2 ^ 64 - 1)
-kind_more kind all l = grind (arith, sum_by_push)
-
 together_more : (all : List Losses) (l : Losses) → both_losses (together all) l ≡ together (all ++ l ∷ [])
-together_more all l = grind (arith, common_steps, kind_more)
+together_more all l = grind (arith, sum_by_push)
 
 -- likewise for the ends of workers
 with_ends : {K : _} (all : List Losses) (ends : List (WorkerEnd K)) → losses_with (together all) ends ≡ together (all ++ all_lost ends)
@@ -22,7 +18,7 @@ with_ends {K} all (e ∷ es) = ap (λ (l : Losses). losses_with l es) (together_
 -- ---- one more seed
 
 -- the result of the offer of a seed
-abbrev Answer : Type 0
+abbrev pub Answer : Type 0
 Answer = Result Offer OfferError
 
 -- the losses so far, together with what is lost by an offer of a seed with this result
@@ -53,9 +49,6 @@ all_more workers allowed s m s' seeds answers seed answer each own = absurd each
 pub offered_more : (workers : ℕ) (allowed : List ℕ → Bool) (s m s' : SeederId) (seeds : List (List ℕ)) (seed : List ℕ) (answer : Answer) (before after : Losses) → IsSeedOffer workers allowed m s' seed answer → after ≡ with_offer answer before
     → AreOffered workers allowed s m seeds before → AreOffered workers allowed s s' (seeds ++ seed ∷ []) after
 offered_more workers allowed s m s' seeds seed answer before after own counted so_far = grind (arith, all_more, offer_more)
-
-pub none_offered : (workers : ℕ) (allowed : List ℕ → Bool) (s : SeederId) (losses : Losses) → losses ≡ no_losses → AreOffered workers allowed s s [] losses
-none_offered workers allowed s losses none = record { answers = []; each = refl; lost = none }
 
 -- ---- the ends of a run, whatever names its frontier
 
@@ -114,11 +107,7 @@ run_of {K} (Err e) gate workers allowed meaning seeds starts ends seeder seeded 
 
 -- ---- what is reported of a run
 
-cause_counted : (workers : ℕ) (allowed : List ℕ → Bool) (meaning : List ℕ → Page) (seeds : List (List ℕ)) (entries : List Entry) (results : List PageResult) (losses : Losses) (cause : CertError) (url : List ℕ) → IsRun workers allowed meaning seeds entries results losses
-    → first_fault allowed seeds entries results ≡ Some cause → IsLeast (is_at_fault allowed seeds entries results cause) (Some url) → CountsLosses workers allowed meaning seeds (of_cert cause) (Some url) losses
-cause_counted workers allowed meaning seeds entries results losses cause url run first least = grind arith
-
 -- a culprit of such a run is reported with its losses, and with none if memory ran out
 pub culprit_counted : (workers : ℕ) (allowed : List ℕ → Bool) (meaning : List ℕ → Page) (seeds : List (List ℕ)) (entries : List Entry) (results : List PageResult) (losses : Losses) (culprit : Culprit) → IsRun workers allowed meaning seeds entries results losses
     → IsCulprit (first_fault allowed seeds entries results) (is_at_fault allowed seeds entries results) culprit ⊎ (culprit ≡ no_memory) → CountsLosses workers allowed meaning seeds (of_cert culprit.cause) culprit.url (losses_at culprit.url losses)
-culprit_counted workers allowed meaning seeds entries results losses culprit run told = grind (arith, cause_counted)
+culprit_counted workers allowed meaning seeds entries results losses culprit run told = grind arith

@@ -84,12 +84,9 @@ no_urls kind (a ∷ answers) none = sum_by-cons kind (lost_seed a) (map lost_see
 
 -- ---- a run
 
-all_of : (most told sum seeds ends : ℕ) → told ≡ min sum most → sum ≡ seeds + ends → seeds ≡ 0 → told < most → told ≡ ends
-all_of most told sum seeds ends is more none few = omega (arith, is, more, none, few)
-
 of_ends : (kind : Losses → ℕ) (told : ℕ) (answers : List Answer) (ends : List End) → ((answer : Answer) → kind (lost_seed answer) ≡ 0) → told ≡ min (sum_by kind (map lost_seed answers ++ all_lost ends)) (2 ^ 64 - 1) → told < 2 ^ 64 - 1
     → told ≡ sum_by kind (all_lost ends)
-of_ends kind told answers ends none is few = grind (arith, all_of, sum_by-append, no_urls)
+of_ends kind told answers ends none is few = grind (arith, sum_by-append, no_urls)
 
 pub lost_urls : (workers : ℕ) (allowed : List ℕ → Bool) (meaning : List ℕ → Page) (seeds : List (List ℕ)) (entries : List Entry) (results : List PageResult) (losses : Losses) → IsRun workers allowed meaning seeds entries results losses → losses.failed + losses.unkept < 2 ^ 64 - 1
     → length entries ≡ length results + losses.failed + losses.unkept

@@ -1,5 +1,6 @@
 -- From the ends of a run to its results, and from an account to its counts.
-use Rattle.crawl_run.proofs.Prelude.{◌≡◌, ◌⊎◌, inl, inr, ℕ, ◌+◌, Bool, List, [], ◌∷◌, ◌++◌, length, slice_get, Option, Some, None, sym, ap, ◌∙◌, arith, length-append, cases_lt, All-nil, All-append, ArePages, CountsOf, first_fault, CertError, IsCulprit, is_at_fault, no_memory, IsLeast, Culprit, get_push, get_last, AccountId, WorkerId, Entry, Page, PageResult, AllRan, WorkerEnd, AreCounts, ComesIn, CountedBelow, IsJudged, IsJudgedAt, IsOfRun, IsUncertified, of_cert, all_found, CrawlError}
+use Rattle.crawl_run.proofs.Prelude.{◌≡◌, ◌⊎◌, inl, inr, ℕ, ◌+◌, Bool, List, [], ◌∷◌, ◌++◌, length, slice_get, Option, Some, sym, ap, ◌∙◌, arith, length-append, cases_lt, All-nil, All-append, ArePages, CountsOf, first_fault, CertError, IsCulprit, is_at_fault, no_memory, Culprit, get_push, get_last, AccountId, WorkerId, Entry, Page, PageResult, AllRan, WorkerEnd, AreCounts, ComesIn, CountedBelow, IsJudged, IsJudgedAt, IsOfRun, of_cert, all_found}
+use Rattle.crawl_run.specs.declared.error.CrawlError.{CrawlError}
 use Rattle.crawl_certificate.specs.declared.error.CertError.TheVariants as cert
 use Rattle.crawl_run.specs.declared.settings.Mode.{Mode}
 use Rattle.crawl_run.specs.declared.error.CrawlError.TheVariants as wrong
@@ -36,15 +37,10 @@ urls_counted account urls counts counted own = record {
 
 -- ---- the error of a certificate
 
--- the error of these entries and results, with the least URL that shows it
-judged_at : (meaning : List ℕ → Page) (allowed : List ℕ → Bool) (seeds : List (List ℕ)) (entries : List Entry) (results : List PageResult) (cause : CertError) (url : List ℕ) → ArePages meaning results → first_fault allowed seeds entries results ≡ Some cause
-    → IsLeast (is_at_fault allowed seeds entries results cause) (Some url) → IsJudgedAt meaning allowed seeds (of_cert cause) (Some url)
-judged_at meaning allowed seeds entries results cause url means first least = grind arith
-
 -- a culprit of these entries and results, as the crawl reports it
 pub culprit_judged : (meaning : List ℕ → Page) (allowed : List ℕ → Bool) (seeds : List (List ℕ)) (entries : List Entry) (results : List PageResult) (culprit : Culprit) → ArePages meaning results
     → IsCulprit (first_fault allowed seeds entries results) (is_at_fault allowed seeds entries results) culprit ⊎ (culprit ≡ no_memory) → IsJudgedAt meaning allowed seeds (of_cert culprit.cause) culprit.url
-culprit_judged meaning allowed seeds entries results culprit means told = grind (arith, judged_at)
+culprit_judged meaning allowed seeds entries results culprit means told = grind arith
 
 -- the cause of a culprit is an error of a run
 pub cause_of_run : (cause : CertError) → IsOfRun (of_cert cause)
@@ -53,10 +49,6 @@ cause_of_run cause = grind arith
 -- and it can occur in either mode
 pub cause_comes : (mode : Mode) (cause : CertError) → ComesIn mode (of_cert cause)
 cause_comes mode cause = grind arith
-
--- an error without a certificate is reported without a URL
-pub uncertified_judged : (meaning : List ℕ → Page) (allowed : List ℕ → Bool) (seeds : List (List ℕ)) (error : CrawlError) → IsUncertified error → IsOfRun error × IsJudgedAt meaning allowed seeds error None
-uncertified_judged meaning allowed seeds error is = grind arith
 
 -- likewise for the error without its URL
 pub judged_alone : (meaning : List ℕ → Page) (allowed : List ℕ → Bool) (seeds : List (List ℕ)) (error : CrawlError) (culprit : Option (List ℕ)) → IsJudgedAt meaning allowed seeds error culprit → IsJudged meaning allowed seeds error

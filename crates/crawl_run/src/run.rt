@@ -29,7 +29,7 @@ use std::sync::Wait;
 use std::thread::Threads;
 
 /// Crawls on the frontier of this setup: seeds, run, account, certificate.
-#[tactic(auto, using(std::proofs::lemmas::Result::err_from_is_err_and, crate::proofs::RunResults::uncertified_judged, crate::proofs::EndedRuns::uncertified_lost))]
+#[tactic(auto, using(std::proofs::lemmas::Result::err_from_is_err_and))]
 pub fn crawl_named<K: Name + Send + Sync, F: SessionFetch + Sync, R: Threads + Wait + Sync>(
     rt: &R,
     alloc: Global,
@@ -55,7 +55,7 @@ pub fn crawl_named<K: Name + Send + Sync, F: SessionFetch + Sync, R: Threads + W
 }
 
 /// Runs all workers of the frontier of this setup from the seeds.
-#[tactic(auto, using(crate::proofs::EndedRuns::found_of, crate::proofs::RunResults::all_pages))]
+#[tactic(auto, using(crate::proofs::RunResults::all_pages))]
 fn run_from<K: Name + Send + Sync, F: SessionFetch + Sync, R: Threads + Wait + Sync>(
     rt: &R,
     alloc: Global,
@@ -85,7 +85,7 @@ fn run_from<K: Name + Send + Sync, F: SessionFetch + Sync, R: Threads + Wait + S
 }
 
 /// Offers the seeds in order, and returns the losses by cause.
-#[tactic(auto, using(crate::proofs::JudgedRuns::none_offered, std::proofs::lemmas::List::take_all))]
+#[tactic(auto, using(std::proofs::lemmas::List::take_all))]
 fn offer_seeds<K: Name, R: Wait>(
     rt: &R,
     frontier: &Frontier<K>,

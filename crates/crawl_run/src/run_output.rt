@@ -23,7 +23,7 @@ pub struct RunOutput {
 
 /// Collects what a run of this frontier left: closed workers and results in the order of `ends`, and the losses in addition to
 /// those of the seeds. So the results are in the order of an account's entries, which is where the certificate looks for each first.
-#[tactic(auto, using(crate::proofs::EndedRuns::closed_on, crate::proofs::EndedRuns::found_on, crate::proofs::EndedRuns::losses_on))]
+#[tactic(auto, using(std::proofs::lemmas::List::append_assoc))]
 pub fn output_of<K: Name>(
     alloc: Global,
     frontier: Frontier<K>,

@@ -1,16 +1,16 @@
 -- The comment states: those after `<` do as those without it, and a run without a dash is one jump.
-use Rattle.html_links.proofs.Prelude.{◌≡◌, ℕ, ◌+◌, ◌-◌, ◌<◌, ◌≤◌, ◌==◌, Bool, true, false, not, cond, List, [], ◌∷◌, length, drop, Option, None, Some, option_map, refl, ap, sym, ◌∙◌, arith, not-true, behind, Stopped}
-use Rattle.html_links.specs.Comments.{Dash, mark_of, State, Comment, LessThan, LessThanBang, LessThanBangDash, LessThanBangDashDash, EndDash, End, EndBang, Next, step, follow, run, comment_rest}
+use Rattle.html_links.proofs.Prelude.{◌≡◌, ℕ, ◌+◌, ◌-◌, ◌<◌, ◌≤◌, ◌==◌, Bool, true, false, not, cond, List, [], ◌∷◌, length, drop, None, Some, refl, ap, sym, ◌∙◌, arith, not-true, behind, Stopped}
+use Rattle.html_links.specs.Comments.{Dash, mark_of, State, Comment, LessThan, LessThanBang, LessThanBangDash, LessThanBangDashDash, EndDash, End, EndBang, Next, step, follow, run}
 use Rattle.html_links.proofs.Jumps.{shorter}
 
 -- what the states after `<` do
-record Same (bytes : List ℕ) : Type 0 where
+pub record Same (bytes : List ℕ) : Type 0 where
   less : run LessThan bytes ≡ run Comment bytes
   bang : run LessThanBang bytes ≡ run Comment bytes
   dash : run LessThanBangDash bytes ≡ run EndDash bytes
   dashes : run LessThanBangDashDash bytes ≡ run End bytes
 
-same : (bytes : List ℕ) → Same bytes
+pub same : (bytes : List ℕ) → Same bytes
 same [] = record { less = refl; bang = refl; dash = refl; dashes = refl }
 same (c ∷ rest) = grind (arith, same rest)
 
@@ -56,9 +56,6 @@ no_bang_end bytes greater = grind arith
 pub to_end : (bytes dashed more : List ℕ) → bytes ≡ 45 ∷ dashed → more ≡ behind (λ c. c == 45) dashed → run EndDash bytes ≡ run End more
 to_end bytes dashed more is skipped = ap (run EndDash) is ∙ over_dashes dashed ∙ ap (run End) (sym skipped)
 
-pub left_behind : (bytes dashed more : List ℕ) → bytes ≡ 45 ∷ dashed → more ≡ behind (λ c. c == 45) dashed → length more ≤ length bytes
-left_behind bytes dashed more is skipped = grind (arith, shorter)
-
 -- the bytes after a comment are the last of its bytes
 
 comment_less_at : (next : Next) (rest left : List ℕ) → ((s : State) → run s rest ≡ Some left → length left < length rest) →
@@ -74,12 +71,6 @@ comment_end_at : (next : Next) (c : ℕ) (rest left : List ℕ) → ((s : State)
     ((s : State) → run s rest ≡ Some left → length left < length rest) → follow next (λ s. run s rest) rest ≡ Some left → drop (length (c ∷ rest) - length left) (c ∷ rest) ≡ left
 comment_end_at next c rest left later less e = grind (arith, same)
 
-comment_end : (s : State) (bytes left : List ℕ) → run s bytes ≡ Some left → drop (length bytes - length left) bytes ≡ left
+pub comment_end : (s : State) (bytes left : List ℕ) → run s bytes ≡ Some left → drop (length bytes - length left) bytes ≡ left
 comment_end s [] left e = absurd (cc)
 comment_end s (c ∷ rest) left e = comment_end_at (step s (mark_of c)) c rest left (λ s e. comment_end s rest left e) (λ s e. comment_less s rest left e) e
-
-pub behind_left : (bytes : List ℕ) (left : ℕ) → Some left ≡ option_map length (comment_rest bytes) → Some (drop (length bytes - left) bytes) ≡ comment_rest bytes
-behind_left bytes left e = grind (arith, comment_end, same)
-
-pub no_left : (o : Option (List ℕ)) → None ≡ option_map length o → None ≡ o
-no_left o e = grind arith

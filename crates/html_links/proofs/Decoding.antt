@@ -1,7 +1,6 @@
 -- The machine of character references over runs of bytes.
-use Rattle.html_links.proofs.Prelude.{common_steps, ◌≡◌, ℕ, ◌==◌, Bool, true, false, cond, List, [], ◌∷◌, ◌++◌, None, Some, ◌<◌, ◌≤◌, length, refl, ap, sym, ◌∙◌, append_assoc, append-nil, arith, cond-true, cond-false, is_ascii_alphanumeric, encode_utf8, front, behind, Stopped, named, is_plain}
-use Rattle.html_links.specs.References.{Text, Reference, Name, Next, Go, text_step, closed_at, name_text, name_end, step, follow, read}
-use Rattle.html_links.proofs.Jumps.{shorter}
+use Rattle.html_links.proofs.Prelude.{common_steps, ◌≡◌, ℕ, ◌==◌, Bool, true, false, cond, List, [], ◌∷◌, ◌++◌, refl, ap, sym, ◌∙◌, append_assoc, append-nil, arith, cond-true, cond-false, is_ascii_alphanumeric, encode_utf8, front, behind, Stopped, is_plain}
+use Rattle.html_links.specs.References.{Text, Reference, Name, Next, Go, text_step, name_text, name_end, step, follow, read}
 use Rattle.html_links.proofs.Sources.{front_all}
 
 abbrev on : List ℕ → Next → List ℕ
@@ -40,9 +39,6 @@ pub decoded_more : (old new last rest plain marked text more all : List ℕ) →
     read Text marked ≡ text ++ read Text more → last ≡ new ++ text → old ++ read Text rest ≡ all → last ++ read Text more ≡ all
 decoded_more old new last rest plain marked text more all some left written reads wrote so_far = grind (arith, common_steps, text_cut)
 
-pub mark_less : (rest marked more : List ℕ) → marked ≡ behind is_plain rest → length more < length marked → length more < length rest
-mark_less rest marked more cut less = grind (arith, shorter)
-
 -- names
 
 name_at : (b : Bool) (name : List ℕ) (c : ℕ) (rest some more : List ℕ) → (b ≡ true → step (Name name) c ≡ Go [] (Name (name ++ c ∷ []))) →
@@ -56,23 +52,6 @@ name_run name [] = ap (λ n. read (Name n) []) (sym (append-nil name))
 name_run name (c ∷ rest) =
     name_at (is_ascii_alphanumeric c) name c rest (front is_ascii_alphanumeric rest) (behind is_ascii_alphanumeric rest)
     (cond-true (is_ascii_alphanumeric c) (Go [] (Name (name ++ c ∷ []))) (name_end name c)) (name_run (name ++ c ∷ []) rest)
-
-pub read_name : (bytes name rest : List ℕ) → name ≡ front is_ascii_alphanumeric bytes → rest ≡ behind is_ascii_alphanumeric bytes → read (Name []) bytes ≡ read (Name name) rest
-read_name bytes name rest some more = name_run [] bytes ∙ ap (λ n. read (Name n) (behind is_ascii_alphanumeric bytes)) (sym some) ∙ ap (read (Name name)) (sym more)
-
-pub name_less : (bytes rest : List ℕ) → rest ≡ behind is_ascii_alphanumeric bytes → length rest ≤ length bytes
-name_less bytes rest more = grind (arith, shorter)
-
--- a name with `;`
-pub closed_name : (name rest last text : List ℕ) → rest ≡ 59 ∷ last → Some text ≡ named true name → read (Name name) rest ≡ text ++ read Text last
-closed_name name rest last text is found = ap (read (Name name)) is ∙ ap (λ o. on last (closed_at name o)) (sym found)
-
-pub closed_itself : (name rest last : List ℕ) → rest ≡ 59 ∷ last → None ≡ named true name → read (Name name) rest ≡ (38 ∷ name) ++ read Text rest
-closed_itself name rest last is none = grind (arith, common_steps, text_behind)
-
--- one before `=`
-pub name_equals : (name rest last : List ℕ) → rest ≡ 61 ∷ last → read (Name name) rest ≡ (38 ∷ name) ++ read Text rest
-name_equals name rest last is = ap (read (Name name)) is ∙ text_behind (38 ∷ name) 61 last ∙ ap (λ r. (38 ∷ name) ++ read Text r) (sym is)
 
 -- and one before anything else
 pub open_name : (name rest : List ℕ) → Stopped is_ascii_alphanumeric rest → Stopped (λ c. c == 59) rest → Stopped (λ c. c == 61) rest →

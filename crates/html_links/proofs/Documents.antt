@@ -1,5 +1,5 @@
 -- The document's machine over runs, over a whole tag and over a whole comment.
-use Rattle.html_links.proofs.Prelude.{common_steps, ◌≡◌, ℕ, ◌+◌, ◌-◌, ◌<◌, ◌≤◌, ◌==◌, Bool, true, false, not, cond, List, [], ◌∷◌, ◌++◌, length, take, drop, map, Option, None, Some, refl, ap, sym, ◌∙◌, arith, append_assoc, append-nil, cond-false, not-true, codes, take_while, take_rest, map-append, bytes_eq-Decides, Class, Space, Slash, Greater, Attribute, Tag, class_of, lower, BeforeName, tag_of, front, behind, in_tag_name, led_front, led_behind, rest_of, read_rest, ended_rest, RestLeaves, start_tag_at, Bor}
+use Rattle.html_links.proofs.Prelude.{common_steps, ◌≡◌, ℕ, ◌+◌, ◌-◌, ◌<◌, ◌≤◌, ◌==◌, Bool, true, false, not, cond, List, [], ◌∷◌, ◌++◌, length, take, drop, map, Option, None, Some, refl, ap, sym, ◌∙◌, arith, append_assoc, append-nil, cond-false, not-true, codes, take_while, take_rest, map-append, bytes_eq-Decides, Class, Space, Slash, Greater, Attribute, Tag, class_of, lower, BeforeName, tag_of, front, behind, in_tag_name, led_front, led_behind, rest_of, read_rest, ended_rest, start_tag_at, Bor}
 use Rattle.html_links.specs.Comments.{mark_of, bytes_at}
 use Rattle.html_links.specs.declared.document.Opening.TheVariants as opening
 use Rattle.html_links.specs.Tags as tags
@@ -39,14 +39,8 @@ read_less bytes opened cut = to_less bytes ∙ ap (read Data) (sym cut)
 pub read_text : (bytes : List ℕ) → behind (λ c. not (c == 60)) bytes ≡ [] → read Data bytes ≡ []
 read_text bytes none = to_less bytes ∙ ap (read Data) none
 
-to_greater : (bytes : List ℕ) → read Bogus bytes ≡ read Bogus (behind (λ c. not (c == 62)) bytes)
+pub to_greater : (bytes : List ℕ) → read Bogus bytes ≡ read Bogus (behind (λ c. not (c == 62)) bytes)
 to_greater = jump Bogus (λ c. not (c == 62)) (λ c e. cond-false (c == 62) (Go Data) (Go Bogus) (not-true (c == 62) e))
-
-pub read_bogus : (bytes rest : List ℕ) → 62 ∷ rest ≡ behind (λ c. not (c == 62)) bytes → read Bogus bytes ≡ read Data rest
-read_bogus bytes rest cut = to_greater bytes ∙ ap (read Bogus) (sym cut)
-
-pub read_open_bogus : (bytes : List ℕ) → behind (λ c. not (c == 62)) bytes ≡ [] → read Bogus bytes ≡ []
-read_open_bogus bytes none = to_greater bytes ∙ ap (read Bogus) none
 
 pub cut_shorter : (test : ℕ → Bool) (bytes rest : List ℕ) (c : ℕ) → c ∷ rest ≡ behind test bytes → length rest < length bytes
 cut_shorter test bytes rest c cut =
@@ -161,7 +155,7 @@ read_open_start_tag rest opened name more cut reads ends = read_less rest opened
 pub start_less : (rest opened more : List ℕ) (t : Tag) → 60 ∷ opened ≡ behind (λ c. not (c == 60)) rest → length more ≤ length opened → Some t ≡ tag_of more → length t.rest < length rest
 start_less rest opened more t cut leaves ends = grind (arith, cut_shorter, tag_less)
 
-rest_less : (o : Option Tag) (more left : List ℕ) → ((t : Tag) → o ≡ Some t → length t.rest < length more) → Some left ≡ rest_of o → length left < length more
+pub rest_less : (o : Option Tag) (more left : List ℕ) → ((t : Tag) → o ≡ Some t → length t.rest < length more) → Some left ≡ rest_of o → length left < length more
 rest_less o more left less e = grind (arith, left)
 
 pub tag_rest_less : (bytes left : List ℕ) → Some left ≡ rest_of (tag_of bytes) → length left < length bytes
@@ -188,7 +182,7 @@ raw_left_at : (name : List ℕ) (c : ℕ) (next : raw.Next) (rest here : List �
     raw.follow next (λ s. raw.run name s rest) (c ∷ rest) ≡ Some here → length here ≤ length rest + 1
 raw_left_at name c next rest here later e = grind arith
 
-raw_left : (name : List ℕ) (s : raw.State) (bytes here : List ℕ) → raw.run name s bytes ≡ Some here → length here ≤ length bytes
+pub raw_left : (name : List ℕ) (s : raw.State) (bytes here : List ℕ) → raw.run name s bytes ≡ Some here → length here ≤ length bytes
 raw_left name s [] here e = absurd (cc)
 raw_left name s (c ∷ rest) here e =
     let le : length here ≤ length rest + 1 = raw_left_at name c (raw.step name s c) rest here (λ s e. raw_left name s rest here e) e in omega arith
@@ -210,22 +204,9 @@ in_script_at : (c : ℕ) (n : nexts.Next) (rest : List ℕ) → ((s : code.State
     follow (script_step c n) (λ here. read here rest) ≡ raw_then (codes "script") (scripts.follow n (λ s. scripts.run s rest) (c ∷ rest))
 in_script_at c n rest later = grind arith
 
-in_script : (s : code.State) (bytes : List ℕ) → read (InScript s) bytes ≡ raw_then (codes "script") (scripts.run s bytes)
+pub in_script : (s : code.State) (bytes : List ℕ) → read (InScript s) bytes ≡ raw_then (codes "script") (scripts.run s bytes)
 in_script s [] = refl
 in_script s (c ∷ rest) = in_script_at c (scripts.step s c) rest (λ s. in_script s rest)
-
-pub read_raw : (name bytes more : List ℕ) (r : Option (Bor (List ℕ))) → Some more ≡ raw.run name raw.Text bytes → bytes_at r ≡ rest_of (tag_of more) → read (InRaw name raw.Text) bytes ≡ ended_rest name r
-read_raw name bytes more r ends tag_ends = grind (arith, in_raw, in_tag, end_then)
-
-pub read_open_raw : (name bytes : List ℕ) → None ≡ raw.run name raw.Text bytes → read (InRaw name raw.Text) bytes ≡ []
-read_open_raw name bytes ends = in_raw name raw.Text bytes ∙ ap (raw_then name) (sym ends)
-
-pub raw_leaves : (name bytes more : List ℕ) (r : Option (Bor (List ℕ))) → Some more ≡ raw.run name raw.Text bytes → bytes_at r ≡ rest_of (tag_of more) → RestLeaves r bytes
-raw_leaves name bytes more None ends tag_ends = tt
-raw_leaves name bytes more (Some left) ends tag_ends =
-    let a : length more ≤ length bytes = raw_left name raw.Text bytes more (sym ends) in
-    let b : length left.now < length more = rest_less (tag_of more) more left.now (λ t e. tag_less BeforeName [] more t e) tag_ends in
-    omega arith
 
 -- an end tag of another element than a template
 
@@ -239,13 +220,3 @@ no_template name raw = grind (arith, bytes_eq-Decides)
 
 pub read_script : (bytes more : List ℕ) (r : Option (Bor (List ℕ))) → Some more ≡ scripts.run script.Text bytes → bytes_at r ≡ rest_of (tag_of more) → read (InScript script.Text) bytes ≡ read_rest r
 read_script bytes more r ends tag_ends = grind (arith, in_script, in_tag, end_then)
-
-pub read_open_script : (bytes : List ℕ) → None ≡ scripts.run script.Text bytes → read (InScript script.Text) bytes ≡ []
-read_open_script bytes ends = in_script script.Text bytes ∙ ap (raw_then (codes "script")) (sym ends)
-
-pub script_leaves : (bytes more : List ℕ) (r : Option (Bor (List ℕ))) → Some more ≡ scripts.run script.Text bytes → bytes_at r ≡ rest_of (tag_of more) → RestLeaves r bytes
-script_leaves bytes more None ends tag_ends = tt
-script_leaves bytes more (Some here) ends tag_ends =
-    let a : length more ≤ length bytes = left script.Text bytes more (sym ends) in
-    let b : length here.now < length more = rest_less (tag_of more) more here.now (λ t e. tag_less BeforeName [] more t e) tag_ends in
-    omega arith

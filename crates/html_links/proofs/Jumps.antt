@@ -226,7 +226,7 @@ stays bytes rest more cut is = is ∙ sym (ap (behind is_space) is) ∙ ap (behi
 
 pub read_quote : (bytes name rest more : List ℕ) → BeginsName bytes → name ≡ name_front bytes → rest ≡ name_behind bytes → rest ≡ 61 ∷ 34 ∷ more → (all : List Attribute) →
     run BeforeName all bytes ≡ run BeforeValue (record { name = map lower name; value = [] } ∷ all) (34 ∷ more)
-read_quote bytes name rest more begins named cut is all = grind (arith, stays, read_name, skip_before_value)
+read_quote bytes name rest more begins named cut is all = grind (arith, stays, read_name, skip, space_before_value)
 
 pub quote_within : (bytes rest more : List ℕ) → BeginsName bytes → rest ≡ name_behind bytes → rest ≡ 61 ∷ 34 ∷ more → length more ≤ length bytes
 quote_within bytes rest more begins cut is = grind (arith, stays, name_shorter)

@@ -19,9 +19,6 @@ type_run word (c ∷ rest) =
 pub found_type : (rest word spaced : List ℕ) → word ≡ front is_unspaced rest → is_link_type word ≡ true → types_behind [] rest ≡ true
 found_type rest word spaced some is = grind (arith, type_run, stopped, not-false)
 
-pub last_word : (rest word spaced : List ℕ) → word ≡ front is_unspaced rest → spaced ≡ behind is_unspaced rest → is_link_type word ≡ false → spaced ≡ [] → types_behind [] rest ≡ false
-last_word rest word spaced some more is none = grind (arith, type_run)
-
 pub next_word : (rest word spaced left : List ℕ) (c : ℕ) → word ≡ front is_unspaced rest → spaced ≡ behind is_unspaced rest → is_link_type word ≡ false → spaced ≡ c ∷ left →
     types_behind [] rest ≡ types_behind [] left
 next_word rest word spaced left c some more is cut = grind (arith, type_run, stopped, not-false)

@@ -70,13 +70,6 @@ pub record Sought (bytes rest : List ℕ) : Type 0 where
   pub has : Has (seen_in bytes) (seen_in rest)
   pub left : length rest ≤ length bytes
 
-pub sought_all : (bytes : List ℕ) → Sought bytes bytes
-sought_all bytes = record { has = has_same (seen_in bytes) (seen_in bytes) refl; left = omega arith }
-
--- and after what is passed
-pub sought_on : (bytes rest more : List ℕ) → Sought bytes rest → Has (seen_in rest) (seen_in more) → length more < length rest → Sought bytes more
-sought_on bytes rest more so_far has less = record { has = has_then (seen_in bytes) (seen_in rest) (seen_in more) so_far.has has; left = omega (arith, so_far.left) }
-
 end_seen : (b : Bool) (more : List Token) → seen_within 0 (cond b (TemplateEnd ∷ []) [] ++ more) ≡ seen_within 0 more
 end_seen b more = grind arith
 

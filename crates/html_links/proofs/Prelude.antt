@@ -5,8 +5,7 @@ pub use Rattle.html_links.specs.Document.{Data, EndTagOpen, InTag, Start, TagOpe
 pub use Rattle.html_links.specs.Elements.{Wanted, element_of, is_usual, wanted_of}
 pub use Rattle.html_links.specs.Lengths.{may_be}
 pub use Rattle.html_links.specs.Links.{base_in, base_of, ids_in, ids_of, is_link_type, links_in, links_of, or_later, types_behind}
-pub use Rattle.html_links.specs.Markup.{RestLeaves, ended_rest, in_tag_name, led_behind, led_front, read_rest, rest_of, start_tag_at}
-pub use Rattle.html_links.specs.Names.{counts, list_at, named}
+pub use Rattle.html_links.specs.Markup.{ended_rest, in_tag_name, led_behind, led_front, read_rest, rest_of, start_tag_at}
 pub use Rattle.html_links.specs.Reads.{base_at}
 pub use Rattle.html_links.specs.Seen.{Seen, opened, seen_in, seen_with, seen_within}
 pub use Rattle.html_links.specs.Shown.{BeginsName, Leaves, Stopped, attribute_at, begins, behind, front, in_name, in_unquoted, is_space, name_behind, name_front, tag_at}
@@ -18,7 +17,7 @@ pub use Rattle.html_links.specs.declared.bytes.Class.TheVariants.{Apostrophe, Eq
 pub use Rattle.html_links.specs.declared.element.Element.{Element}
 pub use Rattle.html_links.specs.declared.element.Element.TheVariants.{Anchor, Other}
 pub use Rattle.memchr.specs.Find.{IsFirstByte, Passes, is_byte}
-pub use Rattle.std.proofs.Common.{Bool, IfSome, List, MatchOption, None, Option, Some, [], ap, append-nil, append_assoc, ap₂, arith, bit_or, cond, drop, eqb, false, get_or, inl, inr, length, map, not, option_map, refl, reverse, rules, slice_index, subst, suc, sym, take, tests, true, zero, ℕ, ⊎_elim, ◌%◌, ◌&&◌, ◌++◌, ◌+◌, ◌-◌, ◌<◌, ◌==◌, ◌^◌, ◌||◌, ◌∙◌, ◌∷◌, ◌≡◌, ◌≤◌}
+pub use Rattle.std.proofs.Common.{Bool, IfSome, List, MatchOption, None, Option, Some, [], ap, append-nil, append_assoc, ap₂, arith, bit_or, cond, drop, eqb, false, get_or, inl, inr, length, map, not, refl, reverse, rules, slice_index, subst, suc, sym, take, tests, true, zero, ℕ, ⊎_elim, ◌%◌, ◌&&◌, ◌++◌, ◌+◌, ◌-◌, ◌<◌, ◌==◌, ◌^◌, ◌||◌, ◌∙◌, ◌∷◌, ◌≡◌, ◌≤◌}
 pub use Rattle.std.proofs.lemmas.Bool.{cases_eq, cases_lt, cond-false, cond-true, eq-eqb, eqb-false, eqb-true, false_from_ne_true, false≢true, ne_eqb, not-false, not-true, or_from}
 pub use Rattle.std.proofs.lemmas.Grind.{common_steps, reverse_onto}
 pub use Rattle.std.proofs.lemmas.List.{drop_all, get_or-drop, get_or-take, length-drop, length-map, length-take-le, map-append, take_rest}
@@ -28,5 +27,6 @@ pub use Rattle.std.proofs.lemmas.Slice.Eq.{bytes_eq-Decides}
 pub use Rattle.std.specs.Borrow.{Bor}
 pub use Rattle.std.specs.Char.{encode_utf8, is_ascii_alphanumeric, to_ascii_lowercase}
 pub use Rattle.std.specs.List.{find, position_or_len, prefix_len, slice_split, take_while}
+pub use Rattle.std.specs.Option.{option_map, option_or}
 pub use Rattle.std.specs.Prelude.{codes}
 pub use Rattle.std.specs.Str.{bytes_eq}

@@ -3,11 +3,10 @@ use Rattle.html_links.proofs.Prelude.{◌≡◌, ℕ, ◌+◌, ◌<◌, ◌≤�
 use Rattle.html_links.specs.declared.script.State.{State}
 use Rattle.html_links.specs.declared.script.State.TheVariants.{Text, LessThan}
 use Rattle.html_links.specs.declared.script.Next.{Next}
-use Rattle.html_links.specs.declared.script.Next.TheVariants.{Go, Ends}
 use Rattle.html_links.specs.Script.{step, follow, run}
 use Rattle.html_links.proofs.Jumps.{shorter}
 
-to_less : (bytes : List ℕ) → run Text bytes ≡ run Text (behind (λ c. not (c == 60)) bytes)
+pub to_less : (bytes : List ℕ) → run Text bytes ≡ run Text (behind (λ c. not (c == 60)) bytes)
 to_less [] = refl
 to_less (c ∷ rest) = grind (arith, cond-false, not-true, to_less rest)
 
@@ -16,13 +15,6 @@ read_less bytes opened cut = to_less bytes ∙ ap (run Text) (sym cut)
 
 pub read_no_less : (bytes : List ℕ) → behind (λ c. not (c == 60)) bytes ≡ [] → run Text bytes ≡ None
 read_no_less bytes none = to_less bytes ∙ ap (run Text) none
-
--- one step, at the first byte
-pub goes : (s t : State) (c : ℕ) (bytes rest : List ℕ) → bytes ≡ c ∷ rest → Go t ≡ step s c → run s bytes ≡ run t rest
-goes s t c bytes rest is steps = ap (run s) is ∙ ap (λ n. follow n (λ state. run state rest) (c ∷ rest)) (sym steps)
-
-pub ends : (s : State) (c : ℕ) (bytes rest : List ℕ) → bytes ≡ c ∷ rest → Ends ≡ step s c → run s bytes ≡ Some bytes
-ends s c bytes rest is steps = ap (run s) is ∙ ap (λ n. follow n (λ state. run state rest) (c ∷ rest)) (sym steps) ∙ ap (λ (bytes : List ℕ). Some bytes) (sym is)
 
 left_at : (c : ℕ) (next : Next) (rest here : List ℕ) → ((s : State) → run s rest ≡ Some here → length here ≤ length rest) → follow next (λ s. run s rest) (c ∷ rest) ≡ Some here → length here ≤ length rest + 1
 left_at c next rest here later e = grind arith

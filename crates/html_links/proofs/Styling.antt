@@ -1,46 +1,28 @@
 -- Style sheets: comments over runs of bytes, and URLs one after another.
-use Rattle.html_links.proofs.Prelude.{◌≡◌, ℕ, zero, suc, ◌<◌, ◌≤◌, ◌==◌, Bool, true, false, not, cond, List, [], ◌∷◌, Option, None, Some, length, refl, ap, sym, ◌∙◌, arith, front, behind, Stopped}
+use Rattle.html_links.proofs.Prelude.{◌≡◌, ℕ, zero, suc, ◌<◌, ◌≤◌, ◌==◌, Bool, true, false, not, cond, List, [], ◌∷◌, Option, None, Some, length, refl, ap, ◌∙◌, arith, front, behind, Stopped}
 use Rattle.html_links.specs.Refresh.{behind_letter, and_then, is_quote}
 use Rattle.html_links.specs.Styles.{is_wide_space, in_plain, Found, or_found, closed, quoted, some_url, plain, in_brackets, behind_url, behind_import, opened, behind_comment, found_behind, found_at, passed, pass, urls_after, urls_within, urls_of}
 use Rattle.html_links.proofs.Jumps.{shorter}
 
 -- a comment to a `*`
 
-to_star : (bytes : List ℕ) → behind_comment false bytes ≡ behind_comment false (behind (λ c. not (c == 42)) bytes)
+pub to_star : (bytes : List ℕ) → behind_comment false bytes ≡ behind_comment false (behind (λ c. not (c == 42)) bytes)
 to_star [] = refl
 to_star (c ∷ rest) = grind (arith, to_star rest)
 
-pub no_star : (bytes : List ℕ) → behind (λ c. not (c == 42)) bytes ≡ [] → behind_comment false bytes ≡ []
-no_star bytes none = to_star bytes ∙ ap (behind_comment false) none
-
-star_end : (bytes starred : List ℕ) → 42 ∷ starred ≡ behind (λ c. not (c == 42)) bytes → behind_comment false bytes ≡ behind_comment true starred
-star_end bytes starred cut = to_star bytes ∙ ap (behind_comment false) (sym cut)
-
 pub star_slash : (bytes starred more : List ℕ) → 42 ∷ starred ≡ behind (λ c. not (c == 42)) bytes → starred ≡ 47 ∷ more → behind_comment false bytes ≡ more
-star_slash bytes starred more cut is = star_end bytes starred cut ∙ ap (behind_comment true) is
-
-not_ended : (starred : List ℕ) → Stopped (λ c. c == 47) starred → behind_comment true starred ≡ behind_comment false starred
-not_ended [] other = refl
-not_ended (c ∷ rest) other = ap (λ b. cond b rest (behind_comment (c == 42) rest)) other
+star_slash bytes starred more cut is = grind (arith, to_star)
 
 pub star_other : (bytes starred : List ℕ) → 42 ∷ starred ≡ behind (λ c. not (c == 42)) bytes → Stopped (λ c. c == 47) starred → behind_comment false bytes ≡ behind_comment false starred
-star_other bytes starred cut other = star_end bytes starred cut ∙ not_ended starred other
+star_other bytes starred cut other = grind (arith, to_star)
 
 -- the bytes after a URL are fewer
 
-letter_less : (letter : ℕ) (bytes more : List ℕ) → behind_letter letter bytes ≡ Some more → length more < length bytes
-letter_less letter bytes more e = grind arith
-
-and_less : (o : Option (List ℕ)) (next : List ℕ → Option (List ℕ)) (bytes : List ℕ) → ((m : List ℕ) → o ≡ Some m → length m < length bytes) →
-    ((m n : List ℕ) → next m ≡ Some n → length n < length m) → (n : List ℕ) → and_then o next ≡ Some n → length n < length bytes
-and_less None next bytes less more n e = absurd (cc)
-and_less (Some m) next bytes less more n e = omega (arith, less m refl, more m n e)
-
 two_less : (a b : ℕ) (bytes n : List ℕ) → and_then (behind_letter a bytes) (behind_letter b) ≡ Some n → length n < length bytes
-two_less a b bytes n e = and_less (behind_letter a bytes) (behind_letter b) bytes (letter_less a bytes) (letter_less b) n e
+two_less a b bytes n e = grind arith
 
 more_less : (a : ℕ) (next : List ℕ → Option (List ℕ)) → ((m n : List ℕ) → next m ≡ Some n → length n < length m) → (bytes n : List ℕ) → and_then (behind_letter a bytes) next ≡ Some n → length n < length bytes
-more_less a next less bytes n e = and_less (behind_letter a bytes) next bytes (letter_less a bytes) less n e
+more_less a next less bytes n e = grind arith
 
 url_less : (bytes n : List ℕ) → behind_url bytes ≡ Some n → length n < length bytes
 url_less = more_less 117 _ (more_less 114 _ (two_less 108 40))
@@ -48,11 +30,8 @@ url_less = more_less 117 _ (more_less 114 _ (two_less 108 40))
 import_less : (bytes n : List ℕ) → behind_import bytes ≡ Some n → length n < length bytes
 import_less = more_less 64 _ (more_less 105 _ (more_less 109 _ (more_less 112 _ (more_less 111 _ (two_less 114 116)))))
 
-closed_less : (url bytes : List ℕ) (f : Found) → closed url bytes ≡ Some f → length f.rest < length bytes
-closed_less url bytes f e = grind arith
-
 quote_at : (b : Bool) (url bytes : List ℕ) (f : Found) → cond b (closed url bytes) None ≡ Some f → length f.rest < length bytes
-quote_at b url bytes f e = grind (arith, closed_less)
+quote_at b url bytes f e = grind arith
 
 quoted_less : (bytes : List ℕ) (f : Found) → quoted bytes ≡ Some f → length f.rest < length bytes
 quoted_less [] f e = absurd (cc)
@@ -122,14 +101,8 @@ within (suc n) (suc m) imports (c ∷ rest) a b =
     after_same (found_at imports (c ∷ rest)) (pass imports (c ∷ rest)) (length (c ∷ rest)) (urls_within n) (urls_within m) (found_less imports (c ∷ rest)) (byte_less imports c rest)
     (λ imports bytes less. within n m imports bytes (omega (arith, less, a)) (omega (arith, less, b)))
 
-urls_step : (imports : Bool) (c : ℕ) (rest : List ℕ) → urls_of imports (c ∷ rest) ≡ urls_after (found_at imports (c ∷ rest)) (pass imports (c ∷ rest)) urls_of
-urls_step imports c rest =
-    after_same (found_at imports (c ∷ rest)) (pass imports (c ∷ rest)) (length (c ∷ rest)) (urls_within (length rest)) urls_of (found_less imports (c ∷ rest)) (byte_less imports c rest)
-    (λ imports bytes less. within (length rest) (length bytes) imports bytes (omega (arith, less)) (omega arith))
-
 pub next_found : (imports : Bool) (bytes rest : List ℕ) (c : ℕ) (f : Found) → bytes ≡ c ∷ rest → Some f ≡ found_at imports bytes → urls_of imports bytes ≡ f.url ∷ urls_of false f.rest
-next_found imports bytes rest c f is found =
-    ap (urls_of imports) is ∙ urls_step imports c rest ∙ ap (λ o. urls_after o (pass imports (c ∷ rest)) urls_of) (ap (found_at imports) (sym is) ∙ sym found)
+next_found imports bytes rest c f is found = grind (arith, after_same, found_less, byte_less, within)
 
 pub none_found : (imports more : Bool) (bytes rest left : List ℕ) (c : ℕ) → bytes ≡ c ∷ rest → None ≡ found_at imports bytes → (left, more) ≡ pass imports bytes → urls_of imports bytes ≡ urls_of more left
-none_found imports more bytes rest left c is found passes = grind (arith, urls_step)
+none_found imports more bytes rest left c is found passes = grind (arith, after_same, found_less, byte_less, within)

@@ -1,5 +1,5 @@
 -- The contents of a template, tag by tag.
-use Rattle.html_links.proofs.Prelude.{◌≡◌, ◌≤◌, ap, arith, ℕ, ◌+◌, ◌-◌, suc, Bool, true, false, cond, List, [], ◌∷◌, ◌++◌, length, Option, None, Some, Bor, BeforeName, tag_of, Token, TemplateEnd, Data, InTag, behind_tag, is_template, read, rest_of, RestLeaves, behind, seen_within}
+use Rattle.html_links.proofs.Prelude.{◌≡◌, arith, ℕ, ◌+◌, suc, Bool, true, false, cond, List, [], ◌∷◌, ◌++◌, None, Some, BeforeName, tag_of, Token, TemplateEnd, Data, InTag, behind_tag, is_template, read, rest_of, behind, seen_within}
 use Rattle.html_links.specs.declared.template.Inner.TheVariants as inner
 use Rattle.html_links.proofs.Documents.{in_tag, end_then}
 
@@ -21,14 +21,3 @@ start_within name bytes text more is ends behind same n = grind (arith, in_tag)
 pub end_within : (name bytes rest : List ℕ) (is : Bool) → Some rest ≡ rest_of (tag_of bytes) → is_template name ≡ is → (n : ℕ) →
     seen_within (suc n) (read (InTag true name BeforeName []) bytes) ≡ seen_within (suc n) (cond is (TemplateEnd ∷ []) [] ++ read Data rest)
 end_within name bytes rest is ends same n = grind (arith, in_tag, end_then)
-
--- one template more, and one less
-
-pub one_more : (n : ℕ) (tokens : List Token) → seen_within (suc (suc n)) tokens ≡ seen_within (suc (n + 1)) tokens
-one_more n tokens = let same : suc n ≡ n + 1 = omega arith in ap (λ (k : ℕ). seen_within (suc k) tokens) same
-
-pub one_less : (n : ℕ) (tokens : List Token) → (n ≡ 0 → ⊥) → seen_within n tokens ≡ seen_within (suc (n - 1)) tokens
-one_less n tokens some = grind arith
-
-pub rest_leaves : (r : Option (Bor (List ℕ))) (rest bytes : List ℕ) → length rest ≤ length bytes → RestLeaves r rest → RestLeaves r bytes
-rest_leaves r rest bytes le leaves = grind arith

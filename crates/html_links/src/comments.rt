@@ -9,7 +9,7 @@ use crate::bytes::{behind_byte, split_quoted};
 
 /// The bytes after a comment, from those after its `<!--`. `None` if the comment does not end.
 #[inline(always)]
-#[tactic(auto, using(std::proofs::lemmas::List::take_rest, crate::proofs::Dashing::behind_left, crate::proofs::Dashing::no_left))]
+#[tactic(auto, using(std::proofs::lemmas::List::take_rest, crate::proofs::Dashing::comment_end, crate::proofs::Dashing::same))]
 pub fn after_comment(bytes: &[u8]) -> Option<&[u8]>
     ensures { bytes_at result ≡ comment_rest bytes.now }
 {
@@ -66,7 +66,7 @@ fn in_comment(bytes: &[u8]) -> Option<&[u8]>
 }
 
 /// The bytes after the comment if it ends after this dash, and otherwise those that are left of it.
-#[tactic(auto, using(crate::proofs::Dashing::left_behind))]
+#[tactic(auto, using(crate::proofs::Jumps::shorter))]
 fn after_dash(bytes: &[u8]) -> Result<&[u8], &[u8]>
     ensures ends { Dashed result bytes.now }
     ensures leaves { LeavesRest result bytes.now }

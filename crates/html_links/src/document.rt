@@ -93,7 +93,7 @@ fn split_tag_name(bytes: &[u8]) -> (&[u8], &[u8])
 /// The bytes after what is read as a comment. The functions that this one and the next call return their results in registers,
 /// so no tag pays for them.
 #[inline(always)]
-#[tactic(auto, using(crate::proofs::Documents::read_bogus, crate::proofs::Documents::cut_shorter, crate::proofs::Documents::read_open_bogus))]
+#[tactic(auto, using(crate::proofs::Documents::to_greater, crate::proofs::Documents::cut_shorter))]
 fn after_bogus(bytes: &[u8]) -> Option<&[u8]>
     ensures reads { read Bogus bytes.now ≡ read_rest result }
     ensures leaves { RestLeaves result bytes.now }
@@ -233,7 +233,7 @@ fn content_of(name: &[u8]) -> Content
 }
 
 /// The bytes after an element whose text is raw, from those after its start tag.
-#[tactic(auto, using(crate::proofs::Documents::read_raw, crate::proofs::Documents::raw_leaves, crate::proofs::Documents::read_open_raw))]
+#[tactic(auto, using(crate::proofs::Documents::in_raw, crate::proofs::Documents::in_tag, crate::proofs::Documents::end_then, crate::proofs::Documents::raw_left, crate::proofs::Documents::rest_less, crate::proofs::Documents::tag_less))]
 fn after_raw<'a>(name: &[u8], bytes: &'a [u8]) -> Option<&'a [u8]>
     requires { 0 < length name.now }
     ensures reads { read (raw_content (map lower name.now)) bytes.now ≡ ended_rest (map lower name.now) result }
@@ -246,7 +246,7 @@ fn after_raw<'a>(name: &[u8], bytes: &'a [u8]) -> Option<&'a [u8]>
 }
 
 /// The bytes after a script, from those after its start tag.
-#[tactic(auto, using(crate::proofs::Documents::script_leaves, crate::proofs::Documents::read_open_script))]
+#[tactic(auto, using(crate::proofs::Scripts::left, crate::proofs::Documents::rest_less, crate::proofs::Documents::tag_less, crate::proofs::Documents::in_script))]
 fn after_whole_script(bytes: &[u8]) -> Option<&[u8]>
     ensures reads { read script_content bytes.now ≡ read_rest result }
     ensures leaves { RestLeaves result bytes.now }

@@ -135,7 +135,7 @@ fn is_link(element: Element, name: &[u8]) -> bool
 
 /// Takes the `href` of an `a`, which has `left` bytes after it.
 #[inline(always)]
-#[tactic(auto, using(crate::proofs::Telling::link_taken))]
+#[tactic(auto, using(crate::proofs::Telling::or_none))]
 fn take_link<'a>(values: &mut Values<'a>, attribute: AttributeAt<'a>, left: usize)
     requires { attribute.name.now ≡ codes "href" }
     ensures { values_at values.new ≡ with_attribute (values_at values.old) (wanted_of Element.Anchor) (attribute_at attribute.entry) }

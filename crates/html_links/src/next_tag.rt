@@ -39,7 +39,7 @@ enum Step<'a> {
 
 /// The first start tag that begins in these bytes, ends, and may name something, and its values that are read.
 #[inline(always)]
-#[tactic(auto, using(crate::proofs::Passing::sought_all, crate::proofs::Passing::sought_on, crate::proofs::Passing::has_then))]
+#[tactic(auto, using(crate::proofs::Passing::has_same, crate::proofs::Passing::has_then))]
 pub(crate) fn next_tag<'a>(bytes: &'a [u8], values: &mut Values<'a>) -> Option<NextTag<'a>>
     ensures finds { Finds result (values_at values.new) (seen_in bytes.now) }
     ensures leaves { LeavesTag result bytes.now }
@@ -200,7 +200,7 @@ fn wanted_tag<'a>(name: &'a [u8], bytes: &'a [u8], values: &mut Values<'a>) -> S
 }
 
 /// The bytes after the contents of an element if these have no tags of the page, and otherwise the bytes after its start tag.
-#[tactic(auto, using(crate::proofs::Templates::none_within, crate::proofs::Templates::rest_leaves))]
+#[tactic(auto, using(crate::proofs::Templates::none_within))]
 fn after_contents<'a>(
     name: &[u8],
     element: Element,

@@ -455,7 +455,7 @@ fn is_link_type(word: &[u8]) -> bool
 }
 
 /// Whether some keyword of a `rel` makes a link to a document.
-#[tactic(auto, using(crate::proofs::Linking::found_type, crate::proofs::Linking::last_word, crate::proofs::Linking::next_word))]
+#[tactic(auto, using(crate::proofs::Linking::found_type, crate::proofs::Linking::type_run, crate::proofs::Linking::next_word))]
 fn has_link_type(rel: &[u8]) -> bool
     ensures { result ≡ types_behind [] rel.now }
 {

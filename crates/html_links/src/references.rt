@@ -78,7 +78,7 @@ fn split_plain(bytes: &[u8]) -> (&[u8], &[u8])
 }
 
 /// Appends the text of a value: its references read, each NUL as U+FFFD.
-#[tactic(auto, using(crate::proofs::Decoding::mark_less))]
+#[tactic(auto, using(crate::proofs::Jumps::shorter))]
 pub(crate) fn decode(value: &[u8], out: &mut Vec<u8>) -> Result<(), AllocError>
     ensures { OnOk result (out.new.items ≡ out.old.items ++ text_of value.now) }
 {
@@ -279,7 +279,7 @@ fn split_name(bytes: &[u8]) -> (&[u8], &[u8])
 }
 
 /// What an `&` before a name means.
-#[tactic(auto, using(crate::proofs::Decoding::read_name, crate::proofs::Decoding::name_less))]
+#[tactic(auto, using(crate::proofs::Decoding::name_run, crate::proofs::Jumps::shorter))]
 fn name(bytes: &[u8]) -> (Decoded<'_>, &[u8])
     ensures reads { Decodes (Name []) bytes.now result.0 result.1.now }
     ensures leaves { length result.1.now ≤ length bytes.now }
@@ -292,7 +292,7 @@ fn name(bytes: &[u8]) -> (Decoded<'_>, &[u8])
 }
 
 /// What an `&` and a name mean if a `;` is after the name.
-#[tactic(auto, using(crate::proofs::Decoding::closed_name, crate::proofs::Decoding::closed_itself))]
+#[tactic(auto, using(crate::proofs::Decoding::text_behind))]
 fn closed_name<'a>(name: &'a [u8], rest: &'a [u8], last: &'a [u8]) -> (Decoded<'a>, &'a [u8])
     requires { rest.now ≡ 59 ∷ last.now }
     ensures reads { Decodes (Name name.now) rest.now result.0 result.1.now }
@@ -305,7 +305,7 @@ fn closed_name<'a>(name: &'a [u8], rest: &'a [u8], last: &'a [u8]) -> (Decoded<'
 }
 
 /// What an `&` and a name mean if no `;` is after the name.
-#[tactic(auto, using(crate::proofs::Decoding::name_equals, crate::proofs::Decoding::open_name))]
+#[tactic(auto, using(crate::proofs::Decoding::text_behind, crate::proofs::Decoding::open_name))]
 fn open_name<'a>(name: &'a [u8], rest: &'a [u8]) -> (Decoded<'a>, &'a [u8])
     requires letter { Stopped is_ascii_alphanumeric rest.now }
     requires semicolon { Stopped (λ c. c == 59) rest.now }

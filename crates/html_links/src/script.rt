@@ -363,7 +363,7 @@ fn open_text(bytes: &[u8]) -> Scan<'_>
 }
 
 /// The step at the first byte. If the script ends at this byte, which is after the end tag's name, the byte is kept.
-#[tactic(auto, using(crate::proofs::Scripts::goes, crate::proofs::Scripts::ends, crate::proofs::Scripts::cut))]
+#[tactic(auto, using(crate::proofs::Scripts::cut))]
 fn scan_byte(state: State, bytes: &[u8]) -> Scan<'_>
     ensures scans { Scans result state bytes.now }
     ensures leaves { LeavesScan result bytes.now }

@@ -95,7 +95,7 @@ fn opened(bytes: &[u8]) -> Option<&[u8]>
 }
 
 /// The bytes after a comment, from those after its `/*`.
-#[tactic(auto, using(crate::proofs::Styling::no_star))]
+#[tactic(auto, using(crate::proofs::Styling::to_star))]
 fn behind_comment(text: &[u8]) -> &[u8]
     ensures { result.now ≡ behind_comment false text.now }
 {

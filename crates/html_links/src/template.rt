@@ -22,7 +22,6 @@ enum Inner<'a> {
 /// The bytes after the end tag of a template, from those after its start tag. Its contents may have templates. `None` if the
 /// template is not closed.
 #[inline(never)]
-#[tactic(auto, using(crate::proofs::Templates::one_more, crate::proofs::Templates::one_less))]
 pub(crate) fn after_template(bytes: &[u8]) -> Option<&[u8]>
     ensures reads { seen_within 1 (read Data bytes.now) ≡ seen_rest result }
     ensures leaves { RestLeaves result bytes.now }

@@ -26,16 +26,13 @@ id_within from (end ∷ ends) count zero bound below = (bound.0, up_to end ends 
 id_within from (end ∷ ends) count (suc k) bound below = id_within end ends count k bound.1 (omega (arith, below))
 
 -- together the ids are the bytes
-bytes_of : (bytes : List ℕ) (from : ℕ) (ends : List ℕ) → DoBound from ends (length bytes) → from + length (flat_map (λ (id : List ℕ). id) (texts_from bytes from ends)) ≡ length bytes
+pub bytes_of : (bytes : List ℕ) (from : ℕ) (ends : List ℕ) → DoBound from ends (length bytes) → from + length (flat_map (λ (id : List ℕ). id) (texts_from bytes from ends)) ≡ length bytes
 bytes_of bytes from [] bound = omega (arith, bound)
 bytes_of bytes from (end ∷ ends) bound =
     let first = slice_range bytes from end in
     let rest = texts_from bytes end ends in
     let within : end ≤ length bytes = up_to end ends (length bytes) bound.1 in
     omega (arith, bytes_of bytes end ends bound.1, bound.0, within, length-append first (flat_map (λ (id : List ℕ). id) rest), length-take (end - from) (drop from bytes), length-drop from bytes)
-
-pub all_bytes : (bytes ends : List ℕ) → DoBound 0 ends (length bytes) → length bytes ≡ length (flat_map (λ (id : List ℕ). id) (texts_from bytes 0 ends))
-all_bytes bytes ends bound = omega (arith, bytes_of bytes 0 ends bound)
 
 -- ---- one more
 
@@ -47,10 +44,6 @@ pub ids_more : (bytes id : List ℕ) (from : ℕ) (ends : List ℕ) → DoBound 
     texts_from (bytes ++ id) from (ends ++ length (bytes ++ id) ∷ []) ≡ texts_from bytes from ends ++ id ∷ []
 ids_more bytes id from [] bound = grind (arith, drop_at, length-append, take_all)
 ids_more bytes id from (end ∷ ends) bound = grind (arith, up_to, ids_more bytes id end ends bound.1, length-drop, drop-append-le, take-append-le)
-
--- what a push makes of a block
-pub ids_pushed : (bytes more id : List ℕ) (ends longer : List ℕ) → DoBound 0 ends (length bytes) → more ≡ bytes ++ id → longer ≡ ends ++ length more ∷ [] → texts_from more 0 longer ≡ texts_from bytes 0 ends ++ id ∷ []
-ids_pushed bytes more id ends longer bound is ends_are = grind (arith, ids_more)
 
 pub bound_pushed : (bytes more id : List ℕ) (ends longer : List ℕ) → DoBound 0 ends (length bytes) → more ≡ bytes ++ id → longer ≡ ends ++ length more ∷ [] → DoBound 0 longer (length more)
 bound_pushed bytes more id ends longer bound is ends_are = grind (arith, length-append, bound_more)

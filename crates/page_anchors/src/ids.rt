@@ -64,7 +64,7 @@ impl Ids {
     }
 
     /// The number of bytes of all ids.
-    #[tactic(auto, using(crate::proofs::Block::all_bytes))]
+    #[tactic(auto, using(crate::proofs::Block::bytes_of))]
     pub fn byte_count(&self) -> usize
         ensures { result ≡ length (flat_map (λ id. id) self.now) }
     {
@@ -84,7 +84,7 @@ impl Ids {
     ///
     /// # Errors
     /// Out of memory, or the ids would have 4 GiB or more. In both cases all ids are removed.
-    #[tactic(auto, using(crate::proofs::Block::bound_pushed, crate::proofs::Block::ids_pushed))]
+    #[tactic(auto, using(crate::proofs::Block::bound_pushed, crate::proofs::Block::ids_more))]
     pub fn push(&mut self, id: &[u8]) -> Result<(), NoMemory>
         ensures pushed { OnOk result (self.new ≡ self.old ++ id.now ∷ []) }
         ensures gone { OnErr result (self.new ≡ []) }

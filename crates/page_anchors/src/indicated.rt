@@ -61,7 +61,7 @@ fn is_escaped(byte: u8) -> bool
 }
 
 /// Whether a document has the anchor that such a text names.
-#[tactic(auto, using(crate::proofs::Plain::plain_indicated))]
+#[tactic(auto, using(percent_encoding::proofs::PercentLemmas::percent_encode_unchanged, crate::proofs::Plain::all_kept, crate::proofs::Plain::plain_front, crate::proofs::Plain::own_decoded, crate::proofs::Plain::once))]
 fn has_plain(ids: &Ids, text: &[u8]) -> bool
     requires { list_any is_odd text.now ≡ false }
     ensures { DoAscend ids.now → result ≡ is_indicated ids.now text.now }

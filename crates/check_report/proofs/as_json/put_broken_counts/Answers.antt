@@ -1,4 +1,5 @@
-use Rattle.check_report.proofs.Prelude.{[], ◌∷◌, ◌++◌, codes, decimal, key, number}
+use Rattle.std.proofs.Common.{[], ◌∷◌, ◌++◌, codes, decimal}
+use Rattle.json.specs.Token.{key, number}
 use Rattle.check_report.proofs.Adding.{joined, last_joined}
 use Rattle.check_report.proofs.as_json.put_broken_counts.Goals as goal
 

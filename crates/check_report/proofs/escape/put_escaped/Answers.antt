@@ -1,11 +1,10 @@
 use Rattle.check_report.proofs.Prelude.{◌≡◌, ◌++◌, IsCharBoundary, IsUtf8, ap, ◌∙◌, subst, sym, take-append-drop, length-prefix_len, IsUtf8-take, list_all, is_ordinary}
+use native.Mathlib.Omega.{arith}
 use Rattle.check_report.proofs.Pieces.{run_ends, run_is_ordinary, run_put}
 use Rattle.check_report.proofs.escape.put_escaped.Goals as goal
 
 pub split_at-requires : goal.split_at-requires
-split_at-requires c =
-    let text = c.runs.rest.now in
-    subst (IsCharBoundary text) (sym (c.ordinary_len.ensures ∙ length-prefix_len is_ordinary text)) (run_ends text)
+split_at-requires c = grind (arith, length-prefix_len, run_ends)
 
 pub runs-preserved : goal.runs-preserved
 runs-preserved c =

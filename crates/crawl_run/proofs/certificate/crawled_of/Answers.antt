@@ -1,4 +1,5 @@
 use Rattle.crawl_run.proofs.Prelude.{entries_of, allows}
+use native.Mathlib.Omega.{arith}
 use Rattle.crawl_certificate.proofs.Crawls.{whole_crawl}
 use Rattle.crawl_certificate.proofs.NothingLost.{nothing_lost}
 use Rattle.crawl_run.proofs.EndedRuns.{culprit_lost}
@@ -20,8 +21,7 @@ pub returns-in-Err-clause-mode : goal.returns-in-Err-clause-mode
 returns-in-Err-clause-mode g c = λ mode. rw c.of_culprit.ensures (cause_comes mode c.in-Err.culprit.cause)
 
 pub returns-in-Err-clause-judged : goal.returns-in-Err-clause-judged
-returns-in-Err-clause-judged g c = λ meaning found.
-    rw c.of_culprit.ensures (culprit_judged meaning (allows c.args.settings.now.filter.now) c.args.seeds.now (entries_of c.args.ran.account) _ c.in-Err.culprit found c.in-Err.ensures.fault)
+returns-in-Err-clause-judged g c = grind (arith, culprit_judged)
 
 pub returns-in-Err-clause-lost : goal.returns-in-Err-clause-lost
 returns-in-Err-clause-lost g c =

@@ -1,5 +1,4 @@
-use Rattle.crawl_run.proofs.Prelude.{refl, Ok, Err, arith, allows, offer_grows, offer_line}
-use Rattle.crawl_run.proofs.EndedRuns.{refusal_line}
+use Rattle.crawl_run.proofs.Prelude.{refl, Ok, Err, allows, offer_grows, offer_line}
 use Rattle.crawl_run.proofs.JudgedRuns.{offered_more}
 use Rattle.crawl_run.proofs.run.offer_seed.Goals as goal
 
@@ -11,9 +10,6 @@ returns-in-Ok-clause-line g c = λ none. (none, λ _. offer_line g.K.Name.worker
 
 pub returns-in-Err-clause-grows : goal.returns-in-Err-clause-grows
 returns-in-Err-clause-grows g c = offer_grows g.K.Name.workers _ _ c.args.seed.now 0 _ c.offer.ensures.books
-
-pub returns-in-Err-clause-line : goal.returns-in-Err-clause-line
-returns-in-Err-clause-line g c = grind (arith, refusal_line)
 
 pub returns-in-Ok-clause-offered : goal.returns-in-Ok-clause-offered
 returns-in-Ok-clause-offered g c = λ first seeds so_far.

@@ -1,5 +1,5 @@
-use Rattle.html_links.proofs.Prelude.{rules, tests, ◌==◌, ◌+◌, List, ℕ, Some, length, drop, ap, sym, ◌∙◌, find, slice_split, take_rest, counts, list_at}
-use Rattle.std.specs.Option.{option_map}
+use Rattle.html_links.proofs.Prelude.{rules, tests, ◌==◌, ◌+◌, List, ℕ, Some, length, drop, ap, sym, ◌∙◌, find, slice_split, take_rest, option_map}
+use Rattle.html_links.specs.Names.{counts, list_at}
 use Rattle.std.proofs.lemmas.Iterator.Search.{find_from_yields_List}
 use Rattle.std.proofs.lemmas.Iterator.Splits.{YieldsList-from_slice_split}
 use Rattle.html_links.proofs.names.named.Goals as goal
