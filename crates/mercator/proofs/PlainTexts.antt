@@ -15,7 +15,7 @@ use Rattle.crawl_report.specs.Json.{printed_line}
 use Rattle.crawl_report.specs.Rows.{rows_with}
 use Rattle.crawl_report.specs.Today.{text_with}
 use Rattle.crawl_report.specs.Unreached.{unreached_of}
-use Rattle.saved_web.specs.SavedWeb.{page_urls}
+use Rattle.saved_pages.specs.SavedWeb.{page_urls}
 use Rattle.crawl_report.specs.declared.report.Parts.{Parts}
 use Rattle.crawl_pages.specs.declared.page.PageResult.{PageResult}
 use Rattle.mercator.specs.WebCrawl.{AreUnreached, asked_pages, IsCrawlText, IsPlain, IsPlainText, printed_with}

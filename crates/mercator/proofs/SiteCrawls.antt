@@ -5,11 +5,11 @@ use Rattle.crawl_certificate.proofs.OneCrawl.{one_crawl}
 use Rattle.crawl_keys.specs.HostFilter.{allows}
 use Rattle.crawl_keys.specs.declared.error.KeyError.{KeyError}
 use Rattle.crawl_sources.specs.Seeds.{seeds_in}
-use Rattle.saved_web.specs.SavedWeb.{page_of}
+use Rattle.saved_pages.specs.SavedWeb.{page_of}
 use Rattle.crawl_pages.specs.declared.page.Page.{Page}
 use Rattle.crawl_pages.specs.declared.page.PageResult.{PageResult}
 use Rattle.std.specs.Str.Lines.{lines}
-use Rattle.saved_web.specs.WebFaults.{IsSound}
+use Rattle.saved_pages.specs.WebFaults.{IsSound}
 use Rattle.crawl_report.specs.ReportText.{report}
 use Rattle.crawl_run.specs.Crawls.{AreCounts, ComesIn, CrawlFails, IsJudgedAt}
 use Rattle.crawl_run.specs.JudgedRuns.{CountsLosses}

@@ -13,9 +13,9 @@ use Rattle.crawl_report.specs.Today.{told_text}
 use Rattle.crawl_report.specs.Unreached.{unreached_of}
 use Rattle.crawl_report.specs.declared.report.Parts.{Parts}
 use Rattle.crawl_sources.specs.Seeds.{seeds_in}
-use Rattle.saved_web.specs.SavedWeb.{page_of, page_urls}
+use Rattle.saved_pages.specs.SavedWeb.{page_of, page_urls}
 use Rattle.crawl_keys.specs.declared.error.KeyError.{KeyError}
-use Rattle.saved_web.specs.WebFaults.{IsSound, IsWebFault}
+use Rattle.saved_pages.specs.WebFaults.{IsSound, IsWebFault}
 use Rattle.mercator.specs.declared.commands.fault.Fault.{Fault}
 use Rattle.mercator.specs.declared.commands.fault.Fault.TheVariants as wrong
 use Rattle.mercator.specs.declared.commands.planned.CrawlPlan.{CrawlPlan}

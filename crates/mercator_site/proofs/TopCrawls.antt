@@ -7,7 +7,7 @@ use Rattle.crawl_keys.specs.CanonicalText.{canonical, resolve}
 use Rattle.crawl_keys.specs.HostFilter.{allows}
 use Rattle.crawl_keys.specs.HostKey.{host_key}
 use Rattle.crawl_keys.specs.declared.error.KeyError.{KeyError}
-use Rattle.saved_web.specs.SavedWeb.{page_of}
+use Rattle.saved_pages.specs.SavedWeb.{page_of}
 use Rattle.crawl_pages.specs.declared.page.Page.{Page}
 use Rattle.crawl_pages.specs.declared.page.PageResult.{PageResult}
 use Rattle.crawl_run.specs.Crawls.{CrawlFails, is_incomplete}

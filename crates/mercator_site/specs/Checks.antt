@@ -10,8 +10,8 @@ use Rattle.crawl_keys.specs.CanonicalText.{canonical, resolve}
 use Rattle.crawl_keys.specs.HostFilter.{allows}
 use Rattle.crawl_keys.specs.HostKey.{host_key}
 use Rattle.crawl_certificate.specs.Certificate.{IsCrawl}
-use Rattle.saved_web.specs.SavedWeb.{page_of}
-use Rattle.saved_web.specs.WebFaults.{IsSound}
+use Rattle.saved_pages.specs.SavedWeb.{page_of}
+use Rattle.saved_pages.specs.WebFaults.{IsSound}
 use Rattle.crawl_pages.specs.declared.page.PageResult.{PageResult}
 use Rattle.mercator_site.specs.Asks.{Asks}
 use Rattle.mercator_site.specs.External.{AreExternal, Row, row_of}

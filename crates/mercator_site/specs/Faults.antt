@@ -6,7 +6,7 @@ use Rattle.crawl_run.specs.Crawls.{CrawlFails, is_incomplete}
 use Rattle.crawl_run.specs.declared.error.CrawlError.{CrawlError}
 use Rattle.crawl_run.specs.declared.error.CrawlError.TheVariants as crawl
 use Rattle.crawl_run.specs.declared.failure.CrawlFailure.{CrawlFailure}
-use Rattle.saved_web.specs.WebFaults.{IsSound}
+use Rattle.saved_pages.specs.WebFaults.{IsSound}
 use Rattle.mercator_site.specs.Checks.{starts}
 use Rattle.mercator_site.specs.Own.{AreOwn}
 use Rattle.mercator_site.specs.declared.options.CheckOptions.{CheckOptions}

@@ -1,8 +1,8 @@
 -- Sources with the pages of a saved web.
 use Rattle.std.specs.Prelude.{◌≡◌, ℕ, List}
 use Rattle.std.specs.Str.Lines.{lines}
-use Rattle.saved_web.specs.SavedWeb.{page_of}
-use Rattle.saved_web.specs.WebFaults.{IsSound}
+use Rattle.saved_pages.specs.SavedWeb.{page_of}
+use Rattle.saved_pages.specs.WebFaults.{IsSound}
 use Rattle.crawl_pages.specs.declared.page.Page.{Page}
 
 -- the bytes are a saved web, which has this page at each URL

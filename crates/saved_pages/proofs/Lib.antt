@@ -1,2 +1,3 @@
 pub mod PageIndex
+pub mod UrlIndices
 pub mod WebLines

@@ -1,5 +1,8 @@
 pub mod AddedPages
 pub mod PageLists
 pub mod PageTexts
+pub mod SavedWeb
+pub mod UrlIndices
 pub mod WebChecks
+pub mod WebFaults
 pub mod WebLines

@@ -216,6 +216,7 @@ fn is_written(text: &str, behind: &str) -> bool
 }
 
 /// Returns what follows `page` and a space at the front, if they are there. The lines after the first are the same.
+#[tactic(auto, using(text_lines::proofs::CutLines::behind_page))]
 fn behind_word(rest: &str) -> &str
     ensures { behind_line result.now ≡ behind_line rest.now }
 {

@@ -5,10 +5,14 @@ mod add;
 mod error;
 mod known_page;
 mod line;
+mod link_text;
 mod pages;
+mod url_list;
 
 pub use add::{Above, add_line, check_line, header};
 pub use error::WebError;
 pub use known_page::KnownPage;
 pub use line::{Line, line_of};
+pub use link_text::LinkText;
 pub use pages::Pages;
+pub use url_list::UrlList;

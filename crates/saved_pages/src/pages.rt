@@ -141,6 +141,7 @@ impl<'a> Pages<'a> {
     }
 
     /// Returns the page at the index.
+    #[tactic(auto, using(crate::proofs::PageIndex::item_at))]
     pub fn at(&self, index: usize) -> Option<&KnownPage<'a>>
         ensures { option_map (λ page. page.now) result ≡ slice_get self.now index }
     {

@@ -1,6 +1,6 @@
 -- The saved web of pages has at each URL the page that these have.
 use Rattle.saved_site.proofs.Prelude.{◌≡◌, ℕ, true, List, [], ◌∷◌, ◌++◌, Option, Some, None, codes, refl, ap, ◌∙◌, arith, false, flat_map, lines, and_parts, cases_Bool, cond-true, cond-false, Line, under_page, page_in, web_text, fits_under, fits, all_fit, SitePage, Under, Links, Moved, bytes_eq, bytes_eq-Decides, is_below}
-use Rattle.saved_web.specs.SavedWeb.{lines_behind, put_link, link_texts, put_moved, moved_text, page_with, page_behind, page_of}
+use Rattle.saved_pages.specs.SavedWeb.{lines_behind, put_link, link_texts, put_moved, moved_text, page_with, page_behind, page_of}
 use Rattle.saved_site.proofs.Says as lemma
 use Rattle.saved_site.proofs.Sound.{AllPages, links, under_lines, page_lines, at_link, at_moved, at_page, at_header, web_cut}
 use Rattle.crawl_pages.specs.declared.page.Page.TheVariants as page

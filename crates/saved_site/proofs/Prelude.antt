@@ -19,9 +19,9 @@ pub use Rattle.saved_site.specs.declared.linked.linked_page.LinkedPage.{LinkedPa
 pub use Rattle.saved_site.specs.declared.page.SitePage.{SitePage}
 pub use Rattle.saved_site.specs.declared.page.Under.{Under}
 pub use Rattle.saved_site.specs.declared.page.Under.TheVariants.{Links, Moved}
-pub use Rattle.saved_web.proofs.AheadLinks.{lead_still}
-pub use Rattle.saved_web.specs.Ahead.{KeepIndices, LeadTo}
-pub use Rattle.saved_web.specs.SavedWeb.{found_page, link_url}
+pub use Rattle.saved_pages.proofs.UrlIndices.{lead_still}
+pub use Rattle.saved_pages.specs.UrlIndices.{KeepIndices, LeadTo}
+pub use Rattle.saved_pages.specs.SavedWeb.{found_page, link_url}
 pub use Rattle.site_files.specs.Below.{is_below}
 pub use Rattle.std.proofs.Common.{Bool, List, None, Ok, Option, Some, [], ap, append-nil, append_assoc, arith, codes, cond, drop, false, get_or, is_some, length, length-append, lt-ltb, map, not, refl, rules, slice_get, string_bytes, subst, sym, take, take_all, true, ℕ, ◌*◌, ◌++◌, ◌+◌, ◌-◌, ◌<◌, ◌||◌, ◌∙◌, ◌∷◌, ◌≡◌, ◌≤◌}
 pub use Rattle.std.proofs.lemmas.Bool.{and_parts, cases_Bool, cond-false, cond-true, leb-true, not-true, or_from, or_parts}

@@ -3,9 +3,9 @@ use Rattle.saved_site.proofs.Prelude.{◌≡◌, ℕ, ◌+◌, ◌<◌, Bool, tr
 use Rattle.std.specs.Result.{result_ok}
 use Rattle.std.proofs.lemmas.List.Folds.{list_any-append}
 use Rattle.crawl_keys.specs.declared.error.KeyError.{KeyError}
-use Rattle.saved_web.proofs.ReadWeb.{under_more}
+use Rattle.saved_pages.proofs.WebLines.{under_more}
 use Rattle.text_lines.specs.LeastFault.{SoundAfter}
-use Rattle.saved_web.specs.WebFaults.{is_second, under_last_page, before, fault_after, IsSound}
+use Rattle.saved_pages.specs.WebFaults.{is_second, under_last_page, before, fault_after, IsSound}
 use Rattle.saved_pages.specs.WebChecks.{page_fault, under_fault, said_fault, text_fault}
 use Rattle.saved_pages.specs.declared.error.WebError.{WebError}
 use Rattle.saved_pages.specs.declared.error.WebError.TheVariants as wrong

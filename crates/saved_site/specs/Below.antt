@@ -1,7 +1,7 @@
 -- The pages of a site are below its top, and in order.
 use Rattle.std.specs.Prelude.{◌≡◌, ℕ, Bool, false, ◌&&◌, List}
 use Rattle.std.specs.Str.Lines.{lines}
-use Rattle.saved_web.specs.SavedWeb.{page_of}
+use Rattle.saved_pages.specs.SavedWeb.{page_of}
 use Rattle.crawl_pages.specs.declared.page.Page.TheVariants as page
 use Rattle.site_files.specs.Below.{IsTop, is_below}
 use Rattle.saved_site.specs.Pages.{is_behind}

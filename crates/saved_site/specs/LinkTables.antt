@@ -2,7 +2,7 @@
 use Rattle.std.specs.Prelude.{◌≡◌, ℕ, true, List, [], All, slice_get, Option, Some, None}
 use Rattle.std.specs.Option.{option_map}
 use Rattle.crawl_keys.specs.Folders.{is_of_folder}
-use Rattle.saved_web.specs.SavedWeb.{link_url}
+use Rattle.saved_pages.specs.SavedWeb.{link_url}
 use Rattle.saved_site.specs.declared.linked.link_table.LinkTable.{LinkTable}
 
 -- the index is that of the URL that a link leads to; if it leads to none, there is no index

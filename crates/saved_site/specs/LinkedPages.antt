@@ -5,7 +5,7 @@ use Rattle.std.specs.Option.{is_some}
 use Rattle.hash_index.specs.Index.{IsIndexOf}
 use Rattle.hash_index.specs.Lists.{index_of}
 use Rattle.hash_order.specs.HashOrder.{hash_of}
-use Rattle.saved_web.specs.Ahead.{KeepIndices, LeadTo}
+use Rattle.saved_pages.specs.UrlIndices.{KeepIndices, LeadTo}
 use Rattle.crawl_pages.specs.declared.page.Page.{Page}
 use Rattle.crawl_pages.specs.declared.page.Page.TheVariants as page
 use Rattle.saved_site.specs.LinkTables.{IsTableOf}

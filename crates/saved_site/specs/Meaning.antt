@@ -2,8 +2,8 @@
 use Rattle.std.specs.Prelude.{◌≡◌, ℕ, List, [], ◌∷◌, if◌then◌else◌}
 use Rattle.std.specs.Str.Lines.{lines}
 use Rattle.std.specs.Str.{bytes_eq}
-use Rattle.saved_web.specs.SavedWeb.{link_url, found_page, page_of}
-use Rattle.saved_web.specs.WebFaults.{IsSound}
+use Rattle.saved_pages.specs.SavedWeb.{link_url, found_page, page_of}
+use Rattle.saved_pages.specs.WebFaults.{IsSound}
 use Rattle.crawl_pages.specs.declared.page.Page.{Page}
 use Rattle.crawl_pages.specs.declared.page.Page.TheVariants as page
 use Rattle.saved_site.specs.Pages.{ascending, web_text}

@@ -2,13 +2,13 @@
 use native.Mathlib.Omega.{arith}
 use Rattle.std.proofs.lemmas.Bool.Decides.{nat_tests}
 use Rattle.std.proofs.lemmas.Grind.{common_steps}
-use Rattle.std.proofs.Common.{◌≡◌, ℕ, ◌+◌, ◌<◌, List, [], ◌∷◌, ◌++◌, length, map, take, get_or, slice_get, Option, Some, IfSome, Result, Ok, Err, IfOk, refl, sym, ap, ◌∙◌}
-use Rattle.std.proofs.lemmas.List.{map-id, map_more, map_push}
-use Rattle.hash_index.specs.Lists.{index_of}
-use Rattle.hash_index.proofs.Listed.{found_at, push_cases}
+use Rattle.std.proofs.Common.{◌≡◌, ℕ, ◌+◌, ◌<◌, List, [], ◌∷◌, ◌++◌, length, map, take, get_or, slice_get, Option, Some, IfSome, refl, sym, ap, ◌∙◌}
+use Rattle.std.proofs.lemmas.List.{map_more, map_push}
+use Rattle.hash_index.proofs.Listed.{push_cases}
 use Rattle.saved_pages.proofs.PageIndex.{with_url}
-use Rattle.saved_web.proofs.PartPlaces.{get_front}
-use Rattle.saved_web.specs.Ahead.{shown_page, LeadTo, KeepIndices, IsAhead, AreAhead}
+use Rattle.saved_pages.proofs.UrlIndices.{lead_still}
+use Rattle.saved_pages.specs.UrlIndices.{LeadTo, KeepIndices}
+use Rattle.saved_web.specs.Ahead.{shown_page, IsAhead, AreAhead}
 use Rattle.saved_web.specs.KnownPages.{known_page}
 use Rattle.saved_pages.specs.PageLists.{PageRead, page_with}
 use Rattle.crawl_pages.specs.declared.page.Page.{Page}
@@ -16,33 +16,7 @@ use Rattle.crawl_pages.specs.declared.page.Page.TheVariants.{Found}
 use Rattle.saved_web.specs.declared.ahead.chunk.LinksAhead.{LinksAhead}
 use Rattle.saved_web.specs.declared.ahead.chunk.PageAhead.{PageAhead}
 
--- ---- URLs by their indices
-
--- the index that was found, in four bytes
-pub found_there : {E : Type 0} (urls : List (List ℕ)) (url : List ℕ) (index : ℕ) (told : Result ℕ E) → Some index ≡ index_of (map (λ u. u) urls) url → IfOk told (λ short. short ≡ index) → IfOk told (λ short. slice_get urls short ≡ Some url)
-found_there urls url index told found is = grind (arith, found_at, map-id)
-
--- the index of the URL that was pushed
-pub pushed_there : {E : Type 0} (urls longer : List (List ℕ)) (url : List ℕ) (last : ℕ) (told : Result ℕ E) → longer ≡ urls ++ url ∷ [] → last ≡ length urls → IfOk told (λ short. short ≡ last) → IfOk told (λ short. slice_get longer short ≡ Some url)
-pushed_there urls longer url last (Err e) is at told_is = tt
-pushed_there urls longer url last (Ok short) is at told_is =
-    ap (slice_get longer) (told_is ∙ at) ∙ ap (λ l. slice_get l (length urls)) is ∙ get_last urls url
-  where
-    get_last : (xs : List (List ℕ)) (y : List ℕ) → slice_get (xs ++ y ∷ []) (length xs) ≡ Some y
-    get_last [] y = refl
-    get_last (x ∷ xs) y = get_last xs y
-
-pub keep_pushed : (urls longer : List (List ℕ)) (url : List ℕ) → longer ≡ urls ++ url ∷ [] → KeepIndices urls longer
-keep_pushed urls longer url is index other at = ap (λ l. slice_get l index) is ∙ get_front urls (url ∷ []) index other at
-
 -- ---- links by the indices of their URLs
-
--- if URLs keep their indices, the same links are at them
-pub lead_still : (old new : List (List ℕ)) (indices : List ℕ) (links : List (List ℕ)) → KeepIndices old new → LeadTo old indices links → LeadTo new indices links
-lead_still old new [] [] keep lead = refl
-lead_still old new [] (link ∷ links) keep lead = absurd (cc)
-lead_still old new (index ∷ indices) [] keep lead = absurd (cc)
-lead_still old new (index ∷ indices) (link ∷ links) keep lead = grind (arith, lead_still old new indices links keep)
 
 -- one index more, of the next link
 pub lead_more : (urls : List (List ℕ)) (indices : List ℕ) (links : List (List ℕ)) (i index : ℕ) (link : List ℕ) → i < length links → link ≡ get_or links i link → LeadTo urls indices (take i links) → slice_get urls index ≡ Some link → LeadTo urls (indices ++ index ∷ []) (take (i + 1) links)

@@ -2,7 +2,7 @@
 use Rattle.std.proofs.Common.{◌≡◌, ℕ, ◌+◌, ◌<◌, ◌==◌, Bool, true, false, ◌||◌, List, [], ◌∷◌, ◌++◌, length, Option, Some, None, IfSome, is_some, Result, Ok, Err, refl, sym, ap, subst, ◌∙◌, arith, append_assoc, append-nil, length-append, ne_eqb}
 use Rattle.std.specs.Bool.{if◌then◌else◌}
 use Rattle.std.specs.List.{list_any, cons_option}
-use Rattle.std.specs.Option.{option_map, option_or, option_map_or}
+use Rattle.std.specs.Option.{option_or, option_map_or}
 use Rattle.std.specs.Str.{bytes_eq}
 use Rattle.std.specs.Str.Lines.{lines}
 use Rattle.std.proofs.lemmas.Bool.{cond-true, cond-false, or_parts, or_right}
@@ -11,16 +11,16 @@ use Rattle.std.proofs.lemmas.List.Elements.{filter_map-append}
 use Rattle.std.proofs.lemmas.List.Folds.{list_any-append}
 use Rattle.std.proofs.lemmas.Slice.Eq.{bytes_eq-Decides}
 use Rattle.crawl_keys.specs.declared.error.KeyError.{KeyError}
-use Rattle.saved_web.proofs.PassedLines.{said_passes}
-use Rattle.saved_web.proofs.ReadWeb.{known_urls}
+use Rattle.saved_web.proofs.MovedPages.{said_passes}
+use Rattle.saved_web.proofs.ReadWeb.{known_urls, with_url-append}
 use Rattle.saved_web.specs.KnownPages.{KnownPages, known_page}
 use Rattle.text_lines.specs.LeastFault.{SoundAfter}
 use Rattle.saved_pages.specs.PageLists.{PageRead, urls, has}
 use Rattle.saved_pages.specs.PageLists as list
 use Rattle.saved_web.specs.Reading.{AreRead, AreReadBehind, IsHeader}
-use Rattle.saved_web.specs.SavedWeb.{lines_behind, put_link, link_texts, put_moved, moved_text, page_with, page_behind, page_of, page_urls}
+use Rattle.saved_pages.specs.SavedWeb.{lines_behind, put_link, link_texts, put_moved, moved_text, page_with, page_behind, page_of, page_urls}
 use Rattle.saved_pages.specs.WebChecks.{Before, page_fault, under_fault, said_fault, text_fault, line_fault}
-use Rattle.saved_web.specs.WebFaults.{under_last_page, before, fault_after}
+use Rattle.saved_pages.specs.WebFaults.{under_last_page, before, fault_after}
 use Rattle.saved_pages.specs.WebLines.{line_of_text, line_of, says_page, url_said, is_page, is_page_at, page_url}
 use Rattle.text_lines.specs.declared.lines.LineError.TheVariants.{TooLong, NotText}
 use Rattle.saved_pages.specs.declared.error.WebError.TheVariants as wrong
@@ -121,42 +121,23 @@ moved_ends (x ∷ xs) ys none = ap (put_moved (line_of x)) (moved_ends xs ys non
 
 -- ---- the pages of both
 
-pub with_url-append : (ps qs : KnownPages) (url : List ℕ) → list.page_with (ps ++ qs) url ≡ option_or (list.page_with ps url) (list.page_with qs url)
-with_url-append [] qs url = refl
-with_url-append (p ∷ ps) qs url = grind (arith, with_url-append ps qs url)
-
 some_or : (a b : Option PageRead) → is_some (option_or a b) ≡ (is_some a || is_some b)
 some_or a b = grind arith
 
 pub has-append : (ps qs : KnownPages) (url : List ℕ) → has (ps ++ qs) url ≡ (has ps url || has qs url)
 has-append ps qs url = ap is_some (with_url-append ps qs url) ∙ some_or (list.page_with ps url) (list.page_with qs url)
 
-first_of : (a b : Option PageRead) → is_some a ≡ true → option_or a b ≡ a
-first_of a b some = grind arith
-
-other_of : (a b : Option PageRead) → is_some a ≡ false → option_or a b ≡ b
-other_of a b none = grind arith
-
-told : Option PageRead → Option (List (List ℕ))
-told o = option_map (λ page. lines page.behind) o
-
 known_first : (ps qs : KnownPages) (url : List ℕ) → has ps url ≡ true → known_page (ps ++ qs) url ≡ known_page ps url
-unfolding told
-known_first ps qs url some = ap (λ o. page_behind url (told o)) (with_url-append ps qs url ∙ first_of (list.page_with ps url) (list.page_with qs url) some)
+known_first ps qs url some = grind (arith, with_url-append)
 
 known_later : (ps qs : KnownPages) (url : List ℕ) → has ps url ≡ false → known_page (ps ++ qs) url ≡ known_page qs url
-unfolding told
-known_later ps qs url none = ap (λ o. page_behind url (told o)) (with_url-append ps qs url ∙ other_of (list.page_with ps url) (list.page_with qs url) none)
+known_later ps qs url none = grind (arith, with_url-append)
 
 -- ---- the page of a URL in both
 
 behind_some : (url : List ℕ) (xs : List (List ℕ)) → is_some (lines_behind xs url) ≡ list_any (is_page_at url) xs
 behind_some url [] = refl
-behind_some url (x ∷ xs) = by_first (is_page_at url x) _ _ (behind_some url xs)
-  where
-    by_first : (b : Bool) (o : Option (List (List ℕ))) (any : Bool) → is_some o ≡ any → is_some (if b then Some xs else o) ≡ (b || any)
-    by_first true o any e = refl
-    by_first false o any e = e
+behind_some url (x ∷ xs) = grind (arith, behind_some url xs)
 
 behind_first : (url : List ℕ) (xs ys behind : List (List ℕ)) → lines_behind xs url ≡ Some behind → lines_behind (xs ++ ys) url ≡ Some (behind ++ ys)
 behind_first url [] ys behind is = absurd (cc)

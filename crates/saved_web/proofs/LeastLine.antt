@@ -3,7 +3,7 @@ use Rattle.std.proofs.Common.{◌≡◌, ℕ, List, [], ◌∷◌, ◌++◌, Opt
 use Rattle.std.specs.Option.{option_or}
 use Rattle.crawl_keys.specs.Outcome.{IsRefusal}
 use Rattle.text_lines.specs.LeastFault.{SoundAfter, IsLeastFault}
-use Rattle.saved_web.specs.WebFaults.{fault_after, IsSound, IsWebFault, IsWebRefusal}
+use Rattle.saved_pages.specs.WebFaults.{fault_after, IsSound, IsWebFault, IsWebRefusal}
 use Rattle.saved_pages.specs.declared.error.WebError.{WebError}
 use Rattle.saved_pages.specs.declared.error.WebError.TheVariants as wrong
 

@@ -1,12 +1,9 @@
 pub mod AheadLinks
-pub mod FirstVersion
 pub mod JoinedParts
+pub mod KnownLinks
 pub mod LeastLine
-pub mod LinkIndex
 pub mod LongPages
-pub mod PageLinks
+pub mod MovedPages
 pub mod PartPages
 pub mod PartPlaces
-pub mod PassedLines
 pub mod ReadWeb
-pub mod Unmixed

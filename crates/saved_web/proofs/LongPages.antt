@@ -7,7 +7,7 @@ use Rattle.std.proofs.lemmas.List.Elements.{filter_map-append}
 use Rattle.std.proofs.lemmas.List.Sums.{sum_by-append}
 use Rattle.saved_web.specs.LongPages.{AreFound}
 use Rattle.saved_web.proofs.JoinedParts.{links_end}
-use Rattle.saved_web.specs.SavedWeb.{put_link, link_texts, moved_text, found_page, page_behind}
+use Rattle.saved_pages.specs.SavedWeb.{put_link, link_texts, moved_text, found_page, page_behind}
 use Rattle.crawl_pages.specs.declared.page.Page.{Page}
 use Rattle.saved_pages.specs.WebLines.{line_of, says_page, is_page}
 use Rattle.saved_pages.specs.declared.line.Line.{Line}

@@ -9,7 +9,8 @@ use Rattle.std.proofs.lemmas.Bool.{or_parts}
 use Rattle.std.proofs.lemmas.List.{drop_more, map-append, take_more}
 use Rattle.std.proofs.lemmas.List.Concat.{flat_map-append}
 use Rattle.std.proofs.lemmas.Slice.Eq.{bytes_eq-Decides}
-use Rattle.saved_web.proofs.JoinedParts.{with_url-append, has-append}
+use Rattle.saved_web.proofs.JoinedParts.{has-append}
+use Rattle.saved_web.proofs.ReadWeb.{with_url-append}
 use Rattle.saved_pages.specs.PageLists.{PageRead, urls, page_with, has}
 
 or_none : (o : Option PageRead) → o ≡ None → (later : Option PageRead) → option_or o later ≡ later

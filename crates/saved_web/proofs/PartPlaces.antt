@@ -1,7 +1,7 @@
 -- Pages in parts, by their indices among all.
 use Rattle.std.proofs.lemmas.Bool.Decides.{nat_tests}
 use Rattle.std.proofs.lemmas.Grind.{common_steps}
-use Rattle.std.proofs.Common.{◌≡◌, ℕ, zero, suc, ◌+◌, ◌<◌, List, [], ◌∷◌, ◌++◌, length, drop, get_or, slice_get, Option, Some, IfSome, SomeIff, sym, ap, subst, ◌∙◌, arith}
+use Rattle.std.proofs.Common.{◌≡◌, ℕ, suc, ◌+◌, ◌<◌, List, [], ◌∷◌, ◌++◌, length, drop, get_or, slice_get, Option, Some, IfSome, SomeIff, sym, ap, subst, ◌∙◌, arith}
 use Rattle.std.specs.Borrow.{Bor}
 use Rattle.std.specs.List.{flat_map}
 use Rattle.std.specs.Option.{option_map}
@@ -10,14 +10,9 @@ use Rattle.std.proofs.lemmas.Option.{slice_get-get_or, slice_get_within}
 use Rattle.hash_index.specs.Lists.{index_of}
 use Rattle.hash_index.proofs.Listed.{found_at}
 use Rattle.saved_pages.proofs.PageIndex.{page_there}
+use Rattle.saved_pages.proofs.UrlIndices.{get_front}
 use Rattle.saved_web.proofs.PartPages.{found_part}
 use Rattle.saved_pages.specs.PageLists.{PageRead, urls, page_with}
-
--- an element of the first list is one of both
-pub get_front : {X : Type 0} (xs ys : List X) (k : ℕ) (x : X) → slice_get xs k ≡ Some x → slice_get (xs ++ ys) k ≡ Some x
-get_front [] ys k x at = absurd (cc)
-get_front (y ∷ xs) ys zero x at = at
-get_front (y ∷ xs) ys (suc k) x at = get_front xs ys k x at
 
 -- an element after the first list is one of the second
 get_behind : {X : Type 0} (xs ys : List X) (k : ℕ) → slice_get (xs ++ ys) (length xs + k) ≡ slice_get ys k

@@ -13,10 +13,11 @@ use Rattle.std.proofs.lemmas.List.Folds.{list_any-append}
 use Rattle.crawl_keys.specs.Outcome.{IsRefusal}
 use Rattle.text_lines.proofs.CutLines.{is_lf, lines_at, lines_only}
 use Rattle.text_lines.specs.LeastFault.{SoundAfter, IsLeastFault}
+use Rattle.saved_pages.proofs.WebLines.{under_more}
 use Rattle.saved_web.specs.Reading.{ReadTo, AllFound, FoundTo, AreRead, IsHeader}
-use Rattle.saved_web.specs.SavedWeb.{page_of, page_urls}
+use Rattle.saved_pages.specs.SavedWeb.{page_of, page_urls}
 use Rattle.saved_pages.specs.WebLines.{says_page, says_link, says_moved, url_said, is_page, is_link, is_moved_line, is_page_at, page_url}
-use Rattle.saved_web.specs.WebFaults.{is_second, under_last_page, fault_after, IsSound, IsWebFault, IsWebRefusal}
+use Rattle.saved_pages.specs.WebFaults.{is_second, under_last_page, fault_after, IsSound, IsWebFault, IsWebRefusal}
 use Rattle.saved_pages.specs.WebChecks.{line_fault, checked}
 use Rattle.text_lines.specs.FirstLine.{behind_line}
 use Rattle.saved_web.specs.KnownPages.{KnownPages, known_behind, known_page}
@@ -36,10 +37,10 @@ told o = option_map (λ page. lines page.behind) o
 abbrev at : Option (List ℕ) → List ℕ → Bool
 at own url = option_map_or (λ u. bytes_eq u url) own false
 
--- the page that is found after one was put at the end
-pub page_with-push : (old : KnownPages) (page : PageRead) (q : List ℕ) → page_with (old ++ page ∷ []) q ≡ option_or (page_with old q) (if bytes_eq page.url q then Some page else None)
-page_with-push [] page q = refl
-page_with-push (x ∷ xs) page q = grind (arith, page_with-push xs page q)
+-- the page that is found in two lists
+pub with_url-append : (ps qs : KnownPages) (url : List ℕ) → page_with (ps ++ qs) url ≡ option_or (page_with ps url) (page_with qs url)
+with_url-append [] qs url = refl
+with_url-append (p ∷ ps) qs url = grind (arith, with_url-append ps qs url)
 
 adds_some : (old new : KnownPages) (own : Option (List ℕ)) (bytes : List ℕ) → Adds old new own bytes → has_some new ≡ (has_some old || is_some own)
 adds_some old new own bytes same = grind (arith, or-false, length-append, or_right)
@@ -51,7 +52,7 @@ behind_put : (b : Bool) (o : Option PageRead) (page : PageRead) (more : Option (
 behind_put b o page more = grind arith
 
 adds_behind : (old new : KnownPages) (own : Option (List ℕ)) (bytes : List ℕ) (more : Option (List (List ℕ))) → Adds old new own bytes → (q : List ℕ) → option_or (known_behind old q) (if at own q then Some (lines bytes) else more) ≡ option_or (known_behind new q) more
-adds_behind old new own bytes more same q = grind (arith, behind_put, page_with-push)
+adds_behind old new own bytes more same q = grind (arith, behind_put, with_url-append)
 
 -- ---- the URLs of pages
 
@@ -92,19 +93,6 @@ pub any_more : (p : List ℕ → Bool) (b : Bool) (earlier : List (List ℕ)) (l
 any_more p b earlier line e = grind (arith, or-false, list_any-append)
 
 -- ---- the lines under the last page, one line more
-
--- one line
-one_under : (page : Bool) (line : List ℕ) → (if page || false then [] else line ∷ []) ≡ (if page then [] else [] ++ line ∷ [])
-one_under page line = grind arith
-
-more_under : (some page : Bool) (x : List ℕ) (xs : List (List ℕ)) (line : List ℕ) → under_last_page (xs ++ line ∷ []) ≡ (if page then [] else under_last_page xs ++ line ∷ []) → (if some || page then under_last_page (xs ++ line ∷ []) else x ∷ xs ++ line ∷ []) ≡ (if page then [] else (if some then under_last_page xs else x ∷ xs) ++ line ∷ [])
-more_under some page x xs line e = grind arith
-
-pub under_more : (earlier : List (List ℕ)) (line : List ℕ) → under_last_page (earlier ++ line ∷ []) ≡ (if is_page line then [] else under_last_page earlier ++ line ∷ [])
-under_more [] line = one_under (is_page line) line
-under_more (x ∷ xs) line =
-    ap (λ b. if b then under_last_page (xs ++ line ∷ []) else x ∷ xs ++ line ∷ []) (list_any-append is_page (x ∷ xs) (line ∷ []) ∙ ap (λ b. list_any is_page (x ∷ xs) || b) (or-false (is_page line)))
-    ∙ more_under (list_any is_page (x ∷ xs)) (is_page line) x xs line (under_more xs line)
 
 any_one : (page : Bool) (p : List ℕ → Bool) (old : Bool) (under : List (List ℕ)) (line : List ℕ) → old ≡ list_any p under → (if page then false else old || p line) ≡ list_any p (if page then [] else under ++ line ∷ [])
 any_one page p old under line e = grind (arith, any_more)

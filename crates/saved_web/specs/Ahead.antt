@@ -1,8 +1,9 @@
 -- The links of a web's pages that are found ahead: of each link the index of its URL.
-use Rattle.std.specs.Prelude.{◌≡◌, ℕ, ◌+◌, List, map, slice_get, Option, Some, None}
+use Rattle.std.specs.Prelude.{◌≡◌, ℕ, List, slice_get, Option, Some, None}
 use Rattle.std.specs.Str.Lines.{lines}
 use Rattle.saved_pages.specs.PageLists.{PageRead}
-use Rattle.saved_web.specs.SavedWeb.{page_behind}
+use Rattle.saved_pages.specs.UrlIndices.{LeadTo}
+use Rattle.saved_pages.specs.SavedWeb.{page_behind}
 use Rattle.crawl_pages.specs.declared.page.Page.{Page}
 use Rattle.crawl_pages.specs.declared.page.Page.TheVariants.{Found, Missing}
 use Rattle.saved_web.specs.declared.ahead.chunk.Chunk.{Chunk}
@@ -13,14 +14,6 @@ use Rattle.saved_web.specs.declared.ahead.chunk.PageAhead.{PageAhead}
 abbrev pub shown_page : Option PageRead → Page
 shown_page None = Missing
 shown_page (Some page) = page_behind page.url (Some (lines page.behind))
-
--- the links' URLs are at these indices, in order
-abbrev pub LeadTo : List (List ℕ) → List ℕ → List (List ℕ) → Type 0
-LeadTo urls indices links = map (λ index. slice_get urls index) indices ≡ map (λ link. Some link) links
-
--- each URL has its index still
-abbrev pub KeepIndices : List (List ℕ) → List (List ℕ) → Type 0
-KeepIndices old new = (index : ℕ) (url : List ℕ) → slice_get old index ≡ Some url → slice_get new index ≡ Some url
 
 -- the page has these links, by the indices of their URLs
 pub record IsAhead (page : Page) (urls : List (List ℕ)) (ahead : LinksAhead) : Type 0 where

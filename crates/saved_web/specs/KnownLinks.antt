@@ -1,7 +1,7 @@
 -- What is known of links by their texts.
 use Rattle.std.specs.Prelude.{◌≡◌, ℕ, true, List, All, Option}
 use Rattle.crawl_keys.specs.Folders.{is_of_folder}
-use Rattle.saved_web.specs.SavedWeb.{link_url}
+use Rattle.saved_pages.specs.SavedWeb.{link_url}
 
 -- a link's text, and the URL that it leads to, or none
 abbrev pub TextLink : Type 0

@@ -3,7 +3,7 @@ use Rattle.std.specs.Prelude.{ℕ, List, Option}
 use Rattle.std.specs.Option.{option_map}
 use Rattle.std.specs.Str.Lines.{lines}
 use Rattle.saved_pages.specs.PageLists.{PageRead, urls, page_with}
-use Rattle.saved_web.specs.SavedWeb.{page_behind}
+use Rattle.saved_pages.specs.SavedWeb.{page_behind}
 use Rattle.crawl_pages.specs.declared.page.Page.{Page}
 use Rattle.saved_web.specs.declared.web.SavedWeb.{SavedWeb}
 

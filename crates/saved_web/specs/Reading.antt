@@ -7,8 +7,8 @@ use Rattle.saved_web.specs.KnownPages.{KnownPages, known_behind, known_page}
 use Rattle.saved_pages.specs.AddedPages.{has_some}
 use Rattle.text_lines.specs.LeastFault.{SoundAfter}
 use Rattle.saved_pages.specs.PageLists.{urls}
-use Rattle.saved_web.specs.SavedWeb.{lines_behind, page_of, page_urls}
-use Rattle.saved_web.specs.WebFaults.{is_second, under_last_page, fault_after}
+use Rattle.saved_pages.specs.SavedWeb.{lines_behind, page_of, page_urls}
+use Rattle.saved_pages.specs.WebFaults.{is_second, under_last_page, fault_after}
 use Rattle.saved_pages.specs.WebLines.{line_of, is_page, is_link, is_moved_line}
 use Rattle.saved_pages.specs.declared.add.Above.{Above}
 use Rattle.saved_pages.specs.declared.line.Line.TheVariants as says

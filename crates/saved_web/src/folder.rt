@@ -1,21 +1,21 @@
 //! What is known of the links on the pages of a folder.
 ghost use Rattle.std.specs.Prelude.{◌≡◌, true, IfOk, IfErr, IfSome};
 ghost use Rattle.crawl_keys.specs.Folders as spec;
-ghost use Rattle.saved_web.specs.SavedWeb.{link_url};
+ghost use Rattle.saved_pages.specs.SavedWeb.{link_url};
 
 use crate::known_links::KnownLinks;
-use crate::link_text::LinkText;
 use crawl_keys::{Base, CanonUrl};
 use crawl_pages::FetchError;
+use saved_pages::LinkText;
 use std::alloc::Global;
 use std::marker::Model;
 
-/// A page, and where links with some texts lead from each page of its folder.
+/// A page, and the URLs that some link texts lead to from each page of its folder.
 #[derive(Drop)]
 pub struct Folder<'a> {
     page: Base,
     known: KnownLinks<'a>,
-    // Another page of the folder came before this one, so that there may be more; and texts occurred again when that was so.
+    // Whether an earlier page was in the same folder, so that texts of links may occur again.
     again: bool,
 }
 
@@ -32,7 +32,7 @@ impl<'a> Model for Folder<'a> {
 }
 
 impl<'a> Folder<'a> {
-    /// The folder of this page, of which nothing is known, and whether it comes again.
+    /// Returns the folder of this page, without known links. `again` says whether an earlier page was in the same folder.
     pub fn new(alloc: Global, page: Base, again: bool) -> Folder<'a>
         ensures { result ≡ page }
     {
@@ -43,7 +43,8 @@ impl<'a> Folder<'a> {
         }
     }
 
-    /// The folder of the next page. What is known stays known where the page is in the same folder.
+    /// Returns the folder of the next page. If that is the same folder, its links stay known.
+    #[tactic(auto, using(crate::proofs::KnownLinks::on_page_beside))]
     pub fn turn_to(self, alloc: Global, page: Base) -> Folder<'a>
         ensures { result ≡ page }
     {
@@ -63,31 +64,31 @@ impl<'a> Folder<'a> {
         }
     }
 
-    /// The page.
+    /// Returns the page.
     pub fn page(&self) -> &Base
         ensures { result.now ≡ self.now }
     {
         &self.page
     }
 
-    /// Whether another page of it came before, so that it is worth to remember the URL to which each link leads.
+    /// Whether an earlier page was in the folder, so that the URLs of its links are worth remembering.
     pub fn comes_again(&self) -> bool {
         self.again
     }
 
-    /// How many texts are known.
+    /// Returns how many texts are known.
     pub fn len(&self) -> usize {
         self.known.len()
     }
 
-    /// The URL to which a link with this text leads, if that is known.
+    /// Returns the URL that a link with this text leads to, if it is known.
     pub fn find(&self, text: &LinkText<'a>) -> Option<&Option<CanonUrl>>
         ensures { IfSome result (λ link. link.now ≡ link_url self.now text.now) }
     {
         self.known.find(text)
     }
 
-    /// The URL to which a link with this text leads, which is known from now on.
+    /// Returns the URL that a link with this text leads to, and remembers it.
     pub fn link(
         &mut self,
         alloc: Global,

@@ -1,26 +1,25 @@
-//! Texts of links, and where links with them lead.
+//! Link texts, and the URLs that they lead to.
 ghost use Rattle.std.specs.Prelude.{◌≡◌, ◌<◌, true, [], length, get_or, IfOk, IfErr, IfSome};
 ghost use Rattle.std.specs.List.{Contains};
 ghost use Rattle.crawl_keys.specs.Folders.{is_of_folder};
 ghost use Rattle.saved_web.specs.KnownLinks.{AreLinks, AreOfFolder};
-ghost use Rattle.saved_web.specs.SavedWeb.{link_url};
+ghost use Rattle.saved_pages.specs.SavedWeb.{link_url};
 
-use crate::known_link::{copy_of, link_of};
-use crate::link_text::LinkText;
-use crawl_keys::{Base, CanonUrl};
+use crawl_keys::{Base, CanonUrl, KeyError};
 use crawl_pages::FetchError;
 use hash_index::{HashIndex, Keyed};
 use hash_order::hash_of;
-use std::alloc::Global;
+use saved_pages::LinkText;
+use std::alloc::{AllocError, Global};
 use std::marker::Model;
 
-/// The room of at most this many texts is used again.
+/// The memory of at most this number of texts is reused.
 const FEW_TEXTS: usize = 64;
 
-/// Once this many texts are known, no more are: a page with more links has most of them once.
+/// The greatest number of texts that are remembered. Most texts of a page with more links occur only once.
 const MOST_TEXTS: usize = 4_096;
 
-/// A text, and where a link with it leads.
+/// A link text, and the URL that it leads to, if it leads to one.
 #[derive(Drop)]
 pub struct KnownLink<'a> {
     text: &'a str,
@@ -47,13 +46,13 @@ impl Keyed for KnownLink<'_> {
         self.text
     }
 
-    // Only an allocation calls this.
+    // Called only when the index grows.
     fn text_hash(&self) -> u64 {
         hash_of(self.text)
     }
 }
 
-/// Texts of links, and where links with them lead, each found by its text.
+/// Link texts with their URLs, each found by its text.
 #[derive(Drop)]
 pub struct KnownLinks<'a> {
     links: Vec<KnownLink<'a>>,
@@ -74,7 +73,7 @@ impl<'a> Model for KnownLinks<'a> {
 }
 
 impl<'a> KnownLinks<'a> {
-    /// No text is known.
+    /// Returns an empty list.
     pub fn new(alloc: Global) -> KnownLinks<'a>
         ensures { result ≡ [] }
     {
@@ -84,7 +83,7 @@ impl<'a> KnownLinks<'a> {
         }
     }
 
-    /// Forgets all texts. The room for a few is kept.
+    /// Forgets all texts. Memory for a few of them is kept.
     pub fn clear(&mut self, alloc: Global)
         ensures { self.new ≡ [] }
     {
@@ -99,12 +98,13 @@ impl<'a> KnownLinks<'a> {
         self.index = HashIndex::new(alloc);
     }
 
-    /// How many texts are known.
+    /// Returns how many texts are known.
     pub fn len(&self) -> usize {
         self.links.len()
     }
 
-    /// The URL to which a link with this text leads, if that is known.
+    /// Returns the URL that a link with this text leads to, if it is known.
+    #[tactic(auto, using(crate::proofs::KnownLinks::texts, crate::proofs::KnownLinks::within_at))]
     pub fn find(&self, text: &LinkText<'a>) -> Option<&Option<CanonUrl>>
         ensures { IfSome result (λ link. Contains self.now (text.now, link.now)) }
     {
@@ -114,8 +114,8 @@ impl<'a> KnownLinks<'a> {
         }
     }
 
-    /// The URL to which a link with this text leads, which is known from now on, unless many are: the links with one text share the
-    /// text of their URL. If memory runs out, the result is `NoMemory`, as for any other allocation.
+    /// Returns the URL that a link with this text leads to, and remembers it, unless too many texts are known. Links with the same
+    /// text share the text of their URL. If memory runs out, the result is `NoMemory`, as for any other allocation.
     pub fn link(
         &mut self,
         alloc: Global,
@@ -137,7 +137,8 @@ impl<'a> KnownLinks<'a> {
         }
     }
 
-    // The same, which is known from now on.
+    // Like `link`, if there is room for one more text.
+    #[tactic(auto, using(crate::proofs::KnownLinks::texts, crate::proofs::KnownLinks::within_at))]
     fn learn(
         &mut self,
         alloc: Global,
@@ -164,11 +165,33 @@ impl<'a> KnownLinks<'a> {
     }
 }
 
-/// The URLs to which links with the text at the index lead.
+/// Returns the URL of the text at the index, if it leads to one.
 fn link_at<'l>(links: &'l [KnownLink<'_>], index: usize) -> &'l Option<CanonUrl>
     requires { index < length links.now }
     ensures { result.now ≡ (get_or links.now index ([], None)).1 }
 {
     let known = &links[index];
     &known.link
+}
+
+/// Returns a copy of the link that shares its text.
+pub fn copy_of(link: &Option<CanonUrl>) -> Result<Option<CanonUrl>, AllocError>
+    ensures { IfOk result (λ copy. copy ≡ link.now) }
+{
+    match link {
+        Some(url) => Ok(Some(url.clone()?)),
+        None => Ok(None),
+    }
+}
+
+/// Returns the URL that the text of a link leads to, if it leads to one.
+pub fn link_of(alloc: Global, base: &Base, text: &str) -> Result<Option<CanonUrl>, FetchError>
+    ensures link { IfOk result (λ link. link ≡ link_url base.now text.now) }
+    ensures refused { IfErr result (λ e. e ≡ FetchError.NoMemory) }
+{
+    match base.resolve(alloc, text) {
+        Ok(url) => Ok(Some(url)),
+        Err(KeyError::NoMemory) => Err(FetchError::NoMemory),
+        Err(KeyError::NotUrl | KeyError::NotHttp) => Ok(None),
+    }
 }

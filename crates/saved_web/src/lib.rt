@@ -3,24 +3,19 @@
 
 mod ahead;
 mod folder;
-mod known_link;
 mod known_links;
 /// Theorems about saved webs.
 pub mod laws;
 mod link_cache;
-mod link_text;
 mod links;
 mod long;
 mod reader;
 mod threads;
-mod url_list;
 mod web;
 mod web_in_threads;
 mod web_pages;
 mod worth;
 
-pub use link_text::LinkText;
 pub use saved_pages::WebError;
-pub use url_list::UrlList;
 pub use web::SavedWeb;
 pub use web_in_threads::WebInThreads;

@@ -4,17 +4,15 @@ ghost use Rattle.std.specs.List.{filter_map};
 ghost use Rattle.std.specs.Option.{option_map};
 ghost use Rattle.std.specs.Str.Lines.{lines};
 ghost use Rattle.saved_web.specs.KnownLinks.{AreLinks};
-ghost use Rattle.saved_web.specs.SavedWeb.{link_texts, link_url, moved_text, found_page, page_behind};
+ghost use Rattle.saved_pages.specs.SavedWeb.{link_texts, link_url, moved_text, found_page, page_behind};
 ghost use Rattle.crawl_pages.specs.declared.page.Page.TheVariants.{Moved};
 
 use crate::folder::Folder;
-use crate::known_link::{copy_of, link_of};
-use crate::known_links::KnownLinks;
+use crate::known_links::{KnownLinks, copy_of, link_of};
 use crate::link_cache::{LinkCache, folder_hash};
-use crate::link_text::LinkText;
 use crawl_keys::{Base, CanonUrl, is_of_folder};
 use crawl_pages::{FetchError, Links, Page};
-use saved_pages::{Line, line_of};
+use saved_pages::{Line, LinkText, line_of};
 use std::alloc::{AllocError, Global};
 use std::mem;
 use text_lines::first_text;
@@ -103,6 +101,7 @@ fn found_page<'a>(
 }
 
 /// Replaces the links by those among these lines, up to the next page. Returns how many lead to no URL.
+#[tactic(auto, using(crate::proofs::KnownLinks::pushed_next))]
 pub fn find_links<'a>(
     alloc: Global,
     folder: &mut Folder<'a>,

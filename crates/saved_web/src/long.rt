@@ -3,7 +3,7 @@ ghost use Rattle.std.specs.Prelude.{◌≡◌, ◌+◌, ◌++◌, ◌<◌, [], t
 ghost use Rattle.std.specs.List.{list_any};
 ghost use Rattle.std.specs.Str.Lines.{lines};
 ghost use Rattle.saved_web.specs.LongPages.{AreFound};
-ghost use Rattle.saved_web.specs.SavedWeb.{link_texts, found_page, page_behind};
+ghost use Rattle.saved_pages.specs.SavedWeb.{link_texts, found_page, page_behind};
 ghost use Rattle.saved_pages.specs.WebLines.{is_page};
 
 use crate::folder::Folder;
@@ -86,6 +86,7 @@ fn long_page<R: Threads>(rt: &R, alloc: Global, url: &CanonUrl, behind: &str) ->
 }
 
 /// Whether the first of the lines is a page, or there is none.
+#[tactic(auto, using(crate::proofs::LongPages::page_begins))]
 fn begins_with_page(bytes: &[u8]) -> bool
     ensures { result ≡ true → link_texts (lines bytes.now) ≡ [] }
 {

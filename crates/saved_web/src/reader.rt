@@ -2,7 +2,7 @@
 ghost use Rattle.std.specs.Prelude.{◌≡◌, ◌≤◌, ℕ, List, [], IfOk, IfErr};
 ghost use Rattle.std.specs.Str.Lines.{lines};
 ghost use Rattle.saved_web.specs.Reading.{FoundTo, AreRead};
-ghost use Rattle.saved_web.specs.WebFaults.{IsWebRefusal};
+ghost use Rattle.saved_pages.specs.WebFaults.{IsWebRefusal};
 
 use saved_pages::{Above, Pages, WebError, add_line};
 use std::alloc::Global;

@@ -2,10 +2,10 @@
 ghost use Rattle.std.specs.Prelude.{◌≡◌, ℕ, List, Ok, Err, IfOk, IfErr, IsUtf8};
 ghost use Rattle.crawl_keys.specs.Outcome.{Gives};
 ghost use Rattle.std.specs.Str.Lines.{lines};
-ghost use Rattle.saved_web.specs.SavedWeb.{page_of, page_urls};
+ghost use Rattle.saved_pages.specs.SavedWeb.{page_of, page_urls};
 ghost use Rattle.saved_web.specs.KnownPages.{page_at, urls_of};
 ghost use Rattle.saved_web.specs.Reading.{AreRead};
-ghost use Rattle.saved_web.specs.WebFaults.{IsSound, IsWebFault, IsWebRefusal};
+ghost use Rattle.saved_pages.specs.WebFaults.{IsSound, IsWebFault, IsWebRefusal};
 
 use crate::link_cache::LinkCache;
 use crate::links::page_behind;
@@ -32,6 +32,7 @@ impl<'a> SavedWeb<'a> {
     /// # Errors
     /// The error of the first line that fails a check: the first in the order of [`WebError`] that this line has. `NoMemory` if
     /// memory ran out.
+    #[tactic(auto, using(std::proofs::lemmas::Result::err_from_is_err_and, crate::proofs::LeastLine::only_memory, crate::proofs::LeastLine::no_fault))]
     pub fn read(alloc: Global, bytes: &'a [u8]) -> Result<SavedWeb<'a>, WebError>
         ensures sound { IfOk result (λ web. IsSound (lines bytes.now)) }
         // At every URL it has the page that the lines define.
@@ -54,6 +55,7 @@ impl<'a> SavedWeb<'a> {
     ///
     /// # Errors
     /// Those of [`SavedWeb::read`]. It is no error if a thread cannot be started: the thread that needs it reads its part.
+    #[tactic(auto, using(crate::proofs::LeastLine::no_fault))]
     pub fn read_in_threads<R: Threads + Sync>(
         rt: &R,
         alloc: Global,
@@ -116,6 +118,7 @@ fn known_pages(alloc: Global, bytes: &[u8]) -> Result<Pages<'_>, WebError>
 }
 
 /// Reads the pages from the lines of a text.
+#[tactic(auto, using(crate::proofs::ReadWeb::read_sound, crate::proofs::ReadWeb::some_lines, text_lines::proofs::CutLines::nonempty, crate::proofs::ReadWeb::read_whole, crate::proofs::ReadWeb::read_refused))]
 fn pages_in(alloc: Global, text: &str) -> Result<Pages<'_>, WebError>
     ensures sound { IfOk result (λ _. IsSound (lines text.now)) }
     ensures read { IfOk result (λ pages. AreRead (lines text.now) pages) }

@@ -164,6 +164,7 @@ impl<'a> WebPages<'a> {
 }
 
 /// Returns the page with the URL in the first part that has one.
+#[tactic(auto, using(crate::proofs::PartPages::passed_part, crate::proofs::PartPages::found_part))]
 fn first_with<'p, 'a>(parts: &'p [Pages<'a>], url: &CanonUrl) -> Option<&'p KnownPage<'a>>
     ensures page { option_map (λ page. page.now) result ≡ page_with (flat_map (λ part. part) parts.now) url.now }
     ensures same { IfSome result (λ page. page.now.url ≡ url.now) }
@@ -177,6 +178,7 @@ fn first_with<'p, 'a>(parts: &'p [Pages<'a>], url: &CanonUrl) -> Option<&'p Know
 }
 
 /// Returns the index of the page with the URL among those of the parts.
+#[tactic(auto, using(crate::proofs::PartPlaces::summed_index, crate::proofs::PartPlaces::found_index))]
 fn index_with(parts: &[Pages<'_>], url: &CanonUrl) -> Option<usize>
     ensures { IfSome result (λ index. slice_get (flat_map (λ part. part) parts.now) index ≡ page_with (flat_map (λ part. part) parts.now) url.now) }
 {
@@ -191,6 +193,7 @@ fn index_with(parts: &[Pages<'_>], url: &CanonUrl) -> Option<usize>
 }
 
 /// Returns the page at the index among those of the parts.
+#[tactic(auto, using(crate::proofs::PartPlaces::passed_rest, crate::proofs::PartPlaces::lent_page, crate::proofs::PartPlaces::from_part, crate::proofs::PartPlaces::found_place))]
 fn page_at<'p, 'a>(parts: &'p [Pages<'a>], index: usize) -> Option<&'p KnownPage<'a>>
     ensures { IfSome result (λ page. slice_get (flat_map (λ part. part) parts.now) index ≡ Some page.now) }
 {
@@ -205,6 +208,7 @@ fn page_at<'p, 'a>(parts: &'p [Pages<'a>], index: usize) -> Option<&'p KnownPage
 }
 
 /// Returns the URLs of the pages of the parts.
+#[tactic(auto, using(crate::proofs::PartPages::urls_more))]
 fn urls_in(alloc: Global, parts: &[Pages<'_>]) -> Result<Vec<CanonUrl>, NoMemory>
     ensures { IfOk result (λ all. all.items ≡ urls (flat_map (λ part. part) parts.now)) }
 {
@@ -216,6 +220,7 @@ fn urls_in(alloc: Global, parts: &[Pages<'_>]) -> Result<Vec<CanonUrl>, NoMemory
 }
 
 /// Whether a page of the parts and a page of the others have the same URL.
+#[tactic(auto, using(crate::proofs::PartPages::none_of_more))]
 fn some_known<R: Threads + Sync>(rt: &R, parts: &[Pages<'_>], others: &[Pages<'_>]) -> bool
     ensures { result ≡ false → (url : List ℕ) → has (flat_map (λ part. part) others.now) url ≡ true → has (flat_map (λ part. part) parts.now) url ≡ false }
 {
@@ -228,6 +233,7 @@ fn some_known<R: Threads + Sync>(rt: &R, parts: &[Pages<'_>], others: &[Pages<'_
 }
 
 /// Whether a page of the parts and a page of `other` have the same URL.
+#[tactic(auto, using(crate::proofs::PartPages::none_in_more))]
 fn is_known<R: Threads + Sync>(rt: &R, parts: &[Pages<'_>], other: &Pages<'_>) -> bool
     ensures { result ≡ false → (url : List ℕ) → has other.now url ≡ true → has (flat_map (λ part. part) parts.now) url ≡ false }
 {
@@ -280,6 +286,7 @@ fn halves<'l, 'a>(list: &'l [KnownPage<'a>]) -> (&'l [KnownPage<'a>], &'l [Known
 }
 
 /// Whether one of the pages in the list has the URL of a page.
+#[tactic(auto, using(crate::proofs::PartPages::none_with_more))]
 fn some_has(pages: &Pages<'_>, list: &[KnownPage<'_>]) -> bool
     ensures { result ≡ false → (url : List ℕ) → has list.now url ≡ true → has pages.now url ≡ false }
 {

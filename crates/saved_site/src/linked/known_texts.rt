@@ -2,11 +2,11 @@
 ghost use Rattle.std.specs.Prelude.{◌≡◌, ◌<◌, ◌++◌, ℕ, List, [], None, true, length, get_or, IfOk, IfSome, OnOk};
 ghost use Rattle.std.specs.List.{Contains};
 ghost use Rattle.crawl_keys.specs.Folders.{is_of_folder};
-ghost use Rattle.saved_web.specs.SavedWeb.{link_url};
+ghost use Rattle.saved_pages.specs.SavedWeb.{link_url};
 ghost use Rattle.saved_site.specs.LinkTables.{AreKnown, AreOfFolder, LeadsTo};
 
 use hash_index::{HashIndex, Keyed};
-use saved_web::LinkText;
+use saved_pages::LinkText;
 use std::alloc::{AllocError, Global};
 use std::marker::Model;
 

@@ -1,8 +1,8 @@
 //! The URLs to which the links of pages lead, as indices.
 ghost use Rattle.std.specs.Prelude.{◌≡◌, true, None, IfOk, OnOk, count_by, is_none};
 ghost use Rattle.std.specs.List.{filter_map};
-ghost use Rattle.saved_web.specs.Ahead.{KeepIndices, LeadTo};
-ghost use Rattle.saved_web.specs.SavedWeb.{link_url};
+ghost use Rattle.saved_pages.specs.UrlIndices.{KeepIndices, LeadTo};
+ghost use Rattle.saved_pages.specs.SavedWeb.{link_url};
 ghost use Rattle.saved_site.specs.LinkTables.{LeadsTo, IsTable, IsTableOf};
 ghost use Rattle.saved_site.specs.LinkedPages.{IsLed, page_led};
 ghost use Rattle.saved_site.specs.Meaning.{under_page};
@@ -13,7 +13,7 @@ use crate::linked::linked_page::Leads;
 use crate::page::{LineText, Under};
 use crawl_keys::{Base, CanonUrl, KeyError, before_fragment, is_of_folder};
 use document_links::LinkTexts;
-use saved_web::{LinkText, UrlList};
+use saved_pages::{LinkText, UrlList};
 use std::alloc::{AllocError, Global};
 use std::mem;
 

@@ -1,6 +1,6 @@
 //! The pages that one thread makes, with the indices of their links' URLs.
 ghost use Rattle.std.specs.Prelude.{◌≡◌, [], true, IfOk, OnOk};
-ghost use Rattle.saved_web.specs.Ahead.{KeepIndices};
+ghost use Rattle.saved_pages.specs.UrlIndices.{KeepIndices};
 ghost use Rattle.saved_site.specs.Below.{is_next};
 ghost use Rattle.saved_site.specs.Linked.{AreKept, found_of, with_found};
 ghost use Rattle.saved_site.specs.LinkedPages.{IsLed, IsLonger, IsPageList, page_led};

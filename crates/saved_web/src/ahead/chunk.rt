@@ -1,6 +1,7 @@
 //! The links of some pages of a web, resolved ahead.
 ghost use Rattle.std.specs.Prelude.{◌≡◌, ◌+◌, List, Some, length, slice_get, IfOk, IfSome};
-ghost use Rattle.saved_web.specs.Ahead.{IsAhead, IsChunk, KeepIndices, LeadTo, shown_page};
+ghost use Rattle.saved_pages.specs.UrlIndices.{KeepIndices, LeadTo};
+ghost use Rattle.saved_web.specs.Ahead.{IsAhead, IsChunk, shown_page};
 ghost use Rattle.saved_pages.specs.PageLists.{PageRead};
 ghost use Rattle.crawl_pages.specs.declared.page.Page.{Page};
 
@@ -8,11 +9,10 @@ use crate::ahead::{BLOCKS, CHUNKS};
 use crate::link_cache::LinkCache;
 use crate::links::page_behind;
 use crate::long;
-use crate::url_list::UrlList;
 use crate::web_pages::WebPages;
 use crawl_keys::{Base, CanonUrl};
 use crawl_pages::{FetchError, Links, Page};
-use saved_pages::KnownPage;
+use saved_pages::{KnownPage, UrlList};
 use std::alloc::{AllocError, Global};
 
 /// Some pages of a web, and the links of most of them.
@@ -184,6 +184,7 @@ fn links_of<'a>(
 }
 
 /// Returns the indices of the URLs of links. New URLs are pushed to the list.
+#[tactic(auto, using(crate::proofs::AheadLinks::lead_more, saved_pages::proofs::UrlIndices::lead_still))]
 fn indices_of(alloc: Global, urls: &mut UrlList, links: &[CanonUrl]) -> Result<Vec<u32>, AllocError>
     ensures lead { IfOk result (λ indices. LeadTo urls.new indices.items links.now) }
     ensures keep { KeepIndices urls.old urls.new }

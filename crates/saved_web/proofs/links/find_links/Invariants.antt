@@ -5,7 +5,7 @@ use Rattle.std.specs.List.{count_by, filter_map}
 use Rattle.std.specs.Option.{is_none}
 use Rattle.std.specs.Str.Lines.{lines}
 use Rattle.saved_web.specs.KnownLinks.{AreLinks}
-use Rattle.saved_web.specs.SavedWeb.{link_texts, link_url}
+use Rattle.saved_pages.specs.SavedWeb.{link_texts, link_url}
 use Rattle.saved_web.proofs.links.find_links.Given as goal
 
 abbrev pub invariant-loop-text : goal.invariant-loop-text

@@ -2,7 +2,7 @@ use Rattle.std.proofs.Common.{◌≡◌, ap, ◌∙◌}
 use Rattle.std.specs.List.{count_by, filter_map}
 use Rattle.std.specs.Option.{is_none}
 use Rattle.std.specs.Str.Lines.{lines}
-use Rattle.saved_web.specs.SavedWeb.{link_texts, link_url}
+use Rattle.saved_pages.specs.SavedWeb.{link_texts, link_url}
 use Rattle.saved_web.proofs.long.links_among.Goals as goal
 
 pub returns-in-Ok-find_links : goal.returns-in-Ok-find_links

@@ -1,7 +1,7 @@
 use Rattle.std.proofs.Common.{rules, ◌≡◌, [], ◌++◌}
 use Rattle.std.specs.Str.Lines.{lines}
 use Rattle.saved_web.proofs.LongPages.{whole_page}
-use Rattle.saved_web.specs.SavedWeb.{link_texts}
+use Rattle.saved_pages.specs.SavedWeb.{link_texts}
 use Rattle.saved_web.proofs.long.long_page.Goals as goal
 
 pub returns-in-None : goal.returns-in-None

@@ -3,9 +3,6 @@ use Rattle.std.proofs.lemmas.Result.{err_from_is_err_and}
 use Rattle.saved_web.proofs.ReadWeb.{read_fault, found_on, all_read}
 use Rattle.saved_web.proofs.reader.pages_behind.Goals as goal
 
-pub loop-line-init : goal.loop-line-init
-loop-line-init c = grind arith
-
 pub loop-line-preserved : goal.loop-line-preserved
 loop-line-preserved c = record {
   text = search rules;

@@ -1,14 +1,11 @@
-use Rattle.std.proofs.Common.{rules, arith, ◌≡◌, None, sym, ◌∙◌}
+use Rattle.std.proofs.Common.{rules, ◌≡◌, None, sym, ◌∙◌}
 use Rattle.std.specs.List.{flat_map}
 use Rattle.hash_index.specs.Lists.{index_of}
 use Rattle.saved_pages.specs.PageLists.{urls}
 use Rattle.saved_pages.proofs.PageIndex.{no_page}
 use Rattle.saved_web.proofs.PartPages.{passed_part}
-use Rattle.saved_web.proofs.PartPlaces.{found_index, passed_index, summed_index}
+use Rattle.saved_web.proofs.PartPlaces.{passed_index}
 use Rattle.saved_web.proofs.web_pages.index_with.Goals as goal
-
-pub loop-part-init : goal.loop-part-init
-loop-part-init c = grind arith
 
 pub loop-part-preserved : goal.loop-part-preserved
 loop-part-preserved c =
@@ -20,6 +17,3 @@ loop-part-preserved c =
       same = passed_part parts c.loop-part.part-index part url c.loop-part-test.true c.part-item.is (sym (no_page part url none)) ∙ c.loop-part.invariant.same;
       at = passed_index parts (flat_map (λ p. p) parts) c.loop-part.part-index c.loop-part.before _ part c.loop-part-test.true c.part-item.is (search rules) c.loop-part.invariant.at;
     }
-
-pub returns-in-Some : goal.returns-in-Some
-returns-in-Some c = grind (arith, summed_index, found_index)

@@ -1,5 +1,5 @@
 use Rattle.std.proofs.Common.{take}
-use Rattle.saved_web.specs.Ahead.{KeepIndices, LeadTo}
+use Rattle.saved_pages.specs.UrlIndices.{KeepIndices, LeadTo}
 use Rattle.saved_web.proofs.ahead.chunk.indices_of.Given as goal
 
 abbrev pub invariant-loop-link : goal.invariant-loop-link

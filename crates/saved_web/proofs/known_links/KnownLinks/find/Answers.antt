@@ -1,12 +1,8 @@
-use native.Mathlib.Omega.{arith}
 use Rattle.std.proofs.Common.{rules, ◌≡◌, [], get_or, Some, None, sym, subst}
 use Rattle.std.specs.List.{Contains}
 use Rattle.hash_index.specs.Lists.{index_of}
-use Rattle.saved_web.proofs.LinkIndex.{texts, within_at, contains_at}
+use Rattle.saved_web.proofs.KnownLinks.{texts, contains_at}
 use Rattle.saved_web.proofs.known_links.KnownLinks.find.Goals as goal
-
-pub link_at-requires : goal.link_at-requires
-link_at-requires c = grind (arith, texts, within_at)
 
 pub returns-in-Some : goal.returns-in-Some
 returns-in-Some c =

@@ -1,4 +1,3 @@
-use native.Mathlib.Omega.{arith}
 use Rattle.std.proofs.Common.{rules, ◌≡◌, [], ◌∷◌, ◌++◌, get_or, Some, None, sym, subst, ◌∙◌}
 use Rattle.std.specs.List.{All}
 use Rattle.std.proofs.lemmas.List.Elements.{All-push, All-contains}
@@ -6,12 +5,9 @@ use Rattle.hash_order.specs.HashOrder.{hash_of}
 use Rattle.hash_index.specs.Lists.{index_of}
 use Rattle.hash_index.proofs.Keeping.{pushed_item}
 use Rattle.saved_web.specs.KnownLinks.{TextLink}
-use Rattle.saved_web.specs.SavedWeb.{link_url}
-use Rattle.saved_web.proofs.LinkIndex.{texts, within_at, contains_at}
+use Rattle.saved_pages.specs.SavedWeb.{link_url}
+use Rattle.saved_web.proofs.KnownLinks.{texts, contains_at}
 use Rattle.saved_web.proofs.known_links.KnownLinks.learn.Goals as goal
-
-pub link_at-requires : goal.link_at-requires
-link_at-requires c = grind (arith, texts, within_at)
 
 pub returns-in-Some-clause-link : goal.returns-in-Some-clause-link
 returns-in-Some-clause-link c =

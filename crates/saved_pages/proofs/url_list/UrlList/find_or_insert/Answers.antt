@@ -2,8 +2,8 @@ use Rattle.std.proofs.Common.{rules, ◌≡◌, ℕ, List, [], ◌∷◌, ◌++�
 use Rattle.hash_order.specs.HashOrder.{hash_of}
 use Rattle.hash_index.specs.Lists.{index_of}
 use Rattle.hash_index.proofs.Keeping.{pushed_item}
-use Rattle.saved_web.proofs.AheadLinks.{found_there, pushed_there, keep_pushed}
-use Rattle.saved_web.proofs.url_list.UrlList.find_or_insert.Goals as goal
+use Rattle.saved_pages.proofs.UrlIndices.{found_there, pushed_there, keep_pushed}
+use Rattle.saved_pages.proofs.url_list.UrlList.find_or_insert.Goals as goal
 
 pub returns-in-Some-clause-there : goal.returns-in-Some-clause-there
 returns-in-Some-clause-there c =

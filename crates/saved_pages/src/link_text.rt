@@ -1,13 +1,13 @@
 //! The text of a link, with its hash.
 ghost use Rattle.std.specs.Prelude.{◌≡◌, ℕ, List};
-ghost use Rattle.saved_web.specs.SavedWeb.{link_url};
+ghost use Rattle.saved_pages.specs.SavedWeb.{link_url};
 
 use crawl_keys::before_fragment;
 use hash_index::Keyed;
 use hash_order::hash_of;
 use std::marker::Model;
 
-/// The text of a link, as a key to find by what is known of it. Its hash is made once.
+/// The text of a link, as a key of what is known of it. Its hash is computed once.
 #[derive(Drop)]
 pub struct LinkText<'a> {
     hash: u64,
@@ -27,7 +27,7 @@ impl<'a> Model for LinkText<'a> {
 }
 
 impl<'a> LinkText<'a> {
-    /// The text with its hash.
+    /// Computes the hash of the text.
     pub fn new(text: &'a str) -> LinkText<'a>
         ensures { result ≡ text.now }
     {
@@ -37,14 +37,14 @@ impl<'a> LinkText<'a> {
         }
     }
 
-    /// The text.
+    /// Returns the text.
     pub fn as_str(&self) -> &'a str
         ensures { result.now ≡ self.now }
     {
         self.text
     }
 
-    /// The text before the fragment, which leads to the same URL. Mostly that is the whole text.
+    /// Returns the text without its fragment, which leads to the same URL. Most texts have none.
     pub fn before_fragment(&self) -> LinkText<'a>
         ensures { (base : List ℕ) → link_url base result ≡ link_url base self.now }
     {

@@ -1,23 +1,69 @@
--- Under a page of a saved web are only links, or only one moved line.
+-- The laws of moved pages: in version 1 no page has moved, and under a page are only links, or only one moved line.
+use Rattle.std.proofs.Common.{◌≡◌, ℕ, ◌==◌, Bool, false, List, length, nat_lt, None, Ok, Err, ◌+◌, [], ◌∷◌, ◌++◌, Option, Some, refl, ap, arith, ne_eqb, inl, inr, ◌<◌, true, not, cond, sym, subst, ◌∙◌, length-append, append_assoc, append-nil}
+use Rattle.std.specs.Bool.{if◌then◌else◌}
+use Rattle.std.specs.Str.{is_utf8, bytes_eq}
+use Rattle.crawl_limits.specs.Limits.{line_limit}
+use Rattle.saved_pages.specs.WebChecks.{Before, said_fault, text_fault, line_fault, under_fault}
+use Rattle.saved_pages.specs.WebLines.{line_of_text, line_of, says_moved, is_moved_line, says_page, url_said, is_page, is_link, is_page_at}
+use Rattle.text_lines.specs.declared.lines.LineError.TheVariants.{TooLong, NotText}
+use Rattle.saved_pages.specs.declared.line.Line.TheVariants as says
+use Rattle.std.proofs.lemmas.Bool.{or_parts, cases_Bool, cond-true, cond-false}
+use Rattle.std.specs.List.{list_any, count_by}
+use Rattle.text_lines.specs.LeastFault.{SoundAfter}
+use Rattle.crawl_pages.specs.Pages.{is_moved}
+use Rattle.saved_pages.specs.SavedWeb.{lines_behind, put_moved, moved_text, link_texts, page_with, page_behind, page_of, up_to_page, IsUnmixed}
+use Rattle.saved_pages.specs.WebFaults.{is_second, before, fault_after, IsSound, under_last_page}
+use Rattle.saved_pages.specs.declared.line.Line.{Line}
 use Rattle.std.proofs.lemmas.Bool.Decides.{nat_tests}
 use Rattle.std.proofs.lemmas.Grind.{common_steps}
-use Rattle.std.proofs.Common.{◌≡◌, inl, inr, ℕ, ◌+◌, ◌<◌, Bool, true, false, not, cond, List, [], ◌∷◌, ◌++◌, length, Some, None, refl, sym, ap, subst, ◌∙◌, arith, ne_eqb, length-append, append_assoc, append-nil}
-use Rattle.std.specs.Bool.{if◌then◌else◌}
-use Rattle.std.specs.List.{list_any, count_by}
-use Rattle.std.proofs.lemmas.Bool.{cases_Bool, cond-true, cond-false, or_parts}
 use Rattle.std.proofs.lemmas.List.Sums.{sum_by-append, take_while-cons}
-use Rattle.saved_web.proofs.PassedLines.{said_passes}
-use Rattle.saved_web.proofs.ReadWeb.{under_more}
-use Rattle.text_lines.specs.LeastFault.{SoundAfter}
-use Rattle.saved_web.specs.SavedWeb.{lines_behind, up_to_page, IsUnmixed}
-use Rattle.saved_pages.specs.WebChecks.{Before, under_fault, said_fault}
-use Rattle.saved_web.specs.WebFaults.{under_last_page, before, fault_after, IsSound}
-use Rattle.saved_pages.specs.WebLines.{line_of, says_page, url_said, is_page, is_link, is_moved_line, is_page_at}
+use Rattle.saved_pages.proofs.WebLines.{under_more}
 use Rattle.std.specs.Option.{option_map_or}
-use Rattle.std.specs.Str.{bytes_eq}
 use Rattle.saved_pages.specs.declared.error.WebError.TheVariants as wrong
-use Rattle.saved_pages.specs.declared.line.Line.{Line}
-use Rattle.saved_pages.specs.declared.line.Line.TheVariants as says
+
+-- ---- what a line that passes its checks says, after the first one
+
+text_passes : (b : Before) (long utf8 : Bool) (line : List ℕ) → (b.number == 1) ≡ false → text_fault b (if long then Err (TooLong b.number) else if utf8 then Ok line else Err (NotText b.number)) ≡ None → said_fault b (if utf8 then line_of_text line else says.Other) ≡ None
+text_passes b long utf8 line later passes = grind arith
+
+pub said_passes : (b : Before) (line : List ℕ) → (b.number == 1) ≡ false → line_fault b line ≡ None → said_fault b (line_of line) ≡ None
+said_passes b line later passes = text_passes b (nat_lt line_limit (length line)) (is_utf8 line) line later passes
+
+-- ---- in version 1 a line that passes says no `moved`
+
+said_none : (b : Before) (said : Line (List ℕ)) → b.second ≡ false → said_fault b said ≡ None → says_moved said ≡ false
+said_none b said first passes = grind arith
+
+-- ---- nor do all lines after the header
+
+lines_none : (header : List ℕ) (earlier all : List (List ℕ)) → is_second (header ∷ earlier) ≡ false → SoundAfter fault_after (header ∷ earlier) all → list_any is_moved_line all ≡ false
+lines_none header earlier [] first sound = refl
+lines_none header earlier (line ∷ more) first sound =
+    let here = said_none (before (header ∷ earlier)) (line_of line) first
+    (said_passes (before (header ∷ earlier)) line (ne_eqb (length (header ∷ earlier) + 1) 1 (λ one. omega (arith, one))) sound.0) in
+    rw here (lines_none header (earlier ++ line ∷ []) more first sound.1)
+
+-- ---- so no page after it has moved
+
+put_none : (said : Line (List ℕ)) (later : Option (List ℕ)) → says_moved said ≡ false → later ≡ None → put_moved said later ≡ None
+put_none said later not none = grind arith
+
+pub text_nowhere : (all : List (List ℕ)) → list_any is_moved_line all ≡ false → moved_text all ≡ None
+text_nowhere [] none = refl
+text_nowhere (line ∷ more) none = grind (arith, or_parts, put_none, text_nowhere more)
+
+found_behind : (url : List ℕ) (all : List (List ℕ)) → list_any is_moved_line all ≡ false → is_moved (page_behind url (Some all)) ≡ false
+found_behind url all none = ap (λ t. is_moved (page_with url t (link_texts all))) (text_nowhere all none)
+
+page_none : (url : List ℕ) (at : Bool) (more : List (List ℕ)) → list_any is_moved_line more ≡ false → is_moved (page_behind url (lines_behind more url)) ≡ false → is_moved (page_behind url (if at then Some more else lines_behind more url)) ≡ false
+page_none url at more none later = grind (arith, found_behind)
+
+pages_none : (url : List ℕ) (all : List (List ℕ)) → list_any is_moved_line all ≡ false → is_moved (page_of all url) ≡ false
+pages_none url [] none = refl
+pages_none url (line ∷ more) none = grind (arith, or_parts, page_none, pages_none url more)
+
+pub none_moved : (all : List (List ℕ)) (url : List ℕ) → IsSound all → is_second all ≡ false → is_moved (page_of all url) ≡ false
+none_moved all url sound first = grind (arith, lines_none, page_none, pages_none)
 
 -- ---- counts
 

@@ -1,6 +1,6 @@
 //! A list of different URLs.
 ghost use Rattle.std.specs.Prelude.{◌≡◌, [], Some, slice_get, IfOk, IfSome};
-ghost use Rattle.saved_web.specs.Ahead.{KeepIndices};
+ghost use Rattle.saved_pages.specs.UrlIndices.{KeepIndices};
 
 use crawl_keys::CanonUrl;
 use hash_index::HashIndex;
@@ -56,6 +56,7 @@ impl UrlList {
     }
 
     /// Returns a copy of the URL at the index. `None` if there is no such URL, or if it cannot be copied.
+    #[tactic(auto, using(crate::proofs::PageIndex::item_at))]
     pub fn copy_at(&self, index: u32) -> Option<CanonUrl>
         ensures { IfSome result (λ url. slice_get self.now index ≡ Some url) }
     {

@@ -1,12 +1,15 @@
--- Links by the index of their texts.
-use Rattle.std.proofs.Common.{◌≡◌, ℕ, ◌<◌, List, length, map, get_or, Some, sym, subst, ◌∙◌}
-use Rattle.std.specs.List.{Contains}
-use Rattle.std.proofs.lemmas.List.{get_or-map, length-map}
+-- The links that are known by their texts, and the indices of these.
+use Rattle.std.proofs.Common.{◌≡◌, ℕ, ◌<◌, true, List, [], ◌∷◌, ◌++◌, length, map, get_or, Some, sym, subst, ◌∙◌, arith}
+use Rattle.std.specs.List.{Contains, filter_map}
+use Rattle.std.proofs.lemmas.List.{get_or-map, length-map, append_assoc}
 use Rattle.std.proofs.lemmas.List.Elements.{Contains-get_or}
 use Rattle.std.proofs.lemmas.Option.{slice_get_within, get_or_from_slice_get}
 use Rattle.hash_index.specs.Lists.{index_of}
 use Rattle.hash_index.proofs.Listed.{found_at}
-use Rattle.saved_web.specs.KnownLinks.{TextLink}
+use Rattle.saved_web.specs.KnownLinks.{TextLink, AreLinks, AreOfFolder}
+use Rattle.saved_pages.specs.SavedWeb.{link_url}
+use Rattle.crawl_keys.specs.CanonicalText.{resolve}
+use Rattle.crawl_keys.specs.Folders.{is_of_folder}
 
 abbrev pub texts : List TextLink → List (List ℕ)
 texts known = map (λ link. link.0) known
@@ -24,3 +27,13 @@ text_at known text k d found =
 pub contains_at : (known : List TextLink) (text : List ℕ) (k : ℕ) (d : TextLink) → Some k ≡ index_of (texts known) text → Contains known (text, (get_or known k d).1)
 contains_at known text k d found =
     subst (λ t. Contains known (t, (get_or known k d).1)) (text_at known text k d found) (Contains-get_or known k d (within_at known text k found))
+
+-- ---- links of pages
+
+-- what is known of a folder holds on each of its pages
+pub on_page_beside : (last page : List ℕ) (known : List TextLink) → ((text : List ℕ) → is_of_folder text ≡ true → resolve last text ≡ resolve page text) → AreOfFolder known → AreLinks last known → AreLinks page known
+on_page_beside last page known same folder links = grind arith
+
+-- a link that was pushed is the next of those that are left
+pub pushed_next : (url : List ℕ) (links : List (List ℕ)) (text link : List ℕ) (more all : List (List ℕ)) → Some link ≡ link_url url text → links ++ filter_map (link_url url) (text ∷ more) ≡ all → (links ++ link ∷ []) ++ filter_map (link_url url) more ≡ all
+pushed_next url links text link more all is kept = grind (arith, append_assoc)
