@@ -1,6 +1,6 @@
 pub mod Behind
 pub mod Fitting
 pub mod Parsing
-pub mod Plain
+pub mod Prelude
 pub mod Trimming
 pub mod WindowsBytes

@@ -1,7 +1,5 @@
 -- Bytes are found again by their characters.
-use Rattle.std.proofs.Common.{◌≡◌, ℕ, ◌<◌, ◌==◌, true, refl}
-use Rattle.std.proofs.lemmas.Bool.{agree_below_at, eqb-true}
-use Rattle.document_links.specs.Windows.{character_of, likely_byte}
+use Rattle.document_links.proofs.Prelude.{◌≡◌, ℕ, ◌<◌, ◌==◌, true, refl, agree_below_at, eqb-true, character_of, likely_byte}
 
 pub likely : (byte : ℕ) → byte < 256 → likely_byte (character_of byte) ≡ byte
 likely byte below =

@@ -1,9 +1,11 @@
 -- The text of a document in UTF-8, and its links.
-use Rattle.std.specs.Prelude.{◌≡◌, ℕ, Bool, true, List, [], ◌∷◌, drop, take, Option, None, Some, Vec, if◌then◌else◌}
+use Rattle.std.specs.Prelude.{◌≡◌, ℕ, ◌-◌, ◌%◌, nat_lt, Bool, true, List, [], ◌∷◌, drop, take, slice_index, Option, None, Some, Vec, if◌then◌else◌}
+use Rattle.std.specs.Int.{is_in_range}
 use Rattle.std.specs.Str.{bytes_eq}
 use Rattle.std.specs.Str.Lossy.{utf8_lossy}
 use Rattle.std.specs.declared.alloc.Global.{Global}
 use Rattle.document_links.specs.declared.charset.Charset.{Charset}
+use Rattle.document_links.specs.declared.charset.TheConstants.{LIKELY, WINDOWS}
 use Rattle.document_links.specs.declared.charset.Charset.TheVariants.{Utf8, Utf16Le, Utf16Be, Windows1252, Other}
 use Rattle.document_links.specs.Written.{HasTexts}
 
@@ -41,3 +43,13 @@ pub record HasLinkTexts (body : List ℕ) (limit : ℕ) (links : List (List ℕ)
   pub charset : Charset
   pub marked : has_mark body ≡ true → charset ≡ Utf8
   pub has : HasLinks charset body limit links
+
+-- ---- windows-1252
+
+-- the character that a byte means
+abbrev pub character_of : ℕ → ℕ
+character_of byte = if is_in_range 128 159 byte then slice_index WINDOWS (byte - 128) else byte
+
+-- the one byte that may mean a character
+abbrev pub likely_byte : ℕ → ℕ
+likely_byte number = if nat_lt number 256 then number else slice_index LIKELY (number % 79)

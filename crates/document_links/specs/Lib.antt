@@ -1,5 +1,4 @@
 pub mod Encoding
 pub mod Places
 pub mod Texts
-pub mod Windows
 pub mod Written

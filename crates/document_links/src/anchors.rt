@@ -47,6 +47,24 @@ pub struct AnchorTargets {
     pub urls: Vec<CanonUrl>,
 }
 
+/// The anchors of the document at a URL.
+#[derive(Drop)]
+pub struct PageAnchors {
+    pub url: CanonUrl,
+    pub anchors: Anchors,
+    /// The targets of its links to anchors; `Anchors::links_to` takes their indices.
+    pub targets: Vec<Target>,
+}
+
+/// The target of a link.
+#[derive(Drop)]
+pub enum Target {
+    /// The page of the site with this number.
+    Page(usize),
+    /// A URL that is not a page of the site.
+    Other(CanonUrl),
+}
+
 impl Anchors {
     /// The number of the first link to the target with this index, and the number after the last.
     pub fn links_to(&self, target: usize) -> (usize, usize) {
@@ -163,21 +181,16 @@ pub(crate) fn anchors_of(
     let mut targets = Targets::new(alloc, writer, url)?;
     let links = by_target(alloc, raw, &mut targets)?;
     let targets = targets.into_urls();
-    let mut found = AnchorTargets::new(ids.ascending(alloc)?, alloc);
+    let mut found = AnchorTargets {
+        anchors: Anchors::with(ids.ascending(alloc)?, alloc),
+        urls: Vec::new(alloc),
+    };
     found.push_all(raw, url, targets, links.as_slice())?;
     found.anchors.shrink_to_fit();
     Ok(found)
 }
 
 impl AnchorTargets {
-    /// No links, of a document with these ids.
-    fn new(ids: Ids, alloc: Global) -> AnchorTargets {
-        AnchorTargets {
-            anchors: Anchors::with(ids, alloc),
-            urls: Vec::new(alloc),
-        }
-    }
-
     /// Appends the links of the document at a URL, in the order of their targets' numbers.
     fn push_all(
         &mut self,

@@ -1,8 +1,7 @@
 //! The encoding of a document.
 ghost use Rattle.std.specs.Prelude.{◌≡◌, ◌≢◌, ℕ, ◌≤◌, ◌<◌, length, true, IsAscii, IfOk, IfSome, IsNone};
-ghost use Rattle.document_links.specs.Encoding.{has_mark};
+ghost use Rattle.document_links.specs.Encoding.{character_of, has_mark, likely_byte};
 ghost use Rattle.document_links.specs.Places.{keeps_ascii};
-ghost use Rattle.document_links.specs.Windows.{character_of, likely_byte};
 ghost use Rattle.document_links.specs.Written.{is_unicode};
 
 use crate::cleaning::trimmed;
@@ -168,8 +167,8 @@ fn name_in_content(tag: &[u8]) -> &[u8] {
 fn name_in_kind(kind: &[u8]) -> &[u8] {
     for index in 0..kind.len() {
         if let Some(behind) = behind_front(&kind[index..], b"charset") {
-            if let [b'=', value @ ..] = skip_spaces(behind) {
-                return split_value(skip_spaces(value), b";").0;
+            if let [b'=', value @ ..] = behind.trim_ascii_start() {
+                return split_value(value.trim_ascii_start(), b";").0;
             }
         }
     }
@@ -200,7 +199,7 @@ fn value_of<'a>(tag: &'a [u8], name: &[u8]) -> Option<&'a [u8]> {
 fn next_attribute(text: &[u8]) -> Option<Attribute<'_>>
     ensures { IfSome result (λ found. length found.behind.now < length text.now) }
 {
-    match skip_spaces(text) {
+    match text.trim_ascii_start() {
         [] | [b'>', ..] => None,
         [b'/', behind @ ..] => Some(Attribute {
             name: &[],
@@ -209,8 +208,8 @@ fn next_attribute(text: &[u8]) -> Option<Attribute<'_>>
         }),
         text => {
             let (name, rest) = text.split_at(1 + length_before(&text[1..], b"=/>"));
-            let (value, behind) = match skip_spaces(rest) {
-                [b'=', value @ ..] => split_value(skip_spaces(value), b">"),
+            let (value, behind) = match rest.trim_ascii_start() {
+                [b'=', value @ ..] => split_value(value.trim_ascii_start(), b">"),
                 rest => rest.split_at(0),
             };
             Some(Attribute {
@@ -236,33 +235,14 @@ fn split_value<'a>(text: &'a [u8], ends: &[u8]) -> (&'a [u8], &'a [u8])
     }
 }
 
-/// Returns the bytes from the first one on that is no white space of HTML.
-fn skip_spaces(bytes: &[u8]) -> &[u8]
-    ensures { length result.now ≤ length bytes.now }
-{
-    for (index, byte) in bytes.iter().enumerate() {
-        if !is_space(*byte) {
-            return &bytes[index..];
-        }
-    }
-    &[]
-}
-
 /// The number of bytes before white space or one of these bytes.
 fn length_before(bytes: &[u8], ends: &[u8]) -> usize
     ensures { result ≤ length bytes.now }
 {
-    for (index, byte) in bytes.iter().enumerate() {
-        if is_space(*byte) || ends.contains(byte) {
-            return index;
-        }
-    }
-    bytes.len()
-}
-
-/// Whether the byte is white space in HTML: tab, LF, FF, CR or space.
-fn is_space(byte: u8) -> bool {
-    matches!(byte, b'\t' | b'\n' | b'\x0c' | b'\r' | b' ')
+    bytes
+        .iter()
+        .position(|byte| byte.is_ascii_whitespace() || ends.contains(byte))
+        .unwrap_or(bytes.len())
 }
 
 /// The characters of 0x80 to 0x9f.
@@ -328,25 +308,19 @@ fn likely_byte(number: u32) -> u8
     }
 }
 
-/// The text of a document in UTF-16, without its byte order mark. A single byte at the end becomes U+FFFD.
+/// The text of a document in UTF-16 after its byte order mark. A single byte at the end becomes U+FFFD.
 pub(crate) fn from_utf16(
     alloc: Global,
     body: &[u8],
     is_little: bool,
 ) -> Result<Vec<u8>, AllocError> {
     let mut units = Vec::new(alloc);
-    let mut rest = body;
-    while let [first, second, behind @ ..] = rest {
-        rest = behind;
-        let pair = [*first, *second];
-        units.push(if is_little {
-            u16::from_le_bytes(pair)
-        } else {
-            u16::from_be_bytes(pair)
+    for pair in body.get(2..).unwrap_or(&[]).chunks(2) {
+        units.push(match pair {
+            [first, second] if is_little => u16::from_le_bytes([*first, *second]),
+            [first, second] => u16::from_be_bytes([*first, *second]),
+            _ => 0xfffd,
         })?;
-    }
-    if !rest.is_empty() {
-        units.push(0xfffd)?;
     }
     let text = String::from_utf16_lossy(alloc, units.as_slice())?;
     Ok(text.into_bytes())

@@ -50,15 +50,11 @@ fn is_break(byte: u8) -> bool
 }
 
 /// Whether the text has tabs or line breaks, which a URL parser drops.
+#[tactic(auto, using(crate::proofs::Trimming::found_any))]
 pub(crate) fn has_breaks(text: &[u8]) -> bool
     ensures { result ≡ list_any is_tab_or_new_line text.now }
 {
     memchr3(b'\t', b'\n', b'\r', text).is_some()
-}
-
-/// Whether the text has a line feed.
-pub(crate) fn is_over_lines(text: &[u8]) -> bool {
-    memchr(b'\n', text).is_some()
 }
 
 /// The text without tabs and line breaks.
@@ -111,6 +107,7 @@ pub(crate) fn is_web(scheme: Option<&[u8]>) -> bool {
 }
 
 /// The text before its first `#`.
+#[tactic(auto, using(crate::proofs::Trimming::sign_at, crate::proofs::Trimming::no_sign, std::proofs::lemmas::List::take_all))]
 pub(crate) fn before_fragment(text: &[u8]) -> &[u8]
     ensures { result.now ≡ without_fragment text.now }
 {
@@ -120,28 +117,11 @@ pub(crate) fn before_fragment(text: &[u8]) -> &[u8]
     }
 }
 
-/// The first bytes of a text, up to where a character of UTF-8 ends.
+/// The first bytes of a text in UTF-8, without a part of a character at their end.
 pub(crate) fn cut(text: &[u8], limit: usize) -> &[u8] {
-    let mut front = text.get(..limit).unwrap_or(text);
-    let behind = text.get(limit).copied().unwrap_or(0);
-    if !is_inner(behind) {
-        return front;
+    let front = text.get(..limit).unwrap_or(text);
+    match str::from_utf8(front) {
+        Ok(_) => front,
+        Err(error) => front.get(..error.valid_up_to()).unwrap_or(front),
     }
-    for _ in 0..4 {
-        match front.split_last() {
-            Some((last, rest)) => {
-                front = rest;
-                if !is_inner(*last) {
-                    break;
-                }
-            }
-            None => break,
-        }
-    }
-    front
-}
-
-/// Whether a byte continues a character of UTF-8.
-fn is_inner(byte: u8) -> bool {
-    matches!(byte, 0x80..=0xbf)
 }

@@ -1,18 +1,19 @@
 //! Reads a document.
-ghost use Rattle.std.specs.Prelude.{◌≡◌, ◌++◌, [], true, IfOk, OnOk, None};
+ghost use Rattle.std.specs.Prelude.{◌≡◌, ◌++◌, [], true, IfOk, OnOk, IfSome, IsAscii, MatchOption, None};
+ghost use Rattle.std.specs.Str.Lossy.{utf8_lossy};
 ghost use Rattle.html_links.specs.Links.{base_of, links_of};
 ghost use Rattle.html_links.specs.Reads.{base_at};
-ghost use Rattle.document_links.specs.Encoding.{HasLinks, HasLinkTexts};
+ghost use Rattle.document_links.specs.Encoding.{HasLinks, HasLinkTexts, IsTextIn, text_in};
+ghost use Rattle.document_links.specs.Places.{keeps_ascii};
 ghost use Rattle.document_links.specs.Written.{AreWritten, HasTexts, is_unicode};
 
 use crate::anchors::{AnchorTargets, anchors_of};
-use crate::charset::{Charset, charset_of, declared};
+use crate::charset::{Charset, charset_of, declared, from_utf16, from_windows};
 use crate::document_start::{start_of, without_mark};
-use crate::document_text::utf8_text;
 use crate::link_texts::LinkTexts;
-use crate::link_writer::{LinkCounts, LinkWriter};
+use crate::link_writer::LinkWriter;
 use crate::raw_links::{RawIds, RawLinks};
-use crate::unknown::{has_unknown, keep_known};
+use crate::unknown::{ascii_text, has_unknown, keep_known};
 use crawl_keys::CanonUrl;
 use html_links::{Base, read_links, read_page, read_places};
 use std::alloc::{AllocError, Global};
@@ -32,7 +33,8 @@ pub struct ReadOptions {
 #[derive(Drop)]
 pub struct Document {
     pub links: LinkTexts,
-    pub counts: LinkCounts,
+    /// Whether a link was skipped because it is too long.
+    pub has_skipped: bool,
     /// Its anchors, if the options ask for them and they are known.
     pub anchors: Option<AnchorTargets>,
     /// The positions of its links, if the options ask for them.
@@ -46,7 +48,7 @@ impl Document {
     pub fn empty(alloc: Global) -> Document {
         Document {
             links: LinkTexts::new(alloc),
-            counts: LinkCounts::default(),
+            has_skipped: false,
             anchors: None,
             positions: Vec::new(alloc),
             encoding: None,
@@ -124,7 +126,7 @@ fn text_document(
     let mut writer = written_links(alloc, charset, base, url, options, raw)?;
     let links = writer.take_links();
     let positions = writer.take_positions();
-    let counts = writer.counts;
+    let has_skipped = writer.has_skipped;
     // If an id is not known, no link to an anchor is known to be broken.
     let anchors = if options.anchors && !ids.has_unknown {
         Some(anchors_of(alloc, &ids.ids, raw, writer, url)?)
@@ -133,7 +135,7 @@ fn text_document(
     };
     Ok(Document {
         links,
-        counts,
+        has_skipped,
         anchors,
         positions,
         encoding: None,
@@ -197,4 +199,42 @@ fn read_all(
     } else {
         read_links(alloc, text, false, raw)
     }
+}
+
+/// The text of a document in UTF-8, or `None` if it is the document itself without its byte order mark.
+pub(crate) fn utf8_text(
+    alloc: Global,
+    body: &[u8],
+    charset: Charset,
+) -> Result<Option<Vec<u8>>, AllocError>
+    ensures ascii { IsAscii body.now → keeps_ascii charset ≡ true → IfOk result (λ new. IfSome new (λ text. text.items ≡ body.now)) }
+    ensures text { IfOk result (λ new. IsTextIn charset body.now (text_in body.now new)) }
+{
+    match charset {
+        Charset::Utf8 => mended(alloc, without_mark(body)),
+        Charset::Utf16Le | Charset::Utf16Be => {
+            let text = from_utf16(alloc, body, charset == Charset::Utf16Le)?;
+            Ok(Some(text))
+        }
+        Charset::Windows1252 => {
+            let text = from_windows(alloc, body)?;
+            Ok(Some(text))
+        }
+        Charset::Other => {
+            let text = ascii_text(alloc, body)?;
+            Ok(Some(text))
+        }
+    }
+}
+
+/// The bytes with U+FFFD in place of what is not UTF-8, or `None` if all is UTF-8.
+fn mended(alloc: Global, bytes: &[u8]) -> Result<Option<Vec<u8>>, AllocError>
+    ensures ascii { IsAscii bytes.now → IfOk result (λ new. IfSome new (λ text. text.items ≡ bytes.now)) }
+    ensures text { IfOk result (λ new. MatchOption new (bytes.now ≡ utf8_lossy bytes.now) (λ text. text.items ≡ utf8_lossy bytes.now)) }
+{
+    if simdutf8::is_utf8(bytes) {
+        return Ok(None);
+    }
+    let text = String::from_utf8_lossy(alloc, bytes)?;
+    Ok(Some(text.into_bytes()))
 }

@@ -57,14 +57,14 @@ fn skip_spaces(bytes: &[u8]) -> &[u8]
 
 /// Whether the text starts with a comment, and a document starts after its end or after a later `-->`.
 fn has_document_behind_comment(text: &[u8]) -> bool {
-    let Some(mut rest) = behind_front(text, b"<!--") else {
+    let Some(rest) = behind_front(text, b"<!--") else {
         return false;
     };
-    while let Some(behind) = behind_first(rest, b"-->") {
+    for end in memmem::find_iter(rest, b"-->") {
+        let behind = rest.get(end.saturating_add(3)..).unwrap_or(&[]);
         if begins_document(skip_spaces(behind)) {
             return true;
         }
-        rest = behind;
     }
     false
 }

@@ -2,12 +2,10 @@
 #![tactic(auto)]
 
 mod anchors;
-mod at_url;
 mod charset;
 mod cleaning;
 mod document;
 mod document_start;
-mod document_text;
 pub mod laws;
 mod line_text;
 mod link_texts;
@@ -20,13 +18,12 @@ mod raw_links;
 mod targets;
 mod unknown;
 
-pub use anchors::{AnchorLink, AnchorTargets, Anchors};
-pub use at_url::{LinkPlaces, PageAnchors, Target};
+pub use anchors::{AnchorLink, AnchorTargets, Anchors, PageAnchors, Target};
 pub use document::{Document, ReadOptions, read_document};
 pub use document_start::{START_LENGTH, is_document};
 pub use line_text::{LINK_FRONT, fits};
 pub use link_texts::LinkTexts;
-pub use link_writer::LinkCounts;
 pub use page_base::{base_of, resolved};
 pub use places::{TextPlace, text_places};
+pub use positions::LinkPlaces;
 pub use raw_links::RawLinks;

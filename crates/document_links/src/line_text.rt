@@ -43,6 +43,7 @@ fn is_inner(byte: u8) -> bool
 
 /// Whether the text fits in the line of a link, is ASCII, and has no byte that ends a scheme or that a URL parser drops. Most texts
 /// are like this, and are read only once.
+#[tactic(auto, using(crate::proofs::Fitting::plain_fits))]
 pub(crate) fn fits_plainly(text: &[u8]) -> bool
     ensures fit { result ≡ true → fits 5 text.now ≡ true }
     ensures plain { result ≡ true → list_all is_plain text.now ≡ true }

@@ -6,7 +6,7 @@ ghost use Rattle.document_links.specs.Written.{AreWritten, can_write, has_no_bas
 
 use crate::charset::Charset;
 use crate::cleaning::{
-    before_fragment, cut, has_breaks, is_over_lines, is_web, scheme_of, trimmed, without_breaks,
+    before_fragment, cut, has_breaks, is_web, scheme_of, trimmed, without_breaks,
 };
 use crate::line_text::{LINK_FRONT, TEXT_LIMIT, fits, fits_plainly};
 use crate::link_texts::LinkTexts;
@@ -19,32 +19,6 @@ use html_links::Base;
 use std::alloc::{AllocError, Global};
 use std::mem;
 
-/// The counts of links.
-#[derive(Clone, Copy, Debug, PartialEq, Eq, Default)]
-pub struct LinkCounts {
-    /// The links.
-    pub links: u64,
-    /// Links over several lines, which were joined.
-    pub over_lines: u64,
-    /// Links that lost their fragment because they were too long.
-    pub without_fragment: u64,
-    /// Links with other schemes that were cut at the end of a line.
-    pub cut: u64,
-    /// Links that were skipped because they were too long.
-    pub left_out: u64,
-}
-
-impl LinkCounts {
-    /// Adds other counts.
-    pub fn add(&mut self, more: LinkCounts) {
-        self.links = self.links.saturating_add(more.links);
-        self.over_lines = self.over_lines.saturating_add(more.over_lines);
-        self.without_fragment = self.without_fragment.saturating_add(more.without_fragment);
-        self.cut = self.cut.saturating_add(more.cut);
-        self.left_out = self.left_out.saturating_add(more.left_out);
-    }
-}
-
 /// Writes the texts of links on a page: resolved by its `base`, in UTF-8, and short enough for a line.
 #[derive(Drop)]
 pub(crate) struct LinkWriter {
@@ -52,7 +26,8 @@ pub(crate) struct LinkWriter {
     charset: Charset,
     base: PageBase,
     links: LinkTexts,
-    pub(crate) counts: LinkCounts,
+    /// Whether a link was skipped because it is too long.
+    pub(crate) has_skipped: bool,
     /// The positions of the links, if the caller asks for them.
     positions: Option<Positions>,
 }
@@ -78,7 +53,7 @@ impl LinkWriter {
             charset,
             base,
             links: LinkTexts::new(alloc),
-            counts: LinkCounts::default(),
+            has_skipped: false,
             positions: None,
         })
     }
@@ -145,20 +120,18 @@ impl LinkWriter {
     }
 
     /// Appends the next link.
+    #[tactic(auto, using(crate::proofs::Fitting::plain_written, crate::proofs::Trimming::unbroken_clean))]
     fn push(&mut self, text: &[u8]) -> Result<(), AllocError>
         ensures base { self.new.base ≡ self.old.base }
         ensures charset { self.new.charset ≡ self.old.charset }
         ensures written { keeps_links self.old.base self.old.charset ≡ true → can_write text.now ≡ true → OnOk result (self.new.links ≡ self.old.links ++ written text.now ∷ []) }
     {
         if matches!(self.base, PageBase::None) && fits_plainly(text) {
-            return self.push_plain(text);
+            return self.push_text(text);
         }
         let text = trimmed(text);
         if !has_breaks(text) {
             return self.push_clean(text);
-        }
-        if is_over_lines(text) {
-            self.counts.over_lines = self.counts.over_lines.saturating_add(1);
         }
         let clean = without_breaks(self.alloc, text)?;
         self.push_clean(clean.as_slice())
@@ -202,7 +175,6 @@ impl LinkWriter {
         }
         let front = before_fragment(text);
         if fits(LINK_FRONT, front) {
-            self.counts.without_fragment = self.counts.without_fragment.saturating_add(1);
             return self.push_text(front);
         }
         self.push_cut(text)
@@ -215,35 +187,19 @@ impl LinkWriter {
     {
         let front = cut(text, TEXT_LIMIT);
         if !is_web(scheme_of(text)) && fits(LINK_FRONT, front) {
-            self.counts.cut = self.counts.cut.saturating_add(1);
             return self.push_text(front);
         }
-        self.counts.left_out = self.counts.left_out.saturating_add(1);
+        self.has_skipped = true;
         Ok(())
     }
 
-    /// Appends a text without a colon.
-    fn push_plain(&mut self, text: &[u8]) -> Result<(), AllocError>
-        requires { fits 5 text.now ≡ true }
-        ensures base { self.new.base ≡ self.old.base }
-        ensures charset { self.new.charset ≡ self.old.charset }
-        ensures links { OnOk result (self.new.links ≡ self.old.links ++ text.now ∷ []) }
-    {
-        self.counts.links = self.counts.links.saturating_add(1);
-        if let Some(positions) = &mut self.positions {
-            positions.push_plain(text)?;
-        }
-        self.links.push(text)
-    }
-
-    /// Appends a text that fits in a line, counts it, and adds its position if positions are kept.
+    /// Appends a text that fits in a line, and its position if positions are kept.
     fn push_text(&mut self, text: &[u8]) -> Result<(), AllocError>
         requires { fits 5 text.now ≡ true }
         ensures base { self.new.base ≡ self.old.base }
         ensures charset { self.new.charset ≡ self.old.charset }
         ensures links { OnOk result (self.new.links ≡ self.old.links ++ text.now ∷ []) }
     {
-        self.counts.links = self.counts.links.saturating_add(1);
         if let Some(positions) = &mut self.positions {
             positions.push(text)?;
         }

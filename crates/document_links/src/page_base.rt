@@ -11,7 +11,7 @@ use std::alloc::{AllocError, Global};
 pub(crate) enum PageBase {
     /// A URL.
     Url(Base),
-    /// Another scheme with its colon, which comes before links without a scheme.
+    /// Another scheme in small letters with its colon, which comes before links without a scheme.
     Scheme(Vec<u8>),
     /// No base.
     None,
@@ -32,34 +32,24 @@ pub(crate) fn page_base(
     url: &CanonUrl,
 ) -> Result<PageBase, AllocError> {
     let text = without_breaks(alloc, trimmed(href))?;
-    match target_of(alloc, text.as_slice(), url)? {
+    let page = base_of(alloc, url)?;
+    match resolved(alloc, &page, text.as_slice())? {
         Some(target) => Ok(PageBase::Url(base_of(alloc, &target)?)),
         None => scheme_base(alloc, text.as_slice()),
     }
-}
-
-/// The canonical URL of a link of the page at a URL, if it has one.
-fn target_of(alloc: Global, text: &[u8], url: &CanonUrl) -> Result<Option<CanonUrl>, AllocError> {
-    let page = base_of(alloc, url)?;
-    resolved(alloc, &page, text)
 }
 
 /// The base by a text without line breaks that begins with another scheme.
 fn scheme_base(alloc: Global, text: &[u8]) -> Result<PageBase, AllocError> {
     match scheme_of(text) {
         Some(scheme) if !is_web(Some(scheme)) && !is_no_base(scheme) => {
-            Ok(PageBase::Scheme(front_of(alloc, scheme)?))
+            let mut front = scheme.to_vec(alloc)?;
+            front.make_ascii_lowercase();
+            front.push(b':')?;
+            Ok(PageBase::Scheme(front))
         }
         _ => Ok(PageBase::None),
     }
-}
-
-/// A scheme in small letters, with its colon.
-fn front_of(alloc: Global, scheme: &[u8]) -> Result<Vec<u8>, AllocError> {
-    let mut front = scheme.to_vec(alloc)?;
-    front.make_ascii_lowercase();
-    front.push(b':')?;
-    Ok(front)
 }
 
 /// Whether a base with this scheme is ignored.

@@ -3,8 +3,8 @@ ghost use Rattle.std.specs.Prelude.{◌≡◌, ◌++◌, ◌+◌, ◌<◌, ◌�
 ghost use Rattle.document_links.specs.Places.{ArePlaces, begins_character, is_lf, place_at, place_of};
 
 use crate::charset::charset_of;
+use crate::document::utf8_text;
 use crate::document_start::without_mark;
-use crate::document_text::utf8_text;
 use memchr::memrchr;
 use std::alloc::{AllocError, Global};
 
@@ -84,6 +84,7 @@ fn known_at(text: &[u8], known: Known, index: usize) -> Known
 }
 
 /// Returns the location of a position, from that of the same position or an earlier one.
+#[tactic(auto, using(crate::proofs::Behind::column_below, crate::proofs::Behind::taken_on))]
 fn known_on(text: &[u8], known: Known, index: usize) -> Known
     requires order { known.index ≤ index }
     requires within { index ≤ length text.now }

@@ -4,6 +4,14 @@ use crate::page_base::{base_of, resolved};
 use crawl_keys::{Base, CanonUrl};
 use std::alloc::{AllocError, Global};
 
+/// The positions of the links in the document at a URL.
+#[derive(Drop)]
+pub struct LinkPlaces {
+    pub url: CanonUrl,
+    /// The positions in the document's text at which the values of its links start, in order, for links with a canonical URL.
+    pub indices: Vec<u32>,
+}
+
 /// The positions of the links with a canonical URL, in order.
 #[derive(Drop)]
 pub(crate) struct Positions {
@@ -41,32 +49,12 @@ impl Positions {
     /// Keeps the position of the link with this text, if it leads to a canonical URL.
     pub(crate) fn push(&mut self, text: &[u8]) -> Result<(), AllocError> {
         if self.has_url(text)? {
-            self.keep()?;
+            match u32::try_from(self.index) {
+                Ok(index) => self.kept.push(index)?,
+                Err(_) => self.is_far = true,
+            }
         }
         Ok(())
-    }
-
-    /// Does what `push` does, for a text without a colon.
-    pub(crate) fn push_plain(&mut self, text: &[u8]) -> Result<(), AllocError> {
-        if names_host(text) {
-            self.push(text)
-        } else {
-            self.keep()
-        }
-    }
-
-    /// Keeps the position of the next link.
-    fn keep(&mut self) -> Result<(), AllocError> {
-        match u32::try_from(self.index) {
-            Ok(index) => {
-                self.kept.push(index)?;
-                Ok(())
-            }
-            Err(_) => {
-                self.is_far = true;
-                Ok(())
-            }
-        }
     }
 
     /// Whether a link with this text has a canonical URL. A text without a scheme and a host always has one.

@@ -78,7 +78,6 @@ pub fn report_of_files<R: Threads + Wait + Sync>(
         links: &[],
         base,
         rules,
-        seeds: settings.seeds,
     };
     let pages = SiteFiles::new(alloc, input)?;
     let bytes = InMemory {

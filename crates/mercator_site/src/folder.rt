@@ -93,7 +93,6 @@ pub fn web_of_folder<R: Files<File: Send, Dir: Send> + Threads + Sync>(
         links: links.as_slice(),
         base: options.base.as_str(),
         rules: &rules,
-        seeds: &[],
     };
     let files = SiteFiles::new(alloc, input)?;
     let bytes = OnDisk { rt, alloc, folder };
@@ -133,14 +132,14 @@ pub fn report_of_folder<R: Files<File: Send, Dir: Send> + Threads + Wait + Sync>
         links: links.as_slice(),
         base: options.site.base.as_str(),
         rules: &rules,
-        seeds: options.seeds.as_slice(),
     };
     let files = SiteFiles::new(alloc, input)?;
     let bytes = OnDisk { rt, alloc, folder };
-    let site = site_pages(rt, &files, input.seeds, Vec::new(alloc), &bytes)?;
+    let seeds = options.seeds.as_slice();
+    let site = site_pages(rt, &files, seeds, Vec::new(alloc), &bytes)?;
     let front = front_of(options.paths, files.top());
     push_notes(alloc, notices, front, site.notes.as_slice())?;
-    push_no_index(alloc, notices, input)?;
+    push_no_index(alloc, notices, input, seeds)?;
     let settings = settings_of(options, files.top(), known.as_slice());
     let report = report_of_pages(rt, alloc, site, &files, &bytes, settings)?;
     Ok(report)
@@ -151,8 +150,9 @@ fn push_no_index(
     alloc: Global,
     notices: &mut Vec<Notice>,
     input: SiteNames<'_>,
+    seeds: &[String],
 ) -> Result<(), AllocError> {
-    if input.seeds.is_empty()
+    if seeds.is_empty()
         && !has_index(input.names, input.rules.index_files.as_slice())
         && let Some(index) = input.rules.index_files.first()
     {

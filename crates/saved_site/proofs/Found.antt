@@ -1,20 +1,9 @@
 -- The saved web of pages has at each URL the page that these have.
-use Rattle.std.proofs.Common.{◌≡◌, inl, inr, ℕ, true, List, [], ◌∷◌, ◌++◌, Option, Some, None, codes, refl, sym, ap, ◌∙◌}
-use Rattle.std.specs.List.{flat_map}
-use Rattle.std.specs.Str.{bytes_eq}
-use Rattle.std.specs.Str.Lines.{lines}
-use Rattle.std.proofs.lemmas.Bool.{and_parts, cases_Bool, cond-true, cond-false}
+use Rattle.saved_site.proofs.Prelude.{◌≡◌, ℕ, true, List, [], ◌∷◌, ◌++◌, Option, Some, None, codes, refl, ap, ◌∙◌, arith, false, flat_map, lines, and_parts, cases_Bool, cond-true, cond-false, Line, under_page, page_in, web_text, fits_under, fits, all_fit, SitePage, Under, Links, Moved, bytes_eq, bytes_eq-Decides, is_below}
 use Rattle.saved_pages.specs.SavedWeb.{lines_behind, put_link, link_texts, put_moved, moved_text, page_with, page_behind, page_of}
-use Rattle.saved_pages.specs.WebLines.{is_page_at}
-use Rattle.saved_pages.specs.declared.line.Line.{Line}
 use Rattle.saved_site.proofs.Says as lemma
 use Rattle.saved_site.proofs.Sound.{AllPages, links, under_lines, page_lines, at_link, at_moved, at_page, at_header, web_cut}
-use Rattle.saved_site.specs.Meaning.{under_page, page_in}
-use Rattle.saved_site.specs.Pages.{web_text, fits_under}
-use Rattle.document_links.specs.Texts.{fits, all_fit}
-use Rattle.saved_site.specs.declared.page.SitePage.{SitePage}
-use Rattle.saved_site.specs.declared.page.Under.{Under}
-use Rattle.saved_site.specs.declared.page.Under.TheVariants.{Links, Moved}
+use Rattle.crawl_pages.specs.declared.page.Page.TheVariants as page
 
 -- ---- what belongs to a page, with the next pages after it
 
@@ -53,37 +42,30 @@ under_is (Moved text) pages url fit all =
 
 links_skipped : (texts : List (List ℕ)) (rest : List (List ℕ)) (url : List ℕ) → all_fit texts ≡ true → lines_behind (links texts ++ rest) url ≡ lines_behind rest url
 links_skipped [] rest url fit = refl
-links_skipped (text ∷ more) rest url fit =
-    let both = and_parts (fits 5 text) (all_fit more) fit in
-    cond-false (is_page_at url (codes "link " ++ text)) (Some (links more ++ rest)) (lines_behind (links more ++ rest) url) (at_link text url both.0)
-    ∙ links_skipped more rest url both.1
+links_skipped (text ∷ more) rest url fit = grind (arith, and_parts, cond-false, links, at_link, links_skipped more rest url)
 
 under_skipped : (under : Under) (rest : List (List ℕ)) (url : List ℕ) → fits_under under ≡ true → lines_behind (under_lines under ++ rest) url ≡ lines_behind rest url
-under_skipped (Links texts) rest url fit = links_skipped texts rest url fit
-under_skipped (Moved text) rest url fit =
-    cond-false (is_page_at url (codes "moved " ++ text)) (Some rest) (lines_behind rest url) (at_moved text url fit)
+under_skipped under rest url fit = grind (arith, links_skipped, cond-false, at_moved)
 
 -- ---- all pages
 
 pages_at : (pages : List SitePage) (url : List ℕ) → AllPages pages → page_behind url (lines_behind (flat_map page_lines pages) url) ≡ page_in pages url
 pages_at [] url all = refl
-pages_at (page ∷ more) url all =
-    let rest : List (List ℕ) = under_lines page.under ++ flat_map page_lines more in
-    let own : List ℕ = codes "page " ++ page.url in
-    elim (cases_Bool (bytes_eq page.url url)) [
-      | inl here ↦
-          ap (page_behind url) (cond-true (is_page_at url own) (Some rest) (lines_behind rest url) (at_page page url all.0 ∙ here))
-          ∙ under_is page.under more url all.0.under_fit all.1
-          ∙ sym (cond-true (bytes_eq page.url url) (under_page url page.under) (page_in more url) here)
-      | inr other ↦
-          ap (page_behind url) (cond-false (is_page_at url own) (Some rest) (lines_behind rest url) (at_page page url all.0 ∙ other) ∙ under_skipped page.under (flat_map page_lines more) url all.0.under_fit)
-          ∙ pages_at more url all.1
-          ∙ sym (cond-false (bytes_eq page.url url) (under_page url page.under) (page_in more url) other)
-    ]
+pages_at (page ∷ more) url all = grind (arith, under_lines, page_lines, cases_Bool, cond-true, at_page, under_is, cond-false, under_skipped, pages_at more url all.1)
 
 pub web_at : (pages : List SitePage) (url : List ℕ) → AllPages pages → page_of (lines (web_text pages)) url ≡ page_in pages url
-web_at pages url all =
-    let below : List (List ℕ) = flat_map page_lines pages in
-    ap (λ (ls : List (List ℕ)). page_of ls url) (web_cut pages all)
-    ∙ ap (page_behind url) (cond-false (is_page_at url (codes "savedweb 2")) (Some below) (lines_behind below url) (at_header url))
-    ∙ pages_at pages url all
+web_at pages url all = grind (arith, page_lines, web_cut, cond-false, at_header, pages_at)
+
+-- Pages below a top
+
+-- all pages are below the top
+abbrev pub AreBelow : List ℕ → List SitePage → Type 0
+AreBelow top [] = Unit {0}
+AreBelow top (page ∷ more) = (is_below top page.url ≡ true) × AreBelow top more
+
+not_there : (top first url : List ℕ) → is_below top first ≡ true → is_below top url ≡ false → bytes_eq first url ≡ false
+not_there top first url is out = grind (arith, cases_Bool, bytes_eq-Decides)
+
+pub none_outside : (top : List ℕ) (pages : List SitePage) (url : List ℕ) → AreBelow top pages → is_below top url ≡ false → page_in pages url ≡ page.Missing
+none_outside top [] url all out = refl
+none_outside top (first ∷ more) url all out = grind (arith, cond-false, not_there, none_outside top more url all.1 out)

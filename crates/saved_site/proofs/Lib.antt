@@ -1,11 +1,9 @@
-pub mod BelowTop
+pub mod Prelude
 pub mod Found
-pub mod KnownTexts
 pub mod LedPages
 pub mod Lines
 pub mod LinkIndices
 pub mod Linkers
-pub mod PageLengths
 pub mod Parts
 pub mod Says
 pub mod SiteSource

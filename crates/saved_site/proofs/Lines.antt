@@ -1,14 +1,6 @@
 -- Bytes that are made of lines, cut into these lines.
-use Rattle.std.proofs.Common.{◌≡◌, ℕ, ◌-◌, ◌<◌, ◌==◌, Bool, true, false, ◌||◌, not, List, [], ◌∷◌, ◌++◌, length, get_or, refl, ap, ◌∙◌, arith, append_assoc}
-use Rattle.std.specs.List.{All, AllPass, list_all, slice_split}
-use Rattle.std.specs.Str.Lines.{lines, lines_of_parts, strip_carriage_return}
-use Rattle.std.proofs.lemmas.Bool.{or_parts, not-true, cond-false}
+use Rattle.saved_site.proofs.Prelude.{common_steps, ◌≡◌, ℕ, ◌-◌, ◌<◌, Bool, true, false, ◌||◌, not, List, [], ◌∷◌, ◌++◌, length, arith, append_assoc, ◌+◌, ◌*◌, take, get_or, refl, length-append, append-nil, AllPass, list_all, flat_map, lines, lines_of_parts, strip_carriage_return, or_parts, not-true, cond-false, is_inner, take_more, flat_map-append, page_text, under_text, link_line, link_lines, moved_line, SitePage}
 use Rattle.std.proofs.lemmas.List.Splits.{slice_split_at, length-slice_split}
-use Rattle.std.proofs.lemmas.List.Sums.{AllPass-from_list_all}
-use Rattle.document_links.specs.Texts.{is_inner}
-
-abbrev is_lf : ℕ → Bool
-is_lf b = b == 10
 
 -- ---- one line
 
@@ -17,27 +9,35 @@ inner_parts x y e = or_parts x y (not-true (x || y) e)
 
 -- a part that others follow loses its CR
 before_others : (part : List ℕ) (parts : List (List ℕ)) → 0 < length parts → lines_of_parts (part ∷ parts) ≡ strip_carriage_return part ∷ lines_of_parts parts
-before_others part [] h = absurd (omega arith)
-before_others part (next ∷ more) h = refl
+before_others part parts h = grind arith
 
 -- a text without line breaks ends in no CR
 keeps_end : (line : List ℕ) → AllPass is_inner line → strip_carriage_return line ≡ line
-keeps_end [] inner = refl
-keeps_end (b ∷ bs) inner =
-    let line : List ℕ = b ∷ bs in
-    let last : is_inner (get_or line (length line - 1) 0) ≡ true = inner (length line - 1) 0 (omega arith) in
-    cond-false (get_or line (length line - 1) 0 == 13) _ _ (inner_parts (get_or line (length line - 1) 0 == 10) (get_or line (length line - 1) 0 == 13) last).1
+keeps_end line inner = grind (arith, common_steps, cond-false, inner_parts)
 
 -- the first line is a text without line breaks that a LF follows
 pub first_line : (line rest : List ℕ) → list_all is_inner line ≡ true → lines (line ++ 10 ∷ rest) ≡ line ∷ lines rest
-first_line line rest inner =
-    let pass : AllPass is_inner line = AllPass-from_list_all is_inner line inner in
-    let free : All (λ b. is_lf b ≡ false) line =
-    λ k d inside. (inner_parts (get_or line k d == 10) (get_or line k d == 13) (pass k d inside)).0 in
-    ap lines_of_parts (slice_split_at is_lf line 10 rest free refl)
-    ∙ before_others line (slice_split is_lf rest) (omega (arith, length-slice_split is_lf rest))
-    ∙ ap (λ (x : List ℕ). x ∷ lines rest) (keeps_end line pass)
+first_line line rest inner = grind (arith, common_steps, inner_parts, slice_split_at, before_others, length-slice_split, keeps_end)
 
 -- a front, a text and a LF, with more after them
 pub line_on : (front text rest : List ℕ) → (front ++ text ++ 10 ∷ []) ++ rest ≡ (front ++ text) ++ 10 ∷ rest
 line_on front text rest = append_assoc (front ++ text) (10 ∷ []) rest
+
+-- The number of bytes of the lines of pages, links and redirects
+
+pub page_length : (page : SitePage) → length (page_text page) ≡ length page.url + 6 + length (under_text page.under)
+page_length page = grind (arith, length-append)
+
+pub moved_length : (text : List ℕ) → length (moved_line text) ≡ length text + 7
+moved_length text = grind (arith, length-append)
+
+link_length : (text : List ℕ) → length (link_line text) ≡ length text + 6
+link_length text = grind (arith, length-append)
+
+pub links_length : (texts : List (List ℕ)) → length (link_lines texts) ≡ length (flat_map (λ (text : List ℕ). text) texts) + 6 * length texts
+links_length [] = refl
+links_length (text ∷ more) = grind (arith, link_length, length-append, links_length more)
+
+-- one line more
+pub links_more : (before now more : List ℕ) (texts : List (List ℕ)) (k : ℕ) (text : List ℕ) → k < length texts → text ≡ get_or texts k [] → now ≡ before ++ link_lines (take k texts) → more ≡ now ++ link_line text → more ≡ before ++ link_lines (take (k + 1) texts)
+links_more before now more texts k text within is sofar next = grind (arith, common_steps, take_more, flat_map-append, append-nil)

@@ -1,20 +1,6 @@
 -- One page more of those whose links are the indices of URLs.
-use Rattle.std.proofs.Common.{◌≡◌, ℕ, Bool, true, false, List, [], ◌∷◌, ◌++◌, is_some, refl, sym, ap, subst, ◌∙◌}
-use Rattle.std.specs.Bool.{if◌then◌else◌}
-use Rattle.std.proofs.lemmas.Bool.{cond-true}
-use Rattle.std.proofs.lemmas.List.{map_push}
-use Rattle.std.proofs.lemmas.List.Elements.{All-push}
-use Rattle.saved_pages.specs.UrlIndices.{KeepIndices}
-use Rattle.crawl_pages.specs.declared.page.Page.{Page}
-use Rattle.hash_index.specs.Lists.{index_of}
+use Rattle.saved_site.proofs.Prelude.{◌≡◌, ℕ, Bool, true, false, List, [], ◌∷◌, ◌++◌, is_some, refl, sym, ap, subst, ◌∙◌, arith, if◌then◌else◌, cond-true, map_push, All-push, KeepIndices, Page, index_of, is_next, PageFound, page_with, found_of, IsKept, AreKept, with_found, page_led, found_in, found_all, IsLed, AreLed, urls_of, under_page, IsPage, LinkedPage, SitePage}
 use Rattle.saved_site.proofs.LedPages.{all_led_still, has_found, same_found}
-use Rattle.saved_site.specs.Below.{is_next}
-use Rattle.saved_site.specs.Linked.{PageFound, page_with, found_of, IsKept, AreKept, with_found}
-use Rattle.saved_site.specs.LinkedPages.{page_led, found_in, found_all, IsLed, AreLed, urls_of}
-use Rattle.saved_site.specs.Meaning.{under_page}
-use Rattle.saved_site.specs.Pages.{IsPage}
-use Rattle.saved_site.specs.declared.linked.linked_page.LinkedPage.{LinkedPage}
-use Rattle.saved_site.specs.declared.page.SitePage.{SitePage}
 
 abbrev pub with_one : List LinkedPage → LinkedPage → List LinkedPage
 with_one list one = if is_some (index_of (urls_of list) one.url) then list else list ++ one ∷ []
@@ -28,22 +14,11 @@ led_one old new list longer one is keep led own =
     by_has false all = All-push (λ (p : LinkedPage). IsLed new p.leads) list one all own
 
 found_one : (urls : List (List ℕ)) (list : List LinkedPage) (one : LinkedPage) (b : Bool) → found_all urls (if b then list else list ++ one ∷ []) ≡ (if b then found_all urls list else found_all urls list ++ found_in urls one ∷ [])
-found_one urls list one true = refl
-found_one urls list one false = map_push (found_in urls) list one
+found_one urls list one b = grind (arith, map_push)
 
 -- what is found of them with one more
 pub found_with : (top : List ℕ) (old new : List (List ℕ)) (list longer : List LinkedPage) (one : LinkedPage) (page : SitePage) → longer ≡ with_one list one → KeepIndices old new → AreLed old list → found_in new one ≡ found_of page → is_next top [] page.url ≡ true → found_all new longer ≡ with_found top (found_all old list) (found_of page)
-found_with top old new list longer one page is keep led own kept =
-    let pages : List PageFound = found_all old list in
-    let url : one.url ≡ page.url = ap (λ (f : PageFound). f.0) own in
-    let has : is_some (index_of (urls_of list) one.url) ≡ is_some (page_with pages page.url) =
-    sym (has_found old list one.url) ∙ ap (λ (u : List ℕ). is_some (page_with pages u)) url in
-    ap (found_all new) is
-    ∙ found_one new list one (is_some (index_of (urls_of list) one.url))
-    ∙ ap (λ (b : Bool). if b then found_all new list else found_all new list ++ found_in new one ∷ []) has
-    ∙ ap (λ (fs : List PageFound). if is_some (page_with pages page.url) then fs else fs ++ found_in new one ∷ []) (same_found old new list keep led)
-    ∙ ap (λ (f : PageFound). if is_some (page_with pages page.url) then pages else pages ++ f ∷ []) own
-    ∙ sym (cond-true (is_next top [] page.url) _ _ kept)
+found_with top old new list longer one page is keep led own kept = grind (arith, has_found, found_one, same_found, cond-true)
 
 pub kept_with : (top : List ℕ) (pages longer : List PageFound) (page : SitePage) → longer ≡ with_found top pages (found_of page) → AreKept top pages → IsPage page → is_next top [] page.url ≡ true → AreKept top longer
 kept_with top pages longer page is all owes kept =

@@ -1,19 +1,11 @@
 -- What the lines of pages, links and redirects say.
-use Rattle.std.proofs.Common.{◌≡◌, ℕ, ◌+◌, ◌≤◌, true, List, ◌++◌, length, nat_lt, Some, None, Ok, codes, refl, ap, ◌∙◌, arith, length-append, lt-ltb}
-use Rattle.std.specs.Prelude.{nat_le}
-use Rattle.std.specs.List.{list_all}
-use Rattle.std.specs.Str.{is_utf8, IsUtf8}
-use Rattle.std.proofs.lemmas.Bool.{and_parts, leb-true, cond-true}
-use Rattle.std.proofs.lemmas.Str.{IsUtf8-append, IsUtf8-from_is_utf8}
+use Rattle.saved_site.proofs.Prelude.{◌≡◌, ℕ, ◌+◌, ◌≤◌, true, List, ◌++◌, length, Some, Ok, codes, refl, ap, ◌∙◌, arith, length-append, lt-ltb, nat_le, list_all, is_utf8, IsUtf8, and_parts, leb-true, cond-true, IsUtf8-append, IsUtf8-from_is_utf8, said_apart, line_of_text, line_of, Line, is_inner, fits}
 use Rattle.text_lines.proofs.CutLines.{text_of-utf8}
 use Rattle.saved_pages.proofs.WebLines.{line_of-utf8}
 use Rattle.crawl_limits.specs.Limits.{line_limit}
 use Rattle.text_lines.specs.Lines.{text_of}
 use Rattle.text_lines.specs.Fields.{at_space}
-use Rattle.saved_pages.specs.WebLines.{said_apart, line_of_text, line_of}
-use Rattle.saved_pages.specs.declared.line.Line.{Line}
 use Rattle.saved_pages.specs.declared.line.Line.TheVariants as line_says
-use Rattle.document_links.specs.Texts.{is_inner, fits}
 
 -- the line is a text, whatever its number, and says this
 pub record Says (line : List ℕ) (said : Line (List ℕ)) : Type 0 where
@@ -41,8 +33,7 @@ unfolding lib.Utf8.encode
 page_utf8 = (codes "page ", (refl, refl))
 
 at_page : (url : List ℕ) → at_space (codes "page " ++ url) ≡ Some (codes "page", url)
-at_page url =
-    cond-true (nat_lt 4 (length (codes "page " ++ url))) (Some (codes "page", url)) None (lt-ltb 4 (length (codes "page " ++ url)) (omega (arith, length-append (codes "page ") url)))
+at_page url = grind (arith, cond-true, lt-ltb, length-append)
 
 pub says_page : (url : List ℕ) → fits 5 url ≡ true → Says (codes "page " ++ url) (line_says.Page url)
 says_page url fit =
@@ -55,8 +46,7 @@ unfolding lib.Utf8.encode
 link_utf8 = (codes "link ", (refl, refl))
 
 at_link : (text : List ℕ) → at_space (codes "link " ++ text) ≡ Some (codes "link", text)
-at_link text =
-    cond-true (nat_lt 4 (length (codes "link " ++ text))) (Some (codes "link", text)) None (lt-ltb 4 (length (codes "link " ++ text)) (omega (arith, length-append (codes "link ") text)))
+at_link text = grind (arith, cond-true, lt-ltb, length-append)
 
 pub says_link : (text : List ℕ) → fits 5 text ≡ true → Says (codes "link " ++ text) (line_says.Link text)
 says_link text fit =
@@ -69,8 +59,7 @@ unfolding lib.Utf8.encode
 moved_utf8 = (codes "moved ", (refl, refl))
 
 at_moved : (text : List ℕ) → at_space (codes "moved " ++ text) ≡ Some (codes "moved", text)
-at_moved text =
-    cond-true (nat_lt 5 (length (codes "moved " ++ text))) (Some (codes "moved", text)) None (lt-ltb 5 (length (codes "moved " ++ text)) (omega (arith, length-append (codes "moved ") text)))
+at_moved text = grind (arith, cond-true, lt-ltb, length-append)
 
 pub says_moved : (text : List ℕ) → fits 6 text ≡ true → Says (codes "moved " ++ text) (line_says.Moved text)
 says_moved text fit =

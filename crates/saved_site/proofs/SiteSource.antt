@@ -1,26 +1,8 @@
 -- The pages of a site are those of its saved web, whatever order they come in.
-use Rattle.std.proofs.Common.{◌≡◌, ℕ, Bool, true, false, List, [], ◌∷◌, refl, sym, ap, subst, ◌∙◌}
-use Rattle.std.specs.Bool.{if◌then◌else◌}
-use Rattle.std.specs.Cmp.Lexicographic.{slice_cmp}
-use Rattle.std.specs.Ordering.{is_lt, is_eq, nat_cmp, ordering_reverse}
-use Rattle.std.specs.declared.cmp.Ordering.{Ordering}
-use Rattle.std.specs.declared.cmp.Ordering.TheVariants.{Less, Equal, Greater}
-use Rattle.std.specs.Str.{bytes_eq}
-use Rattle.std.proofs.lemmas.Bool.{and_parts}
-use Rattle.std.proofs.lemmas.Cmp.{nat_list_cmp_total, tied_itself}
-use Rattle.std.proofs.lemmas.List.Elements.{All-head, All-tail}
-use Rattle.std.proofs.lemmas.Map.Text.{is_eq-slice_cmp}
-use Rattle.std.proofs.lemmas.Slice.Eq.{bytes_eq-Decides}
-use Rattle.crawl_pages.specs.declared.page.Page.{Page}
-use Rattle.saved_site.proofs.BelowTop.{AreBelow}
-use Rattle.saved_site.proofs.Found.{web_at}
+use Rattle.saved_site.proofs.Prelude.{◌≡◌, ℕ, Bool, true, List, [], ◌∷◌, refl, sym, ap, ◌∙◌, arith, if◌then◌else◌, slice_cmp, is_lt, is_eq, nat_cmp, ordering_reverse, Ordering, Less, Equal, Greater, bytes_eq, and_parts, nat_list_cmp_total, tied_itself, All-head, All-tail, is_eq-slice_cmp, bytes_eq-Decides, Page, PageFound, page_at, IsKept, AreKept, IsSiteSource, page_in, under_page, web_text, is_behind, AscendsBehind, IsPage, SitePage, is_below}
+use Rattle.saved_site.proofs.Found.{AreBelow, web_at}
 use Rattle.saved_site.proofs.Sound.{AllPages}
 use Rattle.saved_site.proofs.WebTexts.{site_below, site_web}
-use Rattle.saved_site.specs.Linked.{PageFound, page_at, IsKept, AreKept, IsSiteSource}
-use Rattle.saved_site.specs.Meaning.{page_in, under_page}
-use Rattle.saved_site.specs.Pages.{web_text, is_behind, AscendsBehind, IsPage}
-use Rattle.saved_site.specs.declared.page.SitePage.{SitePage}
-use Rattle.site_files.specs.Below.{is_below}
 
 -- ---- a page among those that ascend
 
@@ -41,74 +23,47 @@ one_url : (page first : SitePage) → slice_cmp nat_cmp page.url first.url ≡ E
 one_url page first is = (bytes_eq-Decides page.url first.url).0 (sym (is_eq-slice_cmp page.url first.url) ∙ ap is_eq is)
 
 other_url : (page first : SitePage) (url : List ℕ) → slice_cmp nat_cmp page.url first.url ≡ Greater → bytes_eq page.url url ≡ true → bytes_eq first.url url ≡ true → ⊥
-other_url page first url is own its =
-    let same : page.url ≡ first.url = (bytes_eq-Decides page.url url).0 own ∙ sym ((bytes_eq-Decides first.url url).0 its) in
-    let tied : slice_cmp nat_cmp page.url first.url ≡ Equal = ap (slice_cmp nat_cmp page.url) (sym same) ∙ tied_itself nat_list_cmp_total page.url in
-    unlike (sym is ∙ tied)
-  where
-    unlike : Greater ≡ Equal → ⊥
-    unlike e = cc
+other_url page first url is own its = grind (arith, bytes_eq-Decides, tied_itself, nat_list_cmp_total)
 
 -- ---- what holds of all
 
 all_by : (o : Ordering) (page first : SitePage) (more later : List SitePage) → IsPage page → AllPages (first ∷ more) → AllPages later → AllPages (put_by o page first more later)
-all_by Less page first more later is all rest = (is, all)
-all_by Equal page first more later is all rest = (is, all.1)
-all_by Greater page first more later is all rest = (all.0, rest)
+all_by o page first more later is all rest = grind arith
 
 all_put : (page : SitePage) (pages : List SitePage) → IsPage page → AllPages pages → AllPages (put page pages)
 all_put page [] is all = (is, tt)
-all_put page (first ∷ more) is all =
-    all_by (slice_cmp nat_cmp page.url first.url) page first more (put page more) is all (all_put page more is all.1)
+all_put page (first ∷ more) is all = grind (arith, all_by, all_put page more is all.1)
 
 below_by : (top : List ℕ) (o : Ordering) (page first : SitePage) (more later : List SitePage) → is_below top page.url ≡ true → AreBelow top (first ∷ more) → AreBelow top later → AreBelow top (put_by o page first more later)
-below_by top Less page first more later is all rest = (is, all)
-below_by top Equal page first more later is all rest = (is, all.1)
-below_by top Greater page first more later is all rest = (all.0, rest)
+below_by top o page first more later is all rest = grind arith
 
 below_put : (top : List ℕ) (page : SitePage) (pages : List SitePage) → is_below top page.url ≡ true → AreBelow top pages → AreBelow top (put page pages)
 below_put top page [] is all = (is, tt)
-below_put top page (first ∷ more) is all =
-    below_by top (slice_cmp nat_cmp page.url first.url) page first more (put page more) is all (below_put top page more is all.1)
+below_put top page (first ∷ more) is all = grind (arith, below_by, below_put top page more is all.1)
 
 -- ---- they ascend
 
 up_by : (last : List ℕ) (page first : SitePage) (more later : List SitePage) (o : Ordering) → slice_cmp nat_cmp page.url first.url ≡ o → is_behind last page.url ≡ true → AscendsBehind last (first ∷ more) → (is_behind first.url page.url ≡ true → AscendsBehind first.url later) → AscendsBehind last (put_by o page first more later)
-up_by last page first more later Less is behind up rest = (behind, (ap is_lt is, up.1))
-up_by last page first more later Equal is behind up rest =
-    (behind, subst (λ (u : List ℕ). AscendsBehind u more) (sym (one_url page first is)) up.1)
-up_by last page first more later Greater is behind up rest = (up.0, rest (behind_back page first is))
+up_by last page first more later o is behind up rest = grind (arith, one_url, behind_back)
 
 up_put : (last : List ℕ) (page : SitePage) (pages : List SitePage) → is_behind last page.url ≡ true → AscendsBehind last pages → AscendsBehind last (put page pages)
 up_put last page [] behind up = (behind, tt)
-up_put last page (first ∷ more) behind up =
-    up_by last page first more (put page more) (slice_cmp nat_cmp page.url first.url) refl behind up (λ later. up_put first.url page more later up.1)
+up_put last page (first ∷ more) behind up = grind (arith, up_by, up_put first.url page more)
 
 -- ---- the page at a URL
 
 first_of_two : {X : Type 0} (b f : Bool) (p q r : X) → (b ≡ true → f ≡ true → ⊥) → (if f then q else (if b then p else r)) ≡ (if b then p else (if f then q else r))
-first_of_two true true p q r never = absurd (never refl refl)
-first_of_two true false p q r _ = refl
-first_of_two false true p q r _ = refl
-first_of_two false false p q r _ = refl
+first_of_two b f p q r never = grind arith
 
 one_of_two : {X : Type 0} (b f : Bool) (p q r : X) → f ≡ b → (if b then p else r) ≡ (if b then p else (if f then q else r))
-one_of_two true f p q r is = refl
-one_of_two false true p q r is = absurd (cc)
-one_of_two false false p q r is = refl
+one_of_two b f p q r is = grind arith
 
 in_by : (page first : SitePage) (more later : List SitePage) (url : List ℕ) (o : Ordering) → slice_cmp nat_cmp page.url first.url ≡ o → page_in later url ≡ (if bytes_eq page.url url then under_page url page.under else page_in more url) → page_in (put_by o page first more later) url ≡ (if bytes_eq page.url url then under_page url page.under else page_in (first ∷ more) url)
-in_by page first more later url Less is rest = refl
-in_by page first more later url Equal is rest =
-    one_of_two (bytes_eq page.url url) (bytes_eq first.url url) (under_page url page.under) (under_page url first.under) (page_in more url) (ap (λ (u : List ℕ). bytes_eq u url) (sym (one_url page first is)))
-in_by page first more later url Greater is rest =
-    ap (λ (r : Page). if bytes_eq first.url url then under_page url first.under else r) rest
-    ∙ first_of_two (bytes_eq page.url url) (bytes_eq first.url url) (under_page url page.under) (under_page url first.under) (page_in more url) (other_url page first url is)
+in_by page first more later url o is rest = grind (arith, one_of_two, one_url, first_of_two, other_url)
 
 in_put : (page : SitePage) (pages : List SitePage) (url : List ℕ) → page_in (put page pages) url ≡ (if bytes_eq page.url url then under_page url page.under else page_in pages url)
 in_put page [] url = refl
-in_put page (first ∷ more) url =
-    in_by page first more (put page more) url (slice_cmp nat_cmp page.url first.url) refl (in_put page more url)
+in_put page (first ∷ more) url = grind (arith, in_by, in_put page more url)
 
 -- ---- all pages in order
 
@@ -120,8 +75,7 @@ record Ordered (top : List ℕ) (pages : List PageFound) : Type 0 where
   same : (url : List ℕ) → page_in list url ≡ page_at pages url
 
 same_under : (page : SitePage) (url : List ℕ) (b : Bool) (rest : Page) → bytes_eq page.url url ≡ b → (if b then under_page url page.under else rest) ≡ (if b then under_page page.url page.under else rest)
-same_under page url true rest is = ap (λ (u : List ℕ). under_page u page.under) (sym ((bytes_eq-Decides page.url url).0 is))
-same_under page url false rest is = refl
+same_under page url b rest is = grind (arith, bytes_eq-Decides)
 
 ordered : (top : List ℕ) (pages : List PageFound) → AreKept top pages → Ordered top pages
 ordered top [] kept = record { list = []; all = tt; up = tt; below = tt; same = λ url. refl }

@@ -1,40 +1,18 @@
 -- The lines of pages in order are a saved web.
-use Rattle.std.proofs.Common.{◌≡◌, ℕ, ◌+◌, ◌<◌, ◌==◌, Bool, true, false, ◌||◌, List, [], ◌∷◌, ◌++◌, length, Some, None, codes, refl, sym, ap, subst, ◌∙◌, arith, append_assoc, append-nil, length-append, ne_eqb}
-use Rattle.std.specs.Prelude.{Result}
-use Rattle.std.specs.Bool.{if◌then◌else◌}
-use Rattle.std.specs.Cmp.Lexicographic.{slice_cmp}
-use Rattle.std.specs.List.{list_any, flat_map}
-use Rattle.std.specs.Option.{option_map_or}
-use Rattle.std.specs.Ordering.{is_lt, is_eq, nat_cmp}
-use Rattle.std.specs.declared.cmp.Ordering.{Ordering}
+use Rattle.saved_site.proofs.Prelude.{◌≡◌, ℕ, ◌+◌, ◌<◌, Bool, true, false, ◌||◌, List, [], ◌∷◌, ◌++◌, length, Some, None, codes, refl, sym, ap, subst, ◌∙◌, arith, append_assoc, append-nil, length-append, Result, if◌then◌else◌, slice_cmp, list_any, flat_map, option_map_or, is_lt, is_eq, nat_cmp, Ordering, bytes_eq, lines, Less, and_parts, or_from, cond-true, cond-false, nat_list_cmp_total, is_eq-slice_cmp, says_page, says_moved, url_said, is_page, is_moved_line, is_link, is_page_at, Line, fits_inner, under_text, page_text, web_text, is_behind, AscendsBehind, fits_under, IsPage, page_line, link_line, link_lines, fits, all_fit, SitePage, Under, Links, Moved}
 use Rattle.std.specs.Result.{result_ok}
-use Rattle.std.specs.Str.{bytes_eq}
-use Rattle.std.specs.Str.Lines.{lines}
-use Rattle.std.specs.declared.cmp.Ordering.TheVariants.{Less, Equal, Greater}
-use Rattle.std.proofs.lemmas.Bool.{and_parts, or_from, cond-true, cond-false}
-use Rattle.std.proofs.lemmas.Cmp.{nat_list_cmp_total}
-use Rattle.std.proofs.lemmas.Map.Text.{is_eq-slice_cmp}
 use Rattle.std.proofs.lemmas.List.Folds.{list_any-append}
 use Rattle.crawl_keys.specs.declared.error.KeyError.{KeyError}
 use Rattle.saved_pages.proofs.WebLines.{under_more}
 use Rattle.text_lines.specs.LeastFault.{SoundAfter}
 use Rattle.saved_pages.specs.WebFaults.{is_second, under_last_page, before, fault_after, IsSound}
-use Rattle.saved_pages.specs.WebChecks.{header_of, header_fault, page_fault, under_fault, said_fault, text_fault}
-use Rattle.saved_pages.specs.WebLines.{says_page, says_moved, url_said, is_page, is_moved_line, is_link, is_page_at}
+use Rattle.saved_pages.specs.WebChecks.{page_fault, under_fault, said_fault, text_fault}
 use Rattle.saved_pages.specs.declared.error.WebError.{WebError}
 use Rattle.saved_pages.specs.declared.error.WebError.TheVariants as wrong
-use Rattle.saved_pages.specs.declared.line.Line.{Line}
 use Rattle.saved_pages.specs.declared.line.Line.TheVariants as line_says
-use Rattle.document_links.proofs.Fitting.{fits_inner}
 use Rattle.saved_site.proofs.Lines.{first_line, line_on}
 use Rattle.saved_site.proofs.Says as lemma
 use Rattle.saved_site.proofs.Says.{Says}
-use Rattle.saved_site.specs.Pages.{under_text, page_text, web_text, is_behind, AscendsBehind, fits_under, IsPage}
-use Rattle.document_links.specs.Texts.{fits, all_fit}
-use Rattle.saved_site.specs.Lines.{page_line, link_line, link_lines}
-use Rattle.saved_site.specs.declared.page.SitePage.{SitePage}
-use Rattle.saved_site.specs.declared.page.Under.{Under}
-use Rattle.saved_site.specs.declared.page.Under.TheVariants.{Links, Moved}
 
 -- ---- the lines
 
@@ -75,30 +53,23 @@ pages_cut (page ∷ more) all =
     ∙ ap (λ (ls : List (List ℕ)). (codes "page " ++ page.url) ∷ ls) (under_cut page.under rest all.0.under_fit ∙ ap (λ (ls : List (List ℕ)). under_lines page.under ++ ls) (pages_cut more all.1))
 
 pub web_cut : (pages : List SitePage) → AllPages pages → lines (web_text pages) ≡ codes "savedweb 2" ∷ flat_map page_lines pages
-web_cut pages all =
-    first_line (codes "savedweb 2") (flat_map page_text pages) refl ∙ ap (λ (ls : List (List ℕ)). codes "savedweb 2" ∷ ls) (pages_cut pages all)
+web_cut pages all = grind (arith, first_line, pages_cut)
 
 -- ---- one line
 
 -- a line after others fails what it says
 said_of : (earlier : List (List ℕ)) (line : List ℕ) (said : Line (List ℕ)) → 0 < length earlier → Says line said → fault_after earlier line ≡ said_fault (before earlier) said
-said_of earlier line said some is =
-    ap (text_fault (before earlier)) (is.reads (length earlier + 1))
-    ∙ cond-false (length earlier + 1 == 1) (header_fault (header_of line)) (said_fault (before earlier) _) (ne_eqb (length earlier + 1) 1 (λ one. omega (arith, one, some)))
-    ∙ ap (said_fault (before earlier)) is.of_text
+said_of earlier line said some is = grind (arith, cond-false)
 
 passes : (number : ℕ) (some mixed : Bool) → some ≡ true → mixed ≡ false → under_fault number some mixed ≡ None
-passes number true false page free = refl
-passes number true true page free = absurd (cc)
-passes number false mixed page free = absurd (cc)
+passes number some mixed page free = grind arith
 
 page_passes : (b : Bool) (fault : WebError) → b ≡ false → (if b then Some fault else None) ≡ None
 page_passes b fault new = cond-false b (Some fault) None new
 
 -- a list of lines and one more of them
 any_push : (p : List ℕ → Bool) (earlier : List (List ℕ)) (line : List ℕ) (b : Bool) → list_any p earlier ≡ b → (list_any p (earlier ++ line ∷ []) ≡ (b || (p line || false)))
-any_push p earlier line b is =
-    list_any-append p earlier (line ∷ []) ∙ ap (λ (x : Bool). x || (p line || false)) is
+any_push p earlier line b is = grind (arith, list_any-append)
 
 -- ---- the lines under a page
 
@@ -109,25 +80,13 @@ record OnPage (earlier : List (List ℕ)) : Type 0 where
   free : list_any is_moved_line (under_last_page earlier) ≡ false
 
 link_is : (text : List ℕ) → fits 5 text ≡ true → (is_page (codes "link " ++ text) ≡ false) × (is_moved_line (codes "link " ++ text) ≡ false)
-link_is text fit =
-    let line = lemma.says_link text fit in
-    (ap says_page line.of_line, ap says_moved line.of_line)
+link_is text fit = grind arith
 
 under_push : (earlier : List (List ℕ)) (line : List ℕ) → is_page line ≡ false → under_last_page (earlier ++ line ∷ []) ≡ under_last_page earlier ++ line ∷ []
-under_push earlier line other =
-    under_more earlier line ∙ cond-false (is_page line) [] (under_last_page earlier ++ line ∷ []) other
+under_push earlier line other = grind (arith, under_more, cond-false)
 
 on_page_link : (earlier : List (List ℕ)) (text : List ℕ) → fits 5 text ≡ true → OnPage earlier → OnPage (earlier ++ (codes "link " ++ text) ∷ [])
-on_page_link earlier text fit on =
-    let line : List ℕ = codes "link " ++ text in
-    let is = link_is text fit in record {
-      some = omega (arith, length-append earlier (line ∷ []), on.some);
-      page = any_push is_page earlier line true on.page;
-      free =
-          ap (list_any is_moved_line) (under_push earlier line is.0)
-          ∙ any_push is_moved_line (under_last_page earlier) line false on.free
-          ∙ ap (λ (b : Bool). b || false) is.1;
-    }
+on_page_link earlier text fit on = grind (arith, link_is, length-append, any_push, under_push)
 
 links_sound : (earlier : List (List ℕ)) (texts : List (List ℕ)) → all_fit texts ≡ true → OnPage earlier → SoundAfter fault_after earlier (links texts)
 links_sound earlier [] fit on = tt
@@ -148,24 +107,16 @@ record UpTo (earlier : List (List ℕ)) (last : List ℕ) : Type 0 where
   known : (url : List ℕ) → is_behind last url ≡ true → list_any (is_page_at url) earlier ≡ false
 
 second_push : (earlier more : List (List ℕ)) → 0 < length earlier → is_second earlier ≡ true → is_second (earlier ++ more) ≡ true
-second_push [] more some second = absurd (omega (arith, some))
-second_push (line ∷ lines) more some second = second
+second_push earlier more some second = grind arith
 
 moved_passes : (number : ℕ) (second some link moved : Bool) (fault : WebError) → second ≡ true → some ≡ true → link ≡ false → moved ≡ false → (if second then under_fault number some (link || moved) else Some fault) ≡ None
-moved_passes number second some link moved fault is page no_link no_move =
-    cond-true second (under_fault number some (link || moved)) (Some fault) is ∙ passes number some (link || moved) page (or_from link moved no_link no_move)
+moved_passes number second some link moved fault is page no_link no_move = grind (arith, cond-true, passes, or_from)
 
 page_there : (earlier : List (List ℕ)) (page : List ℕ) → is_page page ≡ true → list_any is_page (earlier ++ page ∷ []) ≡ true
-page_there earlier page is =
-    list_any-append is_page earlier (page ∷ []) ∙ ap (λ (b : Bool). list_any is_page earlier || (b || false)) is ∙ or_true (list_any is_page earlier)
-  where
-    or_true : (b : Bool) → (b || true) ≡ true
-    or_true true = refl
-    or_true false = refl
+page_there earlier page is = grind (arith, list_any-append)
 
 under_none : (earlier : List (List ℕ)) (page : List ℕ) → is_page page ≡ true → under_last_page (earlier ++ page ∷ []) ≡ []
-under_none earlier page is =
-    under_more earlier page ∙ cond-true (is_page page) [] (under_last_page earlier ++ page ∷ []) is
+under_none earlier page is = grind (arith, under_more, cond-true)
 
 under_sound : (earlier : List (List ℕ)) (page : List ℕ) (under : Under) → is_second (earlier ++ page ∷ []) ≡ true → is_page page ≡ true → fits_under under ≡ true → SoundAfter fault_after (earlier ++ page ∷ []) (under_lines under)
 under_sound earlier page (Links texts) second is fit =
@@ -183,9 +134,7 @@ under_sound earlier page (Moved text) second is fit = (
 -- ---- URLs in order
 
 lt_less : (o : Ordering) → is_lt o ≡ true → o ≡ Less
-lt_less Less e = refl
-lt_less Equal e = absurd (cc)
-lt_less Greater e = absurd (cc)
+lt_less o e = grind arith
 
 behind_both : (a b c : List ℕ) → is_behind a b ≡ true → is_behind b c ≡ true → is_behind a c ≡ true
 behind_both a b c e f =
@@ -198,12 +147,10 @@ behind_other a b e = sym (is_eq-slice_cmp a b) ∙ ap is_eq (lt_less (slice_cmp 
 -- ---- which pages the lines are
 
 pub at_link : (text url : List ℕ) → fits 5 text ≡ true → is_page_at url (codes "link " ++ text) ≡ false
-at_link text url fit =
-    ap (λ (said : Line (List ℕ)). option_map_or (λ (own : List ℕ). bytes_eq own url) (url_said said) false) (lemma.says_link text fit).of_line
+at_link text url fit = grind arith
 
 pub at_moved : (text url : List ℕ) → fits 6 text ≡ true → is_page_at url (codes "moved " ++ text) ≡ false
-at_moved text url fit =
-    ap (λ (said : Line (List ℕ)). option_map_or (λ (own : List ℕ). bytes_eq own url) (url_said said) false) (lemma.says_moved text fit).of_line
+at_moved text url fit = grind arith
 
 pub at_page : (page : SitePage) (url : List ℕ) → IsPage page → is_page_at url (codes "page " ++ page.url) ≡ bytes_eq page.url url
 at_page page url is =
@@ -212,27 +159,16 @@ at_page page url is =
 
 none_links : (texts : List (List ℕ)) (url : List ℕ) → all_fit texts ≡ true → list_any (is_page_at url) (links texts) ≡ false
 none_links [] url fit = refl
-none_links (text ∷ more) url fit =
-    let both = and_parts (fits 5 text) (all_fit more) fit in
-    or_from (is_page_at url (codes "link " ++ text)) (list_any (is_page_at url) (links more)) (at_link text url both.0) (none_links more url both.1)
+none_links (text ∷ more) url fit = grind (arith, and_parts, or_from, at_link, none_links more url)
 
 none_under : (under : Under) (url : List ℕ) → fits_under under ≡ true → list_any (is_page_at url) (under_lines under) ≡ false
-none_under (Links texts) url fit = none_links texts url fit
-none_under (Moved text) url fit = or_from (is_page_at url (codes "moved " ++ text)) false (at_moved text url fit) refl
+none_under under url fit = grind (arith, none_links, or_from, at_moved)
 
 none_page : (page : SitePage) (url : List ℕ) → IsPage page → is_behind page.url url ≡ true → list_any (is_page_at url) (page_lines page) ≡ false
-none_page page url is behind =
-    or_from (is_page_at url (codes "page " ++ page.url)) (list_any (is_page_at url) (under_lines page.under))
-    (at_page page url is ∙ behind_other page.url url behind) (none_under page.under url is.under_fit)
+none_page page url is behind = grind (arith, or_from, at_page, behind_other, none_under)
 
 up_to_page : (earlier : List (List ℕ)) (last : List ℕ) (page : SitePage) → IsPage page → is_behind last page.url ≡ true → UpTo earlier last → UpTo (earlier ++ page_lines page) page.url
-up_to_page earlier last page is behind to = record {
-  some = omega (arith, length-append earlier (page_lines page), to.some);
-  second = second_push earlier (page_lines page) to.some to.second;
-  known = λ url more.
-      list_any-append (is_page_at url) earlier (page_lines page)
-      ∙ or_from (list_any (is_page_at url) earlier) (list_any (is_page_at url) (page_lines page)) (to.known url (behind_both last page.url url behind more)) (none_page page url is more);
-}
+up_to_page earlier last page is behind to = grind (arith, length-append, second_push, list_any-append, or_from, behind_both, none_page)
 
 -- ---- all pages
 
@@ -254,9 +190,7 @@ sound_join earlier (x ∷ xs) ys front back =
     (front.0, sound_join (earlier ++ x ∷ []) xs ys front.1 (subst P (sym (append_assoc earlier (x ∷ []) xs)) back))
 
 page_sound : (earlier : List (List ℕ)) (last : List ℕ) (page : SitePage) → IsPage page → is_behind last page.url ≡ true → UpTo earlier last → SoundAfter fault_after earlier (page_lines page)
-page_sound earlier last page is behind to =
-    let line : List ℕ = codes "page " ++ page.url in
-    (own_passes earlier last page is behind to, under_sound earlier line page.under (second_push earlier (line ∷ []) to.some to.second) (is_page_line page is) is.under_fit)
+page_sound earlier last page is behind to = grind (arith, own_passes, under_sound, second_push, is_page_line)
 
 pages_sound : (earlier : List (List ℕ)) (last : List ℕ) (pages : List SitePage) → AllPages pages → AscendsBehind last pages → UpTo earlier last → SoundAfter fault_after earlier (flat_map page_lines pages)
 pages_sound earlier last [] all up to = tt
@@ -269,21 +203,10 @@ header_sound = ap (text_fault (before [])) (lemma.says_header.reads 1)
 
 -- the first line is no page
 pub at_header : (url : List ℕ) → is_page_at url (codes "savedweb 2") ≡ false
-at_header url =
-    ap (λ (said : Line (List ℕ)). option_map_or (λ (own : List ℕ). bytes_eq own url) (url_said said) false) lemma.says_header.of_line
+at_header url = grind arith
 
 header_first : UpTo (codes "savedweb 2" ∷ []) []
-header_first = record {
-  some = omega arith;
-  second = refl;
-  known = λ url behind. ap (λ (b : Bool). b || false) (at_header url);
-}
+header_first = grind (arith, at_header)
 
 pub web_sound : (pages : List SitePage) → AllPages pages → AscendsBehind [] pages → IsSound (lines (web_text pages))
-web_sound pages all up =
-    let Q : List (List ℕ) → Type 0 = IsSound in
-    let front : List ℕ = codes "savedweb 2" in
-    subst Q (sym (web_cut pages all)) (record {
-      some = omega arith;
-      sound = (header_sound, pages_sound (front ∷ []) [] pages all up header_first);
-    })
+web_sound pages all up = grind (arith, web_cut, header_sound, pages_sound, header_first)

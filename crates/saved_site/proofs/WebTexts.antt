@@ -1,26 +1,13 @@
 -- The text of a saved web, page by page.
-use Rattle.std.proofs.Common.{◌≡◌, ℕ, ◌+◌, ◌<◌, true, List, [], ◌∷◌, ◌++◌, Option, None, Some, codes, get_or, length, take, refl, sym, ap, subst, ◌∙◌, append_assoc}
-use Rattle.std.specs.Io.KnownBytes.{Appends, append_known}
-use Rattle.std.specs.List.{flat_map}
-use Rattle.std.proofs.lemmas.Bool.{and_parts, cond-true}
-use Rattle.std.proofs.lemmas.List.{flat_map_more, take_more}
-use Rattle.saved_site.proofs.BelowTop.{AreBelow, none_outside}
-use Rattle.saved_site.proofs.Found.{web_at}
+use Rattle.saved_site.proofs.Prelude.{common_steps, ◌≡◌, ℕ, ◌+◌, ◌<◌, true, List, [], ◌∷◌, ◌++◌, Option, codes, get_or, length, take, refl, sym, ap, subst, ◌∙◌, arith, Appends, append_known, flat_map, and_parts, cond-true, flat_map_more, take_more, IsWebBelow, is_next, IsSiteWeb, page_in, page_text, web_text, is_behind, ascending_behind, AscendsBehind, IsPage, AreInOrder, IsPageText, TextAt, last_url, web_bytes, SitePage, is_below}
+use Rattle.saved_site.proofs.Found.{AreBelow, none_outside, web_at}
 use Rattle.saved_site.proofs.Sound.{AllPages, web_sound}
-use Rattle.saved_site.specs.Below.{IsWebBelow, is_next}
-use Rattle.saved_site.specs.Meaning.{IsSiteWeb, page_in}
-use Rattle.saved_site.specs.Pages.{page_text, web_text, is_behind, ascending_behind, AscendsBehind, IsPage}
-use Rattle.saved_site.specs.WebTexts.{AreInOrder, IsPageText, TextAt, last_url, web_bytes}
-use Rattle.saved_site.specs.declared.page.SitePage.{SitePage}
-use Rattle.site_files.specs.Below.{is_below}
 
 -- ---- pages that ascend
 
 all_taken : (last : List ℕ) (pages : List SitePage) → AscendsBehind last pages → ascending_behind last pages ≡ pages
 all_taken last [] up = refl
-all_taken last (page ∷ pages) up =
-    cond-true (is_behind last page.url) (page ∷ ascending_behind page.url pages) (ascending_behind last pages) up.0
-    ∙ ap (λ (ps : List SitePage). page ∷ ps) (all_taken page.url pages up.1)
+all_taken last (page ∷ pages) up = grind (arith, cond-true, all_taken page.url pages up.1)
 
 -- they are read as a saved web
 pub site_web : (pages : List SitePage) → AllPages pages → AscendsBehind [] pages → IsSiteWeb (web_text pages)
@@ -78,8 +65,7 @@ bytes_of : (top : List ℕ) (texts : List TextAt) (all : AreInOrder top [] texts
 bytes_of top texts all = ap (λ (b : List ℕ). codes "savedweb 2" ++ 10 ∷ b) (sym (text_pages top [] texts all).text)
 
 pub text_web : (top : List ℕ) (texts : List TextAt) → AreInOrder top [] texts → IsSiteWeb (web_bytes texts)
-text_web top texts all =
-    let p = text_pages top [] texts all in subst IsSiteWeb (bytes_of top texts all) (site_web p.pages p.all p.up)
+text_web top texts all = grind (arith, text_pages, bytes_of, site_web)
 
 pub text_below : (top : List ℕ) (texts : List TextAt) → AreInOrder top [] texts → IsWebBelow top (web_bytes texts)
 text_below top texts all =
@@ -89,14 +75,8 @@ text_below top texts all =
 
 -- one text more
 pub bytes_more : (texts : List TextAt) (i : ℕ) (text : TextAt) → i < length texts → text ≡ get_or texts i text → web_bytes (take i texts) ++ text.1 ≡ web_bytes (take (i + 1) texts)
-bytes_more texts i text below is =
-    append_assoc (codes "savedweb 2") (10 ∷ flat_map (λ (t : TextAt). t.1) (take i texts)) text.1
-    ∙ ap (λ (b : List ℕ). codes "savedweb 2" ++ b) (flat_map_more (λ (t : TextAt). t.1) (10 ∷ []) (take i texts) text)
-    ∙ ap web_bytes (sym (take_more texts i text below ∙ ap (λ (t : TextAt). take i texts ++ t ∷ []) (sym is)))
+bytes_more texts i text below is = grind (arith, common_steps, flat_map_more, take_more)
 
 -- the last room is written
 pub room_ended : (a b c : Option (List ℕ)) (room text : List ℕ) → Appends a (append_known b room) text → Appends b c room → Appends a c text
-room_ended None b c room text p q = tt
-room_ended (Some x) None c room text p q = absurd p
-room_ended (Some x) (Some y) None room text p q = absurd q
-room_ended (Some x) (Some y) (Some z) room text p q = q ∙ p
+room_ended a b c room text p q = grind arith

@@ -1,8 +1,6 @@
 pub mod Aliases
 pub mod Below
 pub mod Errors
-pub mod Leads
-pub mod Lines
 pub mod LinkTables
 pub mod Linked
 pub mod LinkedPages

@@ -5,10 +5,23 @@ use Rattle.std.specs.List.{flat_map}
 use Rattle.std.specs.Ordering.{is_lt, nat_cmp}
 use Rattle.crawl_keys.specs.CanonicalText.{canonical}
 use Rattle.document_links.specs.Texts.{fits, all_fit}
-use Rattle.saved_site.specs.Lines.{page_line, link_lines, moved_line}
 use Rattle.saved_site.specs.declared.page.Under.{Under}
 use Rattle.saved_site.specs.declared.page.Under.TheVariants.{Links, Moved}
 use Rattle.saved_site.specs.declared.page.SitePage.{SitePage}
+
+-- each line with its line break
+abbrev pub page_line : List ℕ → List ℕ
+page_line url = codes "page " ++ url ++ 10 ∷ []
+
+abbrev pub link_line : List ℕ → List ℕ
+link_line text = codes "link " ++ text ++ 10 ∷ []
+
+abbrev pub moved_line : List ℕ → List ℕ
+moved_line text = codes "moved " ++ text ++ 10 ∷ []
+
+-- the lines of links
+abbrev pub link_lines : List (List ℕ) → List ℕ
+link_lines texts = flat_map link_line texts
 
 -- the lines under a page's own
 abbrev pub under_text : Under → List ℕ

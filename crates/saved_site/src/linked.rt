@@ -8,12 +8,11 @@ mod link_table;
 mod linked_page;
 mod linker;
 mod page_list;
-mod part;
 
 use crawl_keys::CanonUrl;
 use crawl_pages::{Fetch, FetchError, Page};
 pub(crate) use linker::Linker;
-use part::Part;
+use page_list::Part;
 use std::alloc::{AllocError, Global};
 use std::marker::Model;
 
@@ -64,6 +63,7 @@ fn parts_of(alloc: Global, top: &str, linkers: Vec<Linker>) -> Result<Vec<Part>,
 }
 
 /// Returns the page at the URL in the first part that has one.
+#[tactic(auto, using(crate::proofs::Parts::passed_part, crate::proofs::Parts::found_part))]
 fn first_page(alloc: Global, parts: &[Part], url: &CanonUrl) -> Result<Option<Page>, AllocError>
     ensures { IfOk result (λ page. page ≡ page_with (flat_map (λ part. part) parts.now) url.now) }
 {

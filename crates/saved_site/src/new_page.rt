@@ -1,14 +1,12 @@
 //! Makes the page of a task from the contents of its file.
-use crate::line_text::LineText;
-use crate::page::{SitePage, Under};
+use crate::page::{LineText, SitePage, Under};
 use crate::spellings::{link_spellings, text_spelling};
-use crate::targets::targets_at;
 use crate::task::Task;
 use crate::web_text::WEB_LIMIT;
 use crawl_keys::CanonUrl;
 use document_links::{
-    AnchorTargets, Anchors, Document, LINK_FRONT, LinkCounts, LinkTexts, RawLinks, ReadOptions,
-    Target, fits, is_document, read_document,
+    AnchorTargets, Anchors, Document, LINK_FRONT, LinkTexts, RawLinks, ReadOptions, Target, fits,
+    is_document, read_document,
 };
 use site_files::{Left, Note, SiteFiles};
 use std::alloc::{AllocError, Global};
@@ -24,7 +22,6 @@ pub(crate) struct NewPage {
     /// The number of bytes of the page in a saved web, at least.
     pub(crate) byte_count: usize,
     pub(crate) spellings: Vec<Task>,
-    pub(crate) counts: LinkCounts,
     /// The own URL of the file, if the page is an alias.
     pub(crate) own: Option<CanonUrl>,
     /// Its anchors and the targets of its links to anchors, if the rules ask for them, the page is a document, and they are known.
@@ -98,26 +95,25 @@ fn document_page(
 ) -> Result<NewPage, AllocError> {
     let Document {
         links,
-        counts,
+        has_skipped,
         anchors,
         positions,
         encoding,
     } = document;
-    let notes = document_notes(alloc, task, counts, encoding)?;
+    let notes = document_notes(alloc, task, has_skipped, encoding)?;
     let spellings = link_spellings(alloc, files, &task.url, &links)?;
     let mut new = NewPage::new(task, Under::Links(links), notes)?;
     new.spellings = spellings;
-    new.counts = counts;
     new.anchors = site_anchors(files, anchors)?;
     new.positions = positions;
     Ok(new)
 }
 
-/// The notes about a document. `encoding` is the name of its encoding, if that is not known here.
+/// The notes about a document. `has_skipped` says whether a link was skipped, and `encoding` is the name of an unknown encoding.
 fn document_notes(
     alloc: Global,
     task: &Task,
-    counts: LinkCounts,
+    has_skipped: bool,
     encoding: Option<String>,
 ) -> Result<Vec<Note>, AllocError> {
     let mut notes = Vec::new(alloc);
@@ -127,7 +123,7 @@ fn document_notes(
             place: format!(in alloc; "{} ({name})", task.url.as_str())?,
         })?;
     }
-    if counts.left_out > 0 {
+    if has_skipped {
         notes.push(Note::at(alloc, Left::LongLinks, &task.url)?)?;
     }
     Ok(notes)
@@ -145,6 +141,18 @@ fn site_anchors(
     Ok(Some(SiteAnchors { anchors, targets }))
 }
 
+/// The targets at these URLs, in the same order.
+fn targets_at(files: &SiteFiles<'_>, urls: Vec<CanonUrl>) -> Result<Vec<Target>, AllocError> {
+    let mut targets = Vec::with_capacity(*urls.allocator(), urls.len())?;
+    for url in urls {
+        targets.push(match files.find(url.as_str()) {
+            Some(page) => Target::Page(page),
+            None => Target::Other(url),
+        })?;
+    }
+    Ok(targets)
+}
+
 /// The page of an alias, whose only link is the own URL of its file.
 fn alias_page(alloc: Global, files: &SiteFiles<'_>, task: &Task) -> Result<NewPage, AllocError> {
     let mut links = LinkTexts::new(alloc);
@@ -153,7 +161,6 @@ fn alias_page(alloc: Global, files: &SiteFiles<'_>, task: &Task) -> Result<NewPa
         push_own(files, own, &mut links)?;
     }
     let mut new = NewPage::new(task, Under::Links(links), Vec::new(alloc))?;
-    new.counts.links = 1;
     if let Some(own) = own
         && new.page.is_some()
     {
@@ -203,7 +210,7 @@ fn with_query(alloc: Global, target: &str, url: &str) -> Result<String, AllocErr
     Ok(target)
 }
 
-/// A redirect to this text. If it does not fit in a line, the page has no target.
+/// A redirect to this text. A text that does not fit in a line is skipped with a note, and the page has no link.
 fn moved_to(alloc: Global, task: &Task, text: &str) -> Result<NewPage, AllocError> {
     let mut notes = Vec::new(alloc);
     let under = match LineText::new(alloc, text.as_bytes())? {
@@ -240,7 +247,6 @@ impl NewPage {
             byte_count: byte_count_of(&page),
             page,
             spellings: Vec::new(alloc),
-            counts: LinkCounts::default(),
             own: None,
             anchors: None,
             positions: Vec::new(alloc),

@@ -1,12 +1,13 @@
 //! A page of a site.
-ghost use Rattle.std.specs.Prelude.{◌≡◌, false, true, IfSome, IsNone};
+ghost use Rattle.std.specs.Prelude.{◌≡◌, false, true, IfOk, IfSome, IsNone};
 ghost use Rattle.document_links.specs.Texts.{fits};
 
 mod lines;
 
-use crate::line_text::LineText;
 use crawl_keys::CanonUrl;
 use document_links::{LINK_FRONT, LinkTexts, fits};
+use std::alloc::{AllocError, Global};
+use std::marker::Model;
 
 /// The contents of a page.
 #[derive(Drop)]
@@ -50,9 +51,58 @@ impl SitePage {
     {
         &self.under
     }
+}
 
-    /// Whether the page is a redirect.
-    pub fn is_moved(&self) -> bool {
-        matches!(self.under, Under::Moved(_))
+/// The pages that one thread makes, in the form that is needed of them.
+pub(crate) trait PageSink: Send + Drop {
+    /// No pages of the site with this top.
+    fn empty(alloc: Global, top: &str) -> Result<Self, AllocError>;
+
+    /// The same with one more page.
+    fn with_page(self, page: SitePage) -> Result<Self, AllocError>;
+}
+
+/// The number of bytes before the text in the line of a redirect.
+const MOVED_FRONT: usize = 6;
+
+/// The text of a redirect's line.
+#[derive(Drop)]
+pub struct LineText {
+    bytes: Vec<u8>,
+}
+
+impl Model for LineText {
+    ghost use Rattle.std.specs.Prelude.{ℕ, List, true, ◌≡◌};
+    ghost use Rattle.document_links.specs.Texts.{fits};
+
+    ghost Value = { List ℕ };
+
+    ghost view = { λ text. text.bytes.items };
+
+    ghost invariant = { λ text. fits 6 text.bytes.items ≡ true };
+}
+
+impl LineText {
+    /// Makes the text, or returns `None` if it does not fit in the line of a redirect.
+    ///
+    /// # Errors
+    /// Out of memory.
+    pub fn new(alloc: Global, text: &[u8]) -> Result<Option<LineText>, AllocError>
+        ensures text { IfOk result (λ found. IfSome found (λ own. own ≡ text.now)) }
+        ensures none { IfOk result (λ found. IsNone found → fits 6 text.now ≡ false) }
+    {
+        if !fits(MOVED_FRONT, text) {
+            return Ok(None);
+        }
+        let bytes = text.to_vec(alloc)?;
+        Ok(Some(LineText { bytes }))
+    }
+
+    /// The bytes of the text.
+    pub fn as_bytes(&self) -> &[u8]
+        ensures text { result.now ≡ self.now }
+        ensures fit { fits 6 self.now ≡ true }
+    {
+        self.bytes.as_slice()
     }
 }

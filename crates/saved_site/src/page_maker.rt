@@ -1,10 +1,8 @@
 //! Makes pages in threads, each of which reads the files of its pages.
 use crate::new_page::{NewPage, page_of};
-use crate::page::SitePage;
-use crate::page_sink::PageSink;
+use crate::page::PageSink;
 use crate::task::Task;
-use crate::web::Summary;
-use document_links::{LinkCounts, RawLinks};
+use document_links::RawLinks;
 use site_files::{Body, FileBytes, Note, SiteFiles};
 use std::alloc::{AllocError, Global};
 use std::sync::atomic::{AtomicUsize, Ordering};
@@ -63,9 +61,8 @@ pub(crate) struct PageMaker<S> {
     room: RawLinks,
     pages: Vec<NewPage>,
     unread: Vec<UnreadFile>,
-    /// The pages of all batches so far, and their counts.
+    /// The pages of all batches so far.
     sink: S,
-    summary: Summary,
 }
 
 impl<S: PageSink> PageMaker<S> {
@@ -78,14 +75,13 @@ impl<S: PageSink> PageMaker<S> {
             pages: Vec::new(alloc),
             unread: Vec::new(alloc),
             sink: S::empty(alloc, files.top())?,
-            summary: Summary::default(),
         })
     }
 
-    /// The pages of all batches, and their counts.
-    pub(crate) fn into_part(self) -> (S, Summary) {
-        let PageMaker { sink, summary, .. } = self;
-        (sink, summary)
+    /// The pages of all batches.
+    pub(crate) fn into_sink(self) -> S {
+        let PageMaker { sink, .. } = self;
+        sink
     }
 
     /// Takes tasks and makes their pages, until no task is left or the batch has enough. A long file occupies only one thread.
@@ -173,20 +169,14 @@ impl<S: PageSink> PageMaker<S> {
         let mut maker = self;
         let mut new = new;
         let page = new.page.take();
-        let counts = new.counts;
         maker.pages.push(new)?;
         match page {
-            Some(page) => maker.with_page(page, counts),
+            Some(page) => {
+                let sink = maker.sink.with_page(page)?;
+                Ok(PageMaker { sink, ..maker })
+            }
             None => Ok(maker),
         }
-    }
-
-    /// The same with a page, and the counts of its links.
-    fn with_page(self, page: SitePage, counts: LinkCounts) -> Result<PageMaker<S>, AllocError> {
-        let mut maker = self;
-        maker.summary.add(&page, counts);
-        let sink = maker.sink.with_page(page)?;
-        Ok(PageMaker { sink, ..maker })
     }
 }
 
@@ -235,40 +225,21 @@ impl<S: PageSink> Batch<S> {
         let mut batch = Batch::new(alloc);
         let mut unread: Vec<UnreadFile> = Vec::new(alloc);
         for part in parts {
-            batch.add(part?, &mut unread)?;
+            let mut maker = part?;
+            batch.pages.append(&mut maker.pages)?;
+            unread.append(&mut maker.unread)?;
+            batch.makers.push(maker)?;
         }
-        batch.sort()?;
-        unread.sort_by(|a: &UnreadFile, b: &UnreadFile| a.number.cmp(&b.number))?;
+        let pages = &mut batch.pages;
+        pages.sort_by(|a: &NewPage, b: &NewPage| a.number.cmp(&b.number))?;
         batch.add_notes(unread)?;
         Ok(batch)
     }
 
-    /// Adds a maker and its pages.
-    fn add(&mut self, maker: PageMaker<S>, unread: &mut Vec<UnreadFile>) -> Result<(), AllocError> {
-        let mut maker = maker;
-        self.take_pages(&mut maker, unread)?;
-        self.makers.push(maker)?;
-        Ok(())
-    }
-
-    /// Takes the pages of a maker.
-    fn take_pages(
-        &mut self,
-        maker: &mut PageMaker<S>,
-        unread: &mut Vec<UnreadFile>,
-    ) -> Result<(), AllocError> {
-        self.pages.append(&mut maker.pages)?;
-        unread.append(&mut maker.unread)
-    }
-
-    /// Sorts the pages by the numbers of their tasks.
-    fn sort(&mut self) -> Result<(), AllocError> {
-        self.pages
-            .sort_by(|a: &NewPage, b: &NewPage| a.number.cmp(&b.number))
-    }
-
-    /// Adds the notes about these files, which cannot be read.
+    /// Adds the notes about these files, which cannot be read, in the order of their tasks.
     fn add_notes(&mut self, unread: Vec<UnreadFile>) -> Result<(), AllocError> {
+        let mut unread = unread;
+        unread.sort_by(|a: &UnreadFile, b: &UnreadFile| a.number.cmp(&b.number))?;
         for one in unread {
             let UnreadFile { note, .. } = one;
             self.notes.push(note)?;

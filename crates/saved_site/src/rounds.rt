@@ -2,11 +2,11 @@
 ghost use Rattle.std.specs.Prelude.{IfErr};
 ghost use Rattle.saved_site.specs.Errors.{IsOfWeb};
 
+use crate::page::PageSink;
 use crate::page_maker::{Batch, next_batch};
-use crate::page_sink::PageSink;
 use crate::site_data::SiteData;
 use crate::task::Task;
-use crate::task_queue::TaskQueue;
+use crate::tasks::TaskQueue;
 use site_files::{FileBytes, SiteError, SiteFiles};
 use std::alloc::AllocError;
 use std::thread;
@@ -25,14 +25,12 @@ pub(crate) fn make_all<R: Threads + Sync, B: FileBytes + Sync, S: PageSink>(
 {
     let mut queue = queue;
     let mut data = before;
-    let alloc = *data.notes.allocator();
-    let mut tasks = queue.first_tasks(alloc, files)?;
     'rounds: for _ in 0..u64::MAX {
+        let tasks = queue.take();
         if tasks.is_empty() {
             break;
         }
         data = make_round(rt, files, bytes, tasks.as_slice(), &mut queue, data)?;
-        tasks = queue.next_tasks();
     }
     Ok(data)
 }

@@ -1,8 +1,7 @@
 //! The pages of a site, and what is known of them.
 use crate::new_page::{NewPage, SiteAnchors};
+use crate::page::PageSink;
 use crate::page_maker::PageMaker;
-use crate::page_sink::PageSink;
-use crate::web::Summary;
 use crawl_keys::CanonUrl;
 use document_links::{LinkPlaces, PageAnchors};
 use site_files::{Alias, Note};
@@ -21,7 +20,6 @@ struct PageNotes {
 pub(crate) struct SiteData<S> {
     /// The pages that each thread has made.
     pub(crate) parts: Vec<S>,
-    pub(crate) summary: Summary,
     pub(crate) notes: Vec<Note>,
     pub(crate) aliases: Vec<Alias>,
     pub(crate) anchors: Vec<PageAnchors>,
@@ -35,7 +33,6 @@ impl<S: PageSink> SiteData<S> {
     pub(crate) fn new(alloc: Global, notes: Vec<Note>) -> SiteData<S> {
         SiteData {
             parts: Vec::new(alloc),
-            summary: Summary::default(),
             notes,
             aliases: Vec::new(alloc),
             anchors: Vec::new(alloc),
@@ -106,9 +103,7 @@ impl<S: PageSink> SiteData<S> {
     /// Adds the pages of the makers of a round.
     pub(crate) fn add_makers(&mut self, makers: Vec<PageMaker<S>>) -> Result<(), AllocError> {
         for maker in makers {
-            let (part, summary) = maker.into_part();
-            self.summary.join(summary);
-            self.parts.push(part)?;
+            self.parts.push(maker.into_sink())?;
         }
         Ok(())
     }

@@ -1,60 +1,86 @@
-//! The pages that are to be made.
+//! The pages that are still to be made, and the number of bytes of the saved web.
+ghost use Rattle.std.specs.Prelude.{IfErr};
+ghost use Rattle.saved_site.specs.Errors.{IsOfWeb};
+
 use crate::new_page::NewPage;
 use crate::spellings::text_spelling;
 use crate::task::Task;
+use crate::web_text::{HEADER_LENGTH, WEB_LIMIT};
 use crawl_keys::CanonUrl;
-use site_files::SiteFiles;
+use site_files::{SiteError, SiteFiles};
 use std::alloc::{AllocError, Global};
 use std::collections::BTreeSet;
 use std::mem;
 
-/// The pages of the site.
-pub(crate) fn site_tasks(alloc: Global, files: &SiteFiles<'_>) -> Result<Vec<Task>, AllocError> {
-    let mut tasks = Vec::new(alloc);
-    for entry in 0..files.page_count() {
-        if let Some(url) = files.url(entry) {
-            let url = url.clone()?;
-            tasks.push(Task { url, entry })?;
-        }
-    }
-    Ok(tasks)
-}
-
-/// The pages at other spellings and with queries, each once.
+/// The pages that are still to be made.
 #[derive(Drop)]
-pub(crate) struct SpelledTasks {
+pub(crate) struct TaskQueue {
     alloc: Global,
-    known: BTreeSet<CanonUrl>,
+    /// The URLs at other spellings and with queries whose pages were added.
+    spelled: BTreeSet<CanonUrl>,
     tasks: Vec<Task>,
+    /// The number of bytes of the saved web with the pages so far.
+    byte_count: usize,
 }
 
-impl SpelledTasks {
-    /// No pages.
-    pub(crate) fn new(alloc: Global) -> SpelledTasks {
-        SpelledTasks {
+impl TaskQueue {
+    /// The pages of the site, and those that seeds spell.
+    pub(crate) fn new(
+        alloc: Global,
+        files: &SiteFiles<'_>,
+        seeds: &[String],
+    ) -> Result<TaskQueue, AllocError> {
+        let mut queue = TaskQueue {
             alloc,
-            known: BTreeSet::new(alloc),
+            spelled: BTreeSet::new(alloc),
             tasks: Vec::new(alloc),
+            byte_count: HEADER_LENGTH,
+        };
+        queue.add_pages(files)?;
+        queue.add_seeds(files, seeds)?;
+        Ok(queue)
+    }
+
+    /// Adds the pages of the site.
+    fn add_pages(&mut self, files: &SiteFiles<'_>) -> Result<(), AllocError> {
+        for entry in 0..files.page_count() {
+            if let Some(url) = files.url(entry) {
+                let url = url.clone()?;
+                self.tasks.push(Task { url, entry })?;
+            }
         }
+        Ok(())
     }
 
     /// Adds the pages that links on the top spell.
-    pub(crate) fn add_seeds(
-        &mut self,
-        files: &SiteFiles<'_>,
-        seeds: &[String],
-    ) -> Result<(), AllocError> {
-        let top = files.top_url();
+    fn add_seeds(&mut self, files: &SiteFiles<'_>, seeds: &[String]) -> Result<(), AllocError> {
         for seed in seeds {
-            if let Some(spelling) = text_spelling(self.alloc, files, top, seed.as_str())? {
+            let spelling = text_spelling(self.alloc, files, files.top_url(), seed.as_str())?;
+            if let Some(spelling) = spelling {
                 self.add(spelling)?;
             }
         }
         Ok(())
     }
 
-    /// Adds the pages that links of new pages spell, and frees the lists of these.
-    pub(crate) fn add_spelled(&mut self, pages: &mut [NewPage]) -> Result<(), AllocError> {
+    /// Counts the bytes of new pages, and adds the pages that their links spell. The lists of these are freed.
+    ///
+    /// # Errors
+    /// `TooLarge`, `NoMemory`.
+    pub(crate) fn count(&mut self, pages: &mut [NewPage]) -> Result<(), SiteError>
+        ensures { IfErr result IsOfWeb }
+    {
+        for page in pages.iter() {
+            self.byte_count = self.byte_count.saturating_add(page.byte_count);
+        }
+        if self.byte_count > WEB_LIMIT {
+            return Err(SiteError::TooLarge);
+        }
+        Ok(self.add_spelled(pages)?)
+    }
+
+    /// Adds the pages that links of new pages spell.
+    fn add_spelled(&mut self, pages: &mut [NewPage]) -> Result<(), AllocError> {
         for page in pages.iter_mut() {
             let spellings = mem::replace(&mut page.spellings, Vec::new(self.alloc));
             for spelling in spellings {
@@ -64,16 +90,16 @@ impl SpelledTasks {
         Ok(())
     }
 
-    /// Adds a page, unless one at its URL was added before.
+    /// Adds a page at another spelling, unless one at its URL was added before.
     fn add(&mut self, spelling: Task) -> Result<(), AllocError> {
-        if !self.known.contains(&spelling.url) {
-            self.known.insert(spelling.url.clone()?)?;
+        if !self.spelled.contains(&spelling.url) {
+            self.spelled.insert(spelling.url.clone()?)?;
             self.tasks.push(spelling)?;
         }
         Ok(())
     }
 
-    /// Takes the pages that were added.
+    /// Takes the pages of the next round.
     pub(crate) fn take(&mut self) -> Vec<Task> {
         mem::replace(&mut self.tasks, Vec::new(self.alloc))
     }

@@ -1,17 +1,34 @@
 //! The pages of a site, as a saved web and as a source for a crawl, and what is known of them.
-use crate::linked::LinkedPages;
-use crate::page::SitePage;
-use crate::web_text::WebText;
-use document_links::{LinkCounts, LinkPlaces, PageAnchors};
-use site_files::{Alias, Note};
+ghost use Rattle.std.specs.Prelude.{IfErr, IfOk, string_bytes};
+ghost use Rattle.saved_site.specs.Aliases.{AreAliases};
+ghost use Rattle.saved_site.specs.Below.{IsWebBelow};
+ghost use Rattle.saved_site.specs.Errors.{IsOfWeb};
+ghost use Rattle.saved_site.specs.Linked.{IsSiteSource};
+ghost use Rattle.saved_site.specs.Meaning.{IsSiteWeb};
 
-/// A saved web and what is known of its pages.
+use crate::aliases::aliases_among;
+use crate::linked::LinkedPages;
+use crate::page::PageSink;
+use crate::rounds::make_all;
+use crate::site_data::SiteData;
+use crate::tasks::TaskQueue;
+use crate::web_text::WebText;
+use document_links::{LinkPlaces, PageAnchors};
+use site_files::{Alias, FileBytes, Note, SiteError, SiteFiles};
+use std::thread::Threads;
+
+/// The saved web of a site.
 #[derive(Drop)]
 pub struct Web {
-    /// The saved web.
     pub text: WebText,
-    /// The counts of its pages and links.
-    pub summary: Summary,
+    /// Notes about what was skipped or changed, in the order of names and then of URLs.
+    pub notes: Vec<Note>,
+}
+
+/// The pages of a site as a source for a crawl, and what is known of them.
+#[derive(Drop)]
+pub struct LinkedSite {
+    pub pages: LinkedPages,
     /// Notes about what was skipped or changed, in the order of names and then of URLs.
     pub notes: Vec<Note>,
     /// The aliases, in the order of their URLs.
@@ -22,50 +39,79 @@ pub struct Web {
     pub places: Vec<LinkPlaces>,
 }
 
-/// The pages of a site, as a source for a crawl.
-#[derive(Drop)]
-pub struct LinkedSite {
-    /// The pages.
-    pub pages: LinkedPages,
-    /// As in `Web`, like the fields that follow.
-    pub summary: Summary,
-    pub notes: Vec<Note>,
-    pub aliases: Vec<Alias>,
-    pub anchors: Vec<PageAnchors>,
-    pub places: Vec<LinkPlaces>,
+/// Makes the saved web of a site from the bytes of its files. `seeds` are links on the top at which a crawl starts. Like links in
+/// documents, they can have another spelling or a query. The notes come before those about pages.
+///
+/// # Errors
+/// `TooLarge`, `NoMemory`.
+pub fn site_web<R: Threads + Sync, B: FileBytes + Sync>(
+    rt: &R,
+    files: &SiteFiles<'_>,
+    seeds: &[String],
+    notes: Vec<Note>,
+    bytes: &B,
+) -> Result<Web, SiteError>
+    ensures web { IfOk result (λ web. IsSiteWeb web.text) }
+    ensures below { IfOk result (λ web. IsWebBelow (string_bytes files.now.site.top) web.text) }
+    ensures error { IfErr result IsOfWeb }
+{
+    let data = data_of(rt, files, seeds, notes, bytes)?;
+    let SiteData { parts, notes, .. } = data;
+    let text = WebText::new(*notes.allocator(), files.top(), parts)?;
+    Ok(Web { text, notes })
 }
 
-/// The counts of a saved web.
-#[derive(Clone, Copy, Debug, PartialEq, Eq, Default)]
-pub struct Summary {
-    /// The pages, and how many of them are redirects or aliases.
-    pub pages: u64,
-    pub moved: u64,
-    pub aliases: u64,
-    /// The links.
-    pub links: LinkCounts,
+/// Makes the pages of that saved web, without its text.
+///
+/// # Errors
+/// `TooLarge`, `NoMemory`.
+pub fn site_pages<R: Threads + Sync, B: FileBytes + Sync>(
+    rt: &R,
+    files: &SiteFiles<'_>,
+    seeds: &[String],
+    notes: Vec<Note>,
+    bytes: &B,
+) -> Result<LinkedSite, SiteError>
+    ensures source { IfOk result (λ site. IsSiteSource (string_bytes files.now.site.top) site.pages) }
+    ensures aliases { IfOk result (λ site. AreAliases site.pages site.aliases.items) }
+    ensures error { IfErr result IsOfWeb }
+{
+    let data = data_of(rt, files, seeds, notes, bytes)?;
+    let SiteData {
+        parts,
+        notes,
+        aliases,
+        anchors,
+        places,
+        ..
+    } = data;
+    let alloc = *notes.allocator();
+    let pages = LinkedPages::new(alloc, files.top(), parts)?;
+    let aliases = aliases_among(alloc, &pages, aliases)?;
+    Ok(LinkedSite {
+        pages,
+        notes,
+        aliases,
+        anchors,
+        places,
+    })
 }
 
-impl Summary {
-    /// Returns the same counts with the number of these aliases.
-    pub(crate) fn with_aliases(self, aliases: &[Alias]) -> Summary {
-        Summary {
-            aliases: aliases.len() as u64,
-            ..self
-        }
-    }
-
-    /// Counts a page and its links.
-    pub(crate) fn add(&mut self, page: &SitePage, counts: LinkCounts) {
-        self.pages = self.pages.saturating_add(1);
-        self.moved = self.moved.saturating_add(u64::from(page.is_moved()));
-        self.links.add(counts);
-    }
-
-    /// Adds the pages, redirects and links that another thread has counted. The number of aliases stays.
-    pub(crate) fn join(&mut self, more: Summary) {
-        self.pages = self.pages.saturating_add(more.pages);
-        self.moved = self.moved.saturating_add(more.moved);
-        self.links.add(more.links);
-    }
+/// Makes all pages of a site, and sorts what is known of them by their URLs.
+fn data_of<R: Threads + Sync, B: FileBytes + Sync, S: PageSink>(
+    rt: &R,
+    files: &SiteFiles<'_>,
+    seeds: &[String],
+    notes: Vec<Note>,
+    bytes: &B,
+) -> Result<SiteData<S>, SiteError>
+    ensures { IfErr result IsOfWeb }
+{
+    let alloc = *notes.allocator();
+    let mut none = SiteData::new(alloc, notes);
+    files.copy_doubles(&mut none.notes)?;
+    let queue = TaskQueue::new(alloc, files, seeds)?;
+    let mut data = make_all(rt, files, bytes, queue, none)?;
+    data.sort()?;
+    Ok(data)
 }

@@ -11,7 +11,7 @@ use Rattle.std.specs.Str.{bytes_eq}
 use Rattle.crawl_pages.specs.declared.page.Page.{Page}
 use Rattle.crawl_pages.specs.declared.page.Page.TheVariants.{Found, Moved, Missing}
 use Rattle.crawl_pages.specs.declared.page.PageResult.{PageResult}
-use Rattle.document_links.specs.declared.at_url.LinkPlaces.{LinkPlaces}
+use Rattle.document_links.specs.declared.positions.LinkPlaces.{LinkPlaces}
 use Rattle.hash_order.specs.HashOrder.{by_hash, by_hash_ties}
 use Rattle.site_check.specs.Broken.{result_at}
 use Rattle.site_check.specs.Leads.{HasNoLink, Indices, Numbers, Target, indices_at, indices_in, indices_with, lead_to, leads_at, leads_from, leads_of, missing_from, moved_target, number_at, number_in, number_with, own_number, target_at, targets_of, to_number}

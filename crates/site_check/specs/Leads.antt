@@ -10,7 +10,7 @@ use Rattle.crawl_pages.specs.declared.page.Page.{Page}
 use Rattle.crawl_pages.specs.declared.page.Page.TheVariants.{Found, Moved, Missing}
 use Rattle.crawl_pages.specs.declared.page.PageResult.{PageResult}
 use Rattle.hash_order.specs.HashOrder.{by_hash}
-use Rattle.document_links.specs.declared.at_url.LinkPlaces.{LinkPlaces}
+use Rattle.document_links.specs.declared.positions.LinkPlaces.{LinkPlaces}
 use Rattle.site_check.specs.Broken.{is_ignored, shown}
 use Rattle.site_check.specs.declared.leads.Lead.{Lead}
 use Rattle.site_check.specs.declared.leads.Target as code

@@ -1,6 +1,9 @@
 -- The pages of a site, and the files that they are made of.
-use Rattle.std.specs.Prelude.{ℕ, List, map, Option, Some, None, slice_get, string_bytes}
+use Rattle.std.specs.Prelude.{ℕ, ◌==◌, List, ◌++◌, codes, take, drop, map, Option, Some, None, slice_get, string_bytes}
+use Rattle.std.specs.List.{position_or_len}
 use Rattle.std.specs.Option.{option_map}
+use Rattle.site_files.specs.declared.error.SiteError.{SiteError}
+use Rattle.site_files.specs.declared.error.SiteError.TheVariants as wrong
 use Rattle.site_files.specs.declared.files.SiteFiles.{SiteFiles}
 use Rattle.site_files.specs.declared.site.Entry.{Entry}
 use Rattle.site_files.specs.declared.site.Source.{Source}
@@ -29,3 +32,18 @@ pages_of files = map page_of files.site.entries.items
 -- the file with this index
 abbrev pub name_at : SiteFiles → ℕ → Option (List ℕ)
 name_at files index = option_map string_bytes (slice_get files.names.now index)
+
+-- the error of names that are no site: any but that of a folder that cannot be read
+abbrev pub IsOfFiles : SiteError → Type 0
+IsOfFiles (wrong.Io error) = ⊥
+IsOfFiles error = Unit {0}
+
+-- ---- the URLs that a server looks up
+
+-- the number of bytes of a URL before its query
+abbrev pub path_length : List ℕ → ℕ
+path_length url = position_or_len (λ b. b == 63) url
+
+-- the URL with `.html` after its path
+abbrev pub with_html : List ℕ → List ℕ
+with_html url = take (path_length url) url ++ codes ".html" ++ drop (path_length url) url

@@ -1,4 +1,2 @@
 pub mod Below
-pub mod Errors
 pub mod Files
-pub mod LookedUp

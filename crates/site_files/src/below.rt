@@ -7,18 +7,11 @@ use crawl_keys::CanonUrl;
 use percent_encoding::percent_decode;
 use std::alloc::{AllocError, Global};
 
-/// Whether a URL begins with the top, or does once the escapes of both are read.
+/// Whether a URL begins with the top, as it is or after both are percent-decoded.
 pub fn is_below(alloc: Global, top: &str, url: &CanonUrl) -> Result<bool, AllocError>
     ensures { IfOk result (λ is. is ≡ is_below top.now url.now) }
 {
-    let is_below = is_text_below(alloc, top, url.as_str())?;
-    Ok(is_below)
-}
-
-/// Whether `url` begins with `top`, either as they are or after both are percent-decoded.
-fn is_text_below(alloc: Global, top: &str, url: &str) -> Result<bool, AllocError>
-    ensures { IfOk result (λ is. is ≡ is_below top.now url.now) }
-{
+    let url = url.as_str();
     if begins(top.as_bytes(), url.as_bytes()) {
         return Ok(true);
     }
@@ -54,6 +47,7 @@ fn unescaped(alloc: Global, text: &[u8]) -> Result<Vec<u8>, AllocError>
 }
 
 /// The text without the slashes at its end.
+#[tactic(auto, using(crate::proofs::Slashes::cut_one, crate::proofs::Slashes::keeps))]
 fn without_slashes(text: &[u8]) -> &[u8]
     ensures { result.now ≡ without_slashes text.now }
 {

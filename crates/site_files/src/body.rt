@@ -1,4 +1,6 @@
-//! The contents of a file.
+//! The contents of files.
+use crate::files::SiteFile;
+use crate::notes::Left;
 use std::alloc::{AllocError, Global};
 use std::io;
 use std::io::Read;
@@ -97,5 +99,29 @@ impl Body {
     fn grow(&mut self) -> Result<(), AllocError> {
         let length = self.room.len().max(self.used);
         self.room.resize(length.saturating_add(GROWTH), 0)
+    }
+}
+
+/// Reads the files of a site, for several threads at the same time.
+pub trait FileBytes {
+    /// Reads a file into an empty body. Returns why it is skipped, if it is.
+    ///
+    /// # Errors
+    /// Out of memory.
+    fn read(&self, file: SiteFile<'_>, body: &mut Body) -> Result<Option<Left>, AllocError>;
+}
+
+/// Files in memory, in the order of the site's names.
+#[derive(Drop)]
+pub struct InMemory<'a> {
+    pub bodies: &'a [Vec<u8>],
+}
+
+impl FileBytes for InMemory<'_> {
+    fn read(&self, file: SiteFile<'_>, body: &mut Body) -> Result<Option<Left>, AllocError> {
+        if let Some(bytes) = self.bodies.get(file.index) {
+            body.push(bytes.as_slice())?;
+        }
+        Ok(None)
     }
 }

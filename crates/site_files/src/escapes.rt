@@ -33,33 +33,15 @@ const IN_PATH: AsciiSet = ascii_set!(IN_NAME.remove(b'/'));
 
 /// What is escaped in the query of a file's name.
 const IN_QUERY: AsciiSet = ascii_set!(
-    NON_ALPHANUMERIC
-        .remove(b'-')
-        .remove(b'.')
-        .remove(b'_')
-        .remove(b'~')
-        .remove(b'!')
-        .remove(b'$')
+    IN_NAME
+        .add(b'\'')
         .remove(b'%')
-        .remove(b'&')
-        .remove(b'(')
-        .remove(b')')
-        .remove(b'*')
-        .remove(b'+')
-        .remove(b',')
         .remove(b'/')
-        .remove(b':')
-        .remove(b';')
-        .remove(b'=')
         .remove(b'?')
-        .remove(b'@')
-        .remove(b'[')
         .remove(b'\\')
-        .remove(b']')
         .remove(b'^')
         .remove(b'`')
         .remove(b'{')
-        .remove(b'|')
         .remove(b'}')
 );
 

@@ -2,11 +2,11 @@
 ghost use Rattle.std.specs.Prelude.{◌≡◌, IfErr, IfOk, length, slice_get, string_bytes};
 ghost use Rattle.std.specs.Option.{option_map};
 ghost use Rattle.site_files.specs.Below.{IsTop};
-ghost use Rattle.site_files.specs.Errors.{IsOfFiles};
+ghost use Rattle.site_files.specs.Files.{IsOfFiles};
 ghost use Rattle.site_files.specs.Files.{name_at, page_file, page_of, pages_of};
 
+use crate::alias::FolderLink;
 use crate::error::SiteError;
-use crate::folder_links::FolderLink;
 use crate::kinds::{Kind, kind_of};
 use crate::notes::Note;
 use crate::site::{Entry, Rules, Site, Source, split_name};
@@ -21,8 +21,6 @@ pub struct SiteNames<'a> {
     pub links: &'a [FolderLink],
     pub base: &'a str,
     pub rules: &'a Rules,
-    /// Links on the top at which a crawl starts. Like links in documents, they can have another spelling or a query.
-    pub seeds: &'a [String],
 }
 
 /// A file of a site.
@@ -59,7 +57,6 @@ impl<'a> SiteFiles<'a> {
             links,
             base,
             rules,
-            ..
         } = input;
         let mut doubles = Vec::new(alloc);
         let site = Site::new(alloc, base, names, links, rules, &mut doubles)?;

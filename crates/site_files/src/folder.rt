@@ -2,7 +2,7 @@
 ghost use Rattle.std.specs.Prelude.{◌≡◌, alloc_error};
 ghost use Rattle.std.specs.IoError.{error_kind};
 
-use crate::folder_links::FolderLink;
+use crate::alias::FolderLink;
 use crate::notes::{Left, Note};
 use std::alloc::{AllocError, Global};
 use std::cmp::Ordering;
@@ -83,15 +83,6 @@ fn order_of(a: &Folder, b: &Folder) -> Ordering {
     }
 }
 
-/// Reads folders, for several threads at the same time.
-pub(crate) trait Folders {
-    /// The contents of a folder. `room` is for the names that one call of the system returns.
-    ///
-    /// # Errors
-    /// Out of memory.
-    fn inside(&self, folder: &Folder, room: &mut [u8]) -> Result<Inside, AllocError>;
-}
-
 /// The folders below one on disk. Symbolic links are followed, but out of the top only if `follow` says so.
 #[derive(Drop)]
 pub(crate) struct DiskFolders<'a, R> {
@@ -104,8 +95,9 @@ pub(crate) struct DiskFolders<'a, R> {
     pub(crate) follow: bool,
 }
 
-impl<R: Files> Folders for DiskFolders<'_, R> {
-    fn inside(&self, folder: &Folder, room: &mut [u8]) -> Result<Inside, AllocError> {
+impl<R: Files> DiskFolders<'_, R> {
+    /// The contents of a folder. `room` is for the names that one call of the system returns. The only error is out of memory.
+    pub(crate) fn inside(&self, folder: &Folder, room: &mut [u8]) -> Result<Inside, AllocError> {
         match self.names_in(folder.name.as_str(), room) {
             Ok(listed) => self.listed(folder, listed.as_slice()),
             Err(error) => {
@@ -115,9 +107,7 @@ impl<R: Files> Folders for DiskFolders<'_, R> {
             }
         }
     }
-}
 
-impl<R: Files> DiskFolders<'_, R> {
     /// The names in a folder, each ended by a NUL.
     pub(crate) fn names_in(&self, folder: &str, room: &mut [u8]) -> io::Result<Vec<u8>> {
         let path = format!(in self.alloc; "{}/{folder}", self.top)?;

@@ -4,12 +4,12 @@ ghost use Rattle.std.specs.List.{list_any};
 ghost use Rattle.crawl_keys.specs.CanonicalText.{canonical};
 ghost use Rattle.percent_encoding.specs.Percent.{percent_decode};
 ghost use Rattle.site_files.specs.Below.{IsTop, is_mark, without_slashes};
-ghost use Rattle.site_files.specs.Errors.{IsOfFiles};
+ghost use Rattle.site_files.specs.Files.{IsOfFiles};
 
+use crate::alias::{FolderLink, LinkedFolders};
 use crate::below::is_slashed;
 use crate::error::SiteError;
 use crate::escapes::{push_name, push_query, push_respelled};
-use crate::folder_links::{FolderLink, LinkedFolders};
 use crate::notes::{Left, Note};
 use crawl_keys::{CanonUrl, KeyError, canonical};
 use std::alloc::{AllocError, Global};

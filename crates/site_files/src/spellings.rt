@@ -1,7 +1,7 @@
 //! The URLs for which a server returns a page of the site, although they are not its URL: another spelling, a query, a path through a
 //! symbolic link to a folder, or a name without its `.html`.
 ghost use Rattle.std.specs.Prelude.{◌≡◌, IfOk, string_bytes};
-ghost use Rattle.site_files.specs.LookedUp.{with_html};
+ghost use Rattle.site_files.specs.Files.{with_html};
 
 use crate::escapes::{push_looked_up, push_query, push_respelled};
 use crate::files::SiteFiles;

@@ -1,7 +1,7 @@
 //! The files and folders below a folder.
+use crate::alias::FolderLink;
 use crate::error::SiteError;
-use crate::folder::{DiskFolders, Folder, Folders, Inside};
-use crate::folder_links::FolderLink;
+use crate::folder::{DiskFolders, Folder, Inside};
 use crate::notes::Note;
 use crate::site::Rules;
 use std::alloc::{AllocError, Global};
@@ -75,10 +75,10 @@ fn begun<R: Files>(alloc: Global, folders: &DiskFolders<'_, R>) -> Result<Walk, 
 }
 
 /// The walk after all folders were listed, level by level.
-fn walked<R: Threads + Sync, F: Folders + Sync>(
+fn walked<R: Files<File: Send, Dir: Send> + Threads + Sync>(
     rt: &R,
     alloc: Global,
-    folders: &F,
+    folders: &DiskFolders<'_, R>,
     walk: Walk,
 ) -> Result<Walk, AllocError> {
     let mut walk = walk;
@@ -93,10 +93,10 @@ fn walked<R: Threads + Sync, F: Folders + Sync>(
 }
 
 /// Lists the folders from this one on in threads. Each comes with its index.
-fn level_of<R: Threads + Sync, F: Folders + Sync>(
+fn level_of<R: Files<File: Send, Dir: Send> + Threads + Sync>(
     rt: &R,
     alloc: Global,
-    folders: &F,
+    folders: &DiskFolders<'_, R>,
     entered: &[Folder],
     first: usize,
 ) -> Result<Vec<(usize, Inside)>, AllocError> {
@@ -119,9 +119,9 @@ fn level_of<R: Threads + Sync, F: Folders + Sync>(
 }
 
 /// Lists the folders that one of several threads takes. Each takes the next.
-fn part_of<F: Folders>(
+fn part_of<R: Files>(
     alloc: Global,
-    folders: &F,
+    folders: &DiskFolders<'_, R>,
     entered: &[Folder],
     next: &AtomicUsize,
 ) -> Result<Vec<(usize, Inside)>, AllocError> {

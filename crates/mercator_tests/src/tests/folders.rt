@@ -54,7 +54,6 @@ impl OneFile {
             links: &[],
             base: BASE,
             rules: &self.rules,
-            seeds: &[],
         }
     }
 

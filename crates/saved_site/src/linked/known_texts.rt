@@ -3,7 +3,7 @@ ghost use Rattle.std.specs.Prelude.{◌≡◌, ◌<◌, ◌++◌, ℕ, List, [],
 ghost use Rattle.std.specs.List.{Contains};
 ghost use Rattle.crawl_keys.specs.Folders.{is_of_folder};
 ghost use Rattle.saved_pages.specs.SavedWeb.{link_url};
-ghost use Rattle.saved_site.specs.Leads.{AreKnown, AreOfFolder, LeadsTo};
+ghost use Rattle.saved_site.specs.LinkTables.{AreKnown, AreOfFolder, LeadsTo};
 
 use hash_index::{HashIndex, Keyed};
 use saved_pages::LinkText;
@@ -97,6 +97,7 @@ impl KnownTexts {
     }
 
     /// The index that is known of a text.
+    #[tactic(auto, using(crate::proofs::LinkIndices::within_at))]
     pub(crate) fn find(&self, key: &LinkText<'_>) -> Option<Option<u32>>
         ensures { IfSome result (λ index. Contains self.now (key.now, index)) }
     {
@@ -107,6 +108,7 @@ impl KnownTexts {
     }
 
     /// Adds a text, if it is not known.
+    #[tactic(auto, using(crate::proofs::LinkIndices::folder_push))]
     pub(crate) fn add(
         &mut self,
         alloc: Global,

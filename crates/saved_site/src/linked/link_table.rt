@@ -3,16 +3,14 @@ ghost use Rattle.std.specs.Prelude.{◌≡◌, true, None, IfOk, OnOk, count_by,
 ghost use Rattle.std.specs.List.{filter_map};
 ghost use Rattle.saved_pages.specs.UrlIndices.{KeepIndices, LeadTo};
 ghost use Rattle.saved_pages.specs.SavedWeb.{link_url};
-ghost use Rattle.saved_site.specs.Leads.{LeadsTo};
-ghost use Rattle.saved_site.specs.LinkTables.{IsTable, IsTableOf};
+ghost use Rattle.saved_site.specs.LinkTables.{LeadsTo, IsTable, IsTableOf};
 ghost use Rattle.saved_site.specs.LinkedPages.{IsLed, page_led};
 ghost use Rattle.saved_site.specs.Meaning.{under_page};
 ghost use Rattle.saved_site.specs.declared.linked.link_table.LinkTable.{LinkTable};
 
-use crate::line_text::LineText;
 use crate::linked::known_texts::KnownTexts;
 use crate::linked::linked_page::Leads;
-use crate::page::Under;
+use crate::page::{LineText, Under};
 use crawl_keys::{Base, CanonUrl, KeyError, before_fragment, is_of_folder};
 use document_links::LinkTexts;
 use saved_pages::{LinkText, UrlList};
@@ -69,6 +67,7 @@ impl LinkTable {
     }
 
     /// The URLs to which a page leads, by its links or its redirect.
+    #[tactic(auto, using(crate::proofs::LinkIndices::led_page))]
     pub(crate) fn leads(
         &mut self,
         alloc: Global,
@@ -161,6 +160,7 @@ impl LinkTable {
 }
 
 /// Whether what is known of the last page stays known on the next one.
+#[tactic(auto, using(crate::proofs::LinkIndices::known_beside))]
 fn stays(last: &Option<Base>, next: &Base) -> bool
     ensures { result ≡ true → (table : LinkTable) → IsTable last.now table → IsTableOf next.now table }
 {

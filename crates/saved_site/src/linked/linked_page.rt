@@ -73,6 +73,7 @@ fn urls_at(alloc: Global, urls: &[CanonUrl], indices: &[u32]) -> Result<Vec<Cano
 }
 
 /// Appends the URL at the index.
+#[tactic(auto, using(saved_pages::proofs::PageIndex::item_at, crate::proofs::LedPages::url_there, crate::proofs::LedPages::no_url_there))]
 fn push_url(links: &mut Vec<CanonUrl>, urls: &[CanonUrl], index: u32) -> Result<(), AllocError>
     ensures { OnOk result (links.new.items ≡ links.old.items ++ filter_map (slice_get urls.now) (index ∷ [])) }
 {

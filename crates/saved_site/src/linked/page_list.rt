@@ -10,6 +10,7 @@ use crawl_keys::CanonUrl;
 use crawl_pages::Page;
 use hash_index::HashIndex;
 use std::alloc::{AllocError, Global};
+use std::marker::Model;
 
 /// Pages, of each URL one.
 #[derive(Drop)]
@@ -50,6 +51,7 @@ impl PageList {
     }
 
     /// The page with the URL, whose links have these URLs.
+    #[tactic(auto, using(crate::proofs::LedPages::none_there))]
     pub(crate) fn page(
         &self,
         alloc: Global,
@@ -69,5 +71,43 @@ impl PageList {
             }
             None => Ok(None),
         }
+    }
+}
+
+/// Pages, and the URLs that their links lead to.
+#[derive(Drop)]
+pub(crate) struct Part {
+    urls: Vec<CanonUrl>,
+    pages: PageList,
+}
+
+// Contracts see what is found at each URL.
+impl Model for Part {
+    ghost use Rattle.std.specs.Prelude.{ℕ, List};
+    ghost use Rattle.crawl_pages.specs.declared.page.Page.{Page};
+
+    ghost Value = { List (List ℕ × Page) };
+
+    ghost use Rattle.saved_site.specs.LinkedPages.{IsPageList, found_all};
+
+    ghost view = { λ part. found_all part.urls.items part.pages.list.items };
+
+    ghost invariant = { λ part. IsPageList part.pages };
+}
+
+impl Part {
+    /// These pages.
+    pub(crate) fn new(urls: Vec<CanonUrl>, pages: PageList) -> Part
+        requires { IsPageList pages }
+        ensures { result ≡ found_all urls.items pages.list.items }
+    {
+        Part { urls, pages }
+    }
+
+    /// The page at the URL, if there is one.
+    pub(crate) fn page(&self, alloc: Global, url: &CanonUrl) -> Result<Option<Page>, AllocError>
+        ensures { IfOk result (λ page. page ≡ page_with self.now url.now) }
+    {
+        self.pages.page(alloc, self.urls.as_slice(), url)
     }
 }

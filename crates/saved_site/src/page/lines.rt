@@ -1,9 +1,9 @@
-//! The lines of a page.
+//! The lines of a page. They have a file of their own, because the ghost field of `SitePage` reads the definitions that `page.rt` names, and
+//! those of the lines name `SitePage`.
 ghost use Rattle.std.specs.Prelude.{◌≡◌, ◌<◌, ◌≤◌, ◌^◌, ◌++◌, true, Ok, OnOk, length};
 ghost use Rattle.crawl_keys.specs.CanonicalText.{canonical};
 ghost use Rattle.document_links.specs.Texts.{all_fit};
-ghost use Rattle.saved_site.specs.Pages.{page_text, under_text, fits_under, IsPage};
-ghost use Rattle.saved_site.specs.Lines.{page_line, link_line, link_lines, moved_line};
+ghost use Rattle.saved_site.specs.Pages.{page_text, under_text, fits_under, IsPage, page_line, link_line, link_lines, moved_line};
 
 use super::{SitePage, Under};
 use crawl_keys::CanonUrl;
@@ -41,7 +41,7 @@ impl SitePage {
     }
 
     /// The number of bytes of the lines, as far as it can be counted.
-    #[tactic(auto, using(crate::proofs::PageLengths::page_length))]
+    #[tactic(auto, using(crate::proofs::Lines::page_length))]
     pub(crate) fn byte_count(&self) -> usize
         ensures most { result ≤ length (page_text self.now) }
         ensures all { length (page_text self.now) < 2 ^ 64 → result ≡ length (page_text self.now) }
@@ -90,7 +90,7 @@ impl Under {
     }
 
     /// Returns the number of bytes of these lines, as far as it can be counted.
-    #[tactic(auto, using(crate::proofs::PageLengths::moved_length))]
+    #[tactic(auto, using(crate::proofs::Lines::moved_length))]
     fn byte_count(&self) -> usize
         ensures most { result ≤ length (under_text self.now) }
         ensures all { length (under_text self.now) < 2 ^ 64 → result ≡ length (under_text self.now) }
@@ -103,7 +103,7 @@ impl Under {
 }
 
 /// The number of bytes of the lines of links, as far as it can be counted.
-#[tactic(auto, using(crate::proofs::PageLengths::links_length))]
+#[tactic(auto, using(crate::proofs::Lines::links_length))]
 fn links_length(links: &LinkTexts) -> usize
     ensures most { result ≤ length (link_lines links.now) }
     ensures all { length (link_lines links.now) < 2 ^ 64 → result ≡ length (link_lines links.now) }
@@ -113,6 +113,7 @@ fn links_length(links: &LinkTexts) -> usize
 }
 
 /// Appends a line for each link, in order.
+#[tactic(auto, using(crate::proofs::Lines::links_more, std::proofs::lemmas::List::take_all))]
 fn print_links(links: &LinkTexts, web: &mut Vec<u8>) -> Result<(), AllocError>
     ensures text { OnOk result (web.new.items ≡ web.old.items ++ link_lines links.now) }
     ensures fit { all_fit links.now ≡ true }

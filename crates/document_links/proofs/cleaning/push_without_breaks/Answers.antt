@@ -1,6 +1,4 @@
-use Rattle.std.proofs.Common.{◌≡◌, ◌∙◌, ◌++◌, false, not, filter, ap, arith, rules}
-use Rattle.std.specs.List.{list_any}
-use Rattle.std.proofs.lemmas.List.{take_all}
+use Rattle.document_links.proofs.Prelude.{◌≡◌, ◌∙◌, ◌++◌, false, not, filter, ap, arith, rules, list_any, take_all}
 use Rattle.url.specs.Input.{is_tab_or_new_line, strip_tabs_and_new_lines}
 use Rattle.document_links.proofs.Trimming.{none_dropped}
 use Rattle.document_links.proofs.cleaning.push_without_breaks.Goals as goal

@@ -1,5 +1,4 @@
-use Rattle.std.proofs.Common.{◌≡◌, ◌++◌, not, take, filter}
-use Rattle.url.specs.Input.{is_tab_or_new_line}
+use Rattle.document_links.proofs.Prelude.{◌≡◌, ◌++◌, not, take, filter, is_tab_or_new_line}
 use Rattle.document_links.proofs.cleaning.push_without_breaks.Given as goal
 
 abbrev pub invariant-loop-byte : goal.invariant-loop-byte

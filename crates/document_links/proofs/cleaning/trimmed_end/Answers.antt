@@ -1,10 +1,5 @@
-use Rattle.std.proofs.Common.{◌∙◌, rules, tests}
-use Rattle.std.specs.Prelude.{reverse}
+use Rattle.document_links.proofs.Prelude.{◌∙◌, rules, tests, reverse, count_from_yields_List, YieldsList-from_take_while, length-prefix_len, is_c0_control_or_space}
 use Rattle.std.proofs.lemmas.Iterator.Adapters.{YieldsList-from_rev_slice}
-use Rattle.std.proofs.lemmas.Iterator.Consumers.{count_from_yields_List}
-use Rattle.std.proofs.lemmas.Iterator.Search.{YieldsList-from_take_while}
-use Rattle.std.proofs.lemmas.List.Folds.{length-prefix_len}
-use Rattle.url.specs.Input.{is_c0_control_or_space}
 use Rattle.document_links.proofs.cleaning.trimmed_end.Goals as goal
 
 pub returns : goal.returns

@@ -1,10 +1,5 @@
-use Rattle.std.proofs.Common.{◌∙◌, rules, tests}
+use Rattle.document_links.proofs.Prelude.{◌∙◌, rules, tests, count_from_yields_List, YieldsList-from_take_while, take_rest, length-prefix_len, is_c0_control_or_space}
 use Rattle.std.proofs.lemmas.Iterator.{YieldsList-from_slice}
-use Rattle.std.proofs.lemmas.Iterator.Consumers.{count_from_yields_List}
-use Rattle.std.proofs.lemmas.Iterator.Search.{YieldsList-from_take_while}
-use Rattle.std.proofs.lemmas.List.{take_rest}
-use Rattle.std.proofs.lemmas.List.Folds.{length-prefix_len}
-use Rattle.url.specs.Input.{is_c0_control_or_space}
 use Rattle.document_links.proofs.cleaning.trimmed_start.Goals as goal
 
 pub returns : goal.returns

@@ -1,13 +1,10 @@
-use Rattle.std.proofs.Common.{ℕ, List, Ok, Err, Result, IfOk, sym, subst}
+use Rattle.document_links.proofs.Prelude.{ℕ, List, Result, IfOk, sym, subst, arith, HasLinks, IsTextIn, text_in, HasTexts}
 use Rattle.document_links.specs.declared.charset.Charset.{Charset}
 use Rattle.document_links.specs.declared.document.Document.{Document}
-use Rattle.document_links.specs.Encoding.{HasLinks, IsTextIn, text_in}
-use Rattle.document_links.specs.Written.{HasTexts}
 use Rattle.document_links.proofs.document.document_in.Goals as goal
 
 of_text : {E : Type 0} (charset : Charset) (body text : List ℕ) (limit : ℕ) (r : Result Document E) → IsTextIn charset body text → IfOk r (λ document. HasTexts charset text limit document.links) → IfOk r (λ document. HasLinks charset body limit document.links)
-of_text charset body text limit (Ok document) decoded texts = record { text = text; decoded = decoded; texts = texts }
-of_text charset body text limit (Err e) decoded texts = tt
+of_text charset body text limit r decoded texts = grind arith
 
 pub returns-in-None : goal.returns-in-None
 returns-in-None c =

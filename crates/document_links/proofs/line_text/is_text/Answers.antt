@@ -1,7 +1,4 @@
-use Rattle.std.proofs.Common.{◌≡◌, Bool, true, false, ℕ, List, refl, sym}
-use Rattle.std.specs.Str.{is_utf8, IsUtf8}
-use Rattle.std.proofs.lemmas.Bool.{false_from_ne_true}
-use Rattle.std.proofs.lemmas.Str.{is_utf8-from_IsUtf8, IsUtf8-from_is_utf8}
+use Rattle.document_links.proofs.Prelude.{◌≡◌, Bool, true, false, ℕ, List, refl, sym, is_utf8, IsUtf8, false_from_ne_true, is_utf8-from_IsUtf8, IsUtf8-from_is_utf8}
 use Rattle.document_links.proofs.line_text.is_text.Goals as goal
 
 same : (b : Bool) (text : List ℕ) → (b ≡ true → IsUtf8 text) → (IsUtf8 text → b ≡ true) → b ≡ is_utf8 text

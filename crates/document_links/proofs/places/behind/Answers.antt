@@ -1,6 +1,4 @@
-use Rattle.std.proofs.Common.{◌≡◌, ◌∙◌, ◌+◌, ◌-◌, ℕ, List, length, count_by, drop, ap, arith, length-drop}
-use Rattle.std.proofs.lemmas.List.{take_all}
-use Rattle.document_links.specs.Places.{begins_character, is_lf, last_line}
+use Rattle.document_links.proofs.Prelude.{◌≡◌, ◌∙◌, ◌+◌, ◌-◌, ℕ, List, length, count_by, drop, ap, arith, length-drop, take_all, begins_character, is_lf, last_line}
 use Rattle.document_links.proofs.Behind.{behind_feed, behind_none, same_place}
 use Rattle.document_links.proofs.places.behind.Goals as goal
 

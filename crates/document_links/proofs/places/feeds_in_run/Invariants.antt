@@ -1,5 +1,4 @@
-use Rattle.std.proofs.Common.{◌≡◌, count_by, take}
-use Rattle.document_links.specs.Places.{is_lf}
+use Rattle.document_links.proofs.Prelude.{◌≡◌, count_by, take, is_lf}
 use Rattle.document_links.proofs.places.feeds_in_run.Given as goal
 
 abbrev pub invariant-loop-byte : goal.invariant-loop-byte

@@ -1,5 +1,4 @@
-use Rattle.std.proofs.Common.{◌≡◌, ◌+◌, length, count_by}
-use Rattle.document_links.specs.Places.{is_lf}
+use Rattle.document_links.proofs.Prelude.{◌≡◌, ◌+◌, length, count_by, is_lf}
 use Rattle.document_links.proofs.places.line_feeds.Given as goal
 
 abbrev pub decreases-runs : goal.decreases-runs

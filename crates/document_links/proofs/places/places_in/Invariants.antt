@@ -1,5 +1,4 @@
-use Rattle.std.proofs.Common.{◌≡◌, ◌≤◌, length, take, map}
-use Rattle.document_links.specs.Places.{place_at}
+use Rattle.document_links.proofs.Prelude.{◌≡◌, ◌≤◌, length, take, map, place_at}
 use Rattle.document_links.proofs.places.places_in.Given as goal
 
 abbrev pub invariant-loop-index : goal.invariant-loop-index

@@ -1,6 +1,4 @@
-use Rattle.std.proofs.Common.{◌≡◌, drop}
-use Rattle.std.specs.List.{flat_map}
-use Rattle.saved_site.specs.Linked.{page_with}
+use Rattle.saved_site.proofs.Prelude.{◌≡◌, drop, flat_map, page_with}
 use Rattle.saved_site.proofs.linked.first_page.Given as goal
 
 abbrev pub invariant-parts : goal.invariant-parts

@@ -1,6 +1,5 @@
-use Rattle.std.proofs.Common.{rules, ◌≡◌, ℕ, List, [], ◌∷◌, ◌++◌, subst}
+use Rattle.saved_site.proofs.Prelude.{rules, ◌≡◌, ℕ, List, [], ◌∷◌, ◌++◌, subst, AreKept}
 use Rattle.saved_site.proofs.Parts.{parts_push}
-use Rattle.saved_site.specs.Linked.{AreKept}
 use Rattle.saved_site.proofs.linked.parts_of.Goals as goal
 
 pub linkers-preserved-in-Continue-branch-2 : goal.linkers-preserved-in-Continue-branch-2

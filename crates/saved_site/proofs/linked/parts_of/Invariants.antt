@@ -1,5 +1,4 @@
-use Rattle.std.specs.List.{flat_map}
-use Rattle.saved_site.specs.Linked.{AreKept}
+use Rattle.saved_site.proofs.Prelude.{flat_map, AreKept}
 use Rattle.saved_site.proofs.linked.parts_of.Given as goal
 
 abbrev pub invariant-linkers : goal.invariant-linkers

@@ -1,5 +1,4 @@
-use Rattle.std.proofs.Common.{[]}
-use Rattle.saved_site.specs.WebTexts.{AreInOrder}
+use Rattle.saved_site.proofs.Prelude.{[], AreInOrder}
 use Rattle.saved_site.proofs.web_text.in_order.Given as goal
 
 abbrev pub invariant-pages : goal.invariant-pages

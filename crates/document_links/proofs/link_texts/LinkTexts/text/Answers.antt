@@ -1,8 +1,4 @@
-use Rattle.std.proofs.Common.{◌≡◌, ◌<◌, [], true, length, get_or, sym, ap, subst, arith}
-use Rattle.std.specs.Str.{IsUtf8}
-use Rattle.std.proofs.lemmas.List.Sums.{AllPass-from_list_all}
-use Rattle.std.proofs.lemmas.Str.{IsUtf8-from_is_utf8}
-use Rattle.document_links.specs.Texts.{fits}
+use Rattle.document_links.proofs.Prelude.{◌≡◌, ◌<◌, [], true, length, get_or, sym, ap, subst, arith, IsUtf8, AllPass-from_list_all, IsUtf8-from_is_utf8, fits}
 use Rattle.document_links.proofs.Fitting.{fits_utf8}
 use Rattle.document_links.proofs.link_texts.LinkTexts.text.Goals as goal
 

@@ -1,6 +1,4 @@
-use Rattle.std.proofs.Common.{◌≡◌, ◌++◌, true, map, take}
-use Rattle.std.specs.List.{list_all}
-use Rattle.document_links.specs.Written.{can_write, keeps_links, written}
+use Rattle.document_links.proofs.Prelude.{◌≡◌, ◌++◌, true, map, take, list_all, can_write, keeps_links, written}
 use Rattle.document_links.proofs.link_writer.LinkWriter.push_all.Given as goal
 
 abbrev pub invariant-loop-index : goal.invariant-loop-index

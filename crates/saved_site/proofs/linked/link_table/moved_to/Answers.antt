@@ -1,7 +1,4 @@
-use Rattle.std.proofs.Common.{sym, subst}
-use Rattle.std.specs.Str.{IsUtf8}
-use Rattle.std.proofs.lemmas.Str.{IsUtf8-from_is_utf8}
-use Rattle.document_links.proofs.Fitting.{fits_utf8}
+use Rattle.saved_site.proofs.Prelude.{sym, subst, IsUtf8, IsUtf8-from_is_utf8, fits_utf8}
 use Rattle.saved_site.proofs.linked.link_table.moved_to.Goals as goal
 
 pub unreachable-requires : goal.unreachable-requires

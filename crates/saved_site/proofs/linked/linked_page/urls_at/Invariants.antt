@@ -1,5 +1,4 @@
-use Rattle.std.proofs.Common.{◌≡◌, slice_get, take}
-use Rattle.std.specs.List.{filter_map}
+use Rattle.saved_site.proofs.Prelude.{◌≡◌, slice_get, take, filter_map}
 use Rattle.saved_site.proofs.linked.linked_page.urls_at.Given as goal
 
 abbrev pub invariant-loop-index : goal.invariant-loop-index

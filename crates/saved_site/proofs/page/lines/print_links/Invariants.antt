@@ -1,5 +1,4 @@
-use Rattle.std.proofs.Common.{◌≡◌, ◌++◌, take}
-use Rattle.saved_site.specs.Lines.{link_lines}
+use Rattle.saved_site.proofs.Prelude.{◌≡◌, ◌++◌, take, link_lines}
 use Rattle.saved_site.proofs.page.lines.print_links.Given as goal
 
 abbrev pub invariant-loop-index : goal.invariant-loop-index

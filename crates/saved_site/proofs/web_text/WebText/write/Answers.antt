@@ -1,7 +1,5 @@
-use Rattle.std.proofs.Common.{◌≡◌, ℕ, List, ◌++◌, Option, arith, ap, subst, take, take_all, ◌∙◌}
-use Rattle.std.specs.Io.KnownBytes.{Appends, append_known}
+use Rattle.saved_site.proofs.Prelude.{◌≡◌, ℕ, List, ◌++◌, Option, arith, ap, subst, take, take_all, ◌∙◌, Appends, append_known, web_bytes}
 use Rattle.std.proofs.KnownBytes.{Appends-trans}
-use Rattle.saved_site.specs.WebTexts.{web_bytes}
 use Rattle.saved_site.proofs.WebTexts.{bytes_more, room_ended}
 use Rattle.saved_site.proofs.web_text.WebText.write.Goals as goal
 

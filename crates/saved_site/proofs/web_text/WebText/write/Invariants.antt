@@ -1,6 +1,4 @@
-use Rattle.std.proofs.Common.{take}
-use Rattle.std.specs.Io.KnownBytes.{Appends, append_known}
-use Rattle.saved_site.specs.WebTexts.{web_bytes}
+use Rattle.saved_site.proofs.Prelude.{take, Appends, append_known, web_bytes}
 use Rattle.saved_site.proofs.web_text.WebText.write.Given as goal
 
 abbrev pub invariant-pages : goal.invariant-pages

@@ -1,8 +1,5 @@
-use Rattle.std.proofs.Common.{rules, ◌≡◌, [], ◌∷◌, ◌++◌, None}
-use Rattle.hash_order.specs.HashOrder.{hash_of}
-use Rattle.hash_index.proofs.Keeping.{pushed_item}
-use Rattle.saved_site.proofs.KnownTexts.{known_push, folder_push}
-use Rattle.saved_site.specs.Leads.{TextIndex}
+use Rattle.saved_site.proofs.Prelude.{rules, ◌≡◌, [], ◌∷◌, ◌++◌, None, hash_of, pushed_item, TextIndex}
+use Rattle.saved_site.proofs.LinkIndices.{known_push}
 use Rattle.saved_site.proofs.linked.known_texts.KnownTexts.add.Goals as goal
 
 pub invariant_of-self-2 : goal.invariant_of-self-2
@@ -18,9 +15,3 @@ returns-clause-known c =
     let one : TextIndex = (c.args.key.now, c.args.index) in
     let longer : c.push.new.self.items ≡ c.args.self.now ++ one ∷ [] = search rules in
     λ base urls are own. known_push base urls c.args.self.now c.push.new.self.items c.args.key.now c.args.index longer are own
-
-pub returns-clause-of_folder : goal.returns-clause-of_folder
-returns-clause-of_folder c =
-    let one : TextIndex = (c.args.key.now, c.args.index) in
-    let longer : c.push.new.self.items ≡ c.args.self.now ++ one ∷ [] = search rules in
-    λ own are. folder_push c.args.self.now c.push.new.self.items c.args.key.now c.args.index longer are own

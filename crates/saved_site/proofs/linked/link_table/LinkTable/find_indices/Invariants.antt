@@ -1,6 +1,4 @@
-use Rattle.std.proofs.Common.{◌≡◌, ◌+◌, ◌-◌, ◌≤◌, drop, length}
-use Rattle.saved_pages.specs.UrlIndices.{KeepIndices}
-use Rattle.saved_site.specs.LinkTables.{IsTableOf}
+use Rattle.saved_site.proofs.Prelude.{◌≡◌, ◌+◌, ◌-◌, ◌≤◌, drop, length, KeepIndices, IsTableOf}
 use Rattle.saved_site.proofs.LinkIndices.{Looked, none_count}
 use Rattle.saved_site.proofs.linked.link_table.LinkTable.find_indices.Given as goal
 

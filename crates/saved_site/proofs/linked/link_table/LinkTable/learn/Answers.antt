@@ -1,8 +1,5 @@
-use Rattle.std.proofs.Common.{◌≡◌, ℕ, true, List, ◌∙◌, ap, sym, subst}
-use Rattle.crawl_keys.specs.Folders.{is_of_folder}
-use Rattle.saved_pages.specs.SavedWeb.{link_url}
-use Rattle.saved_site.specs.Leads.{LeadsTo}
-use Rattle.saved_site.proofs.KnownTexts.{known_still}
+use Rattle.saved_site.proofs.Prelude.{◌≡◌, ℕ, true, List, ◌∙◌, ap, sym, subst, is_of_folder, link_url, LeadsTo}
+use Rattle.saved_site.proofs.LinkIndices.{known_still}
 use Rattle.saved_site.proofs.linked.link_table.LinkTable.learn.Goals as goal
 
 pub returns-in_ok-add-clause-known : goal.returns-in_ok-add-clause-known

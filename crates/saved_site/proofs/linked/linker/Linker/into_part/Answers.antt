@@ -1,6 +1,4 @@
-use Rattle.std.proofs.Common.{◌≡◌, ℕ, List, string_bytes, sym, ap, subst, ◌∙◌}
-use Rattle.saved_site.specs.Linked.{PageFound, AreKept}
-use Rattle.saved_site.specs.LinkedPages.{found_all}
+use Rattle.saved_site.proofs.Prelude.{◌≡◌, ℕ, List, string_bytes, sym, ap, subst, ◌∙◌, PageFound, AreKept, found_all}
 use Rattle.saved_site.proofs.linked.linker.Linker.into_part.Goals as goal
 
 pub returns-clause-kept : goal.returns-clause-kept

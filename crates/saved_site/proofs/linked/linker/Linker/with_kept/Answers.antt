@@ -1,7 +1,5 @@
-use Rattle.std.proofs.Common.{rules, ◌≡◌, ℕ, List, [], true, string_bytes, ap, ◌∙◌}
+use Rattle.saved_site.proofs.Prelude.{rules, ◌≡◌, ℕ, List, [], true, string_bytes, ap, ◌∙◌, is_next, PageFound, found_of, with_found}
 use Rattle.saved_site.proofs.Linkers.{linked_one}
-use Rattle.saved_site.specs.Below.{is_next}
-use Rattle.saved_site.specs.Linked.{PageFound, found_of, with_found}
 use Rattle.saved_site.proofs.linked.linker.Linker.with_kept.Goals as goal
 
 pub invariant_of-result : goal.invariant_of-result

@@ -1,7 +1,4 @@
-use Rattle.std.proofs.Common.{rules, ◌≡◌, [], ◌∷◌, ◌++◌, None}
-use Rattle.hash_order.specs.HashOrder.{hash_of}
-use Rattle.hash_index.proofs.Keeping.{pushed_item}
-use Rattle.saved_site.specs.declared.linked.linked_page.LinkedPage.{LinkedPage}
+use Rattle.saved_site.proofs.Prelude.{rules, ◌≡◌, [], ◌∷◌, ◌++◌, None, hash_of, pushed_item, LinkedPage}
 use Rattle.saved_site.proofs.linked.page_list.PageList.with_page.Goals as goal
 
 pub returns-clause-pages : goal.returns-clause-pages

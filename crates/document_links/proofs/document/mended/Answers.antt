@@ -1,6 +1,5 @@
-use Rattle.std.proofs.Common.{◌≡◌, ◌∙◌, true, false, sym, true≢false}
-use Rattle.std.proofs.lemmas.Str.{IsUtf8-from_ascii, utf8_lossy-IsUtf8}
-use Rattle.document_links.proofs.document_text.mended.Goals as goal
+use Rattle.document_links.proofs.Prelude.{◌≡◌, ◌∙◌, true, false, sym, true≢false, IsUtf8-from_ascii, utf8_lossy-IsUtf8}
+use Rattle.document_links.proofs.document.mended.Goals as goal
 
 pub returns-then-is_utf8-clause-text : goal.returns-then-is_utf8-clause-text
 returns-then-is_utf8-clause-text c = sym (utf8_lossy-IsUtf8 c.args.bytes.now (c.is_utf8.ensures.0 c.if-is_utf8.true))

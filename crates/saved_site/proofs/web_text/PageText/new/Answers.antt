@@ -1,7 +1,6 @@
-use Rattle.std.proofs.Common.{rules, ◌≡◌, ℕ, List, ◌++◌, ap, ◌∙◌}
-use Rattle.saved_site.specs.Pages.{page_text}
+use Rattle.saved_site.proofs.Prelude.{rules, ◌≡◌, ℕ, List, ◌++◌, ap, ◌∙◌, page_text}
 use Rattle.saved_site.proofs.WebTexts.{text_of}
-use Rattle.saved_site.proofs.page_text.PageText.new.Goals as goal
+use Rattle.saved_site.proofs.web_text.PageText.new.Goals as goal
 
 pub invariant_of-result : goal.invariant_of-result
 invariant_of-result c =
