@@ -1,5 +1,5 @@
 -- What is kept of a URL while the links to it are counted.
-use Rattle.crawl_sources.proofs.Prelude.{◌≡◌, ℕ, zero, suc, ◌+◌, ◌<◌, Bool, true, false, ◌||◌, cond, List, [], ◌∷◌, ◌++◌, length, take, get_or, Option, Some, None, IsSome, refl, sym, ap, ◌∙◌, subst, arith, append-nil, length-append, le-ltb, if◌then◌else◌, cases_Bool, cond-true, cond-false, lt-ltb, map_more, map-append, filter-append, list_any, option_map, bytes_eq, PageResult, pointed, Count, none_counted, counted, Tallies, count_of, IsTally}
+use Rattle.crawl_sources.proofs.Prelude.{◌≡◌, ℕ, zero, suc, ◌+◌, ◌<◌, Bool, true, false, ◌||◌, cond, List, [], ◌∷◌, ◌++◌, length, take, get_or, Option, Some, None, refl, sym, ap, ◌∙◌, arith, append-nil, length-append, le-ltb, if◌then◌else◌, cases_Bool, cond-true, cond-false, lt-ltb, map_more, map-append, filter-append, list_any, option_map, bytes_eq, PageResult, pointed, Count, none_counted, counted, Tallies, count_of, IsTally}
 use Rattle.std.proofs.lemmas.Grind.{common_steps}
 use Rattle.std.proofs.Math.Bool.{or-false}
 use Rattle.std.proofs.lemmas.List.Folds.{list_any-append, list_any_at}
@@ -80,24 +80,10 @@ none_put old new rs r key v text value updates url known =
 
 -- ---- one more link
 
--- a result is counted once
-counted_once : (all : Bool) (n : ℕ) (url : List ℕ) (c : Count) → counted all n url (counted all n url c) ≡ counted all n url c
-counted_once all n url c = grind (arith, cases_Bool, cond-true, cond-false, le-ltb)
-
 pub link_more : (all : Bool) (links : List (List ℕ)) (link : List ℕ) (n : ℕ) (page url : List ℕ) (o mid new : Option Count) → mid ≡ option_map (λ c. if list_any (λ own. bytes_eq own url) links then counted all n page c else c) o → new ≡ option_map (λ c. if bytes_eq link url then counted all n page c else c) mid → new ≡ option_map (λ c. if list_any (λ own. bytes_eq own url) (links ++ link ∷ []) then counted all n page c else c) o
-link_more all links link n page url o mid new before after = grind (arith, any_push, counted_once)
+link_more all links link n page url o mid new before after = grind (arith, any_push, cases_Bool, cond-true, cond-false, le-ltb)
 
 -- ---- one more result
 
--- its URL is kept if all are
-one_more : (all : Bool) (own before after : List (List ℕ)) (url : List ℕ) → own ≡ (if all then before else []) → after ≡ before ++ url ∷ [] → (if all then own ++ url ∷ [] else own) ≡ (if all then after else [])
-one_more all own before after url is more = grind arith
-
 pub tally_more : (all : Bool) (results : List PageResult) (r : PageResult) (links : List (List ℕ)) (page url : List ℕ) (n : ℕ) (old new : Option Count) → links ≡ links_of r.page → page ≡ r.url → n ≡ length results + 1 → new ≡ option_map (λ c. if list_any (λ link. bytes_eq link url) links then counted all n page c else c) old → IsTally all results url old → IsTally all (results ++ r ∷ []) url new
-tally_more all results r links page url n old new those own numbered is k = grind (arith, filter-append, filter-kept, lt-ltb, cond-true, length-append, fold-append, map-append, one_more, filter-dropped, append-nil)
-
-pub kept_some : (f : Count → Count) (old new : Option Count) → new ≡ option_map f old → IsSome old → IsSome new
-kept_some f old new is some = grind arith
-
-pub no_count : (o : Option Count) → o ≡ None → IsSome o → ⊥
-no_count o none some = let clash : IsSome {T = Count} None = subst IsSome none some in (cc)
+tally_more all results r links page url n old new those own numbered is k = grind (arith, filter-append, filter-kept, lt-ltb, cond-true, length-append, fold-append, map-append, filter-dropped, append-nil)

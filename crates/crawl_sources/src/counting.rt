@@ -36,7 +36,6 @@ pub fn tally_links<'a>(
 }
 
 /// What is counted for this URL, for which there is a count.
-#[tactic(auto, using(crate::proofs::Counts::no_count))]
 pub fn tally_of<'t, 'a>(tallies: &'t Tallies<'a>, url: &'a CanonUrl) -> &'t Tally<'a>
     requires { IsSome (count_of tallies.now url.now) }
     ensures { count_of tallies.now url.now ≡ Some result.now }
@@ -60,7 +59,7 @@ fn no_tallies<'a>(alloc: Global, told: &[&'a PageResult]) -> Result<Tallies<'a>,
 }
 
 /// Counts the links of these results, numbered from 1.
-#[tactic(auto, using(std::proofs::lemmas::List::take_more, crate::proofs::Counts::tally_more, crate::proofs::Counts::kept_some))]
+#[tactic(auto, using(std::proofs::lemmas::List::take_more, crate::proofs::Counts::tally_more))]
 fn count_results<'a>(
     tallies: &mut Tallies<'a>,
     all: bool,

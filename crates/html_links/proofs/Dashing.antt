@@ -20,8 +20,7 @@ no_dash : (c : ℕ) → (c == 45) ≡ false → mark_of c ≡ Dash → ⊥
 no_dash c other is = grind arith
 
 jump_at : (b : Bool) (c : ℕ) (rest more : List ℕ) → (b ≡ true → mark_of c ≡ Dash → ⊥) → run Comment rest ≡ run Comment more → run Comment (c ∷ rest) ≡ run Comment (cond b more (c ∷ rest))
-jump_at true c rest more dash later = grind (arith, same)
-jump_at false c rest more dash later = refl
+jump_at b c rest more dash later = grind (arith, same)
 
 pub to_dash : (bytes : List ℕ) → run Comment bytes ≡ run Comment (behind (λ c. not (c == 45)) bytes)
 to_dash [] = refl

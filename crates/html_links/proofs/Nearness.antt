@@ -33,8 +33,7 @@ near_place byte bytes z r room found lanes =
 
 -- no byte before the first passes
 pub passes_none : (test : ℕ → Bool) (bytes : List ℕ) (n k : ℕ) → k < position_or_len test (take n bytes) → k < n → test (get_or bytes k 0) ≡ false
-passes_none test bytes n k before inside =
-    subst (λ (x : ℕ). test x ≡ false) (get_or-take n bytes k 0 inside) (not-true _ (prefix_len_passes (λ (x : ℕ). not (test x)) (take n bytes) k 0 before))
+passes_none test bytes n k before inside = grind (arith, get_or-take, not-true, prefix_len_passes)
 
 pub near_first : (test : ℕ → Bool) (bytes : List ℕ) (n r : ℕ) → n ≤ length bytes → r ≡ position_or_len test (take n bytes) → r < n → IsFirstByte test bytes (Some r)
 near_first test bytes n r room is inside = grind (arith, length-take-le, get_or-take, not-false, prefix_len_stops, false≢true, not-true, prefix_len_passes)

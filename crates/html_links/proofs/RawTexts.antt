@@ -1,6 +1,6 @@
 -- The machine of raw text over runs.
-use Rattle.html_links.proofs.Prelude.{common_steps, ◌≡◌, ℕ, ◌<◌, ◌≤◌, ◌==◌, ◌&&◌, Bool, false, not, cond, List, [], ◌∷◌, ◌++◌, length, map, Option, None, Some, refl, ap, sym, ◌∙◌, arith, append-nil, cond-false, not-true, to_ascii_lowercase, bytes_eq, class_of, is_letter, front, behind, Stopped}
-use Rattle.html_links.specs.RawText.{Text, LessThan, EndTagOpen, EndTagName, Next, Go, Ends, text_step, ends_name, follow, run, ends_at}
+use Rattle.html_links.proofs.Prelude.{common_steps, ◌≡◌, ℕ, ◌<◌, ◌≤◌, ◌==◌, ◌&&◌, Bool, false, not, cond, List, [], ◌∷◌, ◌++◌, length, map, Option, None, Some, refl, ap, sym, ◌∙◌, arith, append-nil, cond-false, not-true, to_ascii_lowercase, bytes_eq, is_letter, front, behind, Stopped}
+use Rattle.html_links.specs.RawText.{Text, LessThan, EndTagOpen, EndTagName, Next, Ends, text_step, follow, run, ends_at}
 use Rattle.html_links.proofs.Jumps.{stopped, shorter}
 
 to_less : (name bytes : List ℕ) → run name Text bytes ≡ run name Text (behind (λ c. not (c == 60)) bytes)
@@ -34,8 +34,7 @@ ended_by : (name so_far rest : List ℕ) (c : ℕ) (go : Next) (b ends same : Bo
 ended_by name so_far rest c go b ends same e = grind arith
 
 ended : (name so_far bytes : List ℕ) → Stopped is_letter bytes → run name (EndTagName so_far) bytes ≡ cond (ends_at bytes && bytes_eq so_far name) (Some bytes) (run name Text bytes)
-ended name so_far [] stops = refl
-ended name so_far (c ∷ rest) stops = ended_by name so_far rest c (Go (EndTagName (so_far ++ to_ascii_lowercase c ∷ []))) (is_letter c) (ends_name (class_of c)) (bytes_eq so_far name) stops
+ended name so_far bytes stops = grind (arith, ended_by)
 
 abbrev decided : List ℕ → List ℕ → List ℕ → Option (List ℕ)
 decided name found more = cond (ends_at more && bytes_eq (map to_ascii_lowercase found) name) (Some more) (run name Text more)
@@ -44,8 +43,7 @@ and_false : (b : Bool) (x y : Option (List ℕ)) → y ≡ cond (b && false) x y
 and_false b x y = grind arith
 
 none_found : (name : List ℕ) (c : ℕ) (rest : List ℕ) → 0 < length name → run name Text (c ∷ rest) ≡ decided name [] (c ∷ rest)
-none_found [] c rest some = absurd (omega arith)
-none_found (d ∷ name) c rest some = and_false (ends_name (class_of c)) (Some (c ∷ rest)) (run (d ∷ name) Text (c ∷ rest))
+none_found name c rest some = grind (arith, and_false)
 
 opened_end : (name bytes : List ℕ) → 0 < length name → run name EndTagOpen bytes ≡ decided name (front is_letter bytes) (behind is_letter bytes)
 opened_end name [] some = refl

@@ -47,8 +47,7 @@ either a b e = grind arith
 
 start_at : (b : Bool) (c : ℕ) (rest some more : List ℕ) → b ≡ false → step Between c ≡ Go [] (Url (c ∷ [])) → read (Url (c ∷ [])) rest ≡ read (Url (c ∷ some)) more →
     read Between (c ∷ rest) ≡ read (Url (cond (not b) (c ∷ some) [])) (cond (not b) more (c ∷ rest))
-start_at true c rest some more isnt steps later = absurd (cc)
-start_at false c rest some more isnt steps later = ap (on rest) steps ∙ later
+start_at b c rest some more isnt steps later = grind arith
 
 pub start_url : (start : List ℕ) → Stopped is_between start → 0 < length (front is_unspaced start) → read Between start ≡ read (Url (front is_unspaced start)) (behind is_unspaced start)
 start_url start stop some = grind (arith, start_at, either, cond-false, url_run)

@@ -68,10 +68,7 @@ comment_less starred (c ∷ rest) = grind (arith, comment_less (c == 42) rest)
 passed_less : (imports : Bool) (c : ℕ) (rest : List ℕ) (comment : Option (List ℕ)) (text : Option Found) (word : Option (List ℕ)) → ((n : List ℕ) → comment ≡ Some n → length n < length (c ∷ rest)) →
     ((f : Found) → text ≡ Some f → length f.rest < length (c ∷ rest)) → ((n : List ℕ) → word ≡ Some n → length n < length (c ∷ rest)) →
     length (passed imports (c ∷ rest) comment text word).0 < length (c ∷ rest)
-passed_less imports c rest (Some n) text word p q r = omega (arith, p n refl, comment_less false n)
-passed_less imports c rest None (Some f) word p q r = q f refl
-passed_less imports c rest None None (Some n) p q r = r n refl
-passed_less imports c rest None None None p q r = omega arith
+passed_less imports c rest comment text word p q r = grind (arith, comment_less)
 
 byte_less : (imports : Bool) (c : ℕ) (rest : List ℕ) → length (pass imports (c ∷ rest)).0 < length (c ∷ rest)
 byte_less imports c rest =
@@ -87,8 +84,7 @@ pass_less imports more bytes rest left c is passes =
 
 after_same : (o : Option Found) (left : List ℕ × Bool) (n : ℕ) (on other : Bool → List ℕ → List (List ℕ)) → ((f : Found) → o ≡ Some f → length f.rest < n) → length left.0 < n →
     ((imports : Bool) (bytes : List ℕ) → length bytes < n → on imports bytes ≡ other imports bytes) → urls_after o left on ≡ urls_after o left other
-after_same (Some f) left n on other less passes same = ap (λ t. f.url ∷ t) (same false f.rest (less f refl))
-after_same None left n on other less passes same = same left.1 left.0 passes
+after_same o left n on other less passes same = grind arith
 
 within : (n m : ℕ) (imports : Bool) (bytes : List ℕ) → length bytes ≤ n → length bytes ≤ m → urls_within n imports bytes ≡ urls_within m imports bytes
 within zero zero imports bytes a b = refl
