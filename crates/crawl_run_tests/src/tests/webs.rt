@@ -26,7 +26,7 @@ pub const TWO_LINKS_REPORT: &str = "ok 2 0 http://a.test/\n\
     missing http://a.test/2\n\
     total 3 ok 1 missing 2\n";
 
-/// Two pages that moved, one of them to no URL, and one with a link.
+/// Two pages that moved, one of them to no URL, and a page that links to a missing one.
 pub const MOVED: &str = "savedweb 2\n\
     page http://a.test/\n\
     moved http://b.test/\n\
