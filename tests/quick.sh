@@ -12,7 +12,7 @@ cd "$(dirname "$0")/.." || exit 1
 # shellcheck source=tests/parts.sh
 . tests/parts.sh
 
-parts=(format documents definitions character_names mercator_tests crawl_run_tests crawl_text_tests frontier cases command_line manual_page drawn check serve service bell_model site_to_web)
+parts=(format documents definitions character_names mercator_tests crawl_run_tests crawl_gate_tests crawl_text_tests frontier cases command_line manual_page drawn check serve service bell_model site_to_web)
 kept=tests/out/quick
 # A test of crawl_text_tests that no time limit fits. tests/run.sh runs it.
 too_long=tests::indices::finds_what_a_plain_search_finds

@@ -1,6 +1,6 @@
-//! Tests of the public calls of `crawl_gate`, `link_offers`, `crawl_workers`, `crawl_certificate` and `crawl_run`: a gate call by
-//! call, and gates that threads share; runs of workers in turn and in threads, over sources that fail, wait or move; certificates
-//! of what they leave; and whole crawls.
+//! Tests of saved webs, and of the public calls of `link_offers`, `crawl_workers`, `crawl_certificate`, `crawl_run`, `crawl_sources` and
+//! `crawl_report`: pages of saved webs, and a second reader; runs of workers in turn and in threads, over sources that fail, wait or move;
+//! certificates of what they leave; whole crawls; seeds and reports as values.
 #![tactic(auto)]
 
 #[cfg(test)]

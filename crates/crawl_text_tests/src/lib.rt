@@ -1,4 +1,5 @@
-//! Tests of the public calls of the crates without threads: `hash_index`, `crawl_core`, `crawl_keys`, `saved_web`, `crawl_sources`, `crawl_session`, `html_links`, `check_report`.
+//! Tests of the public calls of crates without threads: `hash_index`, `crawl_core`, `crawl_keys`, `crawl_session`, `html_links`,
+//! `check_report`.
 #![tactic(auto)]
 
 #[cfg(test)]

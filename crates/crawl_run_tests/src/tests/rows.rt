@@ -1,11 +1,10 @@
 //! Test vectors: what workers lose, and what they find, in order.
 use crate::tests::runs::{Found, How, Run};
 use crate::tests::sources::{Counting, Fails, OneMoved};
+use crate::tests::webs::TWO_LINKS;
 use crawl_keys::canonical;
-use saved_web::SavedWeb;
 use std::alloc::Global;
 use std::sync::Wait;
-use std::sync::atomic::AtomicU64;
 use std::thread::Threads;
 
 const A: &str = "http://a.test/";
@@ -17,8 +16,6 @@ const PATH_1: &str = "http://a.test/1";
 const PATH_2: &str = "http://a.test/2";
 
 const NO_PAGES: &str = "savedweb 1";
-
-const TWO_LINKS: &str = "savedweb 1\npage http://a.test/\nlink 1\nlink 2\n";
 
 const SAME_LINK: &str = "savedweb 1\npage http://a.test/\nlink 1\nlink 1\n";
 
@@ -151,11 +148,7 @@ impl Row {
     }
 
     fn found<R: Threads + Wait + Sync>(&self, rt: &R, alloc: Global, how: How) -> Option<Found> {
-        let source = Counting {
-            web: SavedWeb::read(alloc, self.web.as_bytes()).ok()?,
-            begun: AtomicU64::new(0),
-            fails: self.fails,
-        };
+        let source = Counting::new(alloc, self.web, self.fails)?;
         self.run(how).found(rt, alloc, &source)
     }
 

@@ -1,9 +1,10 @@
 //! A run from its seeds to its account, so that a row is data.
 ghost use Rattle.std.specs.Prelude.{◌≡◌};
 
+use crate::tests::results::count_at;
 use crawl_frontier::{ClosedWorker, Frontier, Name, Seeder, Sender, Setup, Worker};
 use crawl_keys::{Filter, canonical};
-use crawl_pages::{Fetch, PageResult};
+use crawl_pages::Fetch;
 use crawl_workers::{WorkerEnd, run_threads, run_turns, run_worker};
 use std::alloc::Global;
 use std::marker::Brand;
@@ -141,17 +142,6 @@ fn pair<K: Name + Send + Sync, F: Fetch + Sync, R: Threads + Wait + Sync>(
     ends
 }
 
-// How many of the results have the URLs at their places.
-fn at_places(results: &[PageResult], urls: &[&str]) -> usize {
-    let mut count = 0usize;
-    for (result, url) in results.iter().zip(urls) {
-        if result.url.as_str() == *url {
-            count = count.saturating_add(1);
-        }
-    }
-    count
-}
-
 // What the ends have, if they come by index.
 fn found_in<K: Name>(ends: &[WorkerEnd<K>], run: Run<'_>) -> Option<Found> {
     let (mut lost, mut results, mut listed) = (0u64, 0usize, 0usize);
@@ -161,7 +151,7 @@ fn found_in<K: Name>(ends: &[WorkerEnd<K>], run: Run<'_>) -> Option<Found> {
         }
         let urls = run.urls.get(results..).unwrap_or(&[]);
         lost = lost.saturating_add(end.lost);
-        listed = listed.saturating_add(at_places(&end.results, urls));
+        listed = listed.saturating_add(count_at(&end.results, urls));
         results = results.saturating_add(end.results.len());
     }
     Some((lost, results, listed))

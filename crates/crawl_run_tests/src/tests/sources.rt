@@ -1,31 +1,17 @@
 //! Sources of pages.
-ghost use Rattle.std.specs.Prelude.{if◌then◌else◌, Some};
+ghost use Rattle.std.specs.Prelude.{if◌then◌else◌, [], ◌∷◌, Some};
 ghost use Rattle.std.specs.Str.{bytes_eq};
-ghost use Rattle.crawl_pages.specs.declared.page.Page.TheVariants.{Moved, Missing};
+ghost use Rattle.crawl_pages.specs.declared.page.Page.TheVariants.{Found, Moved, Missing};
 ghost use Rattle.saved_web.specs.KnownPages.{page_at};
 
 use crawl_keys::CanonUrl;
-use crawl_pages::{Fetch, FetchError, Page};
+use crawl_pages::{Fetch, FetchError, Links, Page};
 use saved_web::SavedWeb;
 use std::alloc::Global;
 use std::hint;
 use std::sync::atomic::{AtomicU64, Ordering};
 
-/// The saved web `examples/ring.web`.
-pub const RING: &str = "savedweb 1
-page http://a.test/
-link http://b.test/
-link #top
-link mailto:x@a.test
-page http://b.test/
-link //c.test
-link /
-page http://c.test/
-link http://A.test:80
-link gone
-";
-
-// One page that has moved, and nothing else.
+/// One page that has moved, and nothing else.
 #[derive(Drop)]
 pub struct OneMoved {
     pub from: CanonUrl,
@@ -46,22 +32,88 @@ impl Fetch for OneMoved {
     }
 }
 
-// Which fetches fail.
+/// One page with one link, and nothing else.
+#[derive(Drop)]
+pub struct OneLink {
+    pub from: CanonUrl,
+    pub to: CanonUrl,
+}
+
+impl Fetch for OneLink {
+    ghost meaning = { λ source url. if bytes_eq source.from url then Found (source.to ∷ []) 0 else Missing };
+
+    fn fetch(&self, alloc: Global, url: &CanonUrl) -> Result<Page, FetchError> {
+        if self.from != *url {
+            return Ok(Page::Missing);
+        }
+        let Ok(to) = self.to.copy() else {
+            return Err(FetchError::NoMemory);
+        };
+        let mut links = Vec::new(alloc);
+        links.push(to)?;
+        Ok(Page::Found {
+            links: Links::from(links),
+            skipped: 0,
+        })
+    }
+}
+
+/// Which fetches fail.
 #[derive(Clone, Copy)]
 pub enum Fails {
     None,
     All,
     EachThird,
-    // Each that begins with no other, until another has begun.
+    /// Each that begins when no other has begun, unless another begins soon.
     Lonely,
+    /// Those of the URLs of this host.
+    OfHost(&'static str),
 }
 
-// The pages of a saved web, and the number of fetches that have begun.
+/// The pages of a saved web, and the number of fetches that have begun.
 #[derive(Drop)]
 pub struct Counting<'a> {
-    pub web: SavedWeb<'a>,
-    pub begun: AtomicU64,
-    pub fails: Fails,
+    web: SavedWeb<'a>,
+    begun: AtomicU64,
+    fails: Fails,
+}
+
+impl<'a> Counting<'a> {
+    /// Reads the saved web. No fetch has begun.
+    pub fn new(alloc: Global, web: &'a str, fails: Fails) -> Option<Counting<'a>> {
+        Some(Counting {
+            web: SavedWeb::read(alloc, web.as_bytes()).ok()?,
+            begun: AtomicU64::new(0),
+            fails,
+        })
+    }
+
+    /// Returns how many fetches have begun.
+    pub fn begun(&self) -> u64 {
+        self.begun.load(Ordering::SeqCst)
+    }
+
+    // Whether the fetch of this URL fails, which begins after this number of others.
+    fn fails(&self, before: u64, url: &CanonUrl) -> bool {
+        match self.fails {
+            Fails::None => false,
+            Fails::All => true,
+            Fails::EachThird => before % 3 == 2,
+            Fails::Lonely => !self.have_begun(2),
+            Fails::OfHost(host) => url.host_key() == host,
+        }
+    }
+
+    // Whether this number of fetches have begun, now or within many checks.
+    fn have_begun(&self, count: u64) -> bool {
+        for _ in 0..CHECKS {
+            if self.begun() >= count {
+                return true;
+            }
+            hint::spin_loop();
+        }
+        false
+    }
 }
 
 impl Fetch for Counting<'_> {
@@ -69,29 +121,12 @@ impl Fetch for Counting<'_> {
 
     fn fetch(&self, alloc: Global, url: &CanonUrl) -> Result<Page, FetchError> {
         let before = self.begun.fetch_add(1, Ordering::SeqCst);
-        let fails = match self.fails {
-            Fails::None => false,
-            Fails::All => true,
-            Fails::EachThird => before % 3 == 2,
-            Fails::Lonely => !have_begun(&self.begun, 2),
-        };
-        if fails {
+        if self.fails(before, url) {
             return Err(FetchError::Failed);
         }
         self.web.fetch(alloc, url)
     }
 }
 
-// The number of times that a fetch looks whether another has begun, before it gives up.
-const LOADS: u64 = 200_000_000;
-
-// Whether this number of fetches have begun, now or within that number of looks.
-fn have_begun(begun: &AtomicU64, count: u64) -> bool {
-    for _ in 0..LOADS {
-        if begun.load(Ordering::SeqCst) >= count {
-            return true;
-        }
-        hint::spin_loop();
-    }
-    false
-}
+// How often a fetch checks whether another one has begun, before it gives up.
+const CHECKS: u64 = 200_000_000;

@@ -1,10 +1,9 @@
 //! Runs with few and many workers: that each URL is fetched once, and that all workers end whatever is lost.
 use crate::tests::runs::{Found, How, Run};
-use crate::tests::sources::{Counting, Fails, RING};
-use saved_web::SavedWeb;
+use crate::tests::sources::{Counting, Fails};
+use crate::tests::webs::RING;
 use std::alloc::Global;
 use std::sync::Wait;
-use std::sync::atomic::{AtomicU64, Ordering};
 use std::test::Fail;
 use std::thread::Threads;
 
@@ -17,11 +16,7 @@ fn fetches<R: Threads + Wait + Sync>(
     workers: u32,
     how: How,
 ) -> Option<(Found, u64)> {
-    let source = Counting {
-        web: SavedWeb::read(alloc, web.as_bytes()).ok()?,
-        begun: AtomicU64::new(0),
-        fails,
-    };
+    let source = Counting::new(alloc, web, fails)?;
     let run = Run {
         workers,
         max_pending: 1_000_000,
@@ -31,7 +26,7 @@ fn fetches<R: Threads + Wait + Sync>(
         urls: &[],
     };
     let found = run.found(rt, alloc, &source)?;
-    Some((found, source.begun.load(Ordering::SeqCst)))
+    Some((found, source.begun()))
 }
 
 // The URLs of results differ, and each has the page of its URL, so four fetches for four results are one for each. An offer that

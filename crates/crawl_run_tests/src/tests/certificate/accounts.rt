@@ -4,7 +4,7 @@ ghost use Rattle.std.specs.Prelude.{◌≡◌};
 use crate::tests::certificate::tables::Group;
 use crate::tests::runs::seeded;
 use crawl_frontier::{Account, Frontier, Name, Sender, Setup};
-use crawl_keys::{CanonUrl, Filter, canonical};
+use crawl_keys::Filter;
 use crawl_pages::PageResult;
 use crawl_workers::{WorkerEnd, run_turns};
 use saved_web::SavedWeb;
@@ -20,17 +20,6 @@ const MAX_PENDING: u64 = 30_000;
 pub struct Run {
     pub account: Account,
     pub results: Vec<PageResult>,
-}
-
-// The URLs of these texts, if they have one.
-pub fn urls_of(alloc: Global, texts: &[&str]) -> Vec<CanonUrl> {
-    let mut urls = Vec::new(alloc);
-    for text in texts {
-        if let Ok(url) = canonical(alloc, text) {
-            let _ = urls.push(url);
-        }
-    }
-    urls
 }
 
 // The account of the run, with what all workers found.

@@ -1,8 +1,9 @@
 //! Certificates of runs whose results were changed, on one thread and by threads.
-use crate::tests::certificate::accounts::{Run, run_of, urls_of};
+use crate::tests::certificate::accounts::{Run, run_of};
 use crate::tests::certificate::tables::{
     Case, Change, END, Expected, FAULTS_IN_EACH_CHUNK, FIRST, GROUPS, Group, LONG_WEB,
 };
+use crate::tests::results::{count_at, urls_of};
 use crawl_certificate::{CertError, CertifySettings, CrawlResult, Culprit, certify, certify_with};
 use crawl_keys::{CanonUrl, Filter, canonical};
 use crawl_pages::{Page, PageResult};
@@ -75,20 +76,13 @@ fn results_of(alloc: Global, found: &[PageResult], change: Change) -> Vec<PageRe
     results
 }
 
-// Whether the pages have these URLs, in order.
-fn have_urls(pages: &[PageResult], urls: &[&str]) -> bool {
-    for (page, url) in pages.iter().zip(urls) {
-        if page.url.as_str() != *url {
-            return false;
-        }
-    }
-    pages.len() == urls.len()
-}
-
 fn are_pages(found: &CrawlResult, expected: Expected) -> bool {
+    let pages = found.pages();
     match expected {
-        Expected::Pages(urls) => have_urls(found.pages(), urls),
-        Expected::Count(count) => found.pages().len() == count,
+        Expected::Pages(urls) => {
+            pages.len() == urls.len() && count_at(pages, urls) == urls.len()
+        }
+        Expected::Count(count) => pages.len() == count,
         Expected::Fault(..) => false,
     }
 }

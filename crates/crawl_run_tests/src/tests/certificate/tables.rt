@@ -1,5 +1,5 @@
 //! Runs, changes of their results, and what their certificate is expected to be.
-use crate::tests::sources::RING;
+use crate::tests::webs::{MOVED, RING};
 use crawl_certificate::CertError;
 use crawl_certificate::CertError::{LinkMissing, NotFetched, SeedMissing, Twice, Unfounded};
 
@@ -75,15 +75,6 @@ link //c.test
 link //a.test/
 page http://c.test/
 link http://A.test:80
-link gone
-";
-
-const MOVED: &str = "savedweb 2
-page http://a.test/
-moved http://b.test/
-page http://b.test/
-moved mailto:x
-page http://c.test/
 link gone
 ";
 

@@ -1,9 +1,10 @@
 //! Crawls of saved webs, with workers in turn and in threads, and with settings that no command line can give.
-use crate::tests::whole::webs::{NOTHING, RING, RING_REPORT, TWO_LINKS, TWO_LINKS_REPORT};
+use crate::tests::results::{is_report, urls_of};
+use crate::tests::webs::{NOTHING, RING, RING_REPORT, TWO_LINKS, TWO_LINKS_REPORT};
 use crawl_certificate::CertError;
 use crawl_frontier::FrontierError;
-use crawl_keys::{CanonUrl, Filter, canonical};
-use crawl_report::report_text;
+use crawl_keys::{CanonUrl, Filter};
+use crawl_pages::SessionFetch;
 use crawl_run::{CrawlError, Crawled, Mode, crawl};
 use crawl_sources::read_seeds;
 use saved_web::SavedWeb;
@@ -11,13 +12,59 @@ use std::alloc::Global;
 use std::sync::Wait;
 use std::thread::Threads;
 
+pub const A: &str = "http://a.test/";
+
+pub const B: &str = "http://b.test/";
+
+/// A crawl that allows every host.
+#[derive(Clone, Copy)]
+pub struct Plan {
+    pub seeds: &'static [&'static str],
+    pub workers: u32,
+    pub max_pending: u64,
+    pub mode: Mode,
+}
+
+impl Plan {
+    /// The result of the crawl.
+    pub fn result<F: SessionFetch + Sync, R: Threads + Wait + Sync>(
+        self,
+        rt: &R,
+        alloc: Global,
+        source: &F,
+    ) -> Option<Result<Crawled, CrawlError>> {
+        self.result_from(rt, alloc, source, &urls_of(alloc, self.seeds))
+    }
+
+    // The result of the crawl from these seeds.
+    fn result_from<F: SessionFetch + Sync, R: Threads + Wait + Sync>(
+        self,
+        rt: &R,
+        alloc: Global,
+        source: &F,
+        seeds: &[CanonUrl],
+    ) -> Option<Result<Crawled, CrawlError>> {
+        let every = Filter::new(alloc, &[]).ok()?;
+        let (workers, max_pending) = (self.workers, self.max_pending);
+        Some(crawl(
+            rt,
+            alloc,
+            source,
+            &every,
+            seeds,
+            workers,
+            max_pending,
+            self.mode,
+        ))
+    }
+}
+
 /// A crawl of a saved web from these seeds.
 struct Row {
     /// The name of the row.
     name: &'static str,
     web: &'static str,
-    /// The seeds, with a space between two of them.
-    seeds: &'static str,
+    seeds: &'static [&'static str],
     workers: u32,
     max_pending: u64,
     expected: Expected,
@@ -34,7 +81,7 @@ const ROWS: [Row; 11] = [
     Row {
         name: "small_web",
         web: RING,
-        seeds: "http://a.test/",
+        seeds: &[A],
         workers: 1,
         max_pending: 1_000_000,
         expected: Expected::Report(RING_REPORT, &[(0, 4)]),
@@ -42,7 +89,7 @@ const ROWS: [Row; 11] = [
     Row {
         name: "small_web",
         web: RING,
-        seeds: "http://a.test/",
+        seeds: &[A],
         workers: 2,
         max_pending: 1_000_000,
         expected: Expected::Report(RING_REPORT, &[(0, 1), (1, 3)]),
@@ -50,7 +97,7 @@ const ROWS: [Row; 11] = [
     Row {
         name: "small_web",
         web: RING,
-        seeds: "http://a.test/",
+        seeds: &[A],
         workers: 3,
         max_pending: 1_000_000,
         expected: Expected::Report(RING_REPORT, &[(0, 1), (1, 1), (2, 2)]),
@@ -58,7 +105,7 @@ const ROWS: [Row; 11] = [
     Row {
         name: "crawl_with_512_workers",
         web: RING,
-        seeds: "http://a.test/",
+        seeds: &[A],
         workers: 512,
         max_pending: 1_000_000,
         expected: Expected::Report(RING_REPORT, &[(158, 1), (317, 2), (511, 1)]),
@@ -66,7 +113,7 @@ const ROWS: [Row; 11] = [
     Row {
         name: "no_seeds",
         web: RING,
-        seeds: "",
+        seeds: &[],
         workers: 2,
         max_pending: 1,
         expected: Expected::Report(NOTHING, &[]),
@@ -74,7 +121,7 @@ const ROWS: [Row; 11] = [
     Row {
         name: "full_gate_loses_link",
         web: TWO_LINKS,
-        seeds: "http://a.test/",
+        seeds: &[A],
         workers: 1,
         max_pending: 2,
         expected: Expected::Fails(CrawlError::Cert(CertError::LinkMissing)),
@@ -82,7 +129,7 @@ const ROWS: [Row; 11] = [
     Row {
         name: "full_gate_loses_link",
         web: TWO_LINKS,
-        seeds: "http://a.test/",
+        seeds: &[A],
         workers: 1,
         max_pending: 3,
         expected: Expected::Report(TWO_LINKS_REPORT, &[(0, 3)]),
@@ -90,7 +137,7 @@ const ROWS: [Row; 11] = [
     Row {
         name: "numbers_past_their_limits",
         web: RING,
-        seeds: "http://a.test/",
+        seeds: &[A],
         workers: 0,
         max_pending: 1,
         expected: Expected::Fails(CrawlError::Frontier(FrontierError::BadWorkers)),
@@ -98,7 +145,7 @@ const ROWS: [Row; 11] = [
     Row {
         name: "numbers_past_their_limits",
         web: RING,
-        seeds: "http://a.test/",
+        seeds: &[A],
         workers: 513,
         max_pending: 0,
         expected: Expected::Fails(CrawlError::Frontier(FrontierError::BadWorkers)),
@@ -106,7 +153,7 @@ const ROWS: [Row; 11] = [
     Row {
         name: "numbers_past_their_limits",
         web: RING,
-        seeds: "http://a.test/",
+        seeds: &[A],
         workers: 1,
         max_pending: 0,
         expected: Expected::Fails(CrawlError::Frontier(FrontierError::BadLimit)),
@@ -114,7 +161,7 @@ const ROWS: [Row; 11] = [
     Row {
         name: "numbers_past_their_limits",
         web: RING,
-        seeds: "http://a.test/",
+        seeds: &[A],
         workers: 512,
         max_pending: (1 << 40) + 1,
         expected: Expected::Fails(CrawlError::Frontier(FrontierError::BadLimit)),
@@ -141,31 +188,6 @@ fn are_counts(found: &[u64], counts: &[(usize, u64)]) -> bool {
     true
 }
 
-/// The canonical URLs in a text, with a space between two of them.
-fn urls_of(alloc: Global, text: &str) -> Option<Vec<CanonUrl>> {
-    let mut urls = Vec::new(alloc);
-    for word in text.split(' ') {
-        if !word.is_empty() {
-            urls.push(canonical(alloc, word).ok()?).ok()?;
-        }
-    }
-    Some(urls)
-}
-
-/// The result of the row's crawl from these seeds.
-fn result_from<R: Threads + Wait + Sync>(
-    rt: &R,
-    alloc: Global,
-    row: &Row,
-    seeds: &[CanonUrl],
-    mode: Mode,
-) -> Option<Result<Crawled, CrawlError>> {
-    let every = Filter::new(alloc, &[]).ok()?;
-    let web = SavedWeb::read(alloc, row.web.as_bytes()).ok()?;
-    let (workers, max_pending) = (row.workers, row.max_pending);
-    Some(crawl(rt, alloc, &web, &every, seeds, workers, max_pending, mode))
-}
-
 /// The result of the row's crawl.
 fn result_of<R: Threads + Wait + Sync>(
     rt: &R,
@@ -173,16 +195,14 @@ fn result_of<R: Threads + Wait + Sync>(
     row: &Row,
     mode: Mode,
 ) -> Option<Result<Crawled, CrawlError>> {
-    let seeds = urls_of(alloc, row.seeds)?;
-    result_from(rt, alloc, row, &seeds, mode)
-}
-
-/// Whether these pages have this report.
-fn has_report(alloc: Global, found: &Crawled, report: &str) -> bool {
-    match report_text(alloc, found.result.pages()) {
-        Ok(text) => text.as_slice() == report.as_bytes(),
-        Err(_) => false,
-    }
+    let web = SavedWeb::read(alloc, row.web.as_bytes()).ok()?;
+    let plan = Plan {
+        seeds: row.seeds,
+        workers: row.workers,
+        max_pending: row.max_pending,
+        mode,
+    };
+    plan.result(rt, alloc, &web)
 }
 
 fn is_expected(
@@ -192,23 +212,19 @@ fn is_expected(
     report: &str,
     counts: &[(usize, u64)],
 ) -> bool {
-    has_report(alloc, found, report)
+    is_report(alloc, found.result.pages(), report)
         && found.counts.len() == row.workers as usize
         && are_counts(&found.counts, counts)
 }
 
 /// Whether the result is the expected one.
 fn holds<R: Threads + Wait + Sync>(rt: &R, alloc: Global, row: &Row, mode: Mode) -> bool {
-    match result_of(rt, alloc, row, mode) {
-        Some(Ok(found)) => match &row.expected {
-            Expected::Report(report, counts) => is_expected(alloc, row, &found, report, counts),
-            Expected::Fails(_) => false,
-        },
-        Some(Err(error)) => match &row.expected {
-            Expected::Report(..) => false,
-            Expected::Fails(expected) => error == *expected,
-        },
-        None => false,
+    match (result_of(rt, alloc, row, mode), &row.expected) {
+        (Some(Ok(found)), Expected::Report(report, counts)) => {
+            is_expected(alloc, row, &found, report, counts)
+        }
+        (Some(Err(error)), Expected::Fails(expected)) => error == *expected,
+        _ => false,
     }
 }
 
@@ -244,17 +260,27 @@ const REPORT_OF_BOTH: &str = "ok 3 1 http://a.test/\n\
     total 5 ok 3 missing 2\n";
 
 /// The pages of a crawl of the ring from a file of seeds and those given.
-fn crawled_from<R: Threads + Wait + Sync>(rt: &R, alloc: Global, given: &str) -> Option<Crawled> {
-    let every = Filter::new(alloc, &[]).ok()?;
+fn crawled_from<R: Threads + Wait + Sync>(
+    rt: &R,
+    alloc: Global,
+    given: &[&str],
+) -> Option<Crawled> {
     let web = SavedWeb::read(alloc, RING.as_bytes()).ok()?;
     let mut seeds = read_seeds(alloc, LISTED.as_bytes()).ok()?;
-    let mut others = urls_of(alloc, given)?;
-    seeds.append(&mut others).ok()?;
-    crawl(rt, alloc, &web, &every, &seeds, 2, 100, Mode::Turns).ok()
+    seeds.append(&mut urls_of(alloc, given)).ok()?;
+    let plan = Plan {
+        seeds: &[],
+        workers: 2,
+        max_pending: 100,
+        mode: Mode::Turns,
+    };
+    plan.result_from(rt, alloc, &web, &seeds)?.ok()
 }
 
 #[test]
 fn seeds_of_a_file_before_those_given(rt: HostRuntime) {
-    let found = crawled_from(&rt, rt.alloc(), "http://x.test/");
-    assert!(rt; found.is_some_and(|found| has_report(rt.alloc(), &found, REPORT_OF_BOTH)));
+    let found = crawled_from(&rt, rt.alloc(), &["http://x.test/"]);
+    assert!(rt;
+        found.is_some_and(|found| is_report(rt.alloc(), found.result.pages(), REPORT_OF_BOTH))
+    );
 }

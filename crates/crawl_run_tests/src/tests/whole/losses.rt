@@ -1,10 +1,9 @@
 //! The losses of incomplete crawls, by cause.
-use crate::tests::whole::sources::WithoutHost;
-use crate::tests::whole::webs::RING;
-use crawl_keys::{CanonUrl, Filter, canonical};
+use crate::tests::sources::{Counting, Fails};
+use crate::tests::webs::RING;
+use crawl_keys::{Filter, canonical};
 use crawl_run::{CrawlSettings, Mode, crawl_with};
-use crawl_workers::Losses;
-use saved_web::SavedWeb;
+use link_offers::Losses;
 use std::alloc::Global;
 use std::sync::Wait;
 use std::thread::Threads;
@@ -18,53 +17,25 @@ const NO_LOSSES: Losses = Losses {
     no_memory: 0,
 };
 
-/// The losses of a crawl from this seed by three workers, if it is incomplete.
-fn lost_from<R: Threads + Wait + Sync>(
-    rt: &R,
-    alloc: Global,
-    source: &WithoutHost<'_>,
-    seed: CanonUrl,
-    max_pending: u64,
-    mode: Mode,
-) -> Option<Losses> {
-    let Ok(every) = Filter::new(alloc, &[]) else {
-        return None;
-    };
-    let settings = CrawlSettings {
-        workers: 3,
-        max_pending,
-        mode,
-        filter: &every,
-    };
-    match crawl_with(rt, alloc, source, &settings, &[seed]) {
-        Ok(_) => None,
-        Err(failure) => Some(failure.losses),
-    }
-}
-
-/// The losses of a crawl of the ring whose source fails for one host.
+/// The losses of a crawl of the ring whose source fails for one host, if it is incomplete.
 fn lost<R: Threads + Wait + Sync>(
     rt: &R,
     alloc: Global,
     max_pending: u64,
     mode: Mode,
 ) -> Option<Losses> {
-    match (
-        SavedWeb::read(alloc, RING.as_bytes()),
-        canonical(alloc, "http://a.test/"),
-    ) {
-        (Ok(web), Ok(seed)) => {
-            let host = "c.test";
-            lost_from(
-                rt,
-                alloc,
-                &WithoutHost { web, host },
-                seed,
-                max_pending,
-                mode,
-            )
-        }
-        _ => None,
+    let source = Counting::new(alloc, RING, Fails::OfHost("c.test"))?;
+    let every = Filter::new(alloc, &[]).ok()?;
+    let seed = canonical(alloc, "http://a.test/").ok()?;
+    let settings = CrawlSettings {
+        workers: 3,
+        max_pending,
+        mode,
+        filter: &every,
+    };
+    match crawl_with(rt, alloc, &source, &settings, &[seed]) {
+        Ok(_) => None,
+        Err(failure) => Some(failure.losses),
     }
 }
 

@@ -1,7 +1,7 @@
 //! That a call makes no step but those that its clauses name, by a pass which it splits off and drops.
 ghost use Rattle.crawl_gate.specs.Seat.{IsSeatOf};
 
-use crate::tests::gate::answers::{Answer, closed};
+use crate::tests::answers::{Answer, closed};
 use crawl_gate::{Gate, GateState, Pass, Unit};
 use std::alloc::Global;
 use std::sync::Wait;

@@ -1,7 +1,7 @@
 //! Many threads at one gate.
 ghost use Rattle.crawl_gate.specs.Seat.{IsSeatOf};
 
-use crate::tests::gate::answers::{Answer, closed, entered};
+use crate::tests::answers::{Answer, closed, entered};
 use crawl_gate::{ClosedPass, Enter, Gate, Pass, Unit};
 use std::sync::Wait;
 use std::sync::atomic::{AtomicU64, Ordering};

@@ -1,5 +1,5 @@
 use Rattle.crawl_gate.specs.Seat.{IsSeatOf}
-use Rattle.crawl_run_tests.proofs.tests.gate.pool.work.Given as goal
+use Rattle.crawl_gate_tests.proofs.tests.pool.work.Given as goal
 
 abbrev pub invariant-loop : goal.invariant-loop
 invariant-loop g l =

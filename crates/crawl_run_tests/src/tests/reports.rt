@@ -1,49 +1,41 @@
 //! Reports and their sources, of results in any order, with duplicates, or that no crawl has.
-use crate::tests::results::{Asked, result_at};
+use crate::tests::results::{Target, is_report, result_at};
+use crate::tests::webs::{MOVED, RING, RING_REPORT};
 use crawl_pages::{Page, PageResult};
-use crawl_report::{Parts, Report, Sources, print_in_parts, report_text};
+use crawl_report::{Parts, Report, Sources, print_in_parts};
 use std::alloc::Global;
 use std::thread::Threads;
 
 /// Results in their order of arrival, their report, and where its missing URLs are linked from.
 struct Row {
-    results: &'static [Asked],
+    results: &'static [Target],
     report: &'static str,
     sources: &'static str,
 }
 
-const RING: &str =
-    "savedweb 1\npage http://a.test/\nlink http://b.test/\nlink #top\nlink mailto:x@a.test\npage http://b.test/\nlink //c.test\nlink /\npage http://c.test/\nlink http://A.test:80\nlink gone\n";
+const RING_A: Target = (RING, "http://a.test/");
 
-const RING_A: Asked = (RING, "http://a.test/");
+const RING_B: Target = (RING, "http://b.test/");
 
-const RING_B: Asked = (RING, "http://b.test/");
+const RING_C: Target = (RING, "http://c.test/");
 
-const RING_C: Asked = (RING, "http://c.test/");
-
-const RING_GONE: Asked = (RING, "http://c.test/gone");
-
-const RING_REPORT: &str =
-    "ok 3 1 http://a.test/\nok 2 0 http://b.test/\nok 2 0 http://c.test/\nmissing http://c.test/gone\ntotal 4 ok 3 missing 1\n";
+const RING_GONE: Target = (RING, "http://c.test/gone");
 
 const RING_SOURCES: &str = "from 1 http://c.test/ http://c.test/gone\n";
 
 const NONE: &str = "savedweb 1";
 
-const OTHER: Asked = (NONE, "http://a.test/2");
+const OTHER: Target = (NONE, "http://a.test/2");
 
 // Three results of one URL.
-const FIRST: Asked = ("savedweb 1\npage http://a.test/\nlink x", "http://a.test/");
+const FIRST: Target = ("savedweb 1\npage http://a.test/\nlink x", "http://a.test/");
 
-const SECOND: Asked = (
+const SECOND: Target = (
     "savedweb 1\npage http://a.test/\nlink x\nlink mailto:x",
     "http://a.test/",
 );
 
-const THIRD: Asked = (NONE, "http://a.test/");
-
-const MOVED: &str =
-    "savedweb 2\npage http://a.test/\nmoved http://b.test/\npage http://b.test/\nmoved mailto:x\npage http://c.test/\nlink gone\n";
+const THIRD: Target = (NONE, "http://a.test/");
 
 // `gone` is twice on one page and once on another. `b` links to `c.test/x`, and `b.test` redirects there.
 const BROKEN: &str =
@@ -152,49 +144,42 @@ const ROWS: &[Row] = &[
 #[test]
 fn reports_and_sources(rt: HostRuntime) {
     for row in ROWS {
-        assert!(rt; is_told(rt.alloc(), row), "{}", row.report);
+        assert!(rt; is_reported(rt.alloc(), row), "{}", row.report);
         assert!(rt; is_printed(&rt, rt.alloc(), row), "{}", row.sources);
     }
 }
 
-fn is_told(alloc: Global, row: &Row) -> bool {
+fn is_reported(alloc: Global, row: &Row) -> bool {
     let mut results = Vec::new(alloc);
     push_results(alloc, &mut results, row.results)
         && is_report(alloc, &results, row.report)
         && are_copied(&results)
 }
 
-fn push_results(alloc: Global, results: &mut Vec<PageResult>, asked: &[Asked]) -> bool {
-    for one in asked {
-        if !push_result(alloc, results, one) {
+fn push_results(alloc: Global, results: &mut Vec<PageResult>, targets: &[Target]) -> bool {
+    for target in targets {
+        if !push_result(alloc, results, target) {
             return false;
         }
     }
     true
 }
 
-fn push_result(alloc: Global, results: &mut Vec<PageResult>, asked: &Asked) -> bool {
-    match result_at(alloc, asked) {
+fn push_result(alloc: Global, results: &mut Vec<PageResult>, target: &Target) -> bool {
+    match result_at(alloc, target) {
         Some(result) => results.push(result).is_ok(),
         None => false,
     }
 }
 
-fn is_report(alloc: Global, results: &[PageResult], expected: &str) -> bool {
-    match report_text(alloc, results) {
-        Ok(text) => text.as_slice() == expected.as_bytes(),
-        Err(_) => false,
-    }
-}
-
 // Whether the results, in the order of their URLs, are printed as their report and then its sources.
 fn is_printed<R: Threads + Sync>(rt: &R, alloc: Global, row: &Row) -> bool {
-    let Ok(mut asked) = Vec::from_slice(alloc, row.results) else {
+    let Ok(mut targets) = Vec::from_slice(alloc, row.results) else {
         return false;
     };
     let mut results = Vec::new(alloc);
-    asked.sort_by(|a, b| a.1.cmp(b.1)).is_ok()
-        && push_results(alloc, &mut results, &asked)
+    targets.sort_by(|a, b| a.1.cmp(b.1)).is_ok()
+        && push_results(alloc, &mut results, &targets)
         && is_text(rt, alloc, &results, row)
 }
 
@@ -245,7 +230,7 @@ fn is_copied(one: &PageResult) -> bool {
 }
 
 /// A saved web, and the report of its page as if it had more links by the most that a `u64` can count.
-const PAST_64_BITS: &[Asked] = &[
+const PAST_64_BITS: &[Target] = &[
     (
         "savedweb 1\npage http://a.test/",
         "ok 18446744073709551615 18446744073709551615 http://a.test/\ntotal 1 ok 1 missing 0\n",
@@ -267,7 +252,7 @@ fn links_past_64_bits(rt: HostRuntime) {
     }
 }
 
-fn is_counted(alloc: Global, row: &Asked) -> bool {
+fn is_counted(alloc: Global, row: &Target) -> bool {
     match result_at(alloc, &(row.0, "http://a.test/")) {
         Some(result) => is_report(alloc, &[with_most_skipped(result)], row.1),
         None => false,

@@ -1,5 +1,6 @@
 //! Pages as values: the order of their links, and their redirects.
 use crate::tests::results::{are_urls, result_of};
+use crate::tests::webs::MOVED;
 use crawl_pages::{Page, links_of};
 use saved_web::SavedWeb;
 use std::alloc::Global;
@@ -24,9 +25,6 @@ const ODD_LINKS: &[&str] = &[
     "http://a.test/d/e?z",
     "http://a.test/g",
 ];
-
-const MOVED: &str =
-    "savedweb 2\npage http://a.test/\nmoved http://b.test/\npage http://b.test/\nmoved mailto:x\npage http://c.test/\nlink gone\n";
 
 // Against the page, not against the root of its host; the text may be empty.
 const MOVED_DEEPER: &str =

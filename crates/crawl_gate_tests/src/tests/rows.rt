@@ -1,8 +1,8 @@
 //! One thread, call by call.
 ghost use Rattle.crawl_gate.specs.Seat.{IsSeatOf};
 
-use crate::tests::gate::answers::Answer::{Closed, Entered, Full, Pending};
-use crate::tests::gate::answers::{Answer, closed, entered, entered_beside};
+use crate::tests::answers::Answer::{Closed, Entered, Full, Pending};
+use crate::tests::answers::{Answer, closed, entered, entered_beside};
 use crawl_gate::{Gate, GateError, GateState, Unit};
 use std::alloc::Global;
 use std::sync::Wait;

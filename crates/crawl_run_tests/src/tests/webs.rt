@@ -1,5 +1,6 @@
-//! The saved webs of the rows, and the report of a complete crawl of each.
+//! Saved webs of several tests, and the report of a complete crawl of some.
 
+/// The saved web `examples/ring.web`.
 pub const RING: &str = "savedweb 1\n\
     page http://a.test/\n\
     link http://b.test/\n\
@@ -24,6 +25,15 @@ pub const TWO_LINKS_REPORT: &str = "ok 2 0 http://a.test/\n\
     missing http://a.test/1\n\
     missing http://a.test/2\n\
     total 3 ok 1 missing 2\n";
+
+/// Two pages that moved, one of them to no URL, and a page that links to a missing one.
+pub const MOVED: &str = "savedweb 2\n\
+    page http://a.test/\n\
+    moved http://b.test/\n\
+    page http://b.test/\n\
+    moved mailto:x\n\
+    page http://c.test/\n\
+    link gone\n";
 
 /// The report of a crawl that reaches nothing.
 pub const NOTHING: &str = "total 0 ok 0 missing 0\n";

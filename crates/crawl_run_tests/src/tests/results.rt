@@ -1,0 +1,74 @@
+//! Texts as URLs, the pages of saved webs, and the reports of results.
+use crawl_keys::{CanonUrl, canonical};
+use crawl_pages::{Fetch, PageResult};
+use crawl_report::report_text;
+use saved_web::SavedWeb;
+use std::alloc::Global;
+
+/// The text of a saved web, and a URL.
+pub type Target = (&'static str, &'static str);
+
+/// The page of the saved web at the URL.
+pub fn result_at(alloc: Global, target: &Target) -> Option<PageResult> {
+    match SavedWeb::read(alloc, target.0.as_bytes()) {
+        Ok(web) => result_of(alloc, &web, target.1),
+        Err(_) => None,
+    }
+}
+
+pub fn result_of(alloc: Global, web: &SavedWeb, text: &str) -> Option<PageResult> {
+    match canonical(alloc, text) {
+        Ok(url) => fetched(alloc, web, url),
+        Err(_) => None,
+    }
+}
+
+fn fetched(alloc: Global, web: &SavedWeb, url: CanonUrl) -> Option<PageResult> {
+    match web.fetch(alloc, &url) {
+        Ok(page) => Some(PageResult { url, page }),
+        Err(_) => None,
+    }
+}
+
+/// The URLs of those of these texts that have one.
+pub fn urls_of(alloc: Global, texts: &[&str]) -> Vec<CanonUrl> {
+    let mut urls = Vec::new(alloc);
+    for text in texts {
+        if let Ok(url) = canonical(alloc, text) {
+            let _ = urls.push(url);
+        }
+    }
+    urls
+}
+
+/// Whether these are the URLs, in this order.
+pub fn are_urls(urls: &[CanonUrl], texts: &[&str]) -> bool {
+    if urls.len() != texts.len() {
+        return false;
+    }
+    for (url, &text) in urls.iter().zip(texts) {
+        if url.as_str() != text {
+            return false;
+        }
+    }
+    true
+}
+
+/// How many of the results have the URLs at their indices.
+pub fn count_at(results: &[PageResult], texts: &[&str]) -> usize {
+    let mut count = 0usize;
+    for (result, text) in results.iter().zip(texts) {
+        if result.url.as_str() == *text {
+            count = count.saturating_add(1);
+        }
+    }
+    count
+}
+
+/// Whether the results have this report.
+pub fn is_report(alloc: Global, results: &[PageResult], expected: &str) -> bool {
+    match report_text(alloc, results) {
+        Ok(text) => text.as_slice() == expected.as_bytes(),
+        Err(_) => false,
+    }
+}
