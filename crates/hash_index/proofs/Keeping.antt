@@ -1,18 +1,9 @@
 -- Indices that are kept, and what is found by them.
-use Rattle.std.proofs.Common.{◌≡◌, inl, inr, ℕ, ◌+◌, ◌<◌, ◌≤◌, Bool, true, false, List, [], ◌∷◌, ◌++◌, length, map, take, get_or, slice_get, Option, Some, None, IfSome, Result, Ok, Err, IfOk, refl, sym, ap, subst, ◌∙◌, arith}
-use Rattle.std.specs.Str.{bytes_eq}
-use Rattle.std.specs.Option.{unwrap_or}
+use Rattle.hash_index.proofs.Prelude.{◌≡◌, inl, inr, ℕ, ◌+◌, ◌<◌, ◌≤◌, Bool, true, false, List, [], ◌∷◌, ◌++◌, length, map, take, get_or, slice_get, Option, Some, None, IfSome, Result, Ok, Err, IfOk, refl, sym, ap, subst, ◌∙◌, arith, bytes_eq, unwrap_or, both_ways, false_from_ne_true, take_more, length-take-le, map-append, index_of, stands_at, AreApart, AreTaken, IsFirstVacant, IsInSlots, Misses, IsBeside, IsKept, AreKept, IsIndexOf, HashIndex}
 use Rattle.std.specs.BTreeMap.{get, get_by_text}
 use Rattle.std.specs.Ordering.{nat_cmp}
-use Rattle.std.proofs.lemmas.Bool.{both_ways, false_from_ne_true}
-use Rattle.std.proofs.lemmas.List.{take_more, length-take-le, map-append}
 use Rattle.std.proofs.lemmas.Option.{slice_get-get_or}
-use Rattle.hash_index.specs.Lists.{index_of, stands_at, AreApart}
-use Rattle.hash_index.specs.Slots.{AreTaken, IsFirstVacant, IsInSlots, Misses}
-use Rattle.hash_index.specs.Overflow.{IsBeside}
-use Rattle.hash_index.specs.Index.{IsKept, AreKept, IsIndexOf}
 use Rattle.hash_index.specs.declared.overflow.Overflow.{Overflow}
-use Rattle.hash_index.specs.declared.index.HashIndex.{HashIndex}
 use Rattle.hash_index.proofs.Listed.{same_text, push_cases, slice_get_take, stands_there, found_at, stands_first, AreApart-push}
 
 -- ---- the overflow

@@ -1,3 +1,4 @@
+pub mod Prelude
 pub mod Taking
 pub mod Listed
 pub mod Keeping

@@ -1,12 +1,8 @@
 -- Texts of a list by their indices.
-use Rattle.std.proofs.Common.{◌≡◌, ◌⊎◌, inl, inr, ℕ, zero, suc, ◌<◌, Bool, true, false, List, [], ◌∷◌, ◌++◌, length, take, slice_get, Option, Some, None, is_some, refl, ap, subst, ◌∙◌, suc-le-suc, zero-le, arith}
+use Rattle.hash_index.proofs.Prelude.{◌≡◌, ◌⊎◌, inl, inr, ℕ, zero, suc, ◌<◌, Bool, true, false, List, [], ◌∷◌, ◌++◌, length, take, slice_get, Option, Some, None, is_some, refl, ap, subst, ◌∙◌, suc-le-suc, zero-le, arith, option_map, bytes_eq, both_ways, index_of, is_this, stands_at, AreApart}
 use Rattle.std.specs.Bool.{if◌then◌else◌}
-use Rattle.std.specs.Option.{option_map}
 use Rattle.std.specs.List.{list_any}
-use Rattle.std.specs.Str.{bytes_eq}
-use Rattle.std.proofs.lemmas.Bool.{both_ways}
 use Rattle.std.proofs.lemmas.Slice.Eq.{bytes_eq-Decides}
-use Rattle.hash_index.specs.Lists.{index_of, is_this, stands_at, AreApart}
 
 pub same_text : (u v : List ℕ) → bytes_eq u v ≡ true → u ≡ v
 same_text u v e = (bytes_eq-Decides u v).0 e

@@ -1,9 +1,6 @@
 -- What slots say once one of them was taken.
-use Rattle.std.proofs.Common.{◌≡◌, ◌≢◌, inl, inr, ◌<◌, ◌+◌, ℕ, ◌-◌, zero, suc, Bool, false, List, [], ◌∷◌, get_or, set, bit_and, bit_xor, refl, sym, ap, ◌∙◌, arith}
+use Rattle.hash_index.proofs.Prelude.{◌≡◌, ◌≢◌, inl, inr, ◌<◌, ◌+◌, ℕ, ◌-◌, zero, suc, Bool, false, List, [], ◌∷◌, get_or, set, bit_and, bit_xor, refl, sym, ap, ◌∙◌, arith, cases_lt, cases_eq, length-set, get_or-set_other, no_slot, mark_of, word_of, slot_of, word_at, AreTaken, IsFirstVacant, IsInSlots, Misses}
 use Rattle.std.specs.Int.Bits.{xor_assoc, xor_self, xor_zero_l}
-use Rattle.std.proofs.lemmas.Bool.{cases_lt, cases_eq}
-use Rattle.std.proofs.lemmas.List.{length-set, get_or-set_other}
-use Rattle.hash_index.specs.Slots.{no_slot, mark_of, word_of, slot_of, word_at, AreTaken, IsFirstVacant, IsInSlots, Misses}
 
 -- what was mixed for a hash, it reads
 pub mixed_twice : (mark index : ℕ) → bit_xor mark (bit_xor mark index) ≡ index

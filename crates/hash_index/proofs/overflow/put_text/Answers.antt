@@ -1,6 +1,4 @@
-use Rattle.std.proofs.Common.{◌≡◌, Some, ◌∙◌, false, string_bytes}
-use Rattle.std.proofs.lemmas.Bool.{cond-false}
-use Rattle.std.specs.Str.{bytes_eq}
+use Rattle.hash_index.proofs.Prelude.{◌≡◌, Some, ◌∙◌, false, string_bytes, cond-false, bytes_eq}
 use Rattle.std.proofs.lemmas.Map.Text.{btree_map_updates_text}
 use Rattle.hash_index.proofs.overflow.put_text.Goals as goal
 

@@ -1,6 +1,4 @@
-use Rattle.std.proofs.Common.{sym, subst}
-use Rattle.hash_index.specs.Lists.{stands_at}
-use Rattle.hash_index.specs.Index.{IsKept}
+use Rattle.hash_index.proofs.Prelude.{sym, subst, stands_at, IsKept}
 use Rattle.hash_index.proofs.Listed.{stands_first}
 use Rattle.hash_index.proofs.Keeping.{misses_vacant, misses_full, none_found, answers}
 use Rattle.hash_index.proofs.index.HashIndex.find_text.Goals as goal

@@ -1,9 +1,4 @@
-use Rattle.std.proofs.Common.{◌≡◌, ℕ, false, None, inl, sym, subst, length, IfOk}
-use Rattle.hash_index.specs.Lists.{index_of, stands_at}
-use Rattle.hash_index.specs.Slots.{AreTaken, IsInSlots, Misses}
-use Rattle.hash_index.specs.Overflow.{IsBeside}
-use Rattle.hash_index.specs.Index.{IsKept, IsIndexOf, with_slots}
-use Rattle.hash_index.specs.declared.index.HashIndex.{HashIndex}
+use Rattle.hash_index.proofs.Prelude.{◌≡◌, ℕ, false, None, inl, sym, subst, length, IfOk, index_of, stands_at, AreTaken, IsInSlots, Misses, IsBeside, IsKept, IsIndexOf, with_slots, HashIndex}
 use Rattle.hash_index.proofs.Listed.{stands_first}
 use Rattle.hash_index.proofs.Keeping.{stays, misses_vacant, none_found, index_stays, index_pushed, found_beside, pushed_beside}
 use Rattle.hash_index.proofs.index.HashIndex.find_text_or_insert.Goals as goal

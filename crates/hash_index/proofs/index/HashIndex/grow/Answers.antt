@@ -1,6 +1,4 @@
-use Rattle.std.proofs.Common.{rules, ◌<◌, ◌≤◌, length, subst}
-use Rattle.std.proofs.lemmas.List.{take_all}
-use Rattle.hash_index.specs.Index.{AreKept, with_slots}
+use Rattle.hash_index.proofs.Prelude.{rules, ◌<◌, ◌≤◌, length, subst, take_all, AreKept, with_slots}
 use Rattle.hash_index.proofs.Keeping.{keeps_each, keeps_taken}
 use Rattle.hash_index.proofs.index.HashIndex.grow.Goals as goal
 

@@ -1,5 +1,4 @@
-use Rattle.std.proofs.Common.{take}
-use Rattle.hash_index.specs.Index.{AreKept, with_slots}
+use Rattle.hash_index.proofs.Prelude.{take, AreKept, with_slots}
 use Rattle.hash_index.proofs.index.HashIndex.grow.Given as goal
 
 abbrev pub invariant-loop-index : goal.invariant-loop-index

@@ -1,5 +1,4 @@
-use Rattle.std.proofs.Common.{◌≢◌, ◌<◌, ℕ}
-use Rattle.hash_index.specs.Slots.{word_at, word_of}
+use Rattle.hash_index.proofs.Prelude.{◌≢◌, ◌<◌, ℕ, word_at, word_of}
 use Rattle.hash_index.proofs.slots.Slots.has.Given as goal
 
 abbrev pub invariant-loop-number : goal.invariant-loop-number

@@ -1,5 +1,4 @@
-use Rattle.std.proofs.Common.{rules, subst, sym}
-use Rattle.hash_index.specs.Slots.{IsFirstVacant, IsInSlots}
+use Rattle.hash_index.proofs.Prelude.{rules, subst, sym, IsFirstVacant, IsInSlots}
 use Rattle.hash_index.proofs.Taking.{index_put, index_stays}
 use Rattle.hash_index.proofs.slots.Slots.put_at.Goals as goal
 

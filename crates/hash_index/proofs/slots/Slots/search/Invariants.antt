@@ -1,6 +1,4 @@
-use Rattle.std.proofs.Common.{◌≡◌, ◌<◌, ℕ, false}
-use Rattle.hash_index.specs.Lists.{stands_at}
-use Rattle.hash_index.specs.Slots.{AreTaken, word_at, word_of}
+use Rattle.hash_index.proofs.Prelude.{◌≡◌, ◌<◌, ℕ, false, stands_at, AreTaken, word_at, word_of}
 use Rattle.hash_index.proofs.slots.Slots.search.Given as goal
 
 abbrev pub invariant-loop-number : goal.invariant-loop-number
