@@ -1,4 +1,4 @@
-use Rattle.crawl_frontier.proofs.Prelude.{◌≡◌, ◌<◌, ◌+◌, ◌∷◌, ◌++◌, ◌∙◌, [], None, length, map, vec_len, sym, ap, subst, arith, rules, nil_from_length, MatchOption, book_of, AgreesBelow, DisagreesAt, AgreeTo, nat_tests, ℕ, zero, suc, ◌≤◌, Bool, true, false, cond, eqb, List, Some, refl, ⊎_elim, cases_lt, append_assoc, map-append, Entry, Logged, Accepted, Seen, count_of, entries_of, Book, BookId, sent_to, Numbered, IsBook, queue_of, At, Stands, LogStands, CountsStand, CountFails, OneDisagrees, KeepRuleBelow, rule-numbered}
+use Rattle.crawl_frontier.proofs.Prelude.{◌≡◌, ◌<◌, ◌+◌, ◌∷◌, ◌++◌, ◌∙◌, [], None, length, map, vec_len, sym, ap, subst, arith, rules, ℕ, zero, suc, ◌≤◌, Bool, true, false, cond, eqb, List, Some, refl, ⊎_elim, nil_from_length, append_assoc, map-append, MatchOption, book_of, BookId, sent_to, Numbered, IsBook, queue_of, AgreesBelow, DisagreesAt, AgreeTo, Stands, LogStands, CountsStand, CountFails, OneDisagrees, KeepRuleBelow, nat_tests, cases_lt, Entry, Logged, Accepted, Seen, count_of, entries_of, Book, At, rule-numbered}
 use Rattle.crawl_frontier.proofs.finish.compare.books_agree.Goals as goal
 
 -- the k-th entry of a numbered list has the k-th number

@@ -1,4 +1,4 @@
-use Rattle.crawl_frontier.proofs.Prelude.{◌≡◌, ◌<◌, ℕ, List, [], Option, true, None, Some, map, sym, subst, inl, inr, length, arith, is_some, nat_cmp, get, Book, Entry, Doubt, BookId, IsBook, book_of, ShardId, At, HasWorkers, AllAre, Gathered, LogsAreOf, SendersIn, IdsOf, KeepRuleBelow, Stranger, ◌≤◌, false, true≢false, refl, ap, ◌∙◌, ⊎_elim, cases_lt, BTreeMap, BTreeSet, contains, GateId, QueueId, PassId, WorkerId, SenderId, Agrees, HasSenders, HasStranger, Found, IsFound, AreFound, IsSettled, IsFirstUnsettled, Slots, Placed, IsShared, SettlesAt, AllSettle, AgreesBelow, OneDisagrees}
+use Rattle.crawl_frontier.proofs.Prelude.{◌≡◌, ◌<◌, ℕ, List, [], Option, true, None, Some, map, sym, subst, inl, inr, length, arith, ◌≤◌, false, true≢false, refl, ap, ◌∙◌, ⊎_elim, is_some, nat_cmp, get, BTreeMap, Book, Entry, Doubt, BookId, IsBook, book_of, ShardId, WorkerId, SenderId, At, HasWorkers, Agrees, HasSenders, HasStranger, Found, IsFound, AreFound, IsSettled, IsFirstUnsettled, AllAre, Gathered, LogsAreOf, SendersIn, IdsOf, KeepRuleBelow, Stranger, Slots, Placed, IsShared, SettlesAt, AllSettle, AgreesBelow, OneDisagrees, cases_lt, BTreeSet, contains, GateId, QueueId, PassId}
 use Rattle.crawl_frontier.proofs.Telling.{logs_stand}
 use Rattle.crawl_frontier.proofs.Settling.{Settled, settled, accounts, all_work, one_is_missing, has_book}
 use Rattle.crawl_frontier.proofs.Gets.{get_within, has_at, same_at, list_of}
