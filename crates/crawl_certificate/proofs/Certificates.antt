@@ -1,7 +1,8 @@
 -- What is said of the pages of a run of an account, from its verdict and its order.
-use Rattle.crawl_certificate.proofs.Prelude.{◌≡◌, ℕ, Bool, List, None, subst, slice_cmp, nat_cmp, All, IsPermutation, IsSortedByKey, take, Entry, AccountId, subqueue_of, PageResult, entries_of, DifferByUrl, first_fault, entry_urls, result_urls, IsAscending, AreReachable, CountsOf, AreQueues, WalkOf, page_in}
+use Rattle.crawl_certificate.proofs.Prelude.{◌≡◌, ℕ, Bool, List, None, subst, take, slice_cmp, nat_cmp, All, IsPermutation, IsSortedByKey, Entry, AccountId, subqueue_of, PageResult, entries_of, DifferByUrl, first_fault, entry_urls, result_urls, IsAscending, AreReachable, CountsOf, AreQueues, WalkOf, page_in}
 use Rattle.crawl_certificate.proofs.Crawls.{pages_reached, own_pages, pages_ascend, one_each, entries_walk}
 use Rattle.crawl_certificate.proofs.KeptRules.{account_counts}
+use Rattle.crawl_certificate.proofs.Order.{ascends}
 
 -- the pages are those of a certified run
 pub record AreCertified (account : AccountId) (allowed : List ℕ → Bool) (seeds : List (List ℕ)) (results pages : List PageResult) : Type 0 where

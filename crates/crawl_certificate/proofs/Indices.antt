@@ -1,5 +1,5 @@
 -- The index of a URL among the entries of all queues, computed from its index in its own queue.
-use Rattle.crawl_certificate.proofs.Prelude.{◌≡◌, inl, inr, ℕ, zero, suc, ◌+◌, ◌<◌, Bool, true, List, [], ◌∷◌, ◌++◌, length, take, get_or, slice_get, Option, Some, None, is_some, refl, sym, ap, subst, ◌∙◌, arith, length-append, common_steps, Contains, bytes_eq, cases_lt, false_from_ne_true, length-map, map-append, All-contains, slice_get_within, get_or_from_slice_get, subqueue_of, Entry, AccountId, get_last, entries_in, DifferByUrl, is_accepted, entry_urls, at_this, stands_at, Finds, AreFirsts, AreLaidOut}
+use Rattle.crawl_certificate.proofs.Prelude.{◌≡◌, inl, inr, ℕ, zero, suc, ◌+◌, ◌<◌, true, List, [], ◌∷◌, ◌++◌, length, take, get_or, slice_get, Option, Some, None, is_some, refl, sym, ap, subst, ◌∙◌, arith, length-append, common_steps, Contains, bytes_eq, cases_lt, false_from_ne_true, length-map, map-append, All-contains, slice_get_within, get_or_from_slice_get, subqueue_of, Entry, AccountId, get_last, entries_in, DifferByUrl, is_accepted, entry_urls, at_this, stands_at, Finds, AreFirsts, AreLaidOut}
 use Rattle.std.specs.Bool.{if◌then◌else◌}
 use Rattle.std.specs.Option.{option_map}
 use Rattle.hash_index.specs.Lists.{index_of}
@@ -21,14 +21,10 @@ add_both a b c is o = grind arith
 
 -- ---- a text's index in two lists, one after the other
 
-later_step : (b : Bool) (o whole rest : Option ℕ) (n : ℕ) → (if b then Some 0 else option_map suc o) ≡ None → (o ≡ None → whole ≡ option_map (λ i. n + i) rest)
-    → (if b then Some 0 else option_map suc whole) ≡ option_map (λ i. suc n + i) rest
-later_step b o whole rest n none more = grind arith
-
 -- if the first list does not have the text, its index is that in the second list, plus the length of the first
 behind : (front back : List (List ℕ)) (key : List ℕ) → index_of front key ≡ None → index_of (front ++ back) key ≡ option_map (λ i. length front + i) (index_of back key)
-behind [] back key none = add_none (index_of back key)
-behind (text ∷ front) back key none = grind (arith, later_step, behind front back key)
+behind [] back key none = grind arith
+behind (text ∷ front) back key none = grind (arith, behind front back key)
 
 -- if the second list does not have the text, its index is that in the first list
 ahead : (front back : List (List ℕ)) (key : List ℕ) → index_of back key ≡ None → index_of (front ++ back) key ≡ index_of front key
@@ -88,9 +84,6 @@ module _ (account : AccountId) (all : List Entry) (firsts : List ℕ) (are : Are
       ap (λ (es : List Entry). index_of (entry_urls es) url) are.whole ∙ whole
       ∙ ap (λ n. option_map (λ i. n + i) (index_of (entry_urls there.0) url)) first
       ∙ ap (option_map (λ i. before + i)) (sym (told there.0 there.1))
-
-pub no_firsts : (queues : List (List Entry)) (firsts : List ℕ) → AreFirsts 0 queues firsts
-no_firsts queues firsts = λ queue below. absurd (omega (arith, below))
 
 -- one more queue
 pub firsts_push : (n : ℕ) (queues : List (List Entry)) (firsts : List ℕ) (first : ℕ) (own : List Entry) → length firsts ≡ n → first ≡ length (entries_in (take n queues)) → slice_get queues n ≡ Some own

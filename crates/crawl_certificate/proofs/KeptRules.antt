@@ -48,9 +48,6 @@ at_front (suc n) (y ∷ ys) (suc k) x at = let rest = at_front n ys k x at in (o
 abbrev pub KeptBelow : ℕ → AccountId → Type 0
 KeptBelow n account = (queue : ℕ) (es : List Entry) → queue < n → At account.queues queue es → KeepsRule account.workers queue [] es
 
-pub none_kept : (account : AccountId) → KeptBelow 0 account
-none_kept account = λ queue es below at. absurd (omega (arith, below))
-
 pub one_more_kept : (n : ℕ) (account : AccountId) (own : List Entry) → KeptBelow n account → At account.queues n own → KeepsRule account.workers n [] own → KeptBelow (n + 1) account
 one_more_kept n account own kept here keeps = grind arith
 

@@ -67,12 +67,6 @@ set_put old new key updates url =
 own_url : (entries : List Entry) (url : List ℕ) (k : ℕ) → Finds entries url (Some k) → (e : Entry) → slice_get entries k ≡ Some e → e.url ≡ url
 own_url entries url k found e at = grind arith
 
-found_eq : (entries : List Entry) (url : List ℕ) (k : ℕ) → Finds entries url (Some k) → (e : Entry) → slice_get entries k ≡ Some e → bytes_eq url e.url ≡ true
-found_eq entries url k found e at = subst (λ u. bytes_eq url u ≡ true) (sym (own_url entries url k found e at)) (text_itself url)
-
-other_eq : (entries : List Entry) (url : List ℕ) (k : ℕ) → Finds entries url (Some k) → (i : ℕ) (e : Entry) → slice_get entries i ≡ Some e → (i ≡ k → ⊥) → bytes_eq url e.url ≡ false
-other_eq entries url k found i e at differs = false_from_ne_true _ (λ same. differs (found.1 i e at same))
-
 pub found_within : (entries : List Entry) (url : List ℕ) (k : ℕ) → Finds entries url (Some k) → k < length entries
 found_within entries url k found = slice_get_within entries k found.0.0 found.0.1
 
@@ -96,25 +90,13 @@ or_none a b c h = grind arith
 or_none_last : (a b c : Bool) → c ≡ false → a ≡ (a || (b && c))
 or_none_last a b c h = grind arith
 
-or_both : (a b c : Bool) → b ≡ true → c ≡ true → true ≡ (a || (b && c))
-or_both a b c p q = grind arith
-
 -- the marks of the entries after the one with this URL was marked, if it passes the test
 pub marked : (entries : List Entry) (url : List ℕ) (k : ℕ) → Finds entries url (Some k) → (known test : Entry → Bool) (e : Entry) → slice_get entries k ≡ Some e → test e ≡ true → set (map known entries) k true ≡ map (λ e. known e || (bytes_eq url e.url && test e)) entries
-marked entries url k found known test e at passes = grind (arith, set_agrees, or_both, found_eq, same_at, or_none, other_eq)
-
-pub unmarked : (entries : List Entry) (url : List ℕ) (k : ℕ) → Finds entries url (Some k) → (known test : Entry → Bool) (e : Entry) → slice_get entries k ≡ Some e → test e ≡ false → map known entries ≡ map (λ e. known e || (bytes_eq url e.url && test e)) entries
-unmarked entries url k found known test e at fails = grind (arith, maps_agree, cases_Bool, or_none_last, same_at, or_none)
-
-pub unmarked_unknown : (entries : List Entry) (url : List ℕ) → Finds entries url None → (known test : Entry → Bool) → map known entries ≡ map (λ e. known e || (bytes_eq url e.url && test e)) entries
-unmarked_unknown entries url none known test = grind (arith, maps_agree, or_none)
-
-or_once_more : (k a b t : Bool) → ((k || (a && t)) || (b && t)) ≡ (k || ((a || b) && t))
-or_once_more k a b t = grind arith
+marked entries url k found known test e at passes = grind (arith, set_agrees, same_at, or_none, own_url, text_itself, false_from_ne_true)
 
 -- one more link
 pub marks_push : (entries : List Entry) (links : List (List ℕ)) (link : List ℕ) (known test : Entry → Bool) → map (λ e. (known e || (stands_in links e.url && test e)) || (bytes_eq link e.url && test e)) entries ≡ map (λ e. known e || (stands_in (links ++ link ∷ []) e.url && test e)) entries
-marks_push entries links link known test = grind (arith, maps_agree, or_once_more, any_push)
+marks_push entries links link known test = grind (arith, maps_agree, any_push)
 
 -- ---- entries one hop after the entry of a URL
 
@@ -154,24 +136,15 @@ behind_marks entries r k found before at known = grind (arith, maps_agree, behin
 pub behind_no_marks : (entries : List Entry) (r : PageResult) → Finds entries r.url None → (known : Entry → Bool) → map known entries ≡ map (λ e. known e || (stands_in (links_of r.page) e.url && is_behind entries r.url e)) entries
 behind_no_marks entries r none known = grind (arith, maps_agree, or_none_last, behind_none)
 
-or_steps : (a b c : Bool) → ((a || b) || c) ≡ (a || (b || c))
-or_steps a b c = grind arith
-
 -- one more result
 pub linked_push : (entries : List Entry) (results : List PageResult) (r : PageResult) (known : Entry → Bool) → map (λ e. (known e || is_linked entries results e) || (stands_in (links_of r.page) e.url && is_behind entries r.url e)) entries ≡ map (λ e. known e || is_linked entries (results ++ r ∷ []) e) entries
-linked_push entries results r known = grind (arith, maps_agree, or_steps, any_push)
+linked_push entries results r known = grind (arith, maps_agree, any_push)
 
 -- ---- entries with a result
 
-or_nothing : (a b : Bool) → b ≡ false → a ≡ (a || b)
-or_nothing a b h = grind arith
-
 -- the entry with the URL of a result is marked
 pub fetched_marked : (entries : List Entry) (url : List ℕ) (k : ℕ) → Finds entries url (Some k) → (known : List ℕ → Bool) → set (map (λ e. known e.url) entries) k true ≡ map (λ e. known e.url || bytes_eq url e.url) entries
-fetched_marked entries url k found known = grind (arith, set_agrees, or_right, found_eq, or_nothing, other_eq)
-
-pub fetched_unmarked : (entries : List Entry) (url : List ℕ) → Finds entries url None → (known : List ℕ → Bool) → map (λ e. known e.url) entries ≡ map (λ e. known e.url || bytes_eq url e.url) entries
-fetched_unmarked entries url none known = grind (arith, maps_agree, or_nothing)
+fetched_marked entries url k found known = grind (arith, set_agrees, or_right, own_url, text_itself, false_from_ne_true)
 
 -- whether the entry with the URL was marked
 pub fetched_before : (entries : List Entry) (url : List ℕ) (k : ℕ) → Finds entries url (Some k) → (known : List ℕ → Bool) (d : Bool) → get_or (map (λ e. known e.url) entries) k d ≡ known url

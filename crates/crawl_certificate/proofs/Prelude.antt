@@ -10,8 +10,6 @@ pub use Rattle.crawl_certificate.specs.Queues.{AreFirsts, AreLaidOut, AreQueues}
 pub use Rattle.crawl_certificate.specs.Reachable.{WalkOf}
 pub use Rattle.crawl_certificate.specs.ResultPages.{page_in}
 pub use Rattle.crawl_certificate.specs.Walks.{AreFrom, IsWalk}
-pub use Rattle.crawl_certificate.specs.declared.culprit.Culprit.{Culprit}
-pub use Rattle.crawl_certificate.specs.declared.error.CertError.{CertError}
 pub use Rattle.crawl_certificate.specs.declared.marks.Marks.{Marks}
 pub use Rattle.crawl_frontier.proofs.Gets.{get_last, same_at}
 pub use Rattle.crawl_frontier.specs.Accounts.{AccountId, At}

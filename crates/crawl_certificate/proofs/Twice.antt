@@ -32,16 +32,9 @@ any_counts p (x ∷ xs) = grind (arith, nat_tests, any_counts p xs, one_count, s
 pub twice_of_both : (xs ys : List PageResult) (url : List ℕ) → is_twice (xs ++ ys) url ≡ ((is_twice xs url || is_twice ys url) || (has_result xs url && has_result ys url))
 twice_of_both xs ys url = grind (arith, ltb, count_append, two_of, any_counts)
 
-one_result : (r : PageResult) (url : List ℕ) → is_twice (r ∷ []) url ≡ false
-one_result r url = grind arith
-
-tidy : (a b c d : Bool) → b ≡ false → ((a || b) || (c && (d || false))) ≡ (a || (d && c))
-tidy a b c d none = grind arith
-
 -- one more result
 pub twice_push : (xs : List PageResult) (r : PageResult) (url : List ℕ) → is_twice (xs ++ r ∷ []) url ≡ (is_twice xs url || (bytes_eq r.url url && has_result xs url))
-twice_push xs r url =
-    twice_of_both xs (r ∷ []) url ∙ tidy (is_twice xs url) (is_twice (r ∷ []) url) (has_result xs url) (bytes_eq r.url url) (one_result r url)
+twice_push xs r url = grind (arith, ltb, count_append, two_of, any_counts)
 
 -- one more result, if no result has a stray URL
 pub least_twice : (xs : List PageResult) (r : PageResult) (stray of_one told again : Option (List ℕ)) → (stray ≡ None → IsLeast (is_twice xs) told) → (of_one ≡ None → again ≡ url_if (has_result xs r.url) r.url) → lesser stray of_one ≡ None → IsLeast (is_twice (xs ++ r ∷ [])) (lesser told again)

@@ -17,9 +17,6 @@ of_map f (x ∷ xs) (suc k) y e = of_map f xs k y e
 
 -- ---- what is known of the lists becomes more
 
-pub raised_none : (told : List KnownList) → AreRaised told told
-raised_none told = (refl, λ q t at. (t, at, refl, λ k x e. e))
-
 pub raised_on : (start before after : List KnownList) → AreRaised start before → AreRaised before after → AreRaised start after
 raised_on start before after r s = grind arith
 

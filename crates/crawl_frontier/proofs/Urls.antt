@@ -1,5 +1,5 @@
 -- Entries by the indices of their URLs.
-use Rattle.crawl_frontier.proofs.Prelude.{◌≡◌, ℕ, ◌<◌, List, [], ◌∷◌, map, slice_get, Option, Some, None, is_some, refl, sym, ap, ◌∙◌, arith, length, slice_get-map, slice_get_within, index_of, Entry, has_url}
+use Rattle.crawl_frontier.proofs.Prelude.{◌≡◌, ℕ, ◌<◌, List, [], ◌∷◌, map, slice_get, Option, Some, None, refl, sym, ap, ◌∙◌, arith, length, is_some, slice_get-map, slice_get_within, index_of, Entry, has_url}
 use Rattle.std.specs.Option.{option_map}
 use Rattle.hash_index.proofs.Listed.{found_at}
 

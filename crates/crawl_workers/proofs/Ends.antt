@@ -10,17 +10,8 @@ use Rattle.crawl_workers.proofs.Outcomes.{goes_on_same}
 
 -- ## How many are lost
 
-sum_more : (most : ℕ) (a b c d e f lost : ℕ) → lost ≡ min (a + b + c + d + e + f) most →
-    (min (lost + 1) most ≡ min (min (a + 1) most + b + c + d + e + f) most)
-    × (min (lost + 1) most ≡ min (a + min (b + 1) most + c + d + e + f) most)
-    × (min (lost + 1) most ≡ min (a + b + min (c + 1) most + d + e + f) most)
-    × (min (lost + 1) most ≡ min (a + b + c + min (d + 1) most + e + f) most)
-    × (min (lost + 1) most ≡ min (a + b + c + d + min (e + 1) most + f) most)
-    × (min (lost + 1) most ≡ min (a + b + c + d + e + min (f + 1) most) most)
-sum_more most a b c d e f lost is = grind arith
-
 sum_with : (why : Loss) (losses : Losses) (lost : ℕ) → lost ≡ sum_of losses → min (lost + 1) (2 ^ 64 - 1) ≡ sum_of (with_loss why losses)
-sum_with why losses lost is = grind (arith, sum_more)
+sum_with why losses lost is = grind arith
 
 -- the sum of losses is their number, up to the greatest count
 number_of : (why : List Loss) (losses : Losses) (lost : ℕ) → lost ≡ sum_of losses → min (lost + length why) (2 ^ 64 - 1) ≡ sum_of (with_losses why losses)
@@ -55,15 +46,12 @@ urls_counted : (why : List Loss) (l : Losses) → (with_losses why l).failed + (
 urls_counted [] l less = (one_url_more 0 l.failed l.unkept 0).2
 urls_counted (why ∷ more) l less = grind (arith, common_steps, url_more, sum_by-cons, urls_counted more)
 
-answer_no_url : (answer : Answer) → count_by is_of_url (losses_by answer) ≡ 0
-answer_no_url answer = grind arith
-
 counted_append : (xs ys : List Loss) → count_by is_of_url (xs ++ ys) ≡ count_by is_of_url xs + count_by is_of_url ys
 counted_append xs ys = sum_by-append (λ (x : Loss). cond (is_of_url x) 1 0) xs ys
 
 answers_no_url : (answers : List Answer) → count_by is_of_url (flat_map losses_by answers) ≡ 0
 answers_no_url [] = refl
-answers_no_url (a ∷ answers) = grind (arith, counted_append, answer_no_url, answers_no_url answers)
+answers_no_url (a ∷ answers) = grind (arith, counted_append, answers_no_url answers)
 
 -- a URL has a result, or is lost as one
 one_of_each : (meaning : List ℕ → Page) (url : List ℕ) (outcome : Outcome) → count_by is_of_url (losses_at outcome) + length (found_at meaning url outcome) ≡ 1
@@ -126,13 +114,9 @@ turns_few workers allowed meaning b c (t ∷ ts) are =
     sum_by-cons (λ (f : Fate). most_lost_at allowed (links_of (meaning f.0.url)) f.1) (t.0, page_at meaning t.0.url t.1) (fates_in meaning ts) in
     rw most (omega (arith, one, rest, losses))
 
-turn_grows : (workers : ℕ) (allowed : List ℕ → Bool) (meaning : List ℕ → Page) (b c : BookId) (e : Entry) (outcome : Outcome) → IsTurn workers allowed meaning b c e outcome → Grows b c
-turn_grows workers allowed meaning b c e outcome turn = grind (arith, goes_on_same)
-
 turns_grow : (workers : ℕ) (allowed : List ℕ → Bool) (meaning : List ℕ → Page) (b c : BookId) (turns : List Turn) → AreTurns workers allowed meaning b c turns → Grows b c
 turns_grow workers allowed meaning b c [] are = grows_same b c are
-turns_grow workers allowed meaning b c (t ∷ ts) are =
-    grows_on b are.0 c (turn_grows workers allowed meaning b are.0 t.0 t.1 are.1) (turns_grow workers allowed meaning are.0 c ts are.2)
+turns_grow workers allowed meaning b c (t ∷ ts) are = grind (arith, grows_on, turns_grow workers allowed meaning are.0 c ts are.2, goes_on_same)
 
 -- the links of a turn that loses nothing have lines in the log at its end
 turn_logged : (workers : ℕ) (allowed : List ℕ → Bool) (meaning : List ℕ → Page) (b c : BookId) (e : Entry) (outcome : Outcome) → IsTurn workers allowed meaning b c e outcome → length (losses_at outcome) ≡ 0

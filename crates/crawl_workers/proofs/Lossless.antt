@@ -1,6 +1,5 @@
 -- What a run without loss leaves.
 use Rattle.crawl_workers.proofs.Prelude.{◌≡◌, inl, ℕ, zero, suc, ◌<◌, ◌≤◌, Bool, true, List, [], ◌∷◌, length, map, None, Some, refl, sym, ap, subst, arith, slice_get, slice_index_or, IsTrue, All, All-weaker, Page, PageResult, links_of, Entry, has_url, entries_of, BookId, sent_to, WorkerId, SenderId, has_at, get_within, line_of, HasLine, AllLogged, Fate, results_of, taken_in, Ran}
-use Rattle.std.specs.Prelude.{◌||◌, bytes_eq}
 use Rattle.std.proofs.Math.Nat.{mod-lt}
 use Rattle.std.proofs.lemmas.Bool.{or_left, or_right}
 use Rattle.std.proofs.lemmas.Slice.Eq.{bytes_eq-Decides}
@@ -42,24 +41,18 @@ find_line (l ∷ ls) p (suc k) less is =
     let rest = find_line ls p k (omega (arith, less)) is in
     record { index = suc rest.index; line = rest.line; at = rest.at; is = rest.is }
 
-same_url : (url : List ℕ) → bytes_eq url url ≡ true
-same_url url = (bytes_eq-Decides url url).1 refl
-
-either_of : (a b c : Bool) → (b ≡ true → c ≡ true) → (a || b) ≡ true → (a || c) ≡ true
-either_of a b c goes is = grind arith
-
 -- an accepted line of the log is in what was sent to its subqueue
 sent_has : (q : ℕ) (log : List Logged) (k : ℕ) (e : Entry) → At log k (Accepted e q) → has_url e.url (sent_to q log) ≡ true
 sent_has q [] k e at = absurd (cc (at))
 sent_has q (Seen u p ∷ ls) zero e at = absurd (cc (at))
 sent_has q (Seen u p ∷ ls) (suc k) e at = sent_has q ls k e at
-sent_has q (Accepted x p ∷ ls) zero e at = grind (arith, or_left, same_url)
+sent_has q (Accepted x p ∷ ls) zero e at = grind (arith, or_left, bytes_eq-Decides)
 sent_has q (Accepted x p ∷ ls) (suc k) e at = grind (arith, or_right, sent_has q ls k e at)
 
 -- the entries of one sender are among all
 entries_has : (id : ℕ) (url : List ℕ) (es : List Entry) → has_url url (entries_of id es) ≡ true → has_url url es ≡ true
 entries_has id url [] is = is
-entries_has id url (e ∷ es) is = grind (arith, either_of, or_right, entries_has id url es)
+entries_has id url (e ∷ es) is = grind (arith, or_right, entries_has id url es)
 
 line_stands : (q : ℕ) (es : List Entry) (b : BookId) (url : List ℕ) (k : ℕ) (l : Logged) → Agrees q es b → At b.log k l → line_of l ≡ (url, q) → has_url url es ≡ true
 line_stands q es b url k (Seen u p) agrees at is =

@@ -1,5 +1,5 @@
 -- What becomes of URLs that a worker takes.
-use Rattle.crawl_workers.proofs.Prelude.{◌≡◌, inl, inr, ℕ, ◌+◌, Bool, List, [], ◌∷◌, ◌++◌, refl, sym, ap, subst, ◌∙◌, arith, flat_map, append-nil, append_assoc, map-append, flat_map_more, Page, PageResult, links_of, Entry, MayFollow, KeepsRule, BookId, WorkerId, BusyId, worker, Loss, LinkOffers, no_losses, with_loss, AllAnswered, LinkAnswers, losses_by, with_losses, Outcome, GoesOn, Turn, IsTurn, AreTurns, losses_at, found_at, entries_in, unkept, kept, Progress, UrlOutcome, HasRoomOrNot, SameBusy, busy_same, answers_same, losses_on}
+use Rattle.crawl_workers.proofs.Prelude.{◌≡◌, inl, inr, ℕ, ◌+◌, Bool, List, [], ◌∷◌, ◌++◌, refl, sym, ap, subst, ◌∙◌, arith, flat_map, append-nil, append_assoc, map-append, flat_map_more, Page, PageResult, links_of, Entry, MayFollow, KeepsRule, BookId, WorkerId, BusyId, worker, Loss, LinkOffers, no_losses, AllAnswered, LinkAnswers, losses_by, with_losses, Outcome, GoesOn, Turn, IsTurn, AreTurns, losses_at, found_at, entries_in, unkept, kept, Progress, UrlOutcome, HasRoomOrNot, SameBusy, busy_same, answers_same, losses_on}
 use Rattle.link_offers.specs.declared.losses.Loss.TheVariants as loss
 use Rattle.crawl_workers.specs.declared.output.WorkerOutput.{WorkerOutput}
 use Rattle.link_offers.specs.Recent.{Knows}
@@ -8,11 +8,6 @@ use Rattle.link_offers.specs.Recent.{Knows}
 
 pub goes_on_same : (workers : ℕ) (allowed : List ℕ → Bool) (b b' : BusyId) (links : List (List ℕ)) (outcome : Outcome) → GoesOn workers allowed b b' links outcome → SameBusy b b'
 goes_on_same workers allowed b b' links outcome goes = grind (arith, busy_same, answers_same)
-
-pub fetch_failed : (workers : ℕ) (allowed : List ℕ → Bool) (meaning : List ℕ → Page) (b : BusyId) (old new : WorkerOutput)
-    → new.results.items ≡ old.results.items → new.offers.losses ≡ with_loss loss.Failed old.offers.losses → Knows workers b.worker.book.log new.offers.recent
-    → UrlOutcome workers allowed meaning b b old new
-fetch_failed workers allowed meaning b old new results losses known = grind (arith, append-nil)
 
 -- its page was fetched, its links were offered, and its result kept or lost
 pub page_fetched : (workers : ℕ) (allowed : List ℕ → Bool) (meaning : List ℕ → Page) (b b' : BusyId) (page : Page) (old mid new : WorkerOutput)

@@ -1,5 +1,5 @@
 -- What becomes of links that a busy worker offers.
-use Rattle.link_offers.proofs.Prelude.{common_steps, ◌≡◌, ◌↔◌, ℕ, ◌+◌, ◌≤◌, Bool, false, cond, List, [], ◌∷◌, ◌++◌, length, Option, Some, Result, Err, refl, sym, ap, subst, ◌∙◌, arith, IsTrue, slice_set, slice_index_or, length-append, set-get_or, All-nil, All-cons, flat_map-append, Offer, OfferError, IsFiltered, RecentUrls, HasLine, AllLogged, Grows, Answer, IsOffer, Answers, AllAnswered, LinkAnswers, listed, losses_by, with_losses, Knows}
+use Rattle.link_offers.proofs.Prelude.{common_steps, flat_map-append, ◌≡◌, ℕ, ◌+◌, ◌≤◌, Bool, cond, List, [], ◌∷◌, ◌++◌, length, Option, Some, Result, Err, refl, sym, ap, subst, ◌∙◌, arith, IsTrue, slice_set, slice_index_or, length-append, set-get_or, All-nil, All-cons, Offer, OfferError, RecentUrls, HasLine, AllLogged, Grows, Answer, IsOffer, Answers, AllAnswered, LinkAnswers, listed, losses_by, with_losses, Knows}
 use Rattle.std.specs.List.{count_by, flat_map}
 use Rattle.std.proofs.lemmas.List.Sums.{sum_by-cons}
 use Rattle.crawl_frontier.specs.declared.error.OfferError.TheVariants as refused
@@ -81,18 +81,10 @@ known_after workers allowed b b' url answer recent offer known = grind (arith, k
 pub lost_as : (error : OfferError) (why : Loss) (old new : Losses) → Some why ≡ loss_of error → new ≡ with_loss why old → new ≡ with_losses (losses_by (Some (Err error)) ++ []) old
 lost_as error why old new is losses = subst (λ (o : Option Loss). new ≡ with_losses (listed o ++ []) old) is losses
 
--- a link that is filtered is not lost
-pub lost_none : (error : OfferError) (losses : Losses) → error ≡ refused.Filtered → losses ≡ with_losses (losses_by (Some (Err error)) ++ []) losses
-lost_none error losses is = subst (λ (e : OfferError). losses ≡ with_losses (losses_by (Some (Err e)) ++ []) losses) (sym is) refl
-
 -- ## What is lost by links
 
--- a link that is lost is allowed
-lost_allowed : (may : Bool) (answer : Result Offer OfferError) → (IsFiltered answer ↔ (may ≡ false)) → length (losses_by (Some answer)) ≤ cond may 1 0
-lost_allowed may answer filtered = grind arith
-
 answer_few : (workers : ℕ) (allowed : List ℕ → Bool) (b b' : BusyId) (url : List ℕ) (answer : Answer) → Answers workers allowed b b' url answer → length (losses_by answer) ≤ cond (allowed url) 1 0
-answer_few workers allowed b b' url answer is = grind (arith, lost_allowed)
+answer_few workers allowed b b' url answer is = grind arith
 
 -- no more is lost than links that are allowed
 pub answers_few : (workers : ℕ) (allowed : List ℕ → Bool) (b b' : BusyId) (urls : List (List ℕ)) (answers : List Answer) → AllAnswered workers allowed b b' urls answers

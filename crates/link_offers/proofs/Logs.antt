@@ -1,5 +1,6 @@
 -- How a log grows, and what it then says of links.
-use Rattle.link_offers.proofs.Prelude.{common_steps, ◌≡◌, ℕ, ◌+◌, Bool, List, [], ◌∷◌, ◌++◌, map, Option, Result, Ok, refl, sym, ap, ◌∙◌, IsTrue, IfSome, arith, append-nil, append_assoc, map-append, All-push, All-weaker, Contains-append_left, Contains-push, Logged, Offer, OfferError, OfferBooks, RecentUrls, line_of, HasLine, AllLogged, Grows, Knows, url_in}
+use Rattle.link_offers.proofs.Prelude.{common_steps, ◌≡◌, ℕ, ◌+◌, Bool, List, [], ◌∷◌, ◌++◌, map, Option, Result, Ok, refl, sym, ap, ◌∙◌, IsTrue, IfSome, arith, append-nil, append_assoc, map-append, All-push, All-weaker, Contains-append_left, Contains-push, Logged, Offer, OfferError, RecentUrls, line_of, HasLine, AllLogged, Grows, Knows, url_in}
+use Rattle.crawl_frontier.specs.Offers.{OfferBooks}
 use Rattle.crawl_keys.specs.Assignment.{subqueue_of}
 use Rattle.crawl_queues.specs.declared.book.Logged.TheVariants as logged
 use Rattle.crawl_frontier.specs.declared.offer.Offer.TheVariants.{Accepted, Seen}
@@ -13,12 +14,9 @@ grows_same b b' same = record { more = []; id = ap (λ (x : BookId). x.id) same;
 pub grows_on : (a b c : BookId) → Grows a b → Grows b c → Grows a c
 grows_on a b c first next = grind (arith, append_assoc)
 
-grows_line : (b b' : BookId) (l : Logged) → b'.id ≡ b.id → b'.log ≡ b.log ++ l ∷ [] → Grows b b'
-grows_line b b' l id log = record { more = l ∷ []; id = id; log = log }
-
 -- an offer only adds to the book
 pub offer_grows : (workers : ℕ) (b b' : BookId) (url : List ℕ) (hops : ℕ) (r : Result Offer OfferError) → OfferBooks workers b b' url hops r → Grows b b'
-offer_grows workers b b' url hops r books = grind (arith, grows_line, grows_same)
+offer_grows workers b b' url hops r books = grind (arith, grows_same)
 
 has_last : (workers : ℕ) (log : List Logged) (l : Logged) (url : List ℕ) → line_of l ≡ (url, subqueue_of url workers) → HasLine workers (log ++ l ∷ []) url
 has_last workers log l url is = rw (map-append line_of log (l ∷ []), ← is) (Contains-push (map line_of log) (line_of l))

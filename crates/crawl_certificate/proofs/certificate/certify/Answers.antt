@@ -4,6 +4,7 @@ use Rattle.crawl_pages.proofs.OrderLaws.{results_by_url-in_order}
 use Rattle.crawl_pages.proofs.StableSort.{IsPermutation-stable_sort}
 use Rattle.crawl_certificate.proofs.Certificates.{certified}
 use Rattle.crawl_certificate.proofs.certificate.certify.Goals as goal
+use Rattle.crawl_certificate.proofs.Crawls.{one_each}
 
 pub returns : goal.returns
 returns c =

@@ -1,6 +1,7 @@
 use Rattle.crawl_certificate.proofs.Prelude.{◌≡◌, None, subst, ◌∙◌, allows, DifferByUrl, first_fault}
 use Rattle.crawl_certificate.proofs.Certificates.{certified}
 use Rattle.crawl_certificate.proofs.certificate.certify_with.Goals as goal
+use Rattle.crawl_certificate.proofs.Crawls.{one_each}
 
 pub returns : goal.returns
 returns g c =

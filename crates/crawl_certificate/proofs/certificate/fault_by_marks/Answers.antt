@@ -1,4 +1,6 @@
-use Rattle.crawl_certificate.proofs.Prelude.{◌==◌, not, ◌&&◌, map, sym, ap, subst, ◌∙◌, if◌then◌else◌, list_any, bytes_eq, Entry, allows, has_result, is_linked, first_named, NamesFirst, IsLeast, url_of, is_in, ◌≡◌, inl, inr, ℕ, Bool, ◌||◌, List, Option, Some, None, is_some, Result, Ok, Err, arith, PageResult, links_of, CertError, Culprit, Marks, first_of, is_accepted, stands_in, is_founded, seed_missing, not_fetched, link_missing, unfounded, twice, is_lost, is_unfounded, is_a_stray, is_at_fault, IsCulprit, Names, NamesCulprit, lesser, AreMarks, Urls}
+use Rattle.crawl_certificate.proofs.Prelude.{◌==◌, not, ◌&&◌, map, sym, ap, subst, ◌∙◌, if◌then◌else◌, ◌≡◌, inl, inr, ℕ, Bool, ◌||◌, List, Option, Some, None, is_some, Result, Ok, Err, arith, list_any, bytes_eq, Entry, allows, has_result, is_linked, first_of, is_accepted, stands_in, is_founded, seed_missing, not_fetched, link_missing, unfounded, twice, first_named, NamesFirst, is_lost, is_unfounded, is_a_stray, is_at_fault, IsCulprit, Names, NamesCulprit, IsLeast, url_of, lesser, is_in, Urls, PageResult, links_of, Marks, AreMarks}
+use Rattle.crawl_certificate.specs.declared.error.CertError.{CertError}
+use Rattle.crawl_certificate.specs.declared.culprit.Culprit.{Culprit}
 use Rattle.crawl_certificate.specs.declared.error.CertError.TheVariants as fault
 use Rattle.crawl_certificate.proofs.LeastUrls.{by_test, least_of_both, lesser_none, some_lesser, at_urls, some_of_urls, some_of_elements, some_of_lists}
 use Rattle.crawl_certificate.proofs.Twice.{some_twice}

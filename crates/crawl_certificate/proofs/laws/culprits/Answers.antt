@@ -1,11 +1,7 @@
-use Rattle.crawl_certificate.proofs.Prelude.{◌≡◌, ℕ, Bool, not, List, Option, arith, both_ways, false_from_ne_true, or_parts, or_from, Entry, PageResult, links_of, CertError, Culprit, is_accepted, has_result, is_founded, is_lost, HasNoneAt, IsCulprit}
+use Rattle.crawl_certificate.proofs.Prelude.{ℕ, Bool, not, List, arith, both_ways, false_from_ne_true, or_parts, or_from, Entry, PageResult, links_of, is_accepted, has_result, is_founded, is_lost, HasNoneAt}
 use Rattle.crawl_certificate.proofs.LeastUrls.{neither_below, urls_at, elements_at, lists_at}
 use Rattle.crawl_certificate.proofs.Twice.{url_is_twice}
 use Rattle.crawl_certificate.proofs.laws.culprits.Goals as goal
-
--- an error has only one culprit
-one_culprit : (first : Option CertError) (at : CertError → List ℕ → Bool) (culprit other : Culprit) → IsCulprit first at culprit → IsCulprit first at other → culprit ≡ other
-one_culprit first at culprit other k m = grind (arith, neither_below)
 
 -- if a run does not have an error, no URL shows that error
 none_at : (allowed : List ℕ → Bool) (seeds : List (List ℕ)) (entries : List Entry) (results : List PageResult) → HasNoneAt allowed seeds entries results
@@ -22,7 +18,7 @@ none_at allowed seeds entries results = record {
 }
 
 pub returns-clause-one : goal.returns-clause-one
-returns-clause-one c = one_culprit
+returns-clause-one c = grind (arith, neither_below)
 
 pub returns-clause-before : goal.returns-clause-before
 returns-clause-before c = none_at

@@ -1,5 +1,6 @@
-use Rattle.crawl_certificate.proofs.Prelude.{◌+◌, ◌==◌, Bool, true, set, sym, ap, ◌∙◌, Entry}
-use Rattle.crawl_certificate.proofs.Places.{marked, unmarked, unmarked_unknown}
+use Rattle.crawl_certificate.proofs.Prelude.{◌+◌, ◌==◌, Bool, true, set, sym, ap, ◌∙◌, Entry, cases_Bool, same_at}
+use native.Mathlib.Omega.{arith}
+use Rattle.crawl_certificate.proofs.Places.{maps_agree, marked}
 use Rattle.crawl_certificate.proofs.marks.mark.Goals as goal
 
 pub returns-then-is_next-clause-linked : goal.returns-then-is_next-clause-linked
@@ -9,10 +10,7 @@ returns-then-is_next-clause-linked c = λ known is.
     ∙ marked c.args.accepted.now c.args.link.now c.in-Some.index c.in-Some.ensures.found known test c.entry-entry.result.now c.entry-entry.ensures (sym c.if-is_next.ensures)
 
 pub returns-else-is_next-clause-linked : goal.returns-else-is_next-clause-linked
-returns-else-is_next-clause-linked c = λ known is.
-    let test : Entry → Bool = λ e. e.hops == c.args.hops + 1 in
-    is ∙ unmarked c.args.accepted.now c.args.link.now c.in-Some.index c.in-Some.ensures.found known test c.entry-entry.result.now c.entry-entry.ensures (sym c.if-is_next.ensures)
+returns-else-is_next-clause-linked c = grind (arith, maps_agree, cases_Bool, same_at)
 
 pub returns-in-None-clause-linked : goal.returns-in-None-clause-linked
-returns-in-None-clause-linked c = λ known is.
-    is ∙ unmarked_unknown c.args.accepted.now c.args.link.now c.in-None.ensures.found known (λ e. e.hops == c.args.hops + 1)
+returns-in-None-clause-linked c = grind (arith, maps_agree)

@@ -1,5 +1,6 @@
 use Rattle.crawl_certificate.proofs.Prelude.{◌≡◌, ◌+◌, ◌==◌, true, false, ◌&&◌, ◌||◌, map, set, get_or, Option, Some, sym, ap, ◌∙◌, Entry, stands_in, url_if}
-use Rattle.crawl_certificate.proofs.Places.{behind_marks, behind_no_marks, fetched_before, fetched_marked, fetched_unmarked}
+use native.Mathlib.Omega.{arith}
+use Rattle.crawl_certificate.proofs.Places.{maps_agree, behind_marks, behind_no_marks, fetched_before, fetched_marked}
 use Rattle.crawl_certificate.proofs.marks.mark_result.Goals as goal
 
 pub returns-in-Some-clause-fetched : goal.returns-in-Some-clause-fetched
@@ -15,8 +16,7 @@ returns-in-Some-clause-linked c = λ known is.
     ∙ behind_marks entries c.args.one.now c.in-Some.index c.in-Some.ensures.found before c.entry-entry.ensures known
 
 pub returns-in-None-clause-fetched : goal.returns-in-None-clause-fetched
-returns-in-None-clause-fetched c = λ known is.
-    is ∙ fetched_unmarked c.args.accepted.now c.args.one.now.url c.in-None.ensures.found known
+returns-in-None-clause-fetched c = grind (arith, maps_agree)
 
 pub returns-in-None-clause-linked : goal.returns-in-None-clause-linked
 returns-in-None-clause-linked c = λ known is.

@@ -1,7 +1,23 @@
-use Rattle.crawl_frontier.proofs.Prelude.{◌≡◌, ◌<◌, ◌∙◌, ap, sym, refl, Some, slice_get, length, vec_len, arith, subst, vec_capacity, slice_get_read, entry, BookId, IsBook, book_of, book_accepting, book_seeing}
+use Rattle.crawl_frontier.proofs.Prelude.{◌≡◌, ◌<◌, ◌∙◌, ap, sym, refl, Some, slice_get, length, vec_len, arith, subst, ℕ, ◌+◌, List, [], ◌∷◌, ◌++◌, length-append, vec_capacity, slice_get_read, entry, BookId, IsBook, book_of, book_accepting, book_seeing, sent_to, Numbered, append-nil, Entry, Logged, Accepted, Seen}
 use Rattle.crawl_keys.specs.Assignment.{subqueue_of}
-use Rattle.crawl_frontier.proofs.BookKeeping.{book_accepts, book_sees}
+use Rattle.crawl_frontier.proofs.Gets.{get_set_same, get_set_other, get_len_set}
 use Rattle.crawl_frontier.proofs.offer.deliver.Goals as goal
+
+-- books with one line more
+sent_to-append : (q : ℕ) (ls ms : List Logged) → sent_to q (ls ++ ms) ≡ sent_to q ls ++ sent_to q ms
+sent_to-append q [] ms = refl
+sent_to-append q (Accepted e p ∷ ls) ms = grind (arith, sent_to-append q ls ms)
+sent_to-append q (Seen u p ∷ ls) ms = sent_to-append q ls ms
+
+numbered-snoc : (id n : ℕ) (xs : List Entry) (e : Entry) → Numbered id n xs → e.sender ≡ id → e.number ≡ n + length xs → Numbered id n (xs ++ e ∷ [])
+numbered-snoc id n [] e all sender number = (sender, omega (arith, number), tt)
+numbered-snoc id n (x ∷ xs) e all sender number = (all.0, all.1, numbered-snoc id (n + 1) xs e all.2 sender (omega (arith, number)))
+
+book_accepts : (workers : ℕ) (b : BookId) (q n : ℕ) (e : Entry) → IsBook workers b → q < workers → slice_get b.counts q ≡ Some n → e.sender ≡ b.id → e.number ≡ n → IsBook workers (book_accepting b q n e)
+book_accepts workers b q n e is below at sender number = grind (arith, get_len_set, sent_to-append, get_set_same, get_set_other, numbered-snoc, append-nil, length-append)
+
+book_sees : (workers : ℕ) (b : BookId) (url : List ℕ) (q : ℕ) → IsBook workers b → IsBook workers (book_seeing b url q)
+book_sees workers b url q is = grind (arith, sent_to-append, append-nil)
 
 pub accept-requires-clause-within : goal.accept-requires-clause-within
 accept-requires-clause-within g c =

@@ -1,5 +1,6 @@
-use Rattle.crawl_workers.proofs.Prelude.{◌≡◌, refl, sym, ap, subst, ◌∙◌, allows, links_of, LinkAnswers, answers_same}
-use Rattle.crawl_workers.proofs.Outcomes.{fetch_failed, page_fetched}
+use Rattle.crawl_workers.proofs.Prelude.{◌≡◌, refl, sym, ap, subst, ◌∙◌, allows, links_of, LinkAnswers, answers_same, append-nil}
+use native.Mathlib.Omega.{arith}
+use Rattle.crawl_workers.proofs.Outcomes.{page_fetched}
 use Rattle.crawl_workers.proofs.turn.work.Goals as goal
 
 pub returns-clause-outcome : goal.returns-clause-outcome
@@ -15,5 +16,4 @@ returns-clause-outcome g c = λ known.
     (rw url at c.keep.ensures)
 
 pub returns-in_default-clause-outcome : goal.returns-in_default-clause-outcome
-returns-in_default-clause-outcome g c = λ known.
-    fetch_failed g.K.Name.workers (allows g.K.Name.filter) (g.F.SessionFetch.meaning c.args.fetcher.now) c.args.busy.now c.args.output.now _ refl c.count.ensures known
+returns-in_default-clause-outcome g c = grind (arith, append-nil)

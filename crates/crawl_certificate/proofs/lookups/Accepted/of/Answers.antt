@@ -1,11 +1,8 @@
 use Rattle.crawl_certificate.proofs.Prelude.{rules, ◌≡◌, ◌+◌, List, [], ◌∷◌, ◌++◌, length, take, get_or, sym, ap, subst, ◌∙◌, arith, flat_map-append, take_more, take_all, append-nil, length_push, slice_get_within, get_or_from_slice_get, Entry, entries_in, AreFirsts}
-use Rattle.crawl_certificate.proofs.Indices.{no_firsts, firsts_push}
+use Rattle.crawl_certificate.proofs.Indices.{firsts_push}
 use Rattle.crawl_certificate.proofs.Places.{length_pointed}
-use Rattle.crawl_certificate.proofs.KeptRules.{KeptBelow, none_kept, one_more_kept, account_queues, account_differs}
+use Rattle.crawl_certificate.proofs.KeptRules.{KeptBelow, one_more_kept, account_queues, account_differs}
 use Rattle.crawl_certificate.proofs.lookups.Accepted.of.Goals as goal
-
-pub loop-queue-init : goal.loop-queue-init
-loop-queue-init c = record { listed = search rules; kept = none_kept c.args.account.now; count = search rules; first = no_firsts c.args.account.now.queues _ }
 
 pub loop-queue-preserved : goal.loop-queue-preserved
 loop-queue-preserved c =

@@ -1,4 +1,4 @@
-use Rattle.crawl_frontier.proofs.Prelude.{rules, ◌≡◌, ◌∙◌, ◌+◌, ◌<◌, ◌++◌, ◌∷◌, [], ℕ, List, map, sym, ap, subst, length, length-append, cond, true, None, Some, arith, is_some, vec_len, MatchOption, nat_cmp, get, is_at, map-append, nil_from_length, Book, BookId, Knows, book_of, IsBook, WorkerId, At, AllAre, Placed, Gathered}
+use Rattle.crawl_frontier.proofs.Prelude.{rules, ◌≡◌, ◌∙◌, ◌+◌, ◌<◌, ◌++◌, ◌∷◌, [], ℕ, List, map, sym, ap, subst, length, length-append, cond, true, None, Some, arith, vec_len, is_some, MatchOption, nat_cmp, get, is_at, map-append, nil_from_length, Book, BookId, Knows, book_of, IsBook, WorkerId, At, AllAre, Placed, Gathered}
 use Rattle.crawl_frontier.proofs.Gets.{get_last}
 use Rattle.crawl_frontier.proofs.Telling.{all_snoc}
 use Rattle.crawl_frontier.proofs.Gathering.{gather-none, gather-worker}

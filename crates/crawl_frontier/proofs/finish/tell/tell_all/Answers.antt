@@ -1,10 +1,7 @@
 use Rattle.crawl_frontier.proofs.Prelude.{◌-◌, ◌∙◌, List, set, length, refl, ap, subst, arith, slice_get_read, ShardId, At, set_same}
-use Rattle.crawl_frontier.proofs.Logging.{raised_lists, raised_none}
+use Rattle.crawl_frontier.proofs.Logging.{raised_lists}
 use Rattle.crawl_frontier.proofs.Telling.{told_more, told_of}
 use Rattle.crawl_frontier.proofs.finish.tell.tell_all.Goals as goal
-
-pub loop-queue-init : goal.loop-queue-init
-loop-queue-init g c = (refl, raised_none c.args.told.now.items, λ q s t lt home at. absurd (omega (arith, lt)))
 
 pub tell_of-requires-clause-told : goal.tell_of-requires-clause-told
 tell_of-requires-clause-told g c =

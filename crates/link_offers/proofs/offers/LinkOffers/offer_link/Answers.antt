@@ -1,6 +1,7 @@
 use Rattle.link_offers.proofs.Prelude.{◌∷◌, [], None, Ok, Err, refl, sym, subst, allows, HasLine, IsOffer}
+use native.Mathlib.Omega.{arith}
 use Rattle.link_offers.proofs.Logs.{offer_line}
-use Rattle.link_offers.proofs.LinkAnswers.{link_offered, known_after, lost_as, lost_none}
+use Rattle.link_offers.proofs.LinkAnswers.{link_offered, known_after, lost_as}
 use Rattle.link_offers.proofs.offers.LinkOffers.offer_link.Goals as goal
 
 pub returns-then-has_marked-clause-offered : goal.returns-then-has_marked-clause-offered
@@ -21,12 +22,7 @@ returns-in-Ok-clause-offered g c = λ known.
     (c.remember.ensures g.K.Name.workers log (known_after g.K.Name.workers (allows g.K.Name.filter) _ _ _ _ c.args.self.now.recent offer known) (subst (HasLine g.K.Name.workers log) (sym c.offer_shared.ensures.url) line))
 
 pub returns-in-Err-Filtered-clause-offered : goal.returns-in-Err-Filtered-clause-offered
-returns-in-Err-Filtered-clause-offered g c = λ known.
-    let is = c.in-Err-Filtered.ensures in
-    let offer : IsOffer g.K.Name.workers (allows g.K.Name.filter) c.args.busy.now c.offer_shared.new.self c.has_marked.new.url (Err c.in-Err-Filtered.field-0) = record { books = is.books; words = is.words; filtered = is.filtered; entry = is.entry; same = is.same } in
-    link_offered g.K.Name.workers (allows g.K.Name.filter) _ _ c.has_marked.new.url c.args.url.now (Err c.in-Err-Filtered.field-0) _ _ c.has_marked.ensures.url offer
-    (lost_none c.in-Err-Filtered.field-0 c.args.self.now.losses c.in-Err-Filtered.field-0-is)
-    (known_after g.K.Name.workers (allows g.K.Name.filter) _ _ _ _ c.args.self.now.recent offer known)
+returns-in-Err-Filtered-clause-offered g c = grind (arith, link_offered, known_after)
 
 pub returns-in-Err-clause-offered : goal.returns-in-Err-clause-offered
 returns-in-Err-clause-offered g c = λ known.
