@@ -5,4 +5,3 @@ pub mod PlainTexts
 pub mod Seeds
 pub mod SiteCrawls
 pub mod Serves
-mod Windows
