@@ -203,12 +203,19 @@ def drawn_tag(draw: random.Random) -> str:
     return text
 
 
+def drawn_style(draw: random.Random) -> str:
+    """Return a random style sheet in an element or an attribute."""
+    words = ["@import", "@IMPORT ", "@imports ", "url(", "URL( ", "'", '"', "a", "b.css", ")", "/*", "*/", "/", "*", " ", "\n", "\v", ";", "\\"]
+    text = "".join(draw.choice(words) for _ in range(draw.randint(1, 20)))
+    return f"<style>{text}</style>" if draw.random() < 0.5 else "<p style=\"{}\">".format(text.replace('"', "&quot;"))
+
+
 def drawn_document(draw: random.Random, wild: bool) -> str:
     """Return a random document; a wild one has broken markup everywhere."""
     parts = []
     for _ in range(draw.randint(1, 40 if wild else 12)):
         parts.append(draw.choice(PIECES) if draw.random() < (0.8 if wild else 0.2) else drawn_tag(draw))
-        parts.append(draw.choice(["", "", " ", "text"]))
+        parts.append(drawn_style(draw) if draw.random() < 0.1 else draw.choice(["", "", " ", "text"]))
     return "".join(parts).replace("\r", "")
 
 
