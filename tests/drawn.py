@@ -983,7 +983,7 @@ COMMANDS: dict[str, tuple[str, ...]] = {
 VALUES = {
     "workers": "2", "max-pending": "9", "within": "a.test", "seeds": LIST, "ignore": LIST,
     "seed": "./ ..", "index-file": "index.html x", "fallback": "html", "log": "log .", "compact": "new",
-    "part": "0/2 2/2", "wait": "1",
+    "part": "0/2 2/2", "wait": "1", "list": "pending in-progress done stats all",
 }
 ARGUMENTS = (
     *COMMANDS, "help", "play", "-", "--", "", "=", "-x", "-h", "--help", "--version", "--workers",

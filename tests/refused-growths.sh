@@ -32,5 +32,6 @@ fi
 python3 bench/make_web.py 2000 > "$scratch/pages.web"
 printf '%s\n' 'offer http://a.test/' 'link http://a.test/ b' 'offer HTTP://A.test:80/#x' endseeds 'next 0' 'again 0' 'done 0' \
     'next 0' 'done 0' 'next 0' x > "$scratch/requests"
+printf '%s\n' 'within a.test workers 2 max 9' 'offer http://a.test/' 'offer http://a.test/b' 'next 1' 'later 1' > "$scratch/log"
 echo downloads.html > "$scratch/known"
 python3 tests/refused_growths.py "$program" "$scratch" "$what"

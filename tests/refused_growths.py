@@ -1,7 +1,7 @@
 """Run programs with failing memory allocations, for tests/refused-growths.sh, which describes the tests.
 
 Usage: refused_growths.py PROGRAM SCRATCH commands|tests
-SCRATCH is a folder with refuse.so, which is built from tests/refused_growths.c, and the inputs pages.web, requests and
+SCRATCH is a folder with refuse.so, which is built from tests/refused_growths.c, and the inputs pages.web, requests, log and
 known.
 """
 
@@ -73,6 +73,8 @@ def commands_with(scratch: str) -> tuple[Command, ...]:
         Command(["site", f"{DATA}/site", "http://site.test/"]),
         Command(["serve", "--workers", "1"], f"{scratch}/requests"),
         Command(["serve", "--workers", "1", "--within", "a.test", "--part", "0/2"], f"{scratch}/requests"),
+        Command(["serve", "--log", f"{scratch}/log", "--list", "pending"]),
+        Command(["serve", "--log", f"{scratch}/log", "--list", "stats", "--json"]),
         Command(["--help"]),
         Command(["crawl", "--help"]),
         Command(["help", "replay"]),

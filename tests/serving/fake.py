@@ -4,7 +4,7 @@
 Usage: fake.py serve [--workers N] [--max-pending M] [--within SUFFIX] [--part I/K]
                      [--log FILE [--sync] [--wait SECONDS]]
 
-It uses the model of URLs in drawn.py. It has no `--compact`, and the first line of its log is not
+It uses the model of URLs in drawn.py. It has no `--compact` and no `--list`, and the first line of its log is not
 that of the program.
 """
 

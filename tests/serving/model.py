@@ -23,6 +23,7 @@ class Session:
         self.put_back: List[Set[str]] = [set() for _ in range(workers * parts)]
         self.accepted = [0] * (workers * parts)
         self.busy: Dict[int, str] = {}
+        self.ended: List[Tuple[int, str]] = []
         self.seen: Set[str] = set()
         self.opening, self.closed = True, False
 
@@ -74,14 +75,28 @@ class Session:
         if word == "later":
             self.waiting[queue].append(url)
             self.put_back[queue].add(url)
+        else:
+            self.ended.append((queue, url))
         return f"count {self.count()}"
 
     def stats(self, queues: Iterable[int]) -> str:
         """How many URLs of these queues were accepted, are done, in progress, and waiting; and how many of the last were put back."""
+        return " ".join(["stats", *(f"{name} {number}" for name, number in self.numbers(queues).items())])
+
+    def numbers(self, queues: Iterable[int]) -> Dict[str, int]:
+        """Return the numbers in the answer to `stats`, by name."""
         rows = [(self.accepted[q], q in self.busy, len(self.waiting[q]), len(self.put_back[q])) for q in queues]
         accepted, busy, waiting, put_back = map(sum, zip(*rows))
         done = accepted - busy - waiting
-        return f"stats accepted {accepted} done {done} in-progress {busy} waiting {waiting} put-back {put_back}"
+        return {"accepted": accepted, "done": done, "in-progress": busy, "waiting": waiting, "put-back": put_back}
+
+    def listed(self, kind: str) -> List[Tuple[int, str]]:
+        """Return the URLs of `--list` with their queues, in order."""
+        if kind == "done":
+            return self.ended
+        if kind == "in-progress":
+            return sorted(self.busy.items())
+        return [(queue, url) for queue, urls in enumerate(self.waiting) for url in urls]
 
     def next(self, queue: int) -> str:
         if queue in self.busy:

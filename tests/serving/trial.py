@@ -165,8 +165,8 @@ class Trial:
         help_text = subprocess.run(
             [self.program, "serve", "--help"], capture_output=True, check=False, stdin=subprocess.DEVNULL
         ).stdout
-        self.has_log, self.has_sync, self.has_compact, self.has_part, self.has_wait = (
-            option in help_text for option in (b"--log", b"--sync", b"--compact", b"--part", b"--wait")
+        self.has_log, self.has_sync, self.has_compact, self.has_part, self.has_wait, self.has_list = (
+            option in help_text for option in (b"--log", b"--sync", b"--compact", b"--part", b"--wait", b"--list")
         )
         session = Serve(self.program)
         self.has_link = session.ask(b"again 0") != "bad line"

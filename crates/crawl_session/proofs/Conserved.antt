@@ -18,7 +18,7 @@ use Rattle.crawl_session.specs.declared.request.RequestError.{RequestError}
 use Rattle.crawl_session.specs.Clients.{Asked, accepted_of, accepts, asked, busy_after, done_of, finishes, joined_from, joins, put_back_of, puts_back, taken_of, takes}
 use Rattle.crawl_session.specs.Frontiers.{Deferrals, Frontier, deferrals_at, no_deferrals, start}
 use Rattle.crawl_session.specs.Parts.{request_for}
-use Rattle.crawl_session.specs.Sessions.{line_exchange, state_after}
+use Rattle.crawl_session.specs.Sessions.{answered, line_exchange, state_after}
 use Rattle.crawl_session.specs.Settings.{Settings}
 use Rattle.crawl_session.proofs.Flows.{answered_passes}
 use Rattle.crawl_session.proofs.Joined.{busy_at, line_at}
@@ -35,14 +35,15 @@ sound_run : (old : State) (history : List (Event × Reply)) (new : State) → So
 sound_run old [] new sound run = subst Sound (sym run) sound
 sound_run old (x ∷ xs) new sound run = sound_run run.0 xs new (subst Sound (sym run.1.state_is) (gate_effect old sound x.0).sound) run.2
 
+pub answered_sound : (state : Frontier) (r : Result Request RequestError) → Sound state.machine → Sound (answered state r).state.machine
+answered_sound state r sound = sound_run state.machine (answered state r).history (answered state r).state.machine sound (answered_runs state r)
+
 pub line_sound : (settings : Settings) (state : Frontier) (line : List ℕ) → Sound state.machine → Sound (line_exchange settings state line).state.machine
-line_sound settings state line sound =
-    let here = line_exchange settings state line in
-    sound_run state.machine here.history here.state.machine sound (answered_runs state (request_for settings line))
+line_sound settings state line sound = answered_sound state (request_for settings line) sound
 
 -- ---- the URLs
 
-put_on : {A : Type 0} (o : Option A) (xs : List A) → cons_option o xs ≡ option_to_list o ++ xs
+pub put_on : {A : Type 0} (o : Option A) (xs : List A) → cons_option o xs ≡ option_to_list o ++ xs
 put_on o xs = grind arith
 
 -- the effect of one line, joined to that of the lines after it

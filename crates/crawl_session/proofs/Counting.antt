@@ -24,7 +24,7 @@ use Rattle.crawl_session.proofs.Runs.{session_runs}
 use Rattle.crawl_session.proofs.Sees.{sees_accepted}
 
 -- the length of the line is the number of URLs that are still to be taken plus the number that were put back
-length_in_line : (taken : ℕ) (urls : List (List ℕ)) (ds : List Deferred) → length (in_line taken urls ds) ≡ length urls + length ds
+pub length_in_line : (taken : ℕ) (urls : List (List ℕ)) (ds : List Deferred) → length (in_line taken urls ds) ≡ length urls + length ds
 length_in_line taken urls [] = omega arith
 length_in_line taken urls (d ∷ ds) =
     let n = d.after - taken in

@@ -6,6 +6,7 @@ pub mod Compactions
 pub mod Conserved
 pub mod Counting
 pub mod Cuts
+pub mod Drained
 pub mod Elsewheres
 pub mod Emptied
 pub mod Flows
@@ -13,6 +14,8 @@ pub mod InLine
 pub mod Joined
 pub mod Lifts
 pub mod Lines
+pub mod Listed
+pub mod Listing
 pub mod LogStarts
 pub mod Logs
 pub mod Onces

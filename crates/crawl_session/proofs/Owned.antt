@@ -25,6 +25,7 @@ use Rattle.crawl_core.proofs.GateHistory as gate_history
 use Rattle.crawl_core.proofs.GateHistory.{holds_less}
 use Rattle.crawl_core.proofs.Handing.{handed_is, is_free}
 use Rattle.crawl_core.proofs.Places.{sum_at}
+use Rattle.crawl_core.proofs.RunParts.{eqb_same}
 use Rattle.crawl_core.proofs.Effects.{cond_both}
 use Rattle.crawl_core.proofs.Sets.{list_any-insert_key}
 use Rattle.crawl_core.proofs.Sound.{Sound, gate_effect}
@@ -242,6 +243,10 @@ request_owned state EndSeeds sound settled owned = owned_machine state (seeds_en
 pub answered_owned : (state : Frontier) (r : Result Request RequestError) → Sound state.machine → Settled state → Owned state → Owned (answered state r).state
 answered_owned state (Ok request) sound settled owned = request_owned state request sound settled owned
 answered_owned state (Err why) sound settled owned = owned
+
+-- a URL that is fetched and was put back before has its sender's unit
+pub fetched_holds : (state : Frontier) (named : ℕ) (d : Deferred) → Settled state → Owned state → (deferrals_at state named).fetched ≡ Some d → holds state.machine.gate d.sender ≡ true
+fetched_holds state named d settled owned is = grind (arith, common_steps, in_range, units_after, eqb_same)
 
 -- ---- a new session, and one in which no unit is held
 

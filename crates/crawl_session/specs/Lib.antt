@@ -4,6 +4,7 @@ pub mod Compacting
 pub mod Exchanges
 pub mod Frontiers
 pub mod Input
+pub mod Listing
 pub mod LogStarts
 pub mod Logs
 pub mod Parts

@@ -14,6 +14,8 @@ ghost use Rattle.crawl_session.specs.Exchanges.{exchange};
 ghost use Rattle.crawl_session.specs.Frontiers.{Frontier, NoneDeferred, start};
 ghost use Rattle.crawl_session.specs.Parts.{part_with, request_for};
 ghost use Rattle.crawl_session.specs.Requests.{request_of};
+ghost use Rattle.crawl_session.specs.Listing as lists;
+ghost use Rattle.crawl_session.specs.Listing.{AreTold};
 ghost use Rattle.crawl_session.specs.LogStarts.{read_start, start_text};
 ghost use Rattle.crawl_session.specs.Logs.{settings_line};
 ghost use Rattle.crawl_session.specs.Serving.{with_words};
@@ -146,4 +148,11 @@ pub fn others_are_told_elsewhere()
 #[tactic(auto, using(crate::proofs::LogStarts::starts_back))]
 pub fn log_starts_come_back()
     ensures { (part : Option (ℕ × ℕ)) (identity : Option (List ℕ)) (workers max : ℕ) (suffixes : List (List ℕ)) → IfSome part (λ p. (p.0 < 2 ^ 32) × (p.1 < 2 ^ 32)) → IfSome identity (λ text. list_all (λ b. not (is_space b)) text ≡ true) → read_start (start_text part identity ++ settings_line workers max suffixes) ≡ (part, (identity, settings_line workers max suffixes)) }
+{}
+
+/// The lists of a session are those of its lines and their answers: in each queue, the URLs that are done, the one in progress, and
+/// those that are pending, in the order in which they will be taken. Each URL that was accepted is in exactly one of them.
+pub fn lists_are_what_was_told()
+    ensures { (settings : Settings) (max : ℕ) (lines : List (List ℕ)) (queue : ℕ) → queue < settings.workers
+        → AreTold (asked settings (start settings.workers max) lines) queue (lists.done_in settings lines (start settings.workers max)).rows (lists.in_progress_below settings.workers (state_after settings (start settings.workers max) lines)).rows (lists.pending_below settings.workers (state_after settings (start settings.workers max) lines)).rows }
 {}

@@ -8,6 +8,7 @@ mod exchange;
 mod frontier;
 /// Laws of sessions.
 pub mod laws;
+mod list;
 mod log;
 mod log_start;
 mod part;
@@ -19,6 +20,7 @@ mod texts;
 
 pub use answer::Answer;
 pub use compact::Compactor;
+pub use list::{ListForm, Lister};
 pub use log::{read_settings, settings_line, whole_len};
 pub use log_start::{read_start, start_text};
 pub use part::Part;

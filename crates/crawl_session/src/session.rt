@@ -27,7 +27,7 @@ pub struct Session {
     alloc: Global,
     pub(crate) frontier: Frontier,
     /// The queues of all parts.
-    workers: u32,
+    pub(crate) workers: u32,
     filter: Filter,
     part: Option<Part>,
 }

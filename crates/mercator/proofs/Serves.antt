@@ -11,19 +11,21 @@ use Rattle.crawl_session.specs.Sessions.{answers, state_after}
 use Rattle.crawl_session.specs.Settings.{SessionView}
 use Rattle.crawl_session.specs.declared.serving.ServeError.{ServeError}
 use Rattle.crawl_session.specs.declared.serving.ServeError.TheVariants as serving
-use Rattle.mercator.specs.Ending.{Begins}
+use Rattle.mercator.specs.Ending.{Begins, EndsByText}
 use Rattle.session_log.specs.Faults.{status_of_log}
-use Rattle.session_log.specs.LogFile.{IsBreak, IsUseFault}
+use Rattle.session_log.specs.Lists.{IsListed}
+use Rattle.session_log.specs.LogFile.{IsBreak, IsReadFault, IsUseFault}
 use Rattle.session_log.specs.Plans.{part_of, queues_of}
 use Rattle.session_log.specs.declared.fault.LogFault.{LogFault}
 use Rattle.session_log.specs.declared.fault.LogFault.TheVariants as unlogged
 use Rattle.session_log.specs.declared.fault.LoggedFault.{LoggedFault}
 use Rattle.session_log.specs.declared.fault.LoggedFault.TheVariants as ends
+use Rattle.session_log.specs.declared.listing.ListPlan.{ListPlan}
 use Rattle.session_log.specs.declared.plan.LogPlan.{LogPlan}
 use Rattle.session_log.specs.declared.plan.SessionPlan.{SessionPlan}
 use Rattle.mercator.specs.Faults.{of_log, of_logged, of_session, status_of_fault}
 use Rattle.mercator.specs.Plans.{IsWithinLimits, has_notices, is_bad_suffix, suffixes_of}
-use Rattle.mercator.specs.Told.{EndsBy, FailsLog, Gains, HasLog, IsDoneWithNote, MayNote, TellsFault, TellsInUse, no_identity, settings_of, told_lines}
+use Rattle.mercator.specs.Told.{EndsBy, FailsList, FailsLog, Gains, HasLog, IsDoneWithNote, MayNote, TellsFault, TellsInUse, no_identity, settings_of, told_lines}
 use Rattle.mercator.specs.declared.commands.fault.Fault.{Fault}
 use Rattle.mercator.specs.declared.commands.fault.Fault.TheVariants as wrong
 use Rattle.mercator.specs.declared.commands.planned.Plan.{Plan}
@@ -100,6 +102,30 @@ plain_use unlogged.CannotWrite is = refl
 plain_use unlogged.Changed is = refl
 plain_use unlogged.NoMemory is = refl
 plain_use why is = absurd is
+
+-- a log that is not listed
+pub plain_list : (why : LogFault) → IsReadFault why → status_of_fault (of_log why) ≡ 1
+plain_list unlogged.CannotOpen is = refl
+plain_list unlogged.CannotRead is = refl
+plain_list unlogged.NotALog is = refl
+plain_list unlogged.NoMemory is = refl
+plain_list why is = absurd is
+
+pub list_fails : (why : LogFault) → IsReadFault why → FailsList (of_log why)
+list_fails unlogged.CannotOpen is = tt
+list_fails unlogged.CannotRead is = tt
+list_fails unlogged.NotALog is = tt
+list_fails unlogged.NoMemory is = tt
+list_fails why is = absurd is
+
+-- one that is listed
+pub list_done : (plan : ListPlan) (text : List ℕ) (input old new : Option (List ℕ)) (how : Result (Unit {0}) Fault) → IsListed plan text → EndsByText text old new how → IfOk how (λ _. Gains (asks.List plan) input old new)
+list_done plan text input old new (Ok done) is ends = record { text = text; told = is; gained = ends }
+list_done plan text input old new (Err fault) is ends = tt
+
+pub list_ends : (plan : ListPlan) (text : List ℕ) (input old new : Option (List ℕ)) (how : Result (Unit {0}) Fault) (Unwritten : Type 0) → IsListed plan text → EndsByText text old new how → IfErr how (λ fault. EndsBy (asks.List plan) input fault Unwritten)
+list_ends plan text input old new (Ok done) Unwritten is ends = tt
+list_ends plan text input old new (Err fault) Unwritten is ends = inr (inl (ends, (text, inl is)))
 
 -- one that did not begin
 pub log_fails : (within : Option (String Global)) (why : LogFault) → is_bad_suffix within ≡ false → FailsLog within (of_log why)

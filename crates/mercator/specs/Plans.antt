@@ -45,6 +45,7 @@ IsWithinLimits (asks.Key url workers) = (1 ≤ workers) × (workers ≤ worker_l
 IsWithinLimits (asks.Replay file) = Unit {0}
 IsWithinLimits (asks.Serve asked) = IsSessionPlan asked
 IsWithinLimits (asks.ServeLog asked) = IsSessionPlan asked.session
+IsWithinLimits (asks.List list) = Unit {0}
 IsWithinLimits (asks.Compact log new) = IsSessionPlan log.session
 
 -- a text of several lines has no hidden character, which could control a terminal
@@ -79,6 +80,7 @@ file_of (asks.Key url workers) = []
 file_of (asks.Replay file) = string_bytes file
 file_of (asks.Serve asked) = codes "-"
 file_of (asks.ServeLog asked) = codes "-"
+file_of (asks.List list) = string_bytes list.file
 file_of (asks.Compact log new) = []
 
 -- the name of the list if there is one, else FILE
@@ -118,6 +120,7 @@ reads_input (asks.Key url workers) = false
 reads_input (asks.Replay file) = is_input (string_bytes file)
 reads_input (asks.Serve asked) = not (is_bad_suffix asked.within)
 reads_input (asks.ServeLog asked) = not (is_bad_suffix asked.session.within)
+reads_input (asks.List list) = false
 reads_input (asks.Compact log new) = false
 
 -- the command may print notices if it succeeds: a session with a log, or a command for a folder

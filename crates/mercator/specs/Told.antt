@@ -23,6 +23,7 @@ use Rattle.saved_site.specs.Below.{IsWebAt}
 use Rattle.saved_site.specs.Meaning.{IsSiteWeb}
 use Rattle.session_log.specs.Plans.{queues_of}
 use Rattle.session_log.specs.Plans as session
+use Rattle.session_log.specs.Lists.{IsListed}
 use Rattle.session_log.specs.declared.fault.LogFault.TheVariants as unlogged
 use Rattle.session_log.specs.declared.plan.SessionPlan.{SessionPlan}
 use Rattle.mercator.specs.WebCrawl.{CrawlPlan, IsBegun, IsCrawlText, IsUnbegun}
@@ -93,6 +94,7 @@ IsTold (asks.Key url workers) input text = IsKeyLine (string_bytes url) workers 
 IsTold (asks.Replay file) input text = OfFile (known_bytes (string_bytes file) input) (λ bytes. IsReplay bytes text)
 IsTold (asks.Serve asked) input text = (is_bad_suffix asked.within ≡ false) × IsAnswered asked input text
 IsTold (asks.ServeLog asked) input text = (is_bad_suffix asked.session.within ≡ false) × GoesOn asked.session input text
+IsTold (asks.List list) input text = IsListed list text
 IsTold (asks.Compact log new) input text = (is_bad_suffix log.session.within ≡ false) × (text ≡ [])
 
 -- the text is the report of a check that found something broken
@@ -138,6 +140,14 @@ FailsLog within (wrong.Log fault) = is_bad_suffix within ≡ false
 FailsLog within wrong.NoMemory = Unit {0}
 FailsLog within _ = ⊥
 
+-- why a log is not listed: it cannot be opened or read, it is none, or memory runs out
+abbrev pub FailsList : Fault → Type 0
+FailsList (wrong.Log unlogged.CannotOpen) = Unit {0}
+FailsList (wrong.Log unlogged.CannotRead) = Unit {0}
+FailsList (wrong.Log unlogged.NotALog) = Unit {0}
+FailsList wrong.NoMemory = Unit {0}
+FailsList _ = ⊥
+
 -- why a session ends before its input does: the input cannot be read, an answer or the log cannot be written, another program
 -- changed the log, or memory runs out. Memory may also run out while a saved web is written
 abbrev pub BreaksOff : Plan → Fault → Type 0
@@ -161,6 +171,7 @@ Fails (asks.Key url workers) input fault = FailsKey (string_bytes url) fault
 Fails (asks.Replay file) input fault = FailsReplay (string_bytes file) input fault
 Fails (asks.Serve asked) input fault = FailsSession asked.within fault
 Fails (asks.ServeLog asked) input fault = FailsLog asked.session.within fault
+Fails (asks.List list) input fault = FailsList fault
 Fails (asks.Compact log new) input fault = FailsLog log.session.within fault
 
 -- the command cannot have an output: the suffix is bad; the FILE is known and no script; the URL has no canonical URL; or, for all
@@ -174,6 +185,7 @@ CannotTell (asks.Key url workers) input = IsErr (canonical (string_bytes url))
 CannotTell (asks.Replay file) input = IsSomeAnd (known_bytes (string_bytes file) input) (λ bytes. IsErr (script_of bytes))
 CannotTell (asks.Serve asked) input = is_bad_suffix asked.within ≡ true
 CannotTell (asks.ServeLog asked) input = is_bad_suffix asked.session.within ≡ true
+CannotTell (asks.List list) input = ⊥
 CannotTell (asks.Compact log new) input = is_bad_suffix log.session.within ≡ true
 
 -- only a crawl can be incomplete: one of a saved web, from at least one seed, whose seeds have canonical URLs; or that of a check

@@ -39,7 +39,7 @@ use planned::CrawlPlan;
 pub use planned::Plan;
 pub use platform::Platform;
 use session_log::LockFile;
-use sessions::{compact_log, serve_log, serve_plan};
+use sessions::{compact_log, list_log, serve_log, serve_plan};
 use source::read_file;
 use std::alloc::Global;
 use std::fs::Files;
@@ -253,6 +253,10 @@ fn run<
         }
         Plan::ServeLog(asked) => {
             serve_log(platform, alloc, asked, input, out, err)?;
+            Ok(false)
+        }
+        Plan::List(list) => {
+            list_log(platform.rt, alloc, list, out)?;
             Ok(false)
         }
         Plan::Compact { log, new } => {

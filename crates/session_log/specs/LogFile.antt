@@ -92,6 +92,14 @@ IsFaultOfLine line plan (unlogged.OtherSettings setting) = HasOther line plan se
 IsFaultOfLine line plan unlogged.NotALog = Unit {0}
 IsFaultOfLine line plan fault = ⊥
 
+-- a log cannot be read: it cannot be opened, a read fails, it is none, or memory runs out
+abbrev pub IsReadFault : LogFault → Type 0
+IsReadFault unlogged.CannotOpen = Unit {0}
+IsReadFault unlogged.CannotRead = Unit {0}
+IsReadFault unlogged.NotALog = Unit {0}
+IsReadFault unlogged.NoMemory = Unit {0}
+IsReadFault fault = ⊥
+
 -- a log that is open cannot be read or written, or memory runs out
 abbrev pub IsUseFault : LogFault → Type 0
 IsUseFault unlogged.CannotRead = Unit {0}

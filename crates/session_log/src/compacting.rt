@@ -1,7 +1,8 @@
 //! The compacted log of a session, in a new file.
-ghost use Rattle.std.specs.Prelude.{◌≤◌, [], length, IfOk, IsOk, OnOk, string_bytes};
+ghost use Rattle.std.specs.Prelude.{◌≤◌, [], length, IfErr, IfOk, IsOk, OnOk, string_bytes};
 ghost use Rattle.std.specs.Io.KnownBytes.{Appends};
 ghost use Rattle.session_log.specs.Compaction.{Compacted, IsCompacted};
+ghost use Rattle.session_log.specs.LogFile.{IsReadFault};
 
 use crate::fault::LogFault;
 use crate::new_log::{create_partial, publish};
@@ -112,13 +113,14 @@ fn compact_by<F: Read + Seek, O: Write>(
 }
 
 /// Reads whole lines from this position of the file, and returns their number of bytes.
-fn read_lines<F: Read + Seek>(
+pub fn read_lines<F: Read + Seek>(
     file: &mut F,
     buffer: &mut [u8],
     at: u64,
     end: u64,
 ) -> Result<usize, LogFault>
     ensures within { IfOk result (λ count. count ≤ length buffer.new) }
+    ensures fault { IfErr result IsReadFault }
 {
     let count = end.saturating_sub(at).min(buffer.len() as u64) as usize;
     file.seek(SeekFrom::Start(at))?;

@@ -4,10 +4,12 @@
 //! - [`OpenedLog::cut`] and [`resume`] bring the session to the state at the end of the log. [`serve_logged`] then appends each
 //!   request to the log before the session answers it.
 //! - [`compact`] writes a compacted copy of the log to a new file.
+//! - [`list`] returns the URLs of a log, which another process may be using.
 #![tactic(auto)]
 
 mod compacting;
 mod fault;
+mod listing;
 mod lock_file;
 mod log_file;
 mod log_settings;
@@ -24,6 +26,7 @@ pub mod testing {
 
 pub use compacting::compact;
 pub use fault::{LogFault, LoggedFault, Setting};
+pub use listing::{ListKind, ListPlan, list};
 pub use lock_file::LockFile;
 pub use log_file::Log;
 pub use opening::{OpenedLog, open_session};

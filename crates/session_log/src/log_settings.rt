@@ -1,9 +1,13 @@
 //! The settings in the first line of a log.
-ghost use Rattle.std.specs.Prelude.{◌≡◌, map, IfOk};
+ghost use Rattle.std.specs.Prelude.{◌≡◌, ◌≤◌, true, map, IfOk};
+ghost use Rattle.crawl_core.specs.Limits.{queue_limit};
+ghost use Rattle.crawl_limits.specs.Limits.{worker_limit};
+ghost use Rattle.session_log.specs.Plans.{IsPartOf, all_queues};
 ghost use Rattle.session_log.specs.LogFile.{IsFaultOfLine, is_within, max_apart, part_apart, setting_apart, within_apart, workers_apart};
 
 use crate::fault::{LogFault, Setting};
 use crate::plan::SessionPlan;
+use crawl_core::QUEUE_LIMIT;
 use crawl_replay::Header;
 use crawl_session::{read_settings, read_start};
 use memchr::memchr;
@@ -17,13 +21,16 @@ pub fn fault_of_head(
     head: &[u8],
     plan: &SessionPlan,
 ) -> Result<LogFault, AllocError> {
-    let Some(end) = memchr(b'\n', head) else {
-        return Ok(LogFault::NotALog);
-    };
-    match str::from_utf8(&head[..end]) {
-        Ok(line) => fault_of_line(alloc, line, plan),
-        Err(_) => Ok(LogFault::NotALog),
+    match first_line_in(head) {
+        Some(line) => fault_of_line(alloc, line, plan),
+        None => Ok(LogFault::NotALog),
     }
+}
+
+/// Returns the first line of these bytes without its LF, if it is whole and UTF-8.
+pub fn first_line_in(bytes: &[u8]) -> Option<&str> {
+    let end = memchr(b'\n', bytes)?;
+    str::from_utf8(&bytes[..end]).ok()
 }
 
 /// Like [`fault_of_head`], for a whole first line without its LF.
@@ -34,7 +41,7 @@ fn fault_of_line(alloc: Global, line: &str, plan: &SessionPlan) -> Result<LogFau
     let Some((header, suffixes)) = read_settings(alloc, settings)? else {
         return Ok(LogFault::NotALog);
     };
-    if !is_part(part) {
+    if !is_part(part, header.workers) {
         return Ok(LogFault::NotALog);
     }
     match setting_apart(part, &suffixes, &header, plan) {
@@ -43,11 +50,18 @@ fn fault_of_line(alloc: Global, line: &str, plan: &SessionPlan) -> Result<LogFau
     }
 }
 
-/// Returns whether the number of the part is below the number of parts.
-fn is_part(part: Option<(u32, u32)>) -> bool {
-    match part {
-        Some((number, parts)) => number < parts,
-        None => true,
+/// Returns whether the number of the part is below the number of parts, and all parts together do not have too many queues.
+pub fn is_part(part: Option<(u32, u32)>, workers: u32) -> bool
+    requires { workers ≤ worker_limit }
+    ensures there { result ≡ true → IsPartOf part }
+    ensures few { result ≡ true → all_queues workers part ≤ queue_limit }
+{
+    let Some((number, parts)) = part else {
+        return true;
+    };
+    match workers.checked_mul(parts) {
+        Some(queues) => number < parts && queues <= QUEUE_LIMIT,
+        None => false,
     }
 }
 

@@ -1,7 +1,7 @@
 //! Opens the file of a log.
 ghost use Rattle.std.specs.Prelude.{◌≡◌, ℕ, List, IfErr, IfOk};
 ghost use Rattle.crawl_session.specs.Frontiers.{Shows, start};
-ghost use Rattle.session_log.specs.LogFile.{IsUseFault};
+ghost use Rattle.session_log.specs.LogFile.{IsReadFault, IsUseFault};
 ghost use Rattle.session_log.specs.Plans.{IsSessionPlan, queues_of, settings_of};
 
 use crate::fault::LogFault;
@@ -172,11 +172,13 @@ fn check_start<F: Read + Seek>(alloc: Global, file: &mut F) -> Result<(), LogFau
 }
 
 /// Returns the beginning of the file, of at most `limit` bytes, and the length of the file.
-fn read_head<F: Read + Seek>(
+pub fn read_head<F: Read + Seek>(
     alloc: Global,
     file: &mut F,
     limit: usize,
-) -> Result<(Vec<u8>, u64), LogFault> {
+) -> Result<(Vec<u8>, u64), LogFault>
+    ensures { IfErr result IsReadFault }
+{
     let len = file.seek(SeekFrom::End(0))?;
     let count = len.min(limit as u64) as usize;
     let mut head = vec![in alloc; 0u8; count]?;
@@ -315,7 +317,7 @@ fn unlike<F: Read + Seek>(
 }
 
 /// Returns the end of the last whole line after `from`; `from` if there is none.
-fn whole_end<F: Read + Seek>(
+pub fn whole_end<F: Read + Seek>(
     file: &mut F,
     from: u64,
     len: u64,

@@ -1,8 +1,11 @@
-//! Tests of what no command shows: a line is sent again after out of memory, a log without an end of its last line is compacted, and
-//! the first line of a log is read as a value.
+//! Tests of what no command shows: a line is sent again after out of memory, a log without an end of its last line is compacted, the
+//! first line of a log is read as a value, and the URLs of a log are listed.
 use crawl_keys::Filter;
 use crawl_replay::Header;
-use crawl_session::{Compactor, Session, read_settings, read_start, settings_line, start_text};
+use crawl_session::{
+    Compactor, ListForm, Lister, ServeError, Session, read_settings, read_start, settings_line,
+    start_text,
+};
 use std::alloc::{AllocError, Global};
 
 /// A session of one worker for hosts within `test`.
@@ -171,4 +174,77 @@ fn a_log_names_its_settings(rt: HostRuntime) {
     for row in SETTINGS {
         assert!(rt; are_read(rt.alloc(), row), "{}", row.0);
     }
+}
+
+/// A log in which one URL is done, one was put back and is in progress, and none is pending.
+const PUT_BACK: &str = "offer http://a.test/1
+offer http://a.test/2
+next 0
+later 0
+next 0
+done 0
+next 0
+";
+
+const PUT_BACK_AS_TEXT: &str = "done 0 http://a.test/2
+stats accepted 2 done 1 in-progress 1 waiting 0 put-back 0
+in-progress 0 http://a.test/1
+";
+
+/// A log in which one URL is done, one is in progress, and one that was put back is pending. Its first `done` ends no URL.
+const PENDING: &str = "offer http://a.test/1
+offer http://a.test/2
+offer http://a.test/3?q=\\
+next 0
+later 0
+done 0
+next 0
+done 0
+next 0
+";
+
+const PENDING_AS_TEXT: &str = "done 0 http://a.test/2
+stats accepted 3 done 1 in-progress 1 waiting 1 put-back 1
+in-progress 0 http://a.test/3?q=\\
+pending 0 http://a.test/1
+";
+
+const PENDING_AS_JSON: &str = r#"{"kind":"done","queue":0,"url":"http://a.test/2"}
+{"kind":"stats","queue":null,"accepted":3,"done":1,"in_progress":1,"waiting":1,"put_back":1}
+{"kind":"stats","queue":0,"accepted":3,"done":1,"in_progress":1,"waiting":1,"put_back":1}
+{"kind":"in_progress","queue":0,"url":"http://a.test/3?q=\\"}
+{"kind":"pending","queue":0,"url":"http://a.test/1"}
+"#;
+
+/// The lists of a log, one after another.
+fn lists(
+    alloc: Global,
+    session: &mut Session,
+    log: &str,
+    form: ListForm,
+) -> Result<Vec<u8>, ServeError> {
+    let lister = Lister { alloc, form };
+    let mut out = Vec::new(alloc);
+    lister.done(session, log.as_bytes(), &mut out)?;
+    lister.stats(session, &mut out)?;
+    lister.in_progress(session, &mut out)?;
+    lister.pending(session, &mut out)?;
+    Ok(out)
+}
+
+fn are_lists(alloc: Global, log: &str, form: ListForm, wanted: &str) -> bool {
+    let Some(mut session) = session(alloc) else {
+        return false;
+    };
+    match lists(alloc, &mut session, log, form) {
+        Ok(lists) => lists.as_slice() == wanted.as_bytes(),
+        Err(_) => false,
+    }
+}
+
+#[test]
+fn lists_the_urls_of_a_log(rt: HostRuntime) {
+    assert!(rt; are_lists(rt.alloc(), PUT_BACK, ListForm::Text, PUT_BACK_AS_TEXT));
+    assert!(rt; are_lists(rt.alloc(), PENDING, ListForm::Text, PENDING_AS_TEXT));
+    assert!(rt; are_lists(rt.alloc(), PENDING, ListForm::Json, PENDING_AS_JSON));
 }

@@ -184,10 +184,12 @@ fn push_serve_args<'a>(alloc: Global, args: &mut Vec<Arg<'a>>) -> Result<(), All
     push_options(alloc, args, SERVE_OPTIONS)?;
     push(args, sync(alloc)?)?;
     push(args, wait(alloc)?)?;
-    push(args, compact(alloc)?)
+    push(args, compact(alloc)?)?;
+    push(args, list(alloc)?)?;
+    push(args, list_json(alloc)?)
 }
 
-/// The options of a session that have a value, other than the numbers, `--wait` and `--compact`.
+/// The options of a session that have a value, other than the numbers, `--wait`, `--compact` and `--list`.
 const SERVE_OPTIONS: &[Valued] = &[
     Valued {
         name: "within",
@@ -233,6 +235,39 @@ fn compact<'a>(alloc: Global) -> Result<Arg<'a>, AllocError> {
         "Write a compacted copy of the log to the new file NEW, and exit",
     )
     .requires_arg("log")
+}
+
+/// What `--list` can list.
+const KINDS: &[&str] = &["pending", "in-progress", "done", "stats"];
+
+/// The options of `serve` that `--list` excludes.
+const NOT_LISTED: &[&str] = &[
+    "workers",
+    "max-pending",
+    "within",
+    "part",
+    "sync",
+    "wait",
+    "compact",
+];
+
+/// The option `--list`. It requires `--log`. The settings are those of the log, so no option of a session can be given.
+fn list<'a>(alloc: Global) -> Result<Arg<'a>, AllocError> {
+    option(
+        alloc,
+        "list",
+        "KIND",
+        "Print the URLs of FILE that are pending, in-progress or done, or their numbers (stats), and exit",
+    )
+    .value_parser(ValueParser::Names(KINDS))
+    .hide_possible_values(true)
+    .requires_arg("log")?
+    .conflicts_with_all(NOT_LISTED)
+}
+
+/// The option `--json` of `serve`, which requires `--list`.
+fn list_json<'a>(alloc: Global) -> Result<Arg<'a>, AllocError> {
+    flag_of(alloc, "json", "Print the list as JSON, one object per line").requires_arg("list")
 }
 
 /// The option `--max-pending`: 1 to 2^40 URLs, by default 2^20.

@@ -5,7 +5,7 @@ ghost use Rattle.mercator.specs.Plans.{IsWithinLimits, explains, file_of, listed
 use crate::commands::fault::Fault;
 use crawl_report::Parts;
 use mercator_site::{CheckForm, CheckOptions, ReportOptions, SiteOptions};
-use session_log::{LogPlan, SessionPlan};
+use session_log::{ListPlan, LogPlan, SessionPlan};
 
 /// What the arguments of a command line ask for.
 ///
@@ -66,6 +66,8 @@ pub enum Plan {
     Serve(SessionPlan),
     /// `serve --log`: resume from a log, append the requests of the input to it, and answer them.
     ServeLog(LogPlan),
+    /// `serve --log --list`: print the URLs of the log, or their numbers, without serving.
+    List(ListPlan),
     /// `serve --log --compact`: write a compacted copy of the log to a new file, without serving.
     Compact {
         /// The log, and the session that it belongs to.
@@ -114,6 +116,7 @@ impl Plan {
             Plan::Check { options, .. } => options.site.folder.as_str(),
             Plan::Key { .. } => "",
             Plan::Serve(_) | Plan::ServeLog(_) => "-",
+            Plan::List(list) => list.file.as_str(),
             Plan::Compact { .. } => "",
         }
     }

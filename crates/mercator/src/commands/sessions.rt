@@ -15,11 +15,11 @@ ghost use Rattle.mercator.specs.declared.commands.planned.Plan.TheVariants as as
 use crate::commands::fault::Fault;
 use crate::commands::platform::Platform;
 use crate::commands::web_crawl::filter_of;
-use crate::commands::writing::begin;
+use crate::commands::writing::{begin, end};
 use crawl_session::{ServeError, Session, serve};
 use session_log::{
-    LockFile, Log, LogFault, LogPlan, LoggedFault, OpenedLog, SessionPlan, compact, resume,
-    serve_logged,
+    ListPlan, LockFile, Log, LogFault, LogPlan, LoggedFault, OpenedLog, SessionPlan, compact, list,
+    resume, serve_logged,
 };
 use shown_text::shown;
 use std::alloc::{AllocError, Global};
@@ -127,6 +127,24 @@ pub fn compact_log<R: Files, L: LockFile<R::File>, V>(
     let (mut log, mut session) = open_session(platform, alloc, plan, false)?;
     compact(platform.rt, alloc, &mut session, &mut log, new.as_str())?;
     Ok(())
+}
+
+/// Writes the list of a log, which another program may be using.
+///
+/// # Errors
+/// `Log`, `NoMemory`; `CannotWrite`.
+pub fn list_log<R: Files, O: Write>(
+    rt: &R,
+    alloc: Global,
+    plan: &ListPlan,
+    out: &mut O,
+) -> Result<(), Fault>
+    ensures done { (input : Option (List ℕ)) → IfOk result (λ _. Gains (asks.List plan.now) input (O.contents out.old) (O.contents out.new)) }
+    ensures fault { (input : Option (List ℕ)) → IfErr result (λ fault. EndsBy (asks.List plan.now) input fault (out.new ≡ out.old)) }
+    ensures plain { IfErr result (λ fault. status_of_fault fault ≡ 1) }
+{
+    let text = list(rt, alloc, plan)?;
+    end(out, &text)
 }
 
 /// Opens the log and creates the session of its plan. If `makes`, a file that does not exist is created. A bad suffix opens no

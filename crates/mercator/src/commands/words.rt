@@ -16,7 +16,8 @@ use clap::error::ErrorKind;
 use crawl_core::QUEUE_LIMIT;
 use crawl_limits::{PENDING_LIMIT, WORKER_LIMIT};
 use crawl_replay::number32;
-use session_log::{LogPlan, SessionPlan};
+use crawl_session::ListForm;
+use session_log::{ListKind, ListPlan, LogPlan, SessionPlan};
 use shown_text::laws::shown_text_has_no_hidden_character;
 use shown_text::shown_lines;
 use std::alloc::{AllocError, AllocFailed, Global};
@@ -229,7 +230,8 @@ fn replay_of(alloc: Global, found: &ArgMatches<'_>) -> Result<Plan, PlanError>
     })
 }
 
-/// Returns the plan of `serve`: a session, with a log if `--log` is given, or a compaction if `--compact` is given too.
+/// Returns the plan of `serve`: a session, with a log if `--log` is given; or a list or a compaction of the log, if `--list` or
+/// `--compact` is given too.
 fn serve_of(alloc: Global, found: &ArgMatches<'_>) -> Result<Plan, PlanError>
     ensures limits { IfOk result IsWithinLimits }
     ensures shown { IfErr result IsShown }
@@ -238,6 +240,9 @@ fn serve_of(alloc: Global, found: &ArgMatches<'_>) -> Result<Plan, PlanError>
     let Some(file) = value_of(alloc, found, "log")? else {
         return Ok(Plan::Serve(session));
     };
+    if let Some(kind) = found.get_str("list") {
+        return list_of(alloc, found, file, kind);
+    }
     let Some(wait) = found.get_one::<u64>("wait") else {
         return Err(misread(alloc));
     };
@@ -250,6 +255,38 @@ fn serve_of(alloc: Global, found: &ArgMatches<'_>) -> Result<Plan, PlanError>
     match value_of(alloc, found, "compact")? {
         None => Ok(Plan::ServeLog(log)),
         Some(new) => Ok(Plan::Compact { log, new }),
+    }
+}
+
+/// Returns the plan of `serve --list` for this log.
+fn list_of(
+    alloc: Global,
+    found: &ArgMatches<'_>,
+    file: String,
+    kind: &str,
+) -> Result<Plan, PlanError>
+    ensures limits { IfOk result IsWithinLimits }
+    ensures shown { IfErr result IsShown }
+{
+    let Some(kind) = kind_of(kind) else {
+        return Err(misread(alloc));
+    };
+    let form = if found.get_flag("json") {
+        ListForm::Json
+    } else {
+        ListForm::Text
+    };
+    Ok(Plan::List(ListPlan { file, kind, form }))
+}
+
+/// Returns what a value of `--list` asks for.
+fn kind_of(text: &str) -> Option<ListKind> {
+    match text {
+        "pending" => Some(ListKind::Pending),
+        "in-progress" => Some(ListKind::InProgress),
+        "done" => Some(ListKind::Done),
+        "stats" => Some(ListKind::Stats),
+        _ => None,
     }
 }
 

@@ -56,3 +56,11 @@ returns-in_err-compact_log-in-Compact-clause-fault g c =
     let same = err_from_is_err_and r.result r.ensures.1 in
     let fault = c.in_err-compact_log-in-Compact.field-0.0 in
     rw (same.1, same.2) (subst (λ (p : Plan). EndsBy p input fault (c.args.out.now ≡ c.args.out.now)) (sym c.in-Compact.is) (inl (c.in_err-compact_log-in-Compact.ensures.fault input, refl)))
+
+pub returns-in_err-list_log-in-List-clause-fault : goal.returns-in_err-list_log-in-List-clause-fault
+returns-in_err-list_log-in-List-clause-fault g c =
+    let input = g.I.Read.remaining c.args.input.now in
+    let r = c.from_residual-in_err-list_log-in-List in
+    let same = err_from_is_err_and r.result r.ensures.1 in
+    let fault = c.in_err-list_log-in-List.field-0.0 in
+    rw (same.1, same.2) (subst (λ (p : Plan). EndsBy p input fault (c.list_log.new.out ≡ c.args.out.now)) (sym c.in-List.is) (c.in_err-list_log-in-List.ensures.fault input))

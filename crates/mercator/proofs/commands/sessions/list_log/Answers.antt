@@ -1,0 +1,22 @@
+use Rattle.std.proofs.Common.{inl, refl}
+use Rattle.std.proofs.lemmas.Result.{err_from_is_err_and}
+use Rattle.mercator.proofs.Serves.{list_done, list_ends, list_fails, plain_list}
+use Rattle.mercator.proofs.commands.sessions.list_log.Goals as goal
+
+pub returns-in_err-text-clause-fault : goal.returns-in_err-text-clause-fault
+returns-in_err-text-clause-fault g c = λ input.
+    let r = c.from_residual in
+    let same = err_from_is_err_and r.result r.ensures.1 in
+    rw (same.1, same.2) (inl (list_fails c.in_err-text.field-0.0 c.in_err-text.ensures.fault, refl))
+
+pub returns-in_err-text-clause-plain : goal.returns-in_err-text-clause-plain
+returns-in_err-text-clause-plain g c =
+    let r = c.from_residual in
+    let same = err_from_is_err_and r.result r.ensures.1 in
+    rw (same.1, same.2) (plain_list c.in_err-text.field-0.0 c.in_err-text.ensures.fault)
+
+pub returns-clause-done : goal.returns-clause-done
+returns-clause-done g c = λ input. list_done c.args.plan.now c.in_ok-text.text.items input _ _ c.end.result c.in_ok-text.ensures.listed c.end.ensures
+
+pub returns-clause-fault : goal.returns-clause-fault
+returns-clause-fault g c = λ input. list_ends c.args.plan.now c.in_ok-text.text.items input _ _ c.end.result _ c.in_ok-text.ensures.listed c.end.ensures
