@@ -1,13 +1,13 @@
 -- Results that ascend, those below a top together.
-use Rattle.std.proofs.Common.{◌≡◌, ℕ, suc, List, [], ◌∷◌, refl, true, false, arith}
+use Rattle.std.proofs.Common.{◌≡◌, ℕ, suc, List, [], ◌∷◌, ◌++◌, refl, true, false, arith}
 use Rattle.std.proofs.lemmas.Bool.Decides.{nat_tests}
-use Rattle.std.proofs.lemmas.List.Elements.{recursion_from_All}
+use Rattle.std.proofs.lemmas.List.Elements.{All-append, All-cons, All-nil, recursion_from_All}
 use Rattle.std.specs.List.{AllByRecursion}
 use Rattle.std.specs.Ordering.{nat_cmp}
 use Rattle.std.specs.declared.cmp.Ordering.TheVariants.{Less}
 use Rattle.std.specs.Cmp.Lexicographic.{slice_cmp}
 use Rattle.crawl_certificate.specs.Certificate.{IsAscending, result_urls}
-use Rattle.mercator_site.specs.Own.{from_own, own_of, while_own}
+use Rattle.mercator_site.specs.Own.{AreOwn, from_own, own_of, while_own}
 use Rattle.site_files.specs.Below.{begins}
 use Rattle.crawl_pages.specs.declared.page.PageResult.{PageResult}
 
@@ -56,3 +56,9 @@ stands p (r ∷ rs) rises =
 -- if results ascend, those below a top are those from the first to the first that is none
 pub own_stand_together : (p : List ℕ) (rs : List PageResult) → IsAscending (result_urls rs) → while_own p (from_own p rs) ≡ own_of p rs
 own_stand_together p rs pairs = stands p rs (rises_of (result_urls rs) pairs)
+
+-- a URL below a top may be added to such URLs
+pub own_with : (top : List ℕ) (urls : List (List ℕ)) (url : List ℕ) → AreOwn top urls → begins top url ≡ true → AreOwn top (urls ++ url ∷ [])
+own_with top urls url own is =
+    let IsOwn : List ℕ → Type 0 = λ u. begins top u ≡ true in
+    All-append IsOwn urls (url ∷ []) own (All-cons IsOwn url [] is (All-nil IsOwn))

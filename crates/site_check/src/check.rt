@@ -225,10 +225,9 @@ fn unreached_files(
     input: CheckInput<'_>,
     site: Site<'_, '_>,
 ) -> Result<Vec<String>, NoMemory> {
-    if input.unreached {
-        unreached(alloc, input.front, site.pages.results, site.files)
-    } else {
-        Ok(Vec::new(alloc))
+    match input.reached {
+        Some(results) => unreached(alloc, input.front, results, site.files),
+        None => Ok(Vec::new(alloc)),
     }
 }
 

@@ -109,6 +109,7 @@ fn settings(none: &[String]) -> CheckSettings<'_> {
         front: "",
         ignores: none,
         seeds: none,
+        reachable: false,
         report: ReportOptions::default(),
         folder: "",
     }
