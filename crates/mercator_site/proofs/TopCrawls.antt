@@ -1,7 +1,8 @@
 -- A crawl of a source that has the pages of a saved web.
+use Rattle.std.proofs.lemmas.Grind.{common_steps}
 use Rattle.std.specs.Prelude.{◌≡◌, ℕ, Bool, true, List, [], ◌∷◌, ◌++◌, map, Result, Ok, Err}
 use Rattle.std.specs.Str.Lines.{lines}
-use Rattle.std.proofs.Common.{get_or, true≢false, sym, ap, subst, ◌∙◌}
+use Rattle.std.proofs.Common.{get_or, sym, ap, subst, ◌∙◌, arith}
 use Rattle.crawl_certificate.specs.Certificate.{IsCrawl}
 use Rattle.crawl_keys.specs.CanonicalText.{canonical, resolve}
 use Rattle.crawl_keys.specs.HostFilter.{allows}
@@ -48,12 +49,7 @@ crawl_of_same meaning other allowed seeds pages same crawl =
 -- the starts of a check of a source are those of its saved web
 pub starts_in : (meaning : List ℕ → Page) (web : List ℕ) (url : List ℕ) (reachable : Bool) (links urls documents : List (List ℕ)) → IsSourceOf meaning web
     → map (resolve url) (starts (is_left_out reachable (meaning url)) links) ≡ map Ok urls → AreOwn url urls → AreOwn url documents → (reachable ≡ true → documents ≡ []) → AreStarts url web reachable links urls documents
-starts_in meaning web url reachable links urls documents source resolved own own_documents only = record {
-  resolved = subst (λ page. map (resolve url) (starts (is_left_out reachable page) links) ≡ map Ok urls) (source.same url) resolved;
-  own = own;
-  own_documents = own_documents;
-  only = only;
-}
+starts_in meaning web url reachable links urls documents source resolved own own_documents only = grind (arith, common_steps)
 
 -- what is crawled from the starts
 pub top_crawl : (meaning : List ℕ → Page) (top web : List ℕ) (reachable : Bool) (links : List (List ℕ)) (url : List ℕ) (urls documents : List (List ℕ)) (pages : List PageResult) → IsSourceOf meaning web
@@ -70,8 +66,7 @@ top_crawl meaning top web reachable links url urls documents pages source canon 
 
 -- an unfinished check has an incomplete crawl
 unfinished_by : (error : CrawlError) (failure : CrawlFailure) → is_unfinished (of_crawl_by error failure) ≡ true → is_incomplete failure.error ≡ true
-unfinished_by crawl.NoMemory failure is = absurd (true≢false (sym is))
-unfinished_by error failure is = is
+unfinished_by error failure is = grind (arith, common_steps)
 
 pub unfinished_of : (workers max : ℕ) (failure : CrawlFailure) → CrawlFails workers max failure.error → is_unfinished (of_crawl failure) ≡ true → IsUnfinished workers
 unfinished_of workers max failure fails two = record { max = max; error = failure.error; incomplete = unfinished_by failure.error failure two; fails = fails }

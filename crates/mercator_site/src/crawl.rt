@@ -16,6 +16,7 @@ use std::sync::Wait;
 use std::thread::Threads;
 
 /// Crawls a source from URLs, within the host of the site's top.
+#[tactic(auto, using(crate::proofs::TopCrawls::unfinished_of))]
 pub(crate) fn crawl_source<F: SessionFetch + Sync, R: Threads + Wait + Sync>(
     rt: &R,
     alloc: Global,

@@ -1,4 +1,4 @@
-use Rattle.std.proofs.Common.{◌≡◌, true, Ok, ◌∷◌, ◌++◌, ◌∙◌, ℕ, List, [], ap, refl, subst, map, string_bytes}
+use Rattle.std.proofs.Common.{◌≡◌, true, ◌∷◌, ◌∙◌, ℕ, List, [], refl, subst, map, string_bytes}
 use Rattle.std.proofs.lemmas.List.Elements.{All-nil}
 use Rattle.std.proofs.lemmas.Result.{err_from_is_err_and}
 use Rattle.crawl_certificate.specs.Certificate.{IsCrawl}

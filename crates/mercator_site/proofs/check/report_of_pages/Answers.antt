@@ -13,7 +13,6 @@ use Rattle.mercator_site.specs.Checks.{AreOthersListed, IsTopCrawl}
 use Rattle.mercator_site.specs.External.{row_of}
 use Rattle.mercator_site.specs.Own.{own_of}
 use Rattle.mercator_site.proofs.TopCrawls.{same_url}
-use Rattle.mercator_site.specs.Faults.{IsTopIncomplete}
 use Rattle.mercator_site.proofs.check.report_of_pages.Goals as goal
 
 pub returns-clause-named : goal.returns-clause-named
