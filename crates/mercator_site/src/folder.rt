@@ -141,10 +141,10 @@ pub fn report_of_folder<R: Files<File: Send, Dir: Send> + Threads + Wait + Sync>
         seeds: options.seeds.as_slice(),
     };
     let files = SiteFiles::new(alloc, input)?;
-    check_starts(alloc, &files, input.seeds, options.reachable)?;
-    let bytes = OnDisk { rt, alloc, folder };
-    let site = site_pages(rt, &files, input.seeds, Vec::new(alloc), &bytes)?;
     let settings = settings_of(options, files.top(), known.as_slice());
+    check_starts(alloc, &files, settings.seeds, settings.reachable)?;
+    let bytes = OnDisk { rt, alloc, folder };
+    let site = site_pages(rt, &files, settings.seeds, Vec::new(alloc), &bytes)?;
     push_page_notes(alloc, notes, settings.front, site.notes.as_slice())?;
     let report = report_of_pages(rt, alloc, site, &files, &bytes, settings)?;
     Ok(report)
