@@ -35,7 +35,7 @@ import drawn
 from checking import drawing, forms, loading, samples
 from checking.documents import TOOL
 from checking.known import KNOWN, Known, To, Zeros
-from checking.model import FLAGS, INDEX_FILES, Model, Moved, Row, Settings, is_short
+from checking.model import FLAGS, INDEX_FILES, Model, Moved, Row, Settings, Site, is_short
 from checking.tags import document_tags
 from checking.webs import Converter, first_difference, model_fault
 
@@ -44,7 +44,7 @@ SECONDS = 60  # the time limit of a run
 SHOWN, LONGEST = 5, 4000  # the number of differences that a series prints, and the most letters of one
 EVERY = 8  # one of this number of random folders has its other forms compared
 # What 1,000 random folders must have at least LEAST times
-KINDS = "brokenpage brokenanchor placepage placeanchor worst redirect unreached external unused with_aliases".split()
+KINDS = "brokenpage brokenanchor placepage placeanchor worst redirect unreached external unused with_aliases error".split()
 LEAST = 5
 
 
@@ -82,9 +82,11 @@ def run(program: str, words: List[str]) -> "subprocess.CompletedProcess[bytes]":
 
 
 def printed_rows(program: str, settings: Settings, folder: str) -> List[Row]:
-    """The rows that the program prints. Its exit status must be 4 if there are broken links, and 0 if not."""
+    """The rows that the program prints, or its error. Its exit status must be 4 if there are broken links, and 0 if not."""
     with tempfile.TemporaryDirectory() as scratch:
         done = run(program, arguments(settings, folder, scratch))
+    if done.returncode == 1 and not done.stdout:
+        return [{"kind": "error", "message": done.stderr.decode(errors="replace").splitlines()[-1]}]
     rows = [json.loads(line) for line in done.stdout.splitlines()]
     status = 4 if any(row["kind"] == "broken" for row in rows) else 0
     if done.returncode != status or not rows:
@@ -173,7 +175,7 @@ def known_faults(program: Optional[str], number: int) -> Faults:
     known = KNOWN[number]
     with tempfile.TemporaryDirectory() as scratch:
         folder = write_known(known, Path(scratch, "site"))
-        settings = Settings(BASE, follow=known.follow)._replace(**dict(known.rules))
+        settings = Settings(BASE)._replace(**dict(known.settings))
         faults = [(f"{known.name}, model", known_fault(known, Model(folder, settings._replace(front=BASE)).rows()))]
         if program:
             faults.append((known.name, difference(printed_rows(program, settings, folder), Model(folder, settings).rows())))
@@ -231,7 +233,12 @@ def draw_number(seed: int, number: int, above: str) -> Drawn:
     folder = Path(above, "site")
     folder.mkdir()
     drawing.draw_folder(draw, drawing.Documents(draw.choice([0.1, 0.3, 0.6])), folder)
-    return Drawn(str(folder), random_settings(draw), drawing.random_options(draw))
+    settings = random_settings(draw)
+    if draw.random() < 0.8:
+        site = Site(str(folder), settings)
+        found = [seed for seed in settings.seeds if site.response(str(drawn.url_of(seed, site.base)))]
+        settings = settings._replace(seeds=tuple(found))
+    return Drawn(str(folder), settings, drawing.random_options(draw))
 
 
 class Outcome(NamedTuple):
@@ -279,10 +286,10 @@ def compare_number(program: str, seed: int, number: int) -> Outcome:
         except drawn.NotPlain:
             return Outcome(number, faults, Counter(), True)
         faults.append((f"check {settings}", difference(printed_rows(program, settings, folder), rows)))
-        if number % EVERY == 0:
+        if number % EVERY == 0 and rows[0]["kind"] == "total":
             faults.append((f"forms {settings}", form_fault(program, settings, folder, rows)))
         kinds = Counter(map(kind_of, rows))
-        kinds["with_aliases"] += rows[0]["aliases"] > 0
+        kinds["with_aliases"] += rows[0].get("aliases", 0) > 0
         return Outcome(number, faults, kinds, False)
 
 

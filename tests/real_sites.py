@@ -143,12 +143,12 @@ def report_of(model: Model) -> List[str]:
     return [*report, total, *sources]
 
 
-def crawl_differences(program: str, site: Site, model: Model) -> List[str]:
-    """How the crawls of a site's saved web differ from the model's search."""
+def crawl_differences(program: str, site: Site) -> List[str]:
+    """How the crawls of a site's saved web from its starts differ from the model's search from these."""
     web = run([program, "site", *site_options(settings_of(site)), site.folder, site.base])
     if web.returncode:
         return [f"site: exit status {web.returncode}, {web.stderr.decode(errors='replace')}"]
-    expected, found = report_of(model), []
+    expected, found = report_of(Model(site.folder, settings_of(site)._replace(reachable=True))), []
     for workers in ("1", "4"):
         words = [program, "crawl", "--sources", "--workers", workers, "-", *(site.base + start for start in site.starts or ("",))]
         actual = run(words, web.stdout).stdout.decode().splitlines()
@@ -186,10 +186,9 @@ def sampled(site: Site, findings: List[Finding], options: Options) -> List[str]:
 
 def compare(options: Options, site: Site) -> Outcome:
     """Compares a site."""
-    model = Model(site.folder, settings_of(site))
-    rows, expected = rows_of(options.program, site), model.rows()
+    rows, expected = rows_of(options.program, site), Model(site.folder, settings_of(site)).rows()
     findings = findings_of(rows, site.base)
-    faults = differences(rows, expected) + planted_fault(site, findings) + crawl_differences(options.program, site, model)
+    faults = differences(rows, expected) + planted_fault(site, findings) + crawl_differences(options.program, site)
     total: Dict[str, int] = rows[0]
     counts = ", ".join(f"{total.get(name)} {name}" for name in ("pages", "links", "missing_pages", "missing_anchors"))
     text = [f"{site.name}: {counts}, {len(findings)} findings, {len(faults)} differences"]

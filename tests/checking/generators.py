@@ -121,11 +121,11 @@ HUGO = {
     "static/style.css": "p { color: black }\n",
 }
 HUGO_STYLES = [
-    style("folders", "about/#missing about/#nowhere about/gone.gif gone/"),
-    style("files", "about.html#missing about.html#nowhere gone.gif gone/ first", uglyURLs="true"),
-    style("relative", "about/#missing about/#nowhere about/gone.gif gone/", relativeURLs="true"),
+    style("folders", "about/#missing about/#nowhere about/gone.gif gone/ nothing/"),
+    style("files", "about.html#missing about.html#nowhere gone.gif gone/ first nothing/", uglyURLs="true"),
+    style("relative", "about/#missing about/#nowhere about/gone.gif gone/ nothing/", relativeURLs="true"),
     style("path", "about/#missing about/#nowhere about/gone.gif gone/", "blog/"),
-    style("canonical", "about/#missing about/#nowhere about/gone.gif gone/", "blog/", canonifyURLs="true"),
+    style("canonical", "about/#missing about/#nowhere about/gone.gif gone/ nothing/", "blog/", canonifyURLs="true"),
 ]
 
 

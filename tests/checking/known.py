@@ -25,8 +25,7 @@ class Known(NamedTuple):
     # The broken links: TARGET FILE:LINE:COLUMN, or only TARGET if no link leads to it; an anchor has a `#`
     broken: List[str]
     rows: Tuple[Dict[str, Any], ...] = ()  # some members of some rows
-    follow: bool = False  # whether symbolic links out of the folder are followed
-    rules: Tuple[Tuple[str, Any], ...] = ()  # settings of the host's rules
+    settings: Tuple[Tuple[str, Any], ...] = ()  # some settings of the check
 
 
 def total(pages: int, links: int, redirects: int, aliases: int) -> Tuple[Dict[str, Any]]:
@@ -34,8 +33,24 @@ def total(pages: int, links: int, redirects: int, aliases: int) -> Tuple[Dict[st
     return ({"kind": "total", "pages": pages, "links": links, "redirects": redirects, "aliases": aliases},)
 
 
+def unreached(*names: str) -> Tuple[Dict[str, Any], ...]:
+    """The rows of unreached files."""
+    return tuple({"kind": "unreached", "name": name} for name in names)
+
+
+def error(text: str) -> Tuple[Dict[str, Any]]:
+    """The error of a check that does not start."""
+    return ({"kind": "error", "message": f"mercator: {text}"},)
+
+
 INDICES = (("indices", ("home.html", "index.htm")),)
 FALLBACK = (("fallback", True),)
+FOLLOW = (("follow", True),)
+# A site with documents that the top does not lead to. Two of them lead to each other
+ORPHANS: Dict[str, Union[str, bytes, To, Zeros]] = {
+    "index.html": "<a href=a.html>", "a.html": "", "404.html": "<a href=gone>", "d/b.html": "<a href=c.html>",
+    "d/c.html": "<a href=b.html#y>", "d/x.htm": "<a href=../none><a href=../a.html>", "y.png": "",
+}
 
 
 def anchors(name: str, ids: str, links: str, broken: List[str]) -> Known:
@@ -80,7 +95,7 @@ KNOWN = [
     Known("a folder without an index file", {"index.html": "<a href=f>", "f/a.html": ""}, ["f/ index.html:1:9"]),
     Known("a folder with an index file", {"index.html": "<a href=f>", "f/index.html": "<a href=a>"}, ["f/a f/index.html:1:9"]),
     Known("a base", {"index.html": "<base href=f/><a href=a.html><a href=b.html>", "f/a.html": ""}, ["f/b.html index.html:1:38"]),
-    Known("no index", {"a.html": "<a href=x>"}, ["./"]),
+    Known("no index", {"a.html": "<a href=x>"}, ["x a.html:1:9"], total(pages=1, links=1, redirects=0, aliases=0)),
     Known("other schemes and hosts", {"index.html": "<a href=mailto:x><a href=//other.test/x><a href=ftp:x>"}, []),
     anchors("an id", "<p id=x>", "#x #y", ["a.html#y index.html:2:10"]),
     anchors("case matters", "<p id=x>", "#X", ["a.html#X index.html:1:10"]),
@@ -192,7 +207,7 @@ KNOWN = [
         "the index file is a symbolic link",
         {"index.html": To("en/index.html"), "en/index.html": "<a href=a.html>", "en/a.html": "<a href=..>"},
         ["a.html index.html:1:9"],
-        total(pages=1, links=1, redirects=0, aliases=0),
+        total(pages=3, links=3, redirects=0, aliases=0),
     ),
     Known(
         "symbolic links out of the folder that are followed",
@@ -203,7 +218,7 @@ KNOWN = [
         },
         ["gone.html out.html:1:9", "out/gone.html out/a.html:1:9"],
         total(pages=4, links=5, redirects=0, aliases=0),
-        follow=True,
+        settings=FOLLOW,
     ),
     Known(
         "a folder outside by several paths",
@@ -214,14 +229,14 @@ KNOWN = [
         },
         ["b/gone b/f.html:1:9"],
         total(pages=2, links=6, redirects=0, aliases=4),
-        follow=True,
+        settings=FOLLOW,
     ),
     Known(
         "a symbolic link to a file of the system that never ends",
         {"index.html": "<a href=x.html>", "x.html": To("/proc/kmsg")},
         [],
         total(pages=2, links=1, redirects=0, aliases=0),
-        follow=True,
+        settings=FOLLOW,
     ),
     Known(
         "a file of three gibibytes",
@@ -258,7 +273,7 @@ KNOWN = [
             "d/index.html": "<a href=gone>", "d/index.htm": "<a href=none>", "d/index.xhtml": "", "e/index.xhtml": "<p id=x>", "f/INDEX.HTML": "",
         },
         ["d/gone d/index.html:1:9", "d/index.htm#x index.htm:1:20", "d/none d/index.htm:1:9", "f/ index.htm:1:99", "index.html index.htm:1:110"],
-        total(pages=5, links=9, redirects=0, aliases=1),
+        total(pages=6, links=9, redirects=0, aliases=1),
     ),
     Known(
         "other names of index files",
@@ -267,8 +282,8 @@ KNOWN = [
             "d/index.htm": "<a href=none>", "e/index.htm": "<p id=x>", "f/index.html": "",
         },
         ["d/gone d/home.html:1:9", "d/index.htm#x home.html:1:40", "d/none d/index.htm:1:9", "f/ home.html:1:75"],
-        total(pages=4, links=7, redirects=0, aliases=1),
-        rules=INDICES,
+        total(pages=5, links=7, redirects=0, aliases=1),
+        settings=INDICES,
     ),
     Known(
         "a suffix that a link omits",
@@ -277,7 +292,37 @@ KNOWN = [
             "b/index.html": "", "b.html": "", "d/b.html": "<a href=.>", "c.htm": "",
         },
         ["a#y index.html:1:21", "a/ index.html:1:43", "c index.html:1:54", "d/ d/b.html:1:9"],
-        (*total(pages=4, links=8, redirects=1, aliases=3), {"kind": "redirect", "page": "b", "to": "b/", "pages": 1}),
-        rules=FALLBACK,
+        (*total(pages=6, links=8, redirects=1, aliases=3), {"kind": "redirect", "page": "b", "to": "b/", "pages": 1}),
+        settings=FALLBACK,
     ),
+    Known(
+        "every document",
+        ORPHANS,
+        ["d/b.html#y d/c.html:1:9", "gone 404.html:1:9", "none d/x.htm:1:9"],
+        (*total(pages=6, links=6, redirects=0, aliases=0), *unreached("404.html", "d/b.html", "d/c.html", "d/x.htm", "y.png")),
+        settings=(("unreached", True),),
+    ),
+    Known(
+        "only what can be reached",
+        ORPHANS,
+        [],
+        (*total(pages=2, links=1, redirects=0, aliases=0), *unreached("404.html", "d/b.html", "d/c.html", "d/x.htm", "y.png")),
+        settings=(("unreached", True), ("reachable", True)),
+    ),
+    Known(
+        "what can be reached from a seed",
+        ORPHANS,
+        ["d/b.html#y d/c.html:1:9"],
+        (*total(pages=2, links=2, redirects=0, aliases=0), *unreached("./", "404.html", "a.html", "d/x.htm", "y.png")),
+        settings=(("unreached", True), ("reachable", True), ("seeds", ("d/b.html",))),
+    ),
+    Known(
+        "every document, and unreached files from a seed",
+        ORPHANS,
+        ["d/b.html#y d/c.html:1:9", "gone 404.html:1:9", "none d/x.htm:1:9"],
+        (*total(pages=6, links=6, redirects=0, aliases=0), *unreached("./", "404.html", "a.html", "d/x.htm", "y.png")),
+        settings=(("unreached", True), ("seeds", ("d/b.html",))),
+    ),
+    Known("no index, and nothing to start at", {"a.html": ""}, [], error("./: no such page to start at"), settings=(("reachable", True),)),
+    Known("a seed without a page", {"index.html": ""}, [], error("x.html: no such page to start at"), settings=(("seeds", ("./", "x.html")),)),
 ]

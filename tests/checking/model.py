@@ -1,4 +1,4 @@
-"""The broken links of a folder, by a model of a plain static server and a search from the top.
+"""The broken links of a folder, by a model of a plain static server and a search from the top and from all documents.
 
 drawn.py parses the URLs. It raises NotPlain if a URL needs tables that it does not have.
 """
@@ -76,6 +76,7 @@ class Settings(NamedTuple):
     follow: bool = False
     queries: bool = False
     seeds: Tuple[str, ...] = ()  # links on the top at which the search starts
+    reachable: bool = False  # whether only what the search reaches is checked
     workers: int = 1  # which makes no difference
     indices: Tuple[str, ...] = INDEX_FILES  # the names of index files; in each folder the first one counts
     fallback: bool = False  # a file is also found without its suffix .html
@@ -100,6 +101,7 @@ FLAGS = (
     Flag("external", "--external", 0.5),
     Flag("follow", "--follow", 0.3),
     Flag("queries", "--queries", 0.15),
+    Flag("reachable", "--reachable", 0.3),
 )
 
 
@@ -243,6 +245,11 @@ class Site:
         """The pages in order: each file, and each folder with an index file."""
         return sorted((self.url(key), name) for key, name in self.files.items())
 
+    def own_documents(self) -> List[str]:
+        """The own URLs of the files that are HTML documents by their names."""
+        suffixes = {name: os.path.splitext(os.path.basename(next(self.keys(name)).path))[1].lower() for name in self.own}
+        return [self.own[name] for name, suffix in suffixes.items() if suffix in (b".html", b".htm")]
+
     def response(self, url: str) -> Response:
         """What a server returns for a URL."""
         request = drawn.url_of(url)
@@ -311,14 +318,37 @@ class Site:
 
 
 class Model:
-    """A search from the top of a folder, and the broken links that it finds."""
+    """A search from the top of a folder and from its documents, and the broken links that it finds."""
 
     def __init__(self, folder: str, settings: Settings) -> None:
         self.settings, self.site = settings, Site(folder, settings)
         self.responses: Dict[str, Response] = {}
         self.links: Dict[str, List[Link]] = {}  # by the own URL of each file
         self.skipped: Counter[str] = Counter()  # by the own URL of each file, the links that are not http or https
-        waiting = [str(drawn.url_of(seed, self.site.base)) for seed in settings.seeds] or [str(self.site.base)]
+        starts = [str(drawn.url_of(seed, self.site.base)) for seed in settings.seeds or [""]]
+        documents = [] if settings.reachable else self.site.own_documents()
+        self.fault = self.start_fault(starts, documents)
+        if settings.seeds or settings.reachable or self.site.response(starts[0]):
+            self.search(starts)
+        self.reached = self.files_found()
+        self.search(documents)
+
+    def start_fault(self, starts: List[str], documents: List[str]) -> Optional[str]:
+        """Why the program does not check the folder, if it does not."""
+        missing = [link for link, url in zip(self.settings.seeds or ["./"], starts) if self.site.response(url) is None]
+        if not missing or not (self.settings.seeds or self.settings.reachable or not documents):
+            return None
+        if self.settings.seeds or self.settings.reachable:
+            return f"{missing[0]}: no such page to start at"
+        return f"{os.fsdecode(self.site.folder)}: no HTML documents"
+
+    def files_found(self) -> Set[bytes]:
+        """The files of the pages that were found."""
+        return {response.name for response in self.responses.values() if isinstance(response, (Found, Alias))}
+
+    def search(self, starts: List[str]) -> None:
+        """Follows the links from these URLs."""
+        waiting = list(starts)
         while waiting:
             url = waiting.pop()
             if url not in self.responses and self.is_within(url):
@@ -366,7 +396,9 @@ class Model:
                 yield Link(target, fragment, Place(name, *document.lines.place(link.at)))
 
     def rows(self) -> List[Row]:
-        """The rows that the program prints as JSON."""
+        """The rows that the program prints as JSON, or its error."""
+        if self.fault is not None:
+            return [{"kind": "error", "message": f"mercator: {self.fault}"}]
         linking = self.linking()
         broken = [*self.missing_pages(linking), *(self.missing_anchors() if self.settings.anchors else ())]
         places = [row for row in broken if row["kind"] == "place"]
@@ -471,7 +503,7 @@ class Model:
 
     def unreached(self) -> Iterator[str]:
         """The unreached files, each by the first of its pages."""
-        reached = {response.name for response in self.responses.values() if isinstance(response, (Found, Alias))}
+        reached = set(self.reached)
         for url, name in self.site.pages():
             if name not in reached:
                 reached.add(name)

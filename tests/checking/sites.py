@@ -6,7 +6,7 @@ from typing import FrozenSet, NamedTuple, Optional, Tuple
 
 
 class Site(NamedTuple):
-    """A folder, the URL of its top, and the links from this URL at which the check starts, or none for the top."""
+    """A folder, the URL of its top, and links from this URL from which the site is reached, or none for the top."""
 
     name: str
     folder: str

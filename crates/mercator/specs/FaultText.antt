@@ -1,5 +1,5 @@
 -- The texts of errors, and their lines.
-use Rattle.std.specs.Prelude.{ℕ, ◌+◌, List, [], ◌∷◌, ◌++◌, codes, Option, Some, None}
+use Rattle.std.specs.Prelude.{ℕ, ◌+◌, List, [], ◌∷◌, ◌++◌, codes, Option, Some, None, string_bytes}
 use Rattle.std.specs.Fmt.{decimal}
 use Rattle.crawl_certificate.specs.declared.error.CertError.{CertError}
 use Rattle.crawl_certificate.specs.declared.error.CertError.TheVariants as cert
@@ -94,6 +94,8 @@ site_text file unsited.BadBase = codes "BASE: must be an http or https URL witho
 site_text file unsited.BadHost = codes "BASE: the host may contain only letters, digits, - and ."
 site_text file unsited.NoFiles = file ++ codes ": no files"
 site_text file unsited.BadSeed = codes "--seed: not a URL below BASE"
+site_text file (unsited.NoStart link) = string_bytes link ++ codes ": no such page to start at"
+site_text file unsited.NoDocuments = file ++ codes ": no HTML documents"
 site_text file unsited.TooLarge = file ++ codes ": more than 1073741824 bytes of links"
 site_text file (unsited.Crawl failure) = crawl_text failure.error
 site_text file unsited.NoMemory = codes "out of memory"

@@ -1,13 +1,14 @@
 -- Results that ascend, those below a top together.
-use Rattle.std.proofs.Common.{◌≡◌, ℕ, suc, List, [], ◌∷◌, refl, true, false, arith}
+use Rattle.std.proofs.lemmas.Grind.{common_steps}
+use Rattle.std.proofs.Common.{◌≡◌, ℕ, suc, List, [], ◌∷◌, ◌++◌, refl, true, false, arith}
 use Rattle.std.proofs.lemmas.Bool.Decides.{nat_tests}
-use Rattle.std.proofs.lemmas.List.Elements.{recursion_from_All}
+use Rattle.std.proofs.lemmas.List.Elements.{All-append, All-cons, All-nil, recursion_from_All}
 use Rattle.std.specs.List.{AllByRecursion}
 use Rattle.std.specs.Ordering.{nat_cmp}
 use Rattle.std.specs.declared.cmp.Ordering.TheVariants.{Less}
 use Rattle.std.specs.Cmp.Lexicographic.{slice_cmp}
 use Rattle.crawl_certificate.specs.Certificate.{IsAscending, result_urls}
-use Rattle.mercator_site.specs.Own.{from_own, own_of, while_own}
+use Rattle.mercator_site.specs.Own.{AreOwn, from_own, own_of, while_own}
 use Rattle.site_files.specs.Below.{begins}
 use Rattle.crawl_pages.specs.declared.page.PageResult.{PageResult}
 
@@ -41,18 +42,19 @@ rises_of (url ∷ urls) pairs = (
 together : (p o : List ℕ) (rs : List PageResult) → begins p o ≡ true → AllByRecursion (λ url. slice_cmp nat_cmp o url ≡ Less) (result_urls rs) → Rises (result_urls rs) → while_own p rs ≡ own_of p rs
 unfolding Rises
 together p o [] own all rises = refl
-together p o (r ∷ rs) own all rises =
-    let more : begins p r.url ≡ true → while_own p rs ≡ own_of p rs = λ is. together p r.url rs is rises.0 rises.1 in
-    let none : begins p r.url ≡ false → own_of p rs ≡ [] = λ is. none_behind p o r.url rs own is all.0 rises.0 in
-    grind (arith, more, none)
+together p o (r ∷ rs) own all rises = grind (arith, common_steps, none_behind, together p r.url rs)
 
 stands : (p : List ℕ) (rs : List PageResult) → Rises (result_urls rs) → while_own p (from_own p rs) ≡ own_of p rs
 unfolding Rises
 stands p [] rises = refl
-stands p (r ∷ rs) rises =
-    let more : begins p r.url ≡ true → while_own p rs ≡ own_of p rs = λ is. together p r.url rs is rises.0 rises.1 in
-    grind (arith, more, stands p rs rises.1)
+stands p (r ∷ rs) rises = grind (arith, common_steps, together, stands p rs rises.1)
 
 -- if results ascend, those below a top are those from the first to the first that is none
 pub own_stand_together : (p : List ℕ) (rs : List PageResult) → IsAscending (result_urls rs) → while_own p (from_own p rs) ≡ own_of p rs
 own_stand_together p rs pairs = stands p rs (rises_of (result_urls rs) pairs)
+
+-- a URL below a top may be added to such URLs
+pub own_with : (top : List ℕ) (urls : List (List ℕ)) (url : List ℕ) → AreOwn top urls → begins top url ≡ true → AreOwn top (urls ++ url ∷ [])
+own_with top urls url own is =
+    let IsOwn : List ℕ → Type 0 = λ u. begins top u ≡ true in
+    All-append IsOwn urls (url ∷ []) own (All-cons IsOwn url [] is (All-nil IsOwn))

@@ -1,5 +1,6 @@
 -- The rows of URLs in order.
-use Rattle.std.proofs.Common.{◌≡◌, ℕ, List, map, Result, Ok, Err, IfOk, Vec, Global}
+use Rattle.std.proofs.lemmas.Grind.{common_steps}
+use Rattle.std.proofs.Common.{◌≡◌, ℕ, List, map, Result, IfOk, Vec, Global, arith}
 use Rattle.std.specs.Cmp.Lexicographic.{slice_cmp}
 use Rattle.std.specs.List.Sorted.{IsPermutation, IsSortedByKey}
 use Rattle.std.specs.Ordering.{nat_cmp}
@@ -9,5 +10,4 @@ use Rattle.mercator_site.specs.External.{AreExternal, outside_links, row_of, run
 
 -- the rows of URLs that are those of the links, in order
 pub rows_of_links : {E : Type 0} (answer : Result (Vec External Global) E) (top : List ℕ) (pages : List PageResult) (urls : List (List ℕ)) → IsPermutation (outside_links top pages) urls → IsSortedByKey (λ url. url) (slice_cmp nat_cmp) urls → IfOk answer (λ all. map row_of all.items ≡ runs urls) → IfOk answer (λ all. AreExternal top pages (map row_of all.items))
-rows_of_links (Ok all) top pages urls same ascends counted = record { urls = urls; same = same; ascends = ascends; counted = counted }
-rows_of_links (Err e) top pages urls same ascends counted = tt
+rows_of_links answer top pages urls same ascends counted = grind (arith, common_steps)

@@ -1,7 +1,8 @@
 -- A crawl of a source that has the pages of a saved web.
-use Rattle.std.specs.Prelude.{◌≡◌, ℕ, Bool, true, List, [], ◌∷◌, map, Result, Ok, Err}
+use Rattle.std.proofs.lemmas.Grind.{common_steps}
+use Rattle.std.specs.Prelude.{◌≡◌, ℕ, Bool, true, List, [], ◌∷◌, ◌++◌, map, Result, Ok, Err}
 use Rattle.std.specs.Str.Lines.{lines}
-use Rattle.std.proofs.Common.{get_or, true≢false, sym, ap, subst, ◌∙◌}
+use Rattle.std.proofs.Common.{get_or, sym, ap, subst, ◌∙◌, arith}
 use Rattle.crawl_certificate.specs.Certificate.{IsCrawl}
 use Rattle.crawl_keys.specs.CanonicalText.{canonical, resolve}
 use Rattle.crawl_keys.specs.HostFilter.{allows}
@@ -14,8 +15,8 @@ use Rattle.crawl_run.specs.Crawls.{CrawlFails, is_incomplete}
 use Rattle.crawl_run.specs.declared.failure.CrawlFailure.{CrawlFailure}
 use Rattle.crawl_run.specs.declared.error.CrawlError.{CrawlError}
 use Rattle.crawl_run.specs.declared.error.CrawlError.TheVariants as crawl
-use Rattle.mercator_site.specs.Checks.{AreAliasesIn, IsTopCrawl, starts}
-use Rattle.mercator_site.specs.Faults.{IsTopIncomplete, is_unfinished, of_crawl, of_crawl_by}
+use Rattle.mercator_site.specs.Checks.{AreAliasesIn, AreStarts, IsTopCrawl, is_left_out, starts}
+use Rattle.mercator_site.specs.Faults.{IsUnfinished, is_unfinished, of_crawl, of_crawl_by}
 use Rattle.mercator_site.specs.Own.{AreOwn}
 use Rattle.mercator_site.specs.Sources.{IsSourceOf}
 use Rattle.saved_site.specs.Aliases.{AreAliases}
@@ -45,36 +46,27 @@ crawl_of_same meaning other allowed seeds pages same crawl =
     let both : meaning ≡ other = λ i url. same url i in
     subst (λ m. IsCrawl m allowed seeds pages) both crawl
 
--- what is crawled from the links of the top
-pub top_crawl : (meaning : List ℕ → Page) (top web : List ℕ) (links : List (List ℕ)) (url : List ℕ) (urls : List (List ℕ)) (pages : List PageResult) → IsSourceOf meaning web
-    → canonical top ≡ Ok url → map (resolve url) (starts links) ≡ map Ok urls → AreOwn url urls → IsCrawl meaning (allows (host_key url ∷ [])) urls pages → IsTopCrawl top web links pages
-top_crawl meaning top web links url urls pages source canon resolved own found = record {
+-- the starts of a check of a source are those of its saved web
+pub starts_in : (meaning : List ℕ → Page) (web : List ℕ) (url : List ℕ) (reachable : Bool) (links urls documents : List (List ℕ)) → IsSourceOf meaning web
+    → map (resolve url) (starts (is_left_out reachable (meaning url)) links) ≡ map Ok urls → AreOwn url urls → AreOwn url documents → (reachable ≡ true → documents ≡ []) → AreStarts url web reachable links urls documents
+starts_in meaning web url reachable links urls documents source resolved own own_documents only = grind (arith, common_steps)
+
+-- what is crawled from the starts
+pub top_crawl : (meaning : List ℕ → Page) (top web : List ℕ) (reachable : Bool) (links : List (List ℕ)) (url : List ℕ) (urls documents : List (List ℕ)) (pages : List PageResult) → IsSourceOf meaning web
+    → canonical top ≡ Ok url → AreStarts url web reachable links urls documents → IsCrawl meaning (allows (host_key url ∷ [])) (urls ++ documents) pages → IsTopCrawl top web reachable links pages
+top_crawl meaning top web reachable links url urls documents pages source canon started found = record {
   url = url;
   canon = canon;
   begun = urls;
-  resolved = resolved;
-  own = own;
+  documents = documents;
+  started = started;
   sound = source.sound;
-  found = crawl_of_same meaning (page_of (lines web)) (allows (host_key url ∷ [])) urls pages source.same found;
+  found = crawl_of_same meaning (page_of (lines web)) (allows (host_key url ∷ [])) (urls ++ documents) pages source.same found;
 }
 
 -- an unfinished check has an incomplete crawl
 unfinished_by : (error : CrawlError) (failure : CrawlFailure) → is_unfinished (of_crawl_by error failure) ≡ true → is_incomplete failure.error ≡ true
-unfinished_by crawl.NoMemory failure is = absurd (true≢false (sym is))
-unfinished_by error failure is = is
+unfinished_by error failure is = grind (arith, common_steps)
 
--- why nothing is
-pub top_incomplete : (meaning : List ℕ → Page) (top web : List ℕ) (links : List (List ℕ)) (url : List ℕ) (urls : List (List ℕ)) (workers max : ℕ) (failure : CrawlFailure) → IsSourceOf meaning web
-    → canonical top ≡ Ok url → map (resolve url) (starts links) ≡ map Ok urls → AreOwn url urls → CrawlFails workers max failure.error → is_unfinished (of_crawl failure) ≡ true → IsTopIncomplete top web links workers
-top_incomplete meaning top web links url urls workers max failure source canon resolved own fails two = record {
-  url = url;
-  canon = canon;
-  begun = urls;
-  resolved = resolved;
-  own = own;
-  sound = source.sound;
-  max = max;
-  error = failure.error;
-  incomplete = unfinished_by failure.error failure two;
-  fails = fails;
-}
+pub unfinished_of : (workers max : ℕ) (failure : CrawlFailure) → CrawlFails workers max failure.error → is_unfinished (of_crawl failure) ≡ true → IsUnfinished workers
+unfinished_of workers max failure fails two = record { max = max; error = failure.error; incomplete = unfinished_by failure.error failure two; fails = fails }

@@ -1,5 +1,5 @@
 -- The settings of a check.
-use Rattle.std.specs.Prelude.{ℕ, List, map, string_bytes}
+use Rattle.std.specs.Prelude.{ℕ, Bool, List, map, string_bytes}
 use Rattle.mercator_site.specs.declared.options.CheckOptions.{CheckOptions}
 use Rattle.mercator_site.specs.declared.options.ReportOptions.{ReportOptions}
 use Rattle.mercator_site.specs.declared.check.CheckSettings.{CheckSettings}
@@ -8,8 +8,10 @@ pub record Asks : Type 0 where
   pub report : ReportOptions
   -- the folder that annotations put before the names of files
   pub folder : List ℕ
-  -- the links on the top at which the crawl starts; if there are none, it starts at the top
+  -- the links on the top at which the search starts; if there are none, it starts at the top
   pub seeds : List (List ℕ)
+  -- whether only what the search reaches is checked
+  pub reachable : Bool
   -- the prefix that is removed from each URL
   pub front : List ℕ
   -- the entries of the ignore list
@@ -21,6 +23,7 @@ asks_in s = record {
   report = s.report;
   folder = s.folder.now;
   seeds = map string_bytes s.seeds.now;
+  reachable = s.reachable;
   front = s.front.now;
   entries = map string_bytes s.ignores.now;
 }
@@ -31,6 +34,7 @@ asks_of options front entries = record {
   report = options.report;
   folder = string_bytes options.site.folder;
   seeds = map string_bytes options.seeds.items;
+  reachable = options.reachable;
   front = front;
   entries = entries;
 }

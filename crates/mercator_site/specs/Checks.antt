@@ -1,5 +1,5 @@
 -- The report of a check of a folder's links.
-use Rattle.std.specs.Prelude.{◌≡◌, ◌==◌, ℕ, Bool, true, false, not, List, [], ◌∷◌, length, map, string_bytes, Ok, Option, Some, None, ⊤}
+use Rattle.std.specs.Prelude.{◌≡◌, ◌==◌, ℕ, Bool, true, false, not, ◌&&◌, List, [], ◌∷◌, ◌++◌, length, map, string_bytes, Ok, Option, Some, None, ⊤}
 use Rattle.std.specs.List.{All}
 use Rattle.std.specs.Option.{option_map}
 use Rattle.std.specs.Str.Lines.{lines}
@@ -12,6 +12,8 @@ use Rattle.crawl_keys.specs.HostKey.{host_key}
 use Rattle.crawl_certificate.specs.Certificate.{IsCrawl}
 use Rattle.saved_pages.specs.SavedWeb.{page_of}
 use Rattle.saved_pages.specs.WebFaults.{IsSound}
+use Rattle.crawl_pages.specs.Pages.{is_missing}
+use Rattle.crawl_pages.specs.declared.page.Page.{Page}
 use Rattle.crawl_pages.specs.declared.page.PageResult.{PageResult}
 use Rattle.mercator_site.specs.Asks.{Asks}
 use Rattle.mercator_site.specs.External.{AreExternal, Row, row_of}
@@ -38,20 +40,34 @@ printed_check form.Json contents f = printed_json contents f
 printed_check form.Annotations contents f = printed_annotations contents f
 printed_check form.Page contents f = printed_page contents f
 
--- without links the crawl starts at the empty link, which leads to the top itself
-abbrev pub starts : List (List ℕ) → List (List ℕ)
-starts [] = [] ∷ []
-starts (link ∷ links) = link ∷ links
+-- whether a check leaves out the top, which has this page: if all documents are checked, and there is no page
+abbrev pub is_left_out : Bool → Page → Bool
+is_left_out reachable page = not reachable && is_missing page
 
--- these pages were crawled in the saved web, from these links on the site's top, which lead below it, within the top's host
-pub record IsTopCrawl (top web : List ℕ) (links : List (List ℕ)) (pages : List PageResult) : Type 0 where
+-- the links at which the search of a check starts: the seeds; without seeds the empty link, which leads to the top itself, unless the
+-- top is left out
+abbrev pub starts : Bool → List (List ℕ) → List (List ℕ)
+starts out (link ∷ links) = link ∷ links
+starts true [] = []
+starts false [] = [] ∷ []
+
+-- the starts of a check in the saved web: the URLs of links on the top, and some documents, unless only what the links reach is
+-- checked. All are below the top
+pub record AreStarts (url web : List ℕ) (reachable : Bool) (links begun documents : List (List ℕ)) : Type 0 where
+  pub resolved : map (resolve url) (starts (is_left_out reachable (page_of (lines web) url)) links) ≡ map Ok begun
+  pub own : AreOwn url begun
+  pub own_documents : AreOwn url documents
+  pub only : reachable ≡ true → documents ≡ []
+
+-- these pages were crawled in the saved web, from such starts, within the top's host
+pub record IsTopCrawl (top web : List ℕ) (reachable : Bool) (links : List (List ℕ)) (pages : List PageResult) : Type 0 where
   pub url : List ℕ
   pub canon : canonical top ≡ Ok url
   pub begun : List (List ℕ)
-  pub resolved : map (resolve url) (starts links) ≡ map Ok begun
-  pub own : AreOwn url begun
+  pub documents : List (List ℕ)
+  pub started : AreStarts url web reachable links begun documents
   pub sound : IsSound (lines web)
-  pub found : IsCrawl (page_of (lines web)) (allows (host_key url ∷ [])) begun pages
+  pub found : IsCrawl (page_of (lines web)) (allows (host_key url ∷ [])) (begun ++ documents) pages
 
 -- these are the rows of the pages' external links, if they are listed
 abbrev pub AreOthersListed : Bool → List ℕ → List PageResult → Option (List Row) → Type 0
@@ -84,7 +100,7 @@ pub record IsReport (checked : Checked) (others : Option (List Row)) (name : Lis
 -- aliases, and the rows. Something is broken if there is a row of a missing page or anchor
 pub record IsCheck (top web : List ℕ) (aliases : List Alias) (asks : Asks) (broken : Bool) (text : List ℕ) : Type 0 where
   pub pages : List PageResult
-  pub crawled : IsTopCrawl top web asks.seeds pages
+  pub crawled : IsTopCrawl top web asks.reachable asks.seeds pages
   pub own : List PageResult
   pub are_own : own ≡ own_of crawled.url pages
   pub found : Findings

@@ -1,14 +1,13 @@
 -- The errors of a check of a folder, and of its saved web.
 use Rattle.std.specs.Prelude.{◌≡◌, ℕ, Bool, true, false, List, map, string_bytes, Ok}
 use Rattle.std.specs.Str.Lines.{lines}
-use Rattle.crawl_keys.specs.CanonicalText.{canonical, resolve}
+use Rattle.crawl_keys.specs.CanonicalText.{canonical}
 use Rattle.crawl_run.specs.Crawls.{CrawlFails, is_incomplete}
 use Rattle.crawl_run.specs.declared.error.CrawlError.{CrawlError}
 use Rattle.crawl_run.specs.declared.error.CrawlError.TheVariants as crawl
 use Rattle.crawl_run.specs.declared.failure.CrawlFailure.{CrawlFailure}
 use Rattle.saved_pages.specs.WebFaults.{IsSound}
-use Rattle.mercator_site.specs.Checks.{starts}
-use Rattle.mercator_site.specs.Own.{AreOwn}
+use Rattle.mercator_site.specs.Checks.{AreStarts}
 use Rattle.mercator_site.specs.declared.options.CheckOptions.{CheckOptions}
 use Rattle.mercator_site.specs.declared.fault.SiteFault.{SiteFault}
 use Rattle.mercator_site.specs.declared.fault.SiteFault.TheVariants as wrong
@@ -37,22 +36,26 @@ abbrev pub is_unfinished : SiteFault → Bool
 is_unfinished (wrong.Crawl failure) = is_incomplete failure.error
 is_unfinished fault = false
 
--- a crawl of the saved web by this number of workers, from these links on the site's top, is incomplete
-pub record IsTopIncomplete (top web : List ℕ) (links : List (List ℕ)) (workers : ℕ) : Type 0 where
-  pub url : List ℕ
-  pub canon : canonical top ≡ Ok url
-  pub begun : List (List ℕ)
-  pub resolved : map (resolve url) (starts links) ≡ map Ok begun
-  pub own : AreOwn url begun
-  pub sound : IsSound (lines web)
+-- a crawl by this number of workers is incomplete
+pub record IsUnfinished (workers : ℕ) : Type 0 where
   pub max : ℕ
   pub error : CrawlError
   pub incomplete : is_incomplete error ≡ true
   pub fails : CrawlFails workers max error
+
+-- a crawl of the saved web by this number of workers, from such starts, is incomplete
+pub record IsTopIncomplete (top web : List ℕ) (reachable : Bool) (links : List (List ℕ)) (workers : ℕ) : Type 0 where
+  pub url : List ℕ
+  pub canon : canonical top ≡ Ok url
+  pub begun : List (List ℕ)
+  pub documents : List (List ℕ)
+  pub started : AreStarts url web reachable links begun documents
+  pub sound : IsSound (lines web)
+  pub unfinished : IsUnfinished workers
 
 -- the crawl of a check is incomplete: that of the saved web of a site
 pub record IsSiteIncomplete (options : CheckOptions) : Type 0 where
   pub top : List ℕ
   pub web : List ℕ
   pub made : IsSiteWeb web
-  pub crawl : IsTopIncomplete top web (map string_bytes options.seeds.items) options.workers
+  pub crawl : IsTopIncomplete top web options.reachable (map string_bytes options.seeds.items) options.workers

@@ -1,10 +1,11 @@
 //! Checks a site: from its files to the report.
-ghost use Rattle.std.specs.Prelude.{◌≡◌, ℕ, List, IfErr, IfOk, map, string_bytes, true};
+ghost use Rattle.std.specs.Prelude.{◌≡◌, ℕ, List, IfErr, IfOk, map, Ok, string_bytes, true};
 ghost use Rattle.std.specs.Option.{option_map};
+ghost use Rattle.crawl_keys.specs.CanonicalText.{canonical};
 ghost use Rattle.mercator_site.specs.Asks.{asks_in};
-ghost use Rattle.mercator_site.specs.Checks.{AreOthersListed, IsNamedCheck, IsNamedSiteCheck, IsReport, IsSiteCheckAt};
+ghost use Rattle.mercator_site.specs.Checks.{AreOthersListed, IsNamedCheck, IsNamedSiteCheck, IsReport, IsSiteCheckAt, IsTopCrawl};
 ghost use Rattle.mercator_site.specs.External.{row_of};
-ghost use Rattle.mercator_site.specs.Faults.{IsTopIncomplete, is_unfinished};
+ghost use Rattle.mercator_site.specs.Faults.{IsTopIncomplete, IsUnfinished, is_unfinished};
 ghost use Rattle.mercator_site.specs.Sources.{IsSourceOf};
 ghost use Rattle.saved_site.specs.Linked.{page_at};
 
@@ -14,10 +15,12 @@ use crate::fault::SiteFault;
 use crate::options::ReportOptions;
 use crate::own::own_results;
 use crate::print::print_check;
+use crate::start::{check_starts, documents, starts};
 use check_report::{Contents, External};
 use crawl_keys::CanonUrl;
 use crawl_pages::PageResult;
-use saved_site::{LinkedSite, site_pages};
+use crawl_run::Crawled;
+use saved_site::{LinkedPages, LinkedSite, site_pages};
 use site_check::{CheckInput, Checked, check_site};
 use site_files::{FileBytes, InMemory, Rules, SiteFiles, SiteNames};
 use std::alloc::{AllocError, Global};
@@ -43,8 +46,10 @@ pub struct CheckSettings<'a> {
     pub front: &'a str,
     /// The ignore list: each entry matches the targets that begin with it.
     pub ignores: &'a [String],
-    /// The links on the site's top at which the crawl starts; if there are none, it starts at the top.
+    /// The links on the site's top at which the search starts; if there are none, it starts at the top.
     pub seeds: &'a [String],
+    /// Whether only what the search reaches is checked, and not all documents.
+    pub reachable: bool,
     pub report: ReportOptions,
     /// The folder that annotations put before the names of files; empty for files in memory.
     pub folder: &'a str,
@@ -58,10 +63,19 @@ pub struct CheckReport {
     pub is_broken: bool,
 }
 
+/// The crawls of a check.
+#[derive(Drop)]
+struct SiteCrawls {
+    /// What is reached from the links or the top, if unreached files are listed and all documents are checked.
+    reached: Option<Crawled>,
+    /// The crawl of everything that is checked.
+    whole: Crawled,
+}
+
 /// Checks a site whose files are in memory.
 ///
 /// # Errors
-/// `BadBase`, `NoFiles`, `TooLarge`, `BadHost`, `BadSeed`, `NoMemory`; `Crawl` if the crawl is incomplete.
+/// `BadBase`, `NoFiles`, `TooLarge`, `BadHost`, `BadSeed`, `NoStart`, `NoDocuments`, `NoMemory`; `Crawl` if the crawl is incomplete.
 pub fn report_of_files<R: Threads + Wait + Sync>(
     rt: &R,
     alloc: Global,
@@ -80,6 +94,7 @@ pub fn report_of_files<R: Threads + Wait + Sync>(
         rules,
     };
     let pages = SiteFiles::new(alloc, input)?;
+    check_starts(alloc, &pages, settings.seeds, settings.reachable)?;
     let bytes = InMemory {
         bodies: files.bodies,
     };
@@ -88,7 +103,7 @@ pub fn report_of_files<R: Threads + Wait + Sync>(
 }
 
 /// Checks a site by its pages in memory, which are those of a saved web whose bytes are not needed. The crawl starts at the top or at
-/// the seeds, and stays on the top's host.
+/// the seeds, and at all documents unless only what can be reached is checked. It stays on the top's host.
 ///
 /// # Errors
 /// `BadHost`, `BadSeed`, `NoMemory`; `Crawl` if the crawl is incomplete.
@@ -101,31 +116,66 @@ pub fn report_of_pages<R: Threads + Wait + Sync, B: FileBytes + Sync>(
     settings: CheckSettings<'_>,
 ) -> Result<CheckReport, SiteFault>
     ensures named { (web : List ℕ) → IsSourceOf (page_at site.pages) web → IfOk result (λ report. IsNamedCheck settings.entry.name.now (string_bytes files.now.site.top) web site.aliases.items (asks_in settings.entry) report.is_broken report.text.items) }
-    ensures incomplete { (web : List ℕ) → IsSourceOf (page_at site.pages) web → IfErr result (λ fault. is_unfinished fault ≡ true → IsTopIncomplete (string_bytes files.now.site.top) web (map string_bytes settings.entry.seeds.now) settings.entry.workers) }
+    ensures incomplete { (web : List ℕ) → IsSourceOf (page_at site.pages) web → IfErr result (λ fault. is_unfinished fault ≡ true → IsTopIncomplete (string_bytes files.now.site.top) web settings.entry.reachable (map string_bytes settings.entry.seeds.now) settings.entry.workers) }
 {
     let top = top_url(alloc, files.top())?;
-    let crawled = crawl_source(
-        rt,
-        alloc,
-        &site.pages,
-        &top,
-        settings.seeds,
-        settings.workers,
-    )?;
-    let results = own_results(&top, crawled.result.pages());
+    let crawls = crawl_site(rt, alloc, &site.pages, files, &top, settings)?;
+    let results = own_results(&top, crawls.whole.result.pages());
     let others = others_listed(alloc, settings.report.external, &top, results)?;
-    let input = input_of(&site, settings);
+    let input = input_of(&site, &crawls, settings);
     let checked = check_site(rt, alloc, results, files, bytes, input)?;
     let report = report_of(alloc, &checked, &others, settings)?;
     // Not freed: the process exits soon, and the system frees everything faster.
     forget(site);
-    forget(crawled);
+    forget(crawls);
     forget(checked);
     Ok(report)
 }
 
+/// Crawls the pages of a site, from the top or the seeds, and from all documents unless only what can be reached is checked.
+fn crawl_site<R: Threads + Wait + Sync>(
+    rt: &R,
+    alloc: Global,
+    pages: &LinkedPages,
+    files: &SiteFiles<'_>,
+    top: &CanonUrl,
+    settings: CheckSettings<'_>,
+) -> Result<SiteCrawls, SiteFault>
+    ensures found { (base web : List ℕ) → canonical base ≡ Ok top.now → IsSourceOf (page_at pages.now) web → IfOk result (λ crawls. IsTopCrawl base web settings.entry.reachable (map string_bytes settings.entry.seeds.now) crawls.whole.result) }
+    ensures incomplete { (base web : List ℕ) → canonical base ≡ Ok top.now → IsSourceOf (page_at pages.now) web → IfErr result (λ fault. is_unfinished fault ≡ true → IsTopIncomplete base web settings.entry.reachable (map string_bytes settings.entry.seeds.now) settings.entry.workers) }
+{
+    let mut seeds = starts(alloc, pages, top, settings.seeds, settings.reachable)?;
+    let reached = crawl_reached(rt, alloc, pages, top, seeds.as_slice(), settings)?;
+    let mut more = documents(alloc, top, files, settings.reachable)?;
+    seeds.append(&mut more)?;
+    let whole = crawl_source(rt, alloc, pages, top, seeds.as_slice(), settings.workers)?;
+    Ok(SiteCrawls { reached, whole })
+}
+
+/// What is reached from these URLs, if unreached files are listed and more is checked.
+fn crawl_reached<R: Threads + Wait + Sync>(
+    rt: &R,
+    alloc: Global,
+    pages: &LinkedPages,
+    top: &CanonUrl,
+    seeds: &[CanonUrl],
+    settings: CheckSettings<'_>,
+) -> Result<Option<Crawled>, SiteFault>
+    ensures { IfErr result (λ fault. is_unfinished fault ≡ true → IsUnfinished settings.entry.workers) }
+{
+    if settings.reachable || !settings.report.lists.unreached {
+        return Ok(None);
+    }
+    let found = crawl_source(rt, alloc, pages, top, seeds, settings.workers)?;
+    Ok(Some(found))
+}
+
 /// The settings of the check of the results, with what is known of the site.
-fn input_of<'a>(site: &'a LinkedSite, settings: CheckSettings<'a>) -> CheckInput<'a>
+fn input_of<'a>(
+    site: &'a LinkedSite,
+    crawls: &'a SiteCrawls,
+    settings: CheckSettings<'a>,
+) -> CheckInput<'a>
     ensures front { result.front.now ≡ settings.entry.front.now }
     ensures ignores { result.ignores.now ≡ settings.entry.ignores.now }
     ensures aliases { result.aliases.now ≡ site.now.aliases.items }
@@ -136,7 +186,16 @@ fn input_of<'a>(site: &'a LinkedSite, settings: CheckSettings<'a>) -> CheckInput
         aliases: site.aliases.as_slice(),
         anchors: site.anchors.as_slice(),
         places: site.places.as_slice(),
-        unreached: settings.report.lists.unreached,
+        reached: reached_in(crawls, settings.report.lists.unreached),
+    }
+}
+
+/// The results that are reached from the links or the top, if unreached files are listed.
+fn reached_in(crawls: &SiteCrawls, listed: bool) -> Option<&[PageResult]> {
+    match &crawls.reached {
+        Some(reached) => Some(reached.result.pages()),
+        None if listed => Some(crawls.whole.result.pages()),
+        None => None,
     }
 }
 

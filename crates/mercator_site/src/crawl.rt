@@ -1,12 +1,12 @@
-//! Crawls a site, from its top or from links on it, within the top's host.
-ghost use Rattle.std.specs.Prelude.{◌≡◌, ℕ, ◌∷◌, List, [], IfErr, IfOk, map, string_bytes, Ok, false, true};
+//! Crawls a site within its top's host.
+ghost use Rattle.std.specs.Prelude.{◌≡◌, ◌∷◌, [], IfErr, IfOk, Ok, false, true};
+ghost use Rattle.crawl_certificate.specs.Certificate.{IsCrawl};
 ghost use Rattle.crawl_keys.specs.CanonicalText.{canonical};
-ghost use Rattle.mercator_site.specs.Checks.{IsTopCrawl};
-ghost use Rattle.mercator_site.specs.Faults.{IsTopIncomplete, is_unfinished};
-ghost use Rattle.mercator_site.specs.Sources.{IsSourceOf};
+ghost use Rattle.crawl_keys.specs.HostFilter.{allows};
+ghost use Rattle.crawl_keys.specs.HostKey.{host_key};
+ghost use Rattle.mercator_site.specs.Faults.{IsUnfinished, is_unfinished};
 
 use crate::fault::SiteFault;
-use crate::start::starts;
 use crawl_keys::{CanonUrl, Filter, FilterError, KeyError, canonical};
 use crawl_limits::PENDING_LIMIT;
 use crawl_pages::SessionFetch;
@@ -15,27 +15,27 @@ use std::alloc::Global;
 use std::sync::Wait;
 use std::thread::Threads;
 
-/// Crawls a source that has the pages of the saved web.
+/// Crawls a source from URLs, within the host of the site's top.
+#[tactic(auto, using(crate::proofs::TopCrawls::unfinished_of))]
 pub(crate) fn crawl_source<F: SessionFetch + Sync, R: Threads + Wait + Sync>(
     rt: &R,
     alloc: Global,
     source: &F,
     top: &CanonUrl,
-    links: &[String],
+    seeds: &[CanonUrl],
     workers: u32,
 ) -> Result<Crawled, SiteFault>
-    ensures found { (base web : List ℕ) → canonical base ≡ Ok top.now → IsSourceOf (F.meaning source.now) web → IfOk result (λ found. IsTopCrawl base web (map string_bytes links.now) found.result) }
-    ensures incomplete { (base web : List ℕ) → canonical base ≡ Ok top.now → IsSourceOf (F.meaning source.now) web → IfErr result (λ fault. is_unfinished fault ≡ true → IsTopIncomplete base web (map string_bytes links.now) workers) }
+    ensures found { IfOk result (λ found. IsCrawl (F.meaning source.now) (allows (host_key top.now ∷ [])) seeds.now found.result) }
+    ensures incomplete { IfErr result (λ fault. is_unfinished fault ≡ true → IsUnfinished workers) }
 {
     let filter = host_filter(alloc, top.host_key())?;
-    let seeds = starts(alloc, top, links)?;
     let settings = CrawlSettings {
         workers,
         max_pending: PENDING_LIMIT,
         mode: Mode::Threads,
         filter: &filter,
     };
-    match crawl_with(rt, alloc, source, &settings, seeds.as_slice()) {
+    match crawl_with(rt, alloc, source, &settings, seeds) {
         Ok(found) => Ok(found),
         Err(failure) => Err(SiteFault::from(failure)),
     }

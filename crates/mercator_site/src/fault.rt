@@ -20,6 +20,10 @@ pub enum SiteFault {
     NoFiles,
     /// A seed is not a URL below BASE.
     BadSeed,
+    /// There is no page at this link, which is a seed with its hidden characters escaped, or `./`, the top.
+    NoStart(String),
+    /// The folder has no HTML documents.
+    NoDocuments,
     /// The saved web exceeds the limit of a crawl.
     TooLarge,
     /// The crawl of the site failed. The reason is never that memory ran out.

@@ -9,11 +9,12 @@ ghost use Rattle.site_check.specs.Ignored.{entries_in};
 
 use crate::check::{CheckReport, CheckSettings, report_of_pages};
 use crate::fault::SiteFault;
-use crate::notices::{Notice, push_notes};
+use crate::notes::push_page_notes;
 use crate::options::{CheckOptions, SiteOptions};
+use crate::start::check_starts;
 use saved_site::{OnDisk, Web, WebText, site_pages, site_web};
 use site_check::read_ignores;
-use site_files::{FolderNames, Rules, SiteFiles, SiteNames, folder_names};
+use site_files::{FolderNames, Note, Rules, SiteFiles, SiteNames, folder_names};
 use std::alloc::{AllocError, Global};
 use std::fs::Files;
 use std::sync::Wait;
@@ -67,15 +68,15 @@ fn check_rules(alloc: Global, options: &CheckOptions) -> Result<Rules, AllocErro
     Ok(rules)
 }
 
-/// Makes the saved web of a folder. Appends a notice of everything that is skipped or changed.
+/// Makes the saved web of a folder. Appends a note about everything that is skipped or changed.
 ///
 /// # Errors
-/// `CannotReadFolder`, `BadBase`, `NoFiles`, `TooLarge`, `NoMemory`. The notices before an error stay.
+/// `CannotReadFolder`, `BadBase`, `NoFiles`, `TooLarge`, `NoMemory`. The notes before an error stay.
 pub fn web_of_folder<R: Files<File: Send, Dir: Send> + Threads + Sync>(
     rt: &R,
     alloc: Global,
     options: &SiteOptions,
-    notices: &mut Vec<Notice>,
+    notes: &mut Vec<Note>,
 ) -> Result<WebText, SiteFault>
     ensures web { IfOk result IsSiteWeb }
     ensures below { IfOk result (IsWebAt (string_bytes options.now.base)) }
@@ -86,7 +87,7 @@ pub fn web_of_folder<R: Files<File: Send, Dir: Send> + Threads + Sync>(
     let FolderNames {
         names,
         links,
-        notes,
+        notes: found,
     } = folder_names(rt, alloc, folder, &rules)?;
     let input = SiteNames {
         names: names.as_slice(),
@@ -96,24 +97,28 @@ pub fn web_of_folder<R: Files<File: Send, Dir: Send> + Threads + Sync>(
     };
     let files = SiteFiles::new(alloc, input)?;
     let bytes = OnDisk { rt, alloc, folder };
-    let web = site_web(rt, &files, &[], notes, &bytes)?;
-    push_notes(alloc, notices, "", web.notes.as_slice())?;
-    let Web { text, .. } = web;
+    let web = site_web(rt, &files, &[], found, &bytes)?;
+    let Web {
+        text,
+        notes: mut all,
+        ..
+    } = web;
+    notes.append(&mut all)?;
     Ok(text)
 }
 
 /// Checks a folder. `ignores` has the bytes of an ignore list: the targets that equal or begin with one of its lines are ignored.
-/// Appends a notice of everything that is skipped or changed.
+/// Appends a note about everything that is skipped or changed.
 ///
 /// # Errors
-/// `CannotReadFolder`, `BadBase`, `NoFiles`, `TooLarge`, `BadHost`, `BadSeed`, `NoMemory`; `Crawl` if the crawl is incomplete. The
-/// notices before an error stay.
+/// `CannotReadFolder`, `BadBase`, `NoFiles`, `BadSeed`, `NoStart`, `NoDocuments`, `TooLarge`, `BadHost`, `NoMemory`; `Crawl` if the
+/// crawl is incomplete. The notes before an error stay.
 pub fn report_of_folder<R: Files<File: Send, Dir: Send> + Threads + Wait + Sync>(
     rt: &R,
     alloc: Global,
     options: &CheckOptions,
     ignores: &[u8],
-    notices: &mut Vec<Notice>,
+    notes: &mut Vec<Note>,
 ) -> Result<CheckReport, SiteFault>
     ensures folder { IfOk result (λ report. IsFolderCheck options.now ignores.now report.is_broken report.text.items) }
     ensures incomplete { IfErr result (λ fault. is_unfinished fault ≡ true → IsSiteIncomplete options.now) }
@@ -124,9 +129,9 @@ pub fn report_of_folder<R: Files<File: Send, Dir: Send> + Threads + Wait + Sync>
     let FolderNames {
         names,
         links,
-        notes,
+        notes: mut found,
     } = folder_names(rt, alloc, folder, &rules)?;
-    push_notes(alloc, notices, "", notes.as_slice())?;
+    notes.append(&mut found)?;
     let input = SiteNames {
         names: names.as_slice(),
         links: links.as_slice(),
@@ -134,40 +139,13 @@ pub fn report_of_folder<R: Files<File: Send, Dir: Send> + Threads + Wait + Sync>
         rules: &rules,
     };
     let files = SiteFiles::new(alloc, input)?;
-    let bytes = OnDisk { rt, alloc, folder };
-    let seeds = options.seeds.as_slice();
-    let site = site_pages(rt, &files, seeds, Vec::new(alloc), &bytes)?;
-    let front = front_of(options.paths, files.top());
-    push_notes(alloc, notices, front, site.notes.as_slice())?;
-    push_no_index(alloc, notices, input, seeds)?;
     let settings = settings_of(options, files.top(), known.as_slice());
+    check_starts(alloc, &files, settings.seeds, settings.reachable)?;
+    let bytes = OnDisk { rt, alloc, folder };
+    let site = site_pages(rt, &files, settings.seeds, Vec::new(alloc), &bytes)?;
+    push_page_notes(alloc, notes, settings.front, site.notes.as_slice())?;
     let report = report_of_pages(rt, alloc, site, &files, &bytes, settings)?;
     Ok(report)
-}
-
-/// Appends a notice if there is nothing to check: if the crawl starts at the top and the top has no index file.
-fn push_no_index(
-    alloc: Global,
-    notices: &mut Vec<Notice>,
-    input: SiteNames<'_>,
-    seeds: &[String],
-) -> Result<(), AllocError> {
-    if seeds.is_empty()
-        && !has_index(input.names, input.rules.index_files.as_slice())
-        && let Some(index) = input.rules.index_files.first()
-    {
-        let place = String::from_str(alloc, "./")?;
-        let words = format!(in alloc; "no {index}, nothing to check (use --seed)")?;
-        notices.push(Notice { place, words })?;
-    }
-    Ok(())
-}
-
-/// Whether one of the names is that of an index file at the top.
-fn has_index(names: &[String], index_files: &[String]) -> bool {
-    names
-        .iter()
-        .any(|name| index_files.iter().any(|index| *index == *name))
 }
 
 /// The settings of the check. Without BASE the site has the name of the folder, and URLs are printed without the top's URL.
@@ -187,6 +165,7 @@ fn settings_of<'a>(
         front: front_of(options.paths, top),
         ignores: known,
         seeds: options.seeds.as_slice(),
+        reachable: options.reachable,
         report: options.report,
         folder: options.site.folder.as_str(),
     }

@@ -6,7 +6,7 @@ mod crawl;
 mod external;
 mod fault;
 mod folder;
-mod notices;
+mod notes;
 mod options;
 mod own;
 mod print;
@@ -16,5 +16,5 @@ pub use check::{CheckReport, CheckSettings, Files, report_of_files, report_of_pa
 pub use check_report::Lists;
 pub use fault::SiteFault;
 pub use folder::{report_of_folder, web_of_folder};
-pub use notices::Notice;
 pub use options::{CheckForm, CheckOptions, ReportOptions, SiteOptions};
+pub use site_files::Note;

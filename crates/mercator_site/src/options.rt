@@ -61,6 +61,8 @@ pub struct CheckOptions {
     /// Whether anchors are checked.
     pub anchors: bool,
     pub report: ReportOptions,
-    /// The links on the top at which the crawl starts; if there are none, it starts at the top.
+    /// The links on the top at which the search starts; if there are none, it starts at the top.
     pub seeds: Vec<String>,
+    /// Whether only what the search reaches is checked, and not all documents.
+    pub reachable: bool,
 }

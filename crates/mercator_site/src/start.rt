@@ -1,41 +1,125 @@
 //! The URLs at which the crawl of a check starts.
-ghost use Rattle.std.specs.Prelude.{◌≡◌, ◌∷◌, [], true, IfErr, IfOk, map, string_bytes, Ok, false};
+ghost use Rattle.std.specs.Prelude.{◌≡◌, ◌∷◌, [], true, IfErr, IfOk, OnOk, map, string_bytes, Ok, false};
 ghost use Rattle.crawl_keys.specs.CanonicalText.{resolve};
-ghost use Rattle.mercator_site.specs.Checks.{starts};
+ghost use Rattle.mercator_site.specs.Checks.{is_left_out, starts};
 ghost use Rattle.mercator_site.specs.Faults.{is_unfinished};
 ghost use Rattle.mercator_site.specs.Own.{AreOwn};
+ghost use Rattle.saved_site.specs.Linked.{page_at};
 ghost use Rattle.site_files.specs.Below.{begins};
 
+use crate::crawl::top_url;
 use crate::fault::SiteFault;
 use crate::own::is_own;
 use crawl_keys::{CanonUrl, KeyError, resolve};
-use std::alloc::Global;
+use crawl_pages::Fetch;
+use saved_site::LinkedPages;
+use shown_text::shown;
+use site_files::SiteFiles;
+use std::alloc::{AllocError, Global};
 
-/// The URLs at which the crawl starts: those of the links, or the top's own if there are no links.
-pub(crate) fn starts(
+/// Checks, before any page is made, that there is a page at each link. Without links, there must be a page at the top, or a document
+/// if all are checked.
+///
+/// # Errors
+/// `BadSeed`, `NoStart`, `NoDocuments`, `NoMemory`.
+pub(crate) fn check_starts(
+    alloc: Global,
+    files: &SiteFiles<'_>,
+    links: &[String],
+    reachable: bool,
+) -> Result<(), SiteFault>
+    ensures plain { IfErr result (λ fault. is_unfinished fault ≡ false) }
+{
+    let top = top_url(alloc, files.top())?;
+    check_links(alloc, &top, files, links)?;
+    if !links.is_empty() || files.find(top.as_str()).is_some() {
+        Ok(())
+    } else if reachable {
+        Err(SiteFault::NoStart(String::from_str(alloc, "./")?))
+    } else if own_documents(alloc, &top, files)?.is_empty() {
+        Err(SiteFault::NoDocuments)
+    } else {
+        Ok(())
+    }
+}
+
+/// Checks that there is a page at each link.
+fn check_links(
     alloc: Global,
     top: &CanonUrl,
+    files: &SiteFiles<'_>,
     links: &[String],
+) -> Result<(), SiteFault>
+    ensures plain { IfErr result (λ fault. is_unfinished fault ≡ false) }
+{
+    for link in links {
+        let url = seed_of(alloc, top, link.as_str())?;
+        if !has_page(alloc, files, &url)? {
+            return Err(SiteFault::NoStart(shown(alloc, link.as_str())?));
+        }
+    }
+    Ok(())
+}
+
+/// Whether a server returns a page of the site for a URL.
+fn has_page(alloc: Global, files: &SiteFiles<'_>, url: &CanonUrl) -> Result<bool, AllocError> {
+    if files.find(url.as_str()).is_some() {
+        return Ok(true);
+    }
+    Ok(files.look_up(alloc, url)?.is_some())
+}
+
+/// The URLs at which the search starts: those of the links, or the top's own if there are no links. The top is left out if it has no
+/// page and all documents are checked.
+pub(crate) fn starts(
+    alloc: Global,
+    pages: &LinkedPages,
+    top: &CanonUrl,
+    links: &[String],
+    reachable: bool,
 ) -> Result<Vec<CanonUrl>, SiteFault>
-    ensures begun { IfOk result (λ seeds. map (resolve top.now) (starts (map string_bytes links.now)) ≡ map Ok seeds.items) }
+    ensures begun { IfOk result (λ seeds. map (resolve top.now) (starts (is_left_out reachable (page_at pages.now top.now)) (map string_bytes links.now)) ≡ map Ok seeds.items) }
     ensures own { IfOk result (λ seeds. AreOwn top.now seeds.items) }
     ensures plain { IfErr result (λ fault. is_unfinished fault ≡ false) }
 {
     match links.split_first() {
         Some(_) => seeds_of(alloc, top, links),
-        None => top_alone(alloc, top),
+        None => top_alone(alloc, pages, top, reachable),
     }
 }
 
-/// The top's URL as the only seed.
-fn top_alone(alloc: Global, top: &CanonUrl) -> Result<Vec<CanonUrl>, SiteFault>
-    ensures resolved { IfOk result (λ seeds. map (resolve top.now) ([] ∷ []) ≡ map Ok seeds.items) }
+/// The URL of the top, unless the top is left out.
+fn top_alone(
+    alloc: Global,
+    pages: &LinkedPages,
+    top: &CanonUrl,
+    reachable: bool,
+) -> Result<Vec<CanonUrl>, SiteFault>
+    ensures resolved { IfOk result (λ seeds. map (resolve top.now) (starts (is_left_out reachable (page_at pages.now top.now)) []) ≡ map Ok seeds.items) }
     ensures own { IfOk result (λ seeds. AreOwn top.now seeds.items) }
     ensures plain { IfErr result (λ fault. is_unfinished fault ≡ false) }
 {
     let mut seeds = Vec::new(alloc);
+    if is_left_out(alloc, pages, top, reachable)? {
+        return Ok(seeds);
+    }
     seeds.push(seed_of(alloc, top, "")?)?;
     Ok(seeds)
+}
+
+/// Whether the top is left out.
+fn is_left_out(
+    alloc: Global,
+    pages: &LinkedPages,
+    top: &CanonUrl,
+    reachable: bool,
+) -> Result<bool, AllocError>
+    ensures { IfOk result (λ is. is ≡ is_left_out reachable (page_at pages.now top.now)) }
+{
+    match pages.fetch(alloc, top) {
+        Ok(page) => Ok(!reachable && page.is_missing()),
+        Err(_) => Err(AllocError),
+    }
 }
 
 /// The URLs of the links, in their order. Fails with `BadSeed` if one is not a URL below the top.
@@ -61,5 +145,60 @@ fn seed_of(alloc: Global, top: &CanonUrl, link: &str) -> Result<CanonUrl, SiteFa
         Ok(url) if is_own(top, &url) => Ok(url),
         Err(KeyError::NoMemory) => Err(SiteFault::NoMemory),
         _ => Err(SiteFault::BadSeed),
+    }
+}
+
+/// The own URLs of the HTML documents, or none if only what can be reached is checked.
+pub(crate) fn documents(
+    alloc: Global,
+    top: &CanonUrl,
+    files: &SiteFiles<'_>,
+    reachable: bool,
+) -> Result<Vec<CanonUrl>, AllocError>
+    ensures own { IfOk result (λ urls. AreOwn top.now urls.items) }
+    ensures only { IfOk result (λ urls. reachable ≡ true → urls.items ≡ []) }
+{
+    if reachable {
+        return Ok(Vec::new(alloc));
+    }
+    own_documents(alloc, top, files)
+}
+
+/// The own URLs of the files that are HTML documents by their names. All are below the top, which is looked at since it is promised.
+fn own_documents(
+    alloc: Global,
+    top: &CanonUrl,
+    files: &SiteFiles<'_>,
+) -> Result<Vec<CanonUrl>, AllocError>
+    ensures { IfOk result (λ urls. AreOwn top.now urls.items) }
+{
+    let mut urls = Vec::new(alloc);
+    for number in 0..files.page_count() {
+        if let Some(url) = document_at(files, number) {
+            push_own(top, url, &mut urls)?;
+        }
+    }
+    Ok(urls)
+}
+
+/// Adds a URL, if it is below the top.
+#[tactic(auto, using(crate::proofs::OwnPages::own_with))]
+fn push_own(top: &CanonUrl, url: &CanonUrl, urls: &mut Vec<CanonUrl>) -> Result<(), AllocError>
+    ensures { AreOwn top.now urls.old.items → OnOk result (AreOwn top.now urls.new.items) }
+{
+    if !is_own(top, url) {
+        return Ok(());
+    }
+    urls.push(url.clone()?)?;
+    Ok(())
+}
+
+/// The URL of the page with this number, if the page is an HTML document by its name and this is its own URL.
+fn document_at<'a>(files: &'a SiteFiles<'_>, number: usize) -> Option<&'a CanonUrl> {
+    let url = files.url(number)?;
+    if files.document(number)?.is_document && files.own_url(number)? == url {
+        Some(url)
+    } else {
+        None
     }
 }

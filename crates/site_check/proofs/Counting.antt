@@ -1,13 +1,14 @@
 -- What is counted for a result.
-use Rattle.std.proofs.Common.{◌≡◌, ◌∙◌, ◌+◌, ◌<◌, ◌^◌, ◌++◌, ℕ, Bool, List, Option, Some, length, map, slice_get, subst, sym, ap, arith, length-append}
+use Rattle.std.proofs.lemmas.Grind.{common_steps}
+use Rattle.std.proofs.Common.{◌≡◌, ◌∙◌, ◌+◌, ◌<◌, ◌^◌, ◌++◌, ℕ, Bool, List, Option, Some, length, map, slice_get, sym, ap, arith, length-append}
 use Rattle.std.proofs.lemmas.List.{length-map}
 use Rattle.std.proofs.lemmas.List.Elements.{filter-append}
 use Rattle.std.proofs.lemmas.List.Sums.{count_by-le-length, length-filter}
 use Rattle.std.proofs.lemmas.Option.{slice_get-map, slice_get_within}
 use Rattle.std.specs.Option.{option_map}
 use Rattle.crawl_pages.specs.declared.page.PageResult.{PageResult}
-use Rattle.crawl_sources.specs.Sources.{links_to, sources_of}
-use Rattle.crawl_sources.specs.Tallies.{Count, IsCount, IsTally}
+use Rattle.crawl_sources.specs.Sources.{sources_of}
+use Rattle.crawl_sources.specs.Tallies.{Count, IsTally}
 use Rattle.site_check.specs.Broken.{Linked, linked, linked_at}
 use Rattle.site_check.specs.declared.linked.Linked as code
 
@@ -15,19 +16,15 @@ abbrev pub with_pages : PageResult → ℕ → Linked
 with_pages r n = record { result = r; pages = n }
 
 pub linked_counted : (all : Bool) (results : List PageResult) (r : PageResult) (o : Option Count) (c : Count) → o ≡ Some c → IsTally all results r.url o → with_pages r c.count ≡ linked results r
-linked_counted all results r o c is k =
-    let kept : IsCount all results r.url c = subst (IsTally all results r.url) is k in
-    ap (with_pages r) kept.count
+linked_counted all results r o c is k = grind (arith, common_steps)
 
 -- what is counted in some results and in those after them fits if all of these do
 pub sources_fit : (front back : List PageResult) (url : List ℕ) → length front + length back < 2 ^ 64 → length (sources_of front url) + length (sources_of back url) < 2 ^ 64
-sources_fit front back url fits =
-    omega (arith, length-filter (links_to url) front, length-filter (links_to url) back, count_by-le-length (links_to url) front, count_by-le-length (links_to url) back)
+sources_fit front back url fits = grind (arith, common_steps, length-filter, count_by-le-length)
 
 -- and is what is counted in all of them
 pub linked_more : (front back : List PageResult) (r : PageResult) → with_pages r (length (sources_of front r.url) + length (sources_of back r.url)) ≡ linked (front ++ back) r
-linked_more front back r =
-    ap (with_pages r) (sym (ap length (filter-append (links_to r.url) front back) ∙ length-append (sources_of front r.url) (sources_of back r.url)))
+linked_more front back r = grind (arith, common_steps, filter-append, length-append)
 
 -- the count that is at an index
 pub pages_there : (list : List code.Linked) (results told : List PageResult) → map linked_at list ≡ map (linked results) told → (k : ℕ) (one : PageResult) → slice_get told k ≡ Some one → option_map linked_at (slice_get list k) ≡ Some (linked results one)
@@ -36,5 +33,4 @@ pages_there list results told same k one is =
 
 -- there is one at each index at which there is a result
 pub within_counts : (list : List code.Linked) (results told : List PageResult) → map linked_at list ≡ map (linked results) told → (k : ℕ) (one : PageResult) → slice_get told k ≡ Some one → k < length list
-within_counts list results told same k one is =
-    omega (arith, slice_get_within told k one is, length-map list linked_at, length-map told (linked results), ap length same)
+within_counts list results told same k one is = grind (arith, common_steps, slice_get_within, length-map)

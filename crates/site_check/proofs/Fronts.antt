@@ -1,5 +1,6 @@
 -- A text that begins with another.
-use Rattle.std.proofs.Common.{◌≡◌, ◌∙◌, ℕ, Bool, true, ◌||◌, List, [], ◌∷◌, ◌++◌, length, take, drop, cond, refl, sym, ap, inl, inr}
+use Rattle.std.proofs.lemmas.Grind.{common_steps}
+use Rattle.std.proofs.Common.{◌≡◌, ◌∙◌, ℕ, Bool, true, ◌||◌, List, [], ◌∷◌, ◌++◌, length, take, drop, cond, refl, sym, ap, inl, inr, arith}
 use Rattle.std.proofs.Math.Seq.{take-append_seam}
 use Rattle.std.proofs.lemmas.Bool.{cases_Bool, cond-true, cond-false}
 use Rattle.std.proofs.lemmas.List.{take-append-drop}
@@ -11,13 +12,11 @@ use Rattle.crawl_sources.specs.Tallies.{pointed}
 use Rattle.site_check.specs.Broken.{begins}
 
 begins_with : (front url rest : List ℕ) → url ≡ front ++ rest → begins front url ≡ true
-begins_with front url rest e =
-    (bytes_eq-Decides (take (length front) url) front).1 (ap (take (length front)) e ∙ take-append_seam front rest)
+begins_with front url rest e = grind (arith, common_steps, bytes_eq-Decides, take-append_seam)
 
 pub cut_front : (front url rest : List ℕ) (n : ℕ) → n ≡ length front → url ≡ front ++ drop n url → rest ≡ drop n url →
     rest ≡ cond (begins front url) (drop (length front) url) url
-cut_front front url rest n count split is =
-    is ∙ ap (λ k. drop k url) count ∙ sym (cond-true _ _ _ (begins_with front url (drop n url) split))
+cut_front front url rest n count split is = grind (arith, common_steps, cond-true, begins_with)
 
 pub no_front : (front url : List ℕ) → ((rest : List ℕ) → url ≡ front ++ rest → ⊥) → url ≡ cond (begins front url) (drop (length front) url) url
 no_front front url lacks =

@@ -1,5 +1,6 @@
 -- What is known of the pages that have a file name.
-use Rattle.std.proofs.Common.{◌≡◌, ◌∙◌, ℕ, zero, suc, ◌+◌, ◌<◌, arith, Bool, true, false, ◌||◌, cond, List, [], ◌∷◌, ◌++◌, filter, take, get_or, length, slice_get, Option, Some, None, refl, sym, ap, subst, inl, inr}
+use Rattle.std.proofs.lemmas.Grind.{common_steps}
+use Rattle.std.proofs.Common.{◌≡◌, ◌∙◌, ℕ, zero, suc, ◌+◌, ◌<◌, arith, Bool, true, false, cond, List, [], ◌∷◌, ◌++◌, filter, take, get_or, length, slice_get, Option, Some, None, refl, sym, ap, subst}
 use Rattle.std.proofs.lemmas.Bool.{cases_Bool, cond-true, cond-false}
 use Rattle.std.proofs.lemmas.List.Elements.{filter_more}
 use Rattle.std.proofs.lemmas.Option.{get_or_from_slice_get}
@@ -15,7 +16,6 @@ use Rattle.site_files.specs.Files.{PageFile}
 use Rattle.site_files.specs.declared.files.SiteFiles.{SiteFiles}
 use Rattle.site_check.specs.Names.{is_slash, behind_slashes, has_name, Names, named_at, IsKnown, known_with, known_at, only_told}
 use Rattle.site_check.specs.declared.names.Namesakes.{Namesakes}
-use Rattle.site_check.specs.declared.names.Namesakes.TheVariants.{One, Several}
 
 -- ---- the last part of a path
 
@@ -29,35 +29,17 @@ abbrev pub name_on : List ℕ → List ℕ → List ℕ
 name_on name rest = cond (list_any is_slash rest) (behind_slashes rest) name
 
 pub name_first : (path : List ℕ) → name_on path path ≡ behind_slashes path
-name_first path =
-    elim (cases_Bool (list_any is_slash path)) [
-      | inl has ↦ cond-true (list_any is_slash path) _ _ has
-      | inr lacks ↦ cond-false (list_any is_slash path) _ _ lacks ∙ sym (no_slash path lacks)
-    ]
+name_first path = grind (arith, common_steps, cases_Bool, cond-true, cond-false, no_slash)
 
 slash_on : (name : List ℕ) (b : ℕ) (more : List ℕ) → is_slash b ≡ true → name_on more more ≡ name_on name (b ∷ more)
-slash_on name b more is =
-    let any : list_any is_slash (b ∷ more) ≡ true = ap (λ x. x || list_any is_slash more) is in
-    name_first more ∙ sym (cond-true (list_any is_slash (b ∷ more)) (behind_slashes more) (b ∷ more) any)
-    ∙ sym (cond-true (list_any is_slash (b ∷ more)) (behind_slashes (b ∷ more)) name any)
+slash_on name b more is = grind (arith, common_steps, name_first, cond-true)
 
 byte_on : (name : List ℕ) (b : ℕ) (more : List ℕ) → is_slash b ≡ false → name_on name more ≡ name_on name (b ∷ more)
-byte_on name b more not =
-    let same : list_any is_slash (b ∷ more) ≡ list_any is_slash more = ap (λ x. x || list_any is_slash more) not in
-    elim (cases_Bool (list_any is_slash more)) [
-      | inl has ↦
-          cond-true (list_any is_slash more) _ _ has ∙ sym (cond-true (list_any is_slash (b ∷ more)) (behind_slashes more) (b ∷ more) (same ∙ has))
-          ∙ sym (cond-true (list_any is_slash (b ∷ more)) (behind_slashes (b ∷ more)) name (same ∙ has))
-      | inr lacks ↦ cond-false (list_any is_slash more) _ _ lacks ∙ sym (cond-false (list_any is_slash (b ∷ more)) _ _ (same ∙ lacks))
-    ]
+byte_on name b more not = grind (arith, common_steps, cases_Bool, cond-true, cond-false)
 
 -- one byte more
 pub name_more : (name : List ℕ) (b : ℕ) (more next : List ℕ) → next ≡ cond (is_slash b) more name → name_on next more ≡ name_on name (b ∷ more)
-name_more name b more next e =
-    elim (cases_Bool (is_slash b)) [
-      | inl is ↦ ap (λ n. name_on n more) (e ∙ cond-true (is_slash b) _ _ is) ∙ slash_on name b more is
-      | inr not ↦ ap (λ n. name_on n more) (e ∙ cond-false (is_slash b) _ _ not) ∙ byte_on name b more not
-    ]
+name_more name b more next e = grind (arith, common_steps, cases_Bool, cond-true, slash_on, cond-false, byte_on)
 
 -- ---- pages by their names
 
@@ -67,30 +49,17 @@ name_put old new name w updates other = btree_map_updates_str name.now old new w
 
 -- what was known of the name itself
 pub known_put : (b : Bool) (own other : Option Namesakes) (number : ℕ) → (b ≡ true → own ≡ other) → cond b (Some (known_with own number)) other ≡ cond b (Some (known_with other number)) other
-known_put true own other number same = ap (λ o. Some (known_with o number)) (same refl)
-known_put false own other number same = refl
+known_put b own other number same = grind (arith, common_steps)
 
 -- one page more has the name
 known_more : (pages found : List PageFile) (page : PageFile) (number : ℕ) (known : Option Namesakes) → slice_get pages number ≡ Some page → IsKnown pages found known →
     IsKnown pages (found ++ page ∷ []) (Some (known_with known number))
-known_more pages [] page number None at is = at
-known_more pages [] page number (Some known) at is = absurd is
-known_more pages (first ∷ []) page number None at is = absurd is
-known_more pages (first ∷ []) page number (Some (One other)) at is = tt
-known_more pages (first ∷ []) page number (Some Several) at is = absurd is
-known_more pages (first ∷ second ∷ more) page number None at is = absurd is
-known_more pages (first ∷ second ∷ more) page number (Some (One other)) at is = absurd is
-known_more pages (first ∷ second ∷ more) page number (Some Several) at is = tt
+known_more pages found page number known at is = grind (arith, common_steps)
 
 -- whether it has it or not
 known_on : (b : Bool) (pages found : List PageFile) (page : PageFile) (number : ℕ) (known : Option Namesakes) → slice_get pages number ≡ Some page → IsKnown pages found known →
     IsKnown pages (found ++ cond b (page ∷ []) []) (cond b (Some (known_with known number)) known)
-known_on true pages found page number known at is = known_more pages found page number known at is
-known_on false pages found page number known at is = subst (λ l. IsKnown pages l known) (sym (append_nil found)) is
-  where
-    append_nil : (xs : List PageFile) → xs ++ [] ≡ xs
-    append_nil [] = refl
-    append_nil (x ∷ xs) = ap (λ l. x ∷ l) (append_nil xs)
+known_on b pages found page number known at is = grind (arith, common_steps, known_more)
 
 some_at : (pages : List PageFile) (n : ℕ) → n < length pages → (page : PageFile) × (slice_get pages n ≡ Some page)
 some_at [] n within = absurd (omega (arith, within))
@@ -115,7 +84,4 @@ names_more pages n name old new within is e =
 -- none has it
 pub none_known : (front : List ℕ) (files : SiteFiles) (places : List Place) (pages found : List PageFile) (known : Option Namesakes) → known ≡ None → IsKnown pages found known →
     None ≡ only_told front files places found
-none_known front files places pages [] known e is = refl
-none_known front files places pages (page ∷ []) None e is = absurd is
-none_known front files places pages (page ∷ []) (Some known) e is = absurd (cc)
-none_known front files places pages (page ∷ other ∷ more) known e is = refl
+none_known front files places pages found known e is = grind (arith, common_steps)

@@ -80,6 +80,7 @@ impl Checked {
 ///
 /// # Errors
 /// Out of memory.
+#[tactic(auto, using(crate::proofs::AllRows::rows_of_all, crate::proofs::AllRows::ways_of_all, crate::proofs::AllRows::texts_of_all))]
 pub fn check_site<'f, R: Threads + Sync, B: FileBytes + Sync>(
     rt: &R,
     alloc: Global,
@@ -225,10 +226,9 @@ fn unreached_files(
     input: CheckInput<'_>,
     site: Site<'_, '_>,
 ) -> Result<Vec<String>, NoMemory> {
-    if input.unreached {
-        unreached(alloc, input.front, site.pages.results, site.files)
-    } else {
-        Ok(Vec::new(alloc))
+    match input.reached {
+        Some(results) => unreached(alloc, input.front, results, site.files),
+        None => Ok(Vec::new(alloc)),
     }
 }
 

@@ -112,6 +112,7 @@ pub(crate) fn unused(
 }
 
 /// Whether the entry matches one of these anchors or pages.
+#[tactic(auto, using(crate::proofs::Fronts::any_both))]
 fn is_used(entry: &str, parts: &[&str], pages: &[&str]) -> bool
     ensures { result ≡ list_any (begins entry.now) (pointed parts.now ++ pointed pages.now) }
 {

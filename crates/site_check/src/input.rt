@@ -1,4 +1,5 @@
 //! The settings of a check.
+use crawl_pages::PageResult;
 use document_links::{LinkPlaces, PageAnchors};
 use site_files::Alias;
 
@@ -16,6 +17,6 @@ pub struct CheckInput<'a> {
     /// The positions of the links in the site's documents, in the order of their URLs. If there are none, links to missing pages are
     /// reported without locations.
     pub places: &'a [LinkPlaces],
-    /// Whether unreached files are listed.
-    pub unreached: bool,
+    /// The results of a search from the site's starts, if the files that it does not reach are listed.
+    pub reached: Option<&'a [PageResult]>,
 }

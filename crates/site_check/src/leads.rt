@@ -54,6 +54,7 @@ pub(crate) fn targets<'a>(
 }
 
 /// The pages that are not there and not known to be so.
+#[tactic(auto, using(crate::proofs::LeadsFound::missing_more))]
 fn missing_targets<'a>(
     alloc: Global,
     front: &str,
@@ -176,6 +177,7 @@ pub(crate) struct Maps<'a, 'p> {
 }
 
 /// The links of results, the first of which has this number, that lead to targets.
+#[tactic(auto, using(crate::proofs::LeadsFound::leads_more))]
 pub(crate) fn leads_from<'p>(
     alloc: Global,
     maps: Maps<'_, 'p>,
@@ -221,6 +223,7 @@ fn indices_of<'p>(indices: &LinkIndices<'p>, url: &'p CanonUrl) -> &'p [u32]
 }
 
 /// Appends those of these links, which are at these indices, that lead to targets.
+#[tactic(auto, using(crate::proofs::LeadsFound::link_more, crate::proofs::LeadsFound::link_end))]
 fn push_leads<'p>(
     numbers: &TargetNumbers<'p>,
     source: usize,

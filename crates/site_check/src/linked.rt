@@ -137,6 +137,7 @@ fn is_unfound(one: &PageResult) -> bool
 }
 
 /// Each of these results with the count that is kept for its URL.
+#[tactic(auto, using(crawl_sources::proofs::Counts::url_among))]
 fn with_counts<'a>(
     alloc: Global,
     unfound: &[&'a PageResult],
@@ -153,6 +154,7 @@ fn with_counts<'a>(
 }
 
 /// Returns the result with the number of results that link to its URL. The table must have a count for it.
+#[tactic(auto, using(crate::proofs::Counting::with_pages, crate::proofs::Counting::linked_counted))]
 fn with_count<'a>(one: &'a PageResult, tallies: &Tallies<'a>) -> Linked<'a>
     requires { IsSome (count_of tallies.now one.now.url) }
     ensures { (results : List PageResult) → ((url : List ℕ) → IsTally false results url (count_of tallies.now url)) → linked_at result ≡ linked results one.now }

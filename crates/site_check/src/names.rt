@@ -31,6 +31,7 @@ pub(crate) struct Named<'a, 'f> {
 }
 
 /// The pages of a site by their file names.
+#[tactic(auto, using(crate::proofs::Namesakes::names_more))]
 pub(crate) fn names_of<'a>(alloc: Global, files: &'a SiteFiles<'_>) -> Result<Names<'a>, NoMemory>
     ensures { IfOk result (λ names. AreNames files.now names) }
 {
@@ -115,6 +116,7 @@ pub(crate) fn same_name<'n>(
 }
 
 /// The only page with this name, unless one of the places is in its file.
+#[tactic(auto, using(crate::proofs::Namesakes::none_known))]
 fn only_told<'n>(
     alloc: Global,
     front: &str,
@@ -211,6 +213,7 @@ fn path_of(url: &str) -> &str
 }
 
 /// What follows the last slash, or all.
+#[tactic(auto, using(crate::proofs::Namesakes::name_first, crate::proofs::Namesakes::name_more, crate::proofs::Namesakes::name_on))]
 fn behind_slashes(path: &[u8]) -> &[u8]
     ensures { result.now ≡ behind_slashes path.now }
 {

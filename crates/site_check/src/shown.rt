@@ -10,6 +10,7 @@ pub(crate) fn shown<'a>(front: &str, url: &'a str) -> &'a str
 }
 
 /// Returns the URL without the front, or unchanged if it does not begin with that.
+#[tactic(auto, using(crate::proofs::Fronts::cut_front, crate::proofs::Fronts::no_front))]
 fn without<'a>(front: &str, url: &'a str) -> &'a str
     ensures { result.now ≡ (if begins front.now url.now then drop (length front.now) url.now else url.now) }
 {

@@ -54,6 +54,7 @@ impl<'a, 'p> Part<'a, 'p> {
 }
 
 /// The links of results that lead to targets, by threads if there may be four.
+#[tactic(auto, using(crate::proofs::LeadsFound::no_leads, crate::proofs::LeadsFound::none_at))]
 pub(crate) fn leads_by<'p, R: Threads + Sync>(
     rt: &R,
     alloc: Global,

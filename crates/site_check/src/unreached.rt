@@ -1,10 +1,10 @@
-//! Files that no link leads to.
+//! Files that a search does not reach.
 use crate::shown::shown;
 use crawl_pages::{NoMemory, PageResult};
 use site_files::SiteFiles;
 use std::alloc::Global;
 
-/// The URLs of the files of which no page was found, one for each file.
+/// The URLs of the files of which a search found no page, one for each file.
 pub(crate) fn unreached(
     alloc: Global,
     front: &str,

@@ -242,6 +242,8 @@ impl fmt::Display for SiteText<'_> {
             }
             SiteFault::NoFiles => write!(f, "{file}: no files"),
             SiteFault::BadSeed => f.write_str("--seed: not a URL below BASE"),
+            SiteFault::NoStart(link) => write!(f, "{link}: no such page to start at"),
+            SiteFault::NoDocuments => write!(f, "{file}: no HTML documents"),
             SiteFault::TooLarge => write!(f, "{file}: more than 1073741824 bytes of links"),
             SiteFault::Crawl(failure) => CrawlText(failure.error).fmt(f),
             SiteFault::NoMemory => f.write_str("out of memory"),

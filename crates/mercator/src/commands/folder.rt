@@ -11,7 +11,7 @@ ghost use Rattle.mercator_site.specs.Faults.{IsSiteIncomplete};
 use crate::commands::fault::Fault;
 use crate::commands::source::read_named;
 use crate::commands::writing::{begin, end, end_by_web};
-use mercator_site::{CheckOptions, Notice, SiteOptions, report_of_folder, web_of_folder};
+use mercator_site::{CheckOptions, Note, SiteOptions, report_of_folder, web_of_folder};
 use shown_text::shown;
 use std::alloc::{AllocError, Global};
 use std::fs::Files;
@@ -19,7 +19,7 @@ use std::io::Write;
 use std::sync::Wait;
 use std::thread::Threads;
 
-/// Prints the saved web of a folder, and the notices on `err`.
+/// Prints the saved web of a folder, and the notes on `err`.
 ///
 /// # Errors
 /// `Site`, `CannotWrite`, `NoMemory`.
@@ -34,13 +34,13 @@ pub fn run_site<R: Files<File: Send, Dir: Send> + Threads + Sync, O: Write, E: W
     ensures fault { (input : Option (List ℕ)) → IfErr result (λ fault. EndsBy (asks.Site options.now) input fault (out.new ≡ out.old)) }
     ensures plain { IfErr result (λ fault. status_of_fault fault ≡ 1) }
 {
-    let mut notices = Vec::new(alloc);
-    let web = web_of_folder(rt, alloc, options, &mut notices);
-    print_notices(alloc, err, &notices)?;
+    let mut notes = Vec::new(alloc);
+    let web = web_of_folder(rt, alloc, options, &mut notes);
+    print_notes(alloc, err, &notes)?;
     end_by_web(out, &web?)
 }
 
-/// Checks a folder and prints the report, and the notices on `err`. Returns whether something is broken.
+/// Checks a folder and prints the report, and the notes on `err`. Returns whether something is broken.
 ///
 /// # Errors
 /// `CannotReadIgnores`, `Site`, `Crawl` if the crawl is incomplete, `CannotWrite`, `NoMemory`.
@@ -58,9 +58,9 @@ pub fn run_check<R: Files<File: Send, Dir: Send> + Threads + Wait + Sync, O: Wri
     ensures no_log { IfErr result (λ fault. status_of_fault fault ≡ 5 → ⊥) }
 {
     let list = read_ignore_list(rt, alloc, ignores)?;
-    let mut notices = Vec::new(alloc);
-    let report = report_of_folder(rt, alloc, options, list.as_slice(), &mut notices);
-    print_notices(alloc, err, &notices)?;
+    let mut notes = Vec::new(alloc);
+    let report = report_of_folder(rt, alloc, options, list.as_slice(), &mut notes);
+    print_notes(alloc, err, &notes)?;
     let report = report?;
     end(out, report.text.as_slice())?;
     Ok(report.is_broken)
@@ -85,14 +85,12 @@ fn read_ignore_list<R: Files>(
     }
 }
 
-/// Prints a line for each notice. What `err` does not accept of it is dropped.
-fn print_notices<E: Write>(
-    alloc: Global,
-    err: &mut E,
-    notices: &[Notice],
-) -> Result<(), AllocError> {
-    for notice in notices {
-        let line = note_line(alloc, notice.place.as_str(), notice.words.as_str())?;
+/// Prints a line for each note. What `err` does not accept of it is dropped.
+fn print_notes<E: Write>(alloc: Global, err: &mut E, notes: &[Note]) -> Result<(), AllocError> {
+    for note in notes {
+        let left = note.left;
+        let words = format!(in alloc; "{left}")?;
+        let line = note_line(alloc, note.place.as_str(), words.as_str())?;
         begin(err, line.as_bytes());
     }
     Ok(())

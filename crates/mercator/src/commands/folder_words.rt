@@ -92,6 +92,10 @@ const CHECK_FLAGS: &[Flag] = &[
         help: "Also list the files that cannot be reached by following links",
     },
     Flag {
+        name: "reachable",
+        help: "Check only what can be reached by following links, not every HTML document",
+    },
+    Flag {
         name: "external",
         help: "Also list links to other sites, which are not checked",
     },
@@ -157,20 +161,23 @@ const FOLDER_FLAGS: &[Flag] = &[
     },
 ];
 
-/// The option `--seed`, which may be repeated.
+/// The option `--seed`, which may be repeated. Its value is not empty.
 fn seed<'a>(alloc: Global) -> Arg<'a> {
     option(
         alloc,
         "seed",
         "LINK",
-        "Start at LINK instead of the top of the folder; repeatable",
+        "Follow links from LINK instead of the top of the folder; repeatable",
     )
+    .value_parser(ValueParser::NonEmptyString)
     .action(ArgAction::Append)
 }
 
-/// The argument FOLDER, which is required.
+/// The argument FOLDER, which is required and not empty.
 fn folder<'a>(alloc: Global, help: &'a str) -> Arg<'a> {
-    word(alloc, "folder", "FOLDER", help).required(true)
+    word(alloc, "folder", "FOLDER", help)
+        .value_parser(ValueParser::NonEmptyString)
+        .required(true)
 }
 
 /// The argument BASE, which is optional unless the caller requires it.
@@ -211,6 +218,7 @@ pub fn check_options(
         anchors: !found.get_flag("no-anchors"),
         report: report_options(found),
         seeds: values_of(alloc, found, "seed")?,
+        reachable: found.get_flag("reachable"),
     })
 }
 

@@ -13,7 +13,6 @@ use Rattle.mercator_site.specs.Checks.{AreOthersListed, IsTopCrawl}
 use Rattle.mercator_site.specs.External.{row_of}
 use Rattle.mercator_site.specs.Own.{own_of}
 use Rattle.mercator_site.proofs.TopCrawls.{same_url}
-use Rattle.mercator_site.specs.Faults.{IsTopIncomplete}
 use Rattle.mercator_site.proofs.check.report_of_pages.Goals as goal
 
 pub returns-clause-named : goal.returns-clause-named
@@ -24,8 +23,8 @@ returns-clause-named g c = λ web source.
     let external = c.args.settings.report.external in
     let all = c.pages.result.now in
     let pages = c.own_results-results.result.now in
-    let C : List PageResult → Type 0 = λ ps. IsTopCrawl base web links ps in
-    let crawl = subst C (sym c.pages.ensures) (c.in_ok-crawled.ensures.found base web canon source) in
+    let C : List PageResult → Type 0 = λ ps. IsTopCrawl base web c.args.settings.reachable links ps in
+    let crawl = subst C (sym c.pages.ensures) (c.in_ok-crawls.ensures.found base web canon source) in
     let same_top : c.in_ok-top.top ≡ crawl.url = same_url _ _ _ canon crawl.canon in
     let others = option_map (λ (urls : Vec External Global). map row_of urls.items) c.in_ok-others.others in
     let D : List ℕ → Type 0 = λ o. AreOthersListed external o pages others in
@@ -71,9 +70,9 @@ returns-clause-named g c = λ web source.
       base = report.base;
     }
 
-pub returns-in_err-crawled-clause-incomplete : goal.returns-in_err-crawled-clause-incomplete
-returns-in_err-crawled-clause-incomplete g c =
-    let r = c.from_residual-in_err-crawled in
+pub returns-in_err-crawls-clause-incomplete : goal.returns-in_err-crawls-clause-incomplete
+returns-in_err-crawls-clause-incomplete g c =
+    let r = c.from_residual-in_err-crawls in
     let same = err_from_is_err_and r.result r.ensures.1 in
     rw (same.1, same.2) (λ web source two.
-    c.in_err-crawled.ensures.incomplete (string_bytes c.args.files.now.site.top) web (ap canonical (sym c.top.ensures) ∙ c.in_ok-top.ensures.canon) source two)
+    c.in_err-crawls.ensures.incomplete (string_bytes c.args.files.now.site.top) web (ap canonical (sym c.top.ensures) ∙ c.in_ok-top.ensures.canon) source two)

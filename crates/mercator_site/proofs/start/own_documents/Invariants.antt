@@ -1,0 +1,5 @@
+use Rattle.mercator_site.specs.Own.{AreOwn}
+use Rattle.mercator_site.proofs.start.own_documents.Given as goal
+
+abbrev pub invariant-loop-number : goal.invariant-loop-number
+invariant-loop-number l = AreOwn l.top l.urls.items
