@@ -1,19 +1,7 @@
 -- A URL is accepted into the subqueue that its host key is assigned to.
-use Rattle.std.proofs.Common.{◌≡◌, ℕ, zero, suc, ◌<◌, ◌≤◌, arith, List, [], ◌∷◌, slice_get, Option, Some, None, Result, Ok, IfOk, refl, ◌∙◌}
-use Rattle.std.specs.List.{cons_option}
-use Rattle.crawl_core.specs.GateSide.{holds}
-use Rattle.crawl_keys.specs.Assignment.{subqueue_of}
+use Rattle.crawl_session.proofs.Prelude.{◌≡◌, ℕ, zero, suc, ◌<◌, ◌≤◌, arith, List, [], ◌∷◌, slice_get, Option, Some, None, Result, Ok, IfOk, refl, ◌∙◌, cons_option, holds, subqueue_of, Request, Offer, RequestError, asked, accepts, accepted_of, Frontier, request_for, request_of, request_in, answered, line_exchange, Settings}
 use Rattle.text_lines.specs.Lines.{text_of}
 use Rattle.text_lines.specs.declared.lines.LineError.{LineError}
-use Rattle.crawl_session.specs.declared.request.Request.{Request}
-use Rattle.crawl_session.specs.declared.request.Request.TheVariants.{Offer}
-use Rattle.crawl_session.specs.declared.request.RequestError.{RequestError}
-use Rattle.crawl_session.specs.Clients.{asked, accepts, accepted_of}
-use Rattle.crawl_session.specs.Frontiers.{Frontier}
-use Rattle.crawl_session.specs.Parts.{request_for}
-use Rattle.crawl_session.specs.Requests.{request_of, request_in}
-use Rattle.crawl_session.specs.Sessions.{answered, line_exchange}
-use Rattle.crawl_session.specs.Settings.{Settings}
 use Rattle.crawl_session.proofs.Placed.{OffersWhere, for_keeps}
 
 -- ---- what a request names

@@ -1,18 +1,7 @@
 -- The text of the lines that are needed has these lines.
+use Rattle.crawl_session.proofs.Prelude.{common_steps, nat_tests, All, slice_split, onto_first, lines, lines_of_parts, strip_carriage_return, All-nil, All-cons, All-head, All-tail, slice_split-cons_yes, slice_split-cons_no, Had, having, is_needed, needed, log_line, log_text, IsUnfinished, Frontier, request_for, line_exchange, Settings}
 use Rattle.std.proofs.Common.{◌≡◌, ℕ, ◌-◌, ◌==◌, Bool, true, false, if◌then◌else◌, List, [], ◌∷◌, ◌++◌, length, take, slice_index, refl, sym, ap, ◌∙◌, arith, append_assoc, length-append}
-use Rattle.std.proofs.lemmas.Grind.{common_steps}
-use Rattle.std.proofs.lemmas.Bool.Decides.{nat_tests}
-use Rattle.std.specs.List.{All, slice_split, onto_first}
-use Rattle.std.specs.Str.Lines.{lines, lines_of_parts, strip_carriage_return}
-use Rattle.std.proofs.lemmas.List.Elements.{All-nil, All-cons, All-head, All-tail}
-use Rattle.std.proofs.lemmas.List.Splits.{slice_split-cons_yes, slice_split-cons_no}
 use Rattle.std.proofs.Math.Seq.{get_or-append_seam, take-append_seam}
-use Rattle.crawl_session.specs.Compacting.{Had, having, is_needed, needed, log_line, log_text}
-use Rattle.crawl_session.specs.Input.{IsUnfinished}
-use Rattle.crawl_session.specs.Frontiers.{Frontier}
-use Rattle.crawl_session.specs.Parts.{request_for}
-use Rattle.crawl_session.specs.Sessions.{line_exchange}
-use Rattle.crawl_session.specs.Settings.{Settings}
 use Rattle.crawl_session.proofs.Cuts.{IsOther, is_lf, line_before}
 
 -- ---- a line has no LF

@@ -1,13 +1,6 @@
 -- Lines that were given to a session, one after another, and the text of those that are needed.
-use Rattle.std.proofs.Common.{◌≡◌, ℕ, Bool, true, false, if◌then◌else◌, List, [], ◌∷◌, ◌++◌, Option, refl, sym, ap, ◌∙◌, append_assoc, append-nil, arith}
-use Rattle.std.specs.Io.KnownBytes.{Appends}
-use Rattle.std.proofs.KnownBytes.{Appends-nil, Appends-trans}
-use Rattle.std.proofs.lemmas.Grind.{flat_map-append}
+use Rattle.crawl_session.proofs.Prelude.{◌≡◌, ℕ, Bool, true, false, if◌then◌else◌, List, [], ◌∷◌, ◌++◌, Option, refl, sym, ap, ◌∙◌, append_assoc, append-nil, arith, Appends, Appends-nil, Appends-trans, flat_map-append, Frontier, request_for, line_exchange, state_after, Settings, SessionView}
 use Rattle.crawl_session.specs.Compacting.{Had, having, is_needed, needed, had_after, log_line, log_text, Gives, Compacts}
-use Rattle.crawl_session.specs.Frontiers.{Frontier}
-use Rattle.crawl_session.specs.Parts.{request_for}
-use Rattle.crawl_session.specs.Sessions.{line_exchange, state_after}
-use Rattle.crawl_session.specs.Settings.{Settings, SessionView}
 use Rattle.crawl_session.proofs.Lines.{state_after-append}
 
 pub had_after-append : (settings : Settings) (had : Had) (state : Frontier) (front back : List (List ℕ)) → had_after settings had state (front ++ back) ≡ had_after settings (had_after settings had state front) (state_after settings state front) back

@@ -1,39 +1,11 @@
 -- The lines of a log that are needed bring a new session to the same state, except for the gate words that senders remember.
-use Rattle.std.proofs.Common.{◌≡◌, ℕ, suc, arith, ◌<◌, ◌≤◌, Bool, true, false, ◌||◌, if◌then◌else◌, List, [], ◌∷◌, ◌++◌, length, get_or, slice_get, Option, Some, None, Result, Ok, Err, IfOk, refl, sym, ap, subst, ◌∙◌, true≢false}
-use Rattle.std.specs.BTreeMap.{is_at}
-use Rattle.std.specs.Ordering.{nat_cmp}
-use Rattle.std.specs.Map.{remove_entry}
-use Rattle.std.specs.Str.Lines.{lines}
-use Rattle.std.proofs.lemmas.Option.{slice_get-get_or}
+use Rattle.crawl_session.proofs.Prelude.{◌≡◌, ℕ, suc, arith, ◌<◌, ◌≤◌, Bool, true, false, ◌||◌, if◌then◌else◌, List, [], ◌∷◌, ◌++◌, length, get_or, slice_get, Option, Some, None, Result, Ok, Err, IfOk, refl, sym, ap, subst, ◌∙◌, true≢false, is_at, nat_cmp, remove_entry, lines, slice_get-get_or, Event, Reply, GateSide, GateTurn, back, close, end_seeds, enter, holds, Run, in_fetch, can_hand_over, State, unfinished_in, Turn, turn, admit_to, done_with, refused, take_from, Subqueue, empty_subqueue, Sound, gate_effect, Answer, Told, Counted, Unasked, Request, Offer, Next, Again, Later, Done, EndSeeds, Stats, RequestError, Had, had_none, having, says_closed, changes, asks_again, is_needed, needed, log_text, Deferred, Exchange, Outcome, by_machine, client, after, deferring, deferring_taken, ends, admitting, entering, exchange, finishing, handing, is_count, is_due, is_entered, is_seen, is_empty, offering, put_back, replies, retaking, seeds_ended, taking, taking_again, taking_next, request_for, Frontier, deferrals_at, start, with_deferrals, with_words, answered, answers, line_exchange, state_after, Settings}
 use Rattle.std.proofs.lemmas.Bool.{cond_both}
-use Rattle.crawl_core.specs.declared.event.Event.{Event}
 use Rattle.crawl_core.specs.declared.event.Event.TheVariants as event
-use Rattle.crawl_core.specs.declared.reply.Reply.{Reply}
 use Rattle.crawl_core.specs.declared.reply.Reply.TheVariants as told
 use Rattle.crawl_core.specs.declared.reply.Refusal.TheVariants as why
-use Rattle.crawl_core.specs.GateSide.{GateSide, GateTurn, back, close, end_seeds, enter, holds}
-use Rattle.crawl_core.specs.Run.{Run}
-use Rattle.crawl_core.specs.Fetching.{in_fetch}
-use Rattle.crawl_core.specs.Handing.{can_hand_over}
-use Rattle.crawl_core.specs.State.{State, unfinished_in}
-use Rattle.crawl_core.specs.Step.{Turn, turn, admit_to, done_with, refused, take_from}
-use Rattle.crawl_core.specs.Subqueue.{Subqueue, empty_subqueue}
-use Rattle.crawl_core.proofs.Sound.{Sound, gate_effect}
-use Rattle.crawl_session.specs.declared.answer.Answer.{Answer}
-use Rattle.crawl_session.specs.declared.answer.Answer.TheVariants.{Told, Counted, Unasked}
-use Rattle.crawl_session.specs.declared.request.Request.{Request}
-use Rattle.crawl_session.specs.declared.request.Request.TheVariants.{Offer, Next, Again, Later, Done, EndSeeds, Stats}
-use Rattle.crawl_session.specs.declared.request.RequestError.{RequestError}
-use Rattle.crawl_session.specs.Compacting.{Had, had_none, having, says_closed, changes, asks_again, is_needed, needed, log_text}
-use Rattle.crawl_session.specs.declared.deferrals.Deferred.{Deferred}
 use Rattle.crawl_session.specs.Exchanges as exchanges
-use Rattle.crawl_session.specs.Exchanges.{Exchange, Outcome, by_machine, client, after, deferring, deferring_taken, ends, admitting, entering, exchange, finishing, handing, is_count, is_due, is_entered, is_seen, is_empty, offering, put_back, replies, retaking, seeds_ended, taking, taking_again, taking_next}
-use Rattle.crawl_session.specs.Parts.{request_for}
-use Rattle.crawl_session.specs.Frontiers.{Frontier, deferrals_at, start, with_deferrals}
-use Rattle.crawl_session.specs.Serving.{with_words}
 use Rattle.crawl_session.specs.Steps as machine
-use Rattle.crawl_session.specs.Sessions.{answered, answers, line_exchange, state_after}
-use Rattle.crawl_session.specs.Settings.{Settings}
 use Rattle.crawl_session.proofs.Choices.{either_way}
 use Rattle.crawl_session.proofs.Assigned.{IsAssigned, as_asked, assigns_for, assigned_below}
 use Rattle.crawl_session.proofs.Closings.{answered_closes}

@@ -1,25 +1,5 @@
 -- What waited in a queue, followed by what joined it, is what was taken from it, followed by what waits.
-use Rattle.std.proofs.lemmas.Grind.{common_steps}
-use Rattle.std.proofs.Common.{◌≡◌, ℕ, zero, suc, ◌+◌, Bool, true, cond, ◌||◌, if◌then◌else◌, is_some, List, [], ◌∷◌, ◌++◌, length, get_or, replicate, slice_get, Option, Some, None, Result, refl, sym, ap, subst, ◌∙◌, arith, append-nil}
-use Rattle.std.specs.List.{cons_option}
-use Rattle.std.specs.Option.{option_or, option_to_list}
-use Rattle.std.proofs.lemmas.List.{length-replicate}
-use Rattle.std.proofs.lemmas.List.Sums.{sum_by-cons}
-use Rattle.crawl_core.specs.declared.event.Event.{Event}
-use Rattle.crawl_core.specs.declared.reply.Reply.{Reply}
-use Rattle.crawl_core.specs.Flags.{one_if}
-use Rattle.crawl_core.specs.Run.{Run}
-use Rattle.crawl_core.specs.State.{State}
-use Rattle.crawl_core.specs.Subqueue.{Subqueue, empty_subqueue}
-use Rattle.crawl_core.proofs.Sound.{Sound, gate_effect}
-use Rattle.crawl_session.specs.declared.answer.Answer.{Answer}
-use Rattle.crawl_session.specs.declared.request.Request.{Request}
-use Rattle.crawl_session.specs.declared.request.RequestError.{RequestError}
-use Rattle.crawl_session.specs.Clients.{Asked, accepted_of, accepts, asked, busy_after, done_of, finishes, joined_from, joins, put_back_of, puts_back, taken_of, takes}
-use Rattle.crawl_session.specs.Frontiers.{Deferrals, Frontier, deferrals_at, no_deferrals, start}
-use Rattle.crawl_session.specs.Parts.{request_for}
-use Rattle.crawl_session.specs.Sessions.{answered, line_exchange, state_after}
-use Rattle.crawl_session.specs.Settings.{Settings}
+use Rattle.crawl_session.proofs.Prelude.{common_steps, ◌≡◌, ℕ, zero, suc, ◌+◌, Bool, true, cond, ◌||◌, if◌then◌else◌, is_some, List, [], ◌∷◌, ◌++◌, length, get_or, replicate, slice_get, Option, Some, None, Result, refl, sym, ap, subst, ◌∙◌, arith, append-nil, cons_option, option_or, option_to_list, length-replicate, sum_by-cons, Event, Reply, one_if, Run, State, Subqueue, empty_subqueue, Sound, gate_effect, Answer, Request, RequestError, Asked, accepted_of, accepts, asked, busy_after, done_of, finishes, joined_from, joins, put_back_of, puts_back, taken_of, takes, Deferrals, Frontier, deferrals_at, no_deferrals, start, request_for, answered, line_exchange, state_after, Settings}
 use Rattle.crawl_session.proofs.Flows.{answered_passes}
 use Rattle.crawl_session.proofs.Joined.{busy_at, line_at}
 use Rattle.crawl_session.proofs.Queues.{Settled, busy_of, queue_at}

@@ -1,18 +1,7 @@
 -- The numbers of a queue, derived from the answers before.
-use Rattle.std.proofs.Common.{◌≡◌, ℕ, ◌+◌, ◌-◌, true, false, is_some, List, [], ◌∷◌, length, map, take, drop, Option, Some, None, sym, ap, subst, ◌∙◌, arith}
+use Rattle.crawl_session.proofs.Prelude.{◌≡◌, ℕ, ◌+◌, ◌-◌, true, false, is_some, List, [], ◌∷◌, length, map, take, drop, Option, Some, None, sym, ap, subst, ◌∙◌, arith, one_if, progress, accepted_in, Subqueue, waiting, state_of_history, start_sound, Deferred, IsTold, accepted_of, asked, joined_from, joined_of, put_back_of, taken_of, deferrals_at, start, history_of, state_after, Settings}
 use Rattle.std.proofs.lemmas.List.{length-append, length-drop, length-map, take-append-drop}
-use Rattle.crawl_core.specs.Flags.{one_if}
-use Rattle.crawl_core.specs.Handing.{progress}
-use Rattle.crawl_core.specs.History.{accepted_in}
-use Rattle.crawl_core.specs.Subqueue.{Subqueue, waiting}
-use Rattle.crawl_core.proofs.RunLaws.{state_of_history}
-use Rattle.crawl_core.proofs.RunParts.{start_sound}
-use Rattle.crawl_session.specs.declared.deferrals.Deferred.{Deferred}
 use Rattle.crawl_session.specs.declared.stats.Stats.{Stats}
-use Rattle.crawl_session.specs.Clients.{IsTold, accepted_of, asked, joined_from, joined_of, put_back_of, taken_of}
-use Rattle.crawl_session.specs.Frontiers.{deferrals_at, start}
-use Rattle.crawl_session.specs.Sessions.{history_of, state_after}
-use Rattle.crawl_session.specs.Settings.{Settings}
 use Rattle.crawl_session.specs.Stats.{stats_at, stats_of}
 use Rattle.crawl_session.proofs.Conserved.{counted_joins, counted_takes, line_of, settled_after_lines, starts_free, starts_settled}
 use Rattle.crawl_session.proofs.InLine.{in_line}

@@ -1,23 +1,7 @@
 -- Lines of bytes that are cut in two, and of bytes after an unfinished line that was cut short.
-use Rattle.std.proofs.Common.{◌≡◌, ◌⊎◌, ℕ, ◌+◌, ◌<◌, ◌==◌, inl, inr, Bool, true, false, List, [], ◌∷◌, ◌++◌, length, take, map, nat_lt, slice_index, Option, Result, Err, refl, sym, ap, subst, ◌∙◌, arith, append-nil, append_assoc, eqb-true, ltb-true, ltb-false, lt-ltb, ne_eqb}
-use Rattle.std.proofs.lemmas.Grind.{common_steps}
-use Rattle.std.specs.List.{slice_split}
-use Rattle.std.specs.Str.{bytes_eq}
-use Rattle.std.proofs.lemmas.Slice.Eq.{bytes_eq-Decides}
-use Rattle.std.specs.Str.Lines.{lines, lines_of_parts, strip_carriage_return}
-use Rattle.std.proofs.lemmas.List.{length-append, length-take-le, take_all}
-use Rattle.std.proofs.lemmas.List.Elements.{All-nil, All-cons, All-append, All-take}
-use Rattle.std.proofs.lemmas.List.Splits.{slice_split_none, slice_split_at, length-slice_split}
-use Rattle.crawl_limits.specs.Limits.{line_limit}
+use Rattle.crawl_session.proofs.Prelude.{◌≡◌, ◌⊎◌, ℕ, ◌+◌, ◌<◌, ◌==◌, inl, inr, Bool, true, false, List, [], ◌∷◌, ◌++◌, length, take, map, nat_lt, slice_index, Option, Result, Err, refl, sym, ap, subst, ◌∙◌, arith, append-nil, append_assoc, eqb-true, ltb-true, ltb-false, lt-ltb, ne_eqb, common_steps, slice_split, bytes_eq, bytes_eq-Decides, lines, lines_of_parts, strip_carriage_return, length-append, length-take-le, take_all, All-nil, All-cons, All-append, All-take, slice_split_none, slice_split_at, length-slice_split, line_limit, Request, RequestError, held_limit, IsUnfinished, AreWhole, asked_of, request_for, request_of, Part, Settings}
 use Rattle.text_lines.proofs.CutLines.{lines_cut}
-use Rattle.crawl_session.specs.declared.request.Request.{Request}
-use Rattle.crawl_session.specs.declared.request.RequestError.{RequestError}
 use Rattle.crawl_session.specs.declared.request.RequestError.TheVariants.{LineTooLong}
-use Rattle.crawl_session.specs.Input.{held_limit, IsUnfinished, AreWhole}
-use Rattle.crawl_session.specs.Parts.{asked_of, request_for}
-use Rattle.crawl_session.specs.Requests.{request_of}
-use Rattle.crawl_session.specs.declared.part.Part.{Part}
-use Rattle.crawl_session.specs.Settings.{Settings}
 
 abbrev pub is_lf : ℕ → Bool
 is_lf b = b == 10

@@ -1,32 +1,10 @@
 -- If the URLs of a queue are taken one after another, they are all those that wait in it, in order.
-use Rattle.std.proofs.Common.{◌≡◌, ℕ, zero, suc, ◌+◌, ◌-◌, ◌≤◌, ◌<◌, Bool, true, false, ◌||◌, if◌then◌else◌, is_some, nat_eq, List, [], ◌++◌, length, map, Option, Some, None, Ok, refl, sym, ap, ◌∙◌, arith, append_assoc, append-nil, true≢false}
-use Rattle.std.specs.Option.{option_map, option_or, option_to_list}
-use Rattle.std.proofs.Math.ListN.{get_or-eq_default}
-use Rattle.std.proofs.lemmas.Grind.{common_steps}
-use Rattle.std.proofs.lemmas.List.{length-append, length-drop, length-map, map-append, nil_from_length}
+use Rattle.crawl_session.proofs.Prelude.{◌≡◌, ℕ, zero, suc, ◌+◌, ◌-◌, ◌≤◌, ◌<◌, Bool, true, false, ◌||◌, if◌then◌else◌, is_some, nat_eq, List, [], ◌++◌, length, map, Option, Some, None, Ok, refl, sym, ap, ◌∙◌, arith, append_assoc, append-nil, true≢false, option_map, option_or, option_to_list, get_or-eq_default, common_steps, length-append, length-drop, length-map, map-append, nil_from_length, progress, Message, Turn, refused, take_from, take_oldest, Subqueue, oldest, waiting, cond_both, eqb_same, Sound, Answer, Told, Deferred, Row, Request, Next, Done, finishes, takes, Outcome, after, by_machine, ends, exchange, is_due, is_empty, retaking, stats_answer, taking, taking_next, Frontier, deferrals_at, Listed, pending_at, taken_each, url_row, waiting_at, waiting_in, stats_of}
 use Rattle.crawl_core.specs.declared.event.Event.TheVariants as event
 use Rattle.crawl_core.specs.declared.reply.Reply.TheVariants as told
 use Rattle.crawl_core.specs.declared.reply.Refusal.TheVariants as why
-use Rattle.crawl_core.specs.Handing.{progress}
-use Rattle.crawl_core.specs.Messages.{Message}
-use Rattle.crawl_core.specs.Step.{Turn, refused, take_from, take_oldest}
-use Rattle.crawl_core.specs.Subqueue.{Subqueue, oldest, waiting}
-use Rattle.crawl_core.proofs.Effects.{cond_both}
-use Rattle.crawl_core.proofs.RunParts.{eqb_same}
-use Rattle.crawl_core.proofs.Sound.{Sound}
-use Rattle.crawl_session.specs.declared.answer.Answer.{Answer}
-use Rattle.crawl_session.specs.declared.answer.Answer.TheVariants.{Told}
-use Rattle.crawl_session.specs.declared.deferrals.Deferred.{Deferred}
 use Rattle.crawl_session.specs.declared.list.Kind.TheVariants.{Pending}
-use Rattle.crawl_session.specs.declared.list.Row.{Row}
 use Rattle.crawl_session.specs.declared.list.Row.TheVariants as variant
-use Rattle.crawl_session.specs.declared.request.Request.{Request}
-use Rattle.crawl_session.specs.declared.request.Request.TheVariants.{Next, Done}
-use Rattle.crawl_session.specs.Clients.{finishes, takes}
-use Rattle.crawl_session.specs.Exchanges.{Outcome, after, by_machine, ends, exchange, is_due, is_empty, retaking, stats_answer, taking, taking_next}
-use Rattle.crawl_session.specs.Frontiers.{Frontier, deferrals_at}
-use Rattle.crawl_session.specs.Listing.{Listed, pending_at, taken_each, url_row, waiting_at, waiting_in}
-use Rattle.crawl_session.specs.Stats.{stats_of}
 use Rattle.crawl_session.proofs.Conserved.{answered_sound, line_of}
 use Rattle.crawl_session.proofs.Counting.{length_in_line}
 use Rattle.crawl_session.proofs.Flows.{answered_passes, fetches_busy, past}

@@ -1,20 +1,6 @@
 -- A compacted log gives the same `elsewhere` answers as the whole log, each URL once.
-use Rattle.std.proofs.Common.{◌≡◌, Bool, true, false, not, ◌||◌, if◌then◌else◌, ℕ, List, [], ◌∷◌, ◌++◌, Option, Some, None, Result, Ok, Err, refl, ap, ◌∙◌, arith}
-use Rattle.std.specs.List.{cons_option, filter_map}
-use Rattle.std.specs.Str.Lines.{lines}
-use Rattle.crawl_core.specs.Kept.{has_text}
-use Rattle.crawl_session.specs.declared.answer.Answer.{Answer}
-use Rattle.crawl_session.specs.declared.answer.Answer.TheVariants.{Unasked}
-use Rattle.crawl_session.specs.declared.request.Request.{Request}
-use Rattle.crawl_session.specs.declared.request.RequestError.{RequestError}
+use Rattle.crawl_session.proofs.Prelude.{◌≡◌, Bool, true, false, not, ◌||◌, if◌then◌else◌, ℕ, List, [], ◌∷◌, ◌++◌, Option, Some, None, Result, Ok, Err, refl, ap, ◌∙◌, arith, cons_option, filter_map, lines, has_text, Answer, Unasked, Request, RequestError, asked, elsewhere_of, first_of_each, told_elsewhere, Had, had_none, having, is_needed, log_text, needed, says_closed, with_told, Outcome, exchange, Frontier, start, request_for, answered, line_exchange, Settings}
 use Rattle.crawl_session.specs.declared.request.RequestError.TheVariants as wrong
-use Rattle.crawl_session.specs.Clients.{asked, elsewhere_of, first_of_each, told_elsewhere}
-use Rattle.crawl_session.specs.Compacting.{Had, had_none, having, is_needed, log_text, needed, says_closed, with_told}
-use Rattle.crawl_session.specs.Exchanges.{Outcome, exchange}
-use Rattle.crawl_session.specs.Frontiers.{Frontier, start}
-use Rattle.crawl_session.specs.Parts.{request_for}
-use Rattle.crawl_session.specs.Sessions.{answered, line_exchange}
-use Rattle.crawl_session.specs.Settings.{Settings}
 use Rattle.crawl_session.proofs.CompactText.{needed_stands}
 
 -- ---- the `elsewhere` answers follow from what the lines request

@@ -1,32 +1,6 @@
 -- If an answer says that the frontier is closed, all URLs are done, and no URL is accepted or taken afterwards.
-use Rattle.std.proofs.Common.{◌≡◌, ℕ, ◌+◌, ◌≤◌, ◌<◌, Bool, true, false, cond, is_some, List, [], ◌∷◌, ◌++◌, length, map, Option, Some, None, Result, refl, sym, ap, subst, ◌∙◌, arith, append-nil}
-use Rattle.std.specs.List.{cons_option, sum_by}
-use Rattle.std.specs.Option.{option_to_list}
-use Rattle.std.proofs.Math.ListN.{drop_of_length-le, get_or-eq_default}
-use Rattle.std.proofs.lemmas.List.Sums.{sum_by-cons, sum_by-set}
-use Rattle.std.proofs.lemmas.Option.{slice_get_within}
-use Rattle.crawl_core.specs.declared.event.Event.{Event}
-use Rattle.crawl_core.specs.declared.reply.Reply.{Reply}
+use Rattle.crawl_session.proofs.Prelude.{◌≡◌, ℕ, ◌+◌, ◌≤◌, ◌<◌, Bool, true, false, cond, is_some, List, [], ◌∷◌, ◌++◌, length, map, Option, Some, None, Result, refl, sym, ap, subst, ◌∙◌, arith, append-nil, cons_option, sum_by, option_to_list, drop_of_length-le, get_or-eq_default, sum_by-cons, sum_by-set, slice_get_within, Event, Reply, one_if, accepted_by, accepted_in, is_quiet, Message, Run, State, count_of, Subqueue, nat_tests, eqb_same, start_sound, Sound, gate_effect, none_unfinished, Answer, Told, Deferred, Request, RequestError, AllDone, accepted_of, asked, busy_in, done_of, joined_from, joined_of, joins, put_back_of, taken_of, takes, times, Deferrals, Frontier, deferrals_at, no_deferrals, start, request_for, history_of, line_exchange, state_after, Settings, nil_from_length}
 use Rattle.crawl_core.specs.declared.reply.Reply.TheVariants as told
-use Rattle.crawl_core.specs.Flags.{one_if}
-use Rattle.crawl_core.specs.History.{accepted_by, accepted_in, is_quiet}
-use Rattle.crawl_core.specs.Messages.{Message}
-use Rattle.crawl_core.specs.Run.{Run}
-use Rattle.crawl_core.specs.State.{State, count_of}
-use Rattle.crawl_core.specs.Subqueue.{Subqueue}
-use Rattle.std.proofs.lemmas.Bool.Decides.{nat_tests}
-use Rattle.crawl_core.proofs.RunParts.{eqb_same, start_sound}
-use Rattle.crawl_core.proofs.Sound.{Sound, gate_effect, none_unfinished}
-use Rattle.crawl_session.specs.declared.answer.Answer.{Answer}
-use Rattle.crawl_session.specs.declared.answer.Answer.TheVariants.{Told}
-use Rattle.crawl_session.specs.declared.deferrals.Deferred.{Deferred}
-use Rattle.crawl_session.specs.declared.request.Request.{Request}
-use Rattle.crawl_session.specs.declared.request.RequestError.{RequestError}
-use Rattle.crawl_session.specs.Clients.{AllDone, accepted_of, asked, busy_in, done_of, joined_from, joined_of, joins, put_back_of, taken_of, takes, times}
-use Rattle.crawl_session.specs.Frontiers.{Deferrals, Frontier, deferrals_at, no_deferrals, start}
-use Rattle.crawl_session.specs.Parts.{request_for}
-use Rattle.crawl_session.specs.Sessions.{history_of, line_exchange, state_after}
-use Rattle.crawl_session.specs.Settings.{Settings}
 use Rattle.crawl_session.proofs.Closings.{session_closes}
 use Rattle.crawl_session.proofs.Compactions.{closes_run, stays_closed}
 use Rattle.crawl_session.proofs.Conserved.{counted_joins, counted_takes, line_of, line_sound, settled_after_lines, starts_free, starts_settled}
@@ -38,7 +12,6 @@ use Rattle.crawl_session.proofs.Queues.{Settled, busy_of, queue_at}
 use Rattle.crawl_session.proofs.Returns.{busy_is, sums}
 use Rattle.crawl_session.proofs.Runs.{answered_runs, session_runs}
 use Rattle.crawl_session.proofs.Sees.{sees_accepted}
-use Rattle.std.proofs.lemmas.List.{nil_from_length}
 
 -- ---- a state in which no unit is held
 

@@ -1,32 +1,9 @@
 -- What happens in each queue is what the answers say.
-use Rattle.std.proofs.lemmas.Grind.{common_steps}
-use Rattle.std.proofs.Common.{◌≡◌, ◌⊎◌, inl, inr, ℕ, zero, suc, ◌≤◌, Bool, true, false, not, ◌&&◌, ◌||◌, if◌then◌else◌, is_some, List, [], ◌∷◌, length, slice_get, slice_set, Option, Some, None, Result, Ok, Err, refl, sym, ap, subst, ◌∙◌, arith, true≢false}
-use Rattle.std.proofs.Math.ListN.{get_or-eq_default}
+use Rattle.crawl_session.proofs.Prelude.{common_steps, ◌≡◌, ◌⊎◌, inl, inr, ℕ, zero, suc, ◌≤◌, Bool, true, false, not, ◌&&◌, ◌||◌, if◌then◌else◌, is_some, List, [], ◌∷◌, length, slice_get, slice_set, Option, Some, None, Result, Ok, Err, refl, sym, ap, subst, ◌∙◌, arith, true≢false, get_or-eq_default, Reply, fetch_of, in_fetch, GateTurn, gave_back, holds, let_go, turned_away, can_hand_over, is_fetching, Message, has_url, State, count_of, unfinished_in, Turn, turn, admit_to, counted, done_with, put, refused, take_from, take_oldest, with_subqueue, Subqueue, after_accepting, after_finishing, after_taking, next_message, oldest, there, cond_both, Sound, Answer, Told, Deferred, Request, Offer, Next, Again, Later, Done, EndSeeds, Stats, RequestError, finishes, joins, puts_back, takes, Exchange, Outcome, accepted_at, admitting, after, by_machine, client, deferring, deferring_taken, ends, exchange, finishing, handing, is_count, is_due, is_empty, is_entered, is_seen, offering, put_back, replies, retaking, seeds_ended, taking, taking_again, taking_next, Deferrals, Frontier, deferrals_at, waits_again, with_deferrals, answered}
 use Rattle.crawl_core.specs.declared.event.Event.TheVariants as event
-use Rattle.crawl_core.specs.declared.reply.Reply.{Reply}
 use Rattle.crawl_core.specs.declared.reply.Reply.TheVariants as told
 use Rattle.crawl_core.specs.declared.reply.Refusal.TheVariants as why
-use Rattle.crawl_core.specs.Fetching.{fetch_of, in_fetch}
-use Rattle.crawl_core.specs.GateSide.{GateTurn, gave_back, holds, let_go, turned_away}
-use Rattle.crawl_core.specs.Handing.{can_hand_over, is_fetching}
-use Rattle.crawl_core.specs.Messages.{Message, has_url}
-use Rattle.crawl_core.specs.State.{State, count_of, unfinished_in}
-use Rattle.crawl_core.specs.Step.{Turn, turn, admit_to, counted, done_with, put, refused, take_from, take_oldest, with_subqueue}
-use Rattle.crawl_core.specs.Subqueue.{Subqueue, after_accepting, after_finishing, after_taking, next_message, oldest}
-use Rattle.crawl_core.proofs.Counts.{there}
-use Rattle.crawl_core.proofs.Effects.{cond_both}
-use Rattle.crawl_core.proofs.Sound.{Sound}
-use Rattle.crawl_session.specs.declared.answer.Answer.{Answer}
-use Rattle.crawl_session.specs.declared.answer.Answer.TheVariants.{Told}
-use Rattle.crawl_session.specs.declared.deferrals.Deferred.{Deferred}
-use Rattle.crawl_session.specs.declared.request.Request.{Request}
-use Rattle.crawl_session.specs.declared.request.Request.TheVariants.{Offer, Next, Again, Later, Done, EndSeeds, Stats}
-use Rattle.crawl_session.specs.declared.request.RequestError.{RequestError}
-use Rattle.crawl_session.specs.Clients.{finishes, joins, puts_back, takes}
 use Rattle.crawl_session.specs.Exchanges as exchanges
-use Rattle.crawl_session.specs.Exchanges.{Exchange, Outcome, accepted_at, admitting, after, by_machine, client, deferring, deferring_taken, ends, exchange, finishing, handing, is_count, is_due, is_empty, is_entered, is_seen, offering, put_back, replies, retaking, seeds_ended, taking, taking_again, taking_next}
-use Rattle.crawl_session.specs.Frontiers.{Deferrals, Frontier, deferrals_at, waits_again, with_deferrals}
-use Rattle.crawl_session.specs.Sessions.{answered}
 use Rattle.crawl_session.proofs.Choices.{either_way}
 use Rattle.crawl_session.proofs.InLine.{Within, within_push}
 use Rattle.crawl_session.proofs.Joined.{Fine, Flow, busy_at, fine_accepts, flow_accepts, flow_defers, flow_defers_again, flow_finishes, flow_finishes_again, flow_retakes, flow_still, flow_takes}

@@ -1,8 +1,5 @@
 -- The URLs that wait in a queue, in the order in which they are given out.
-use Rattle.std.proofs.Common.{◌≡◌, ℕ, suc, ◌+◌, ◌-◌, ◌≤◌, ◌<◌, List, [], ◌∷◌, ◌++◌, length, take, drop, refl, sym, ap, ◌∙◌, arith, append_assoc}
-use Rattle.std.proofs.lemmas.List.{length-drop, take-append-le, drop-append-le, take_all}
-use Rattle.std.proofs.Math.ListN.{drop_of_length-le}
-use Rattle.crawl_session.specs.declared.deferrals.Deferred.{Deferred}
+use Rattle.crawl_session.proofs.Prelude.{◌≡◌, ℕ, suc, ◌+◌, ◌-◌, ◌≤◌, ◌<◌, List, [], ◌∷◌, ◌++◌, length, take, drop, refl, sym, ap, ◌∙◌, arith, append_assoc, length-drop, take-append-le, drop-append-le, take_all, drop_of_length-le, Deferred}
 
 -- the line once `taken` URLs were taken: `urls`, and each URL that was put back, after the URLs that were accepted before that
 abbrev pub in_line : ℕ → List (List ℕ) → List Deferred → List (List ℕ)

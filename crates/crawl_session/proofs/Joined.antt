@@ -1,16 +1,6 @@
 -- A queue gives out the URLs that joined it, in order: each when it was accepted, and each time that it was put back.
-use Rattle.std.proofs.Common.{◌≡◌, ℕ, zero, suc, ◌+◌, ◌-◌, ◌<◌, Bool, true, false, not, ◌&&◌, if◌then◌else◌, is_some, nat_lt, List, [], ◌∷◌, ◌++◌, length, map, drop, slice_get, Option, Some, None, refl, ap, ◌∙◌, arith, append-nil, ltb-true, ltb-false}
-use Rattle.std.specs.Option.{option_map, option_or, option_to_list}
-use Rattle.std.proofs.lemmas.List.{length-map, length-drop, map-append, drop-append-le, length_push}
-use Rattle.crawl_core.specs.Handing.{is_fetching}
-use Rattle.crawl_core.specs.Messages.{Message}
-use Rattle.crawl_core.specs.Invariants.{SubqueueInvariant}
-use Rattle.crawl_core.specs.Fetching.{fetch_of}
-use Rattle.crawl_core.specs.Subqueue.{Subqueue, after_accepting, after_finishing, after_taking, oldest, waiting}
+use Rattle.crawl_session.proofs.Prelude.{◌≡◌, ℕ, zero, suc, ◌+◌, ◌-◌, ◌<◌, Bool, true, false, not, ◌&&◌, if◌then◌else◌, is_some, nat_lt, List, [], ◌∷◌, ◌++◌, length, map, drop, slice_get, Option, Some, None, refl, ap, ◌∙◌, arith, append-nil, ltb-true, ltb-false, option_map, option_or, option_to_list, length-map, length-drop, map-append, drop-append-le, length_push, is_fetching, Message, SubqueueInvariant, fetch_of, Subqueue, after_accepting, after_finishing, after_taking, oldest, waiting, Deferred, accepted_at, is_due, Deferrals, waits_again}
 use Rattle.crawl_core.proofs.Simulation.{drop-slice_get}
-use Rattle.crawl_session.specs.declared.deferrals.Deferred.{Deferred}
-use Rattle.crawl_session.specs.Exchanges.{accepted_at, is_due}
-use Rattle.crawl_session.specs.Frontiers.{Deferrals, waits_again}
 use Rattle.crawl_session.proofs.InLine.{Within, in_line, line_accepts, line_defers, line_retakes, line_takes, within_more}
 
 -- ---- one queue

@@ -1,3 +1,4 @@
+pub mod Prelude
 pub mod Choices
 pub mod Closings
 pub mod CompactText

@@ -1,8 +1,5 @@
 -- From what the machine does to what a session does.
-use Rattle.std.proofs.Common.{◌≡◌, ℕ, List, Result, OnErr, ap, ◌∙◌, arith}
-use Rattle.crawl_core.specs.Kept.{Kept}
-use Rattle.crawl_session.specs.Frontiers.{Deferrals, KeptFrontier}
-use Rattle.crawl_session.specs.Serving.{GivesUp}
+use Rattle.crawl_session.proofs.Prelude.{◌≡◌, ℕ, List, Result, OnErr, ap, ◌∙◌, arith, Kept, Deferrals, KeptFrontier, GivesUp}
 use Rattle.crawl_session.specs.Steps as steps
 use Rattle.crawl_session.proofs.Steps as machine_steps
 

@@ -1,13 +1,5 @@
 -- Lines, one after another.
-use Rattle.std.proofs.Common.{◌≡◌, ℕ, List, [], ◌∷◌, ◌++◌, Result, refl, sym, ap, ◌∙◌, append_assoc, arith}
-use Rattle.std.proofs.lemmas.Grind.{flat_map-append}
-use Rattle.crawl_session.specs.declared.answer.Answer.{Answer}
-use Rattle.crawl_session.specs.declared.request.Request.{Request}
-use Rattle.crawl_session.specs.declared.request.RequestError.{RequestError}
-use Rattle.crawl_session.specs.Frontiers.{Frontier}
-use Rattle.crawl_session.specs.Serving.{ServesAll}
-use Rattle.crawl_session.specs.Sessions.{answered, line_exchange, answers, state_after, history_of}
-use Rattle.crawl_session.specs.Settings.{Settings, SessionView}
+use Rattle.crawl_session.proofs.Prelude.{◌≡◌, ℕ, List, [], ◌∷◌, ◌++◌, Result, refl, sym, ap, ◌∙◌, append_assoc, arith, flat_map-append, Answer, Request, RequestError, Frontier, ServesAll, answered, line_exchange, answers, state_after, history_of, Settings, SessionView}
 use Rattle.crawl_session.proofs.Cuts.{requests}
 
 pub answers-append : (settings : Settings) (state : Frontier) (front back : List (List ℕ)) → answers settings state (front ++ back) ≡ answers settings state front ++ answers settings (state_after settings state front) back

@@ -1,15 +1,9 @@
 -- Lists of a session's URLs, one after another.
-use Rattle.std.proofs.Common.{◌≡◌, ℕ, suc, ◌+◌, List, [], ◌∷◌, ◌++◌, Option, None, Result, Ok, Err, refl, sym, ap, subst, ◌∙◌, arith, append_assoc, append-nil}
-use Rattle.std.specs.Prelude.{IfOk}
-use Rattle.std.proofs.KnownBytes.{Appends-trans}
+use Rattle.crawl_session.proofs.Prelude.{◌≡◌, ℕ, suc, ◌+◌, List, [], ◌∷◌, ◌++◌, Option, None, Result, Ok, Err, refl, sym, ap, subst, ◌∙◌, arith, append_assoc, append-nil, IfOk, Appends-trans, Row, Frontier, Listed, Lists, done_by, done_in, each_below, row_line, stats_at, stats_below, stats_in, then_list, Settings, SessionView}
 use Rattle.std.proofs.lemmas.List.Concat.{flat_map-append}
 use Rattle.crawl_session.specs.declared.list.ListForm.{ListForm}
 use Rattle.crawl_session.specs.declared.list.ListForm.TheVariants as forms
-use Rattle.crawl_session.specs.declared.list.Row.{Row}
 use Rattle.crawl_session.specs.declared.serving.ServeError.{ServeError}
-use Rattle.crawl_session.specs.Frontiers.{Frontier}
-use Rattle.crawl_session.specs.Listing.{Listed, Lists, done_by, done_in, each_below, row_line, stats_at, stats_below, stats_in, then_list}
-use Rattle.crawl_session.specs.Settings.{Settings, SessionView}
 
 pub lists_both : (form : ListForm) (first second : Frontier → Listed) (old mid new : SessionView) (out_old out_mid out_new : Option (List ℕ)) → Lists form first old out_old out_mid mid → Lists form second mid out_mid out_new new
     → Lists form (λ state. then_list (first state) second) old out_old out_new new

@@ -1,15 +1,6 @@
 -- What comes before the settings in the first line of a log is read as it was written.
-use Rattle.std.proofs.Common.{◌≡◌, ℕ, ◌<◌, ◌^◌, true, false, not, if◌then◌else◌, List, [], ◌∷◌, ◌++◌, codes, Option, Some, None, option_and_then, IfSome, refl, ap, ◌∙◌, arith, append_assoc}
-use Rattle.std.proofs.lemmas.Bool.Decides.{nat_tests}
-use Rattle.std.specs.Fmt.{decimal}
-use Rattle.std.specs.List.{list_all}
-use Rattle.std.specs.Option.{option_map}
-use Rattle.std.specs.Str.{bytes_eq}
+use Rattle.crawl_session.proofs.Prelude.{◌≡◌, ℕ, ◌<◌, ◌^◌, true, false, not, if◌then◌else◌, List, [], ◌∷◌, ◌++◌, codes, Option, Some, None, option_and_then, IfSome, refl, ap, ◌∙◌, arith, append_assoc, nat_tests, decimal, list_all, option_map, bytes_eq, IsNumber, at_space-joined, at_space-number, number_of_is, at_space, is_space, settings_line}
 use Rattle.crawl_replay.specs.Numbers.{number_of}
-use Rattle.crawl_replay.specs.ScriptLines.{IsNumber}
-use Rattle.crawl_replay.proofs.NumberText.{at_space-joined, at_space-number, number_of_is}
-use Rattle.text_lines.specs.Fields.{at_space, is_space}
-use Rattle.crawl_session.specs.Logs.{settings_line}
 use Rattle.crawl_session.specs.LogStarts.{identity_read, identity_text, part_in, part_text, read_part, read_start, start_text, value_in, value_of}
 use Rattle.crawl_session.proofs.Logs.{front_of, number_printed}
 

@@ -1,24 +1,10 @@
 -- Logs: what they give back, and their first lines.
-use Rattle.std.proofs.Common.{◌≡◌, ℕ, ◌<◌, ◌≤◌, ◌^◌, Bool, true, not, if◌then◌else◌, List, [], ◌∷◌, ◌++◌, length, nat_lt, codes, Option, Some, None, option_and_then, refl, sym, ap, subst, ◌∙◌, arith, append_assoc, append-nil}
-use Rattle.std.specs.Fmt.{decimal}
-use Rattle.std.specs.List.{All, list_all}
-use Rattle.std.specs.Str.{bytes_eq}
-use Rattle.std.proofs.lemmas.Bool.{and_parts}
-use Rattle.std.proofs.lemmas.Bool.Decides.{nat_tests}
+use Rattle.crawl_session.proofs.Prelude.{◌≡◌, ℕ, ◌<◌, ◌≤◌, ◌^◌, Bool, true, not, if◌then◌else◌, List, [], ◌∷◌, ◌++◌, length, nat_lt, codes, Option, Some, None, option_and_then, refl, sym, ap, subst, ◌∙◌, arith, append_assoc, append-nil, decimal, All, list_all, bytes_eq, and_parts, nat_tests, flat_map-append, get_or_default_zero, All-head, All-tail, bytes_eq-Decides, AreLimits, header_of, IsNumber, at_space-joined, joined-at_space, at_space, is_space, within_text, numbers_text, settings_line, suffix_from, next_suffix}
 use Rattle.std.proofs.lemmas.Fmt.{decimal_is_IsNumeral, length-decimal-le}
-use Rattle.std.proofs.lemmas.Grind.{flat_map-append, get_or_default_zero}
-use Rattle.std.proofs.lemmas.List.Elements.{All-head, All-tail}
-use Rattle.std.proofs.lemmas.Slice.Eq.{bytes_eq-Decides}
 use Rattle.std.proofs.lemmas.Str.Parse.{digit_at}
-use Rattle.crawl_limits.specs.Limits.{AreLimits}
 use Rattle.crawl_keys.specs.HostFilter.{is_good, is_suffix_byte}
-use Rattle.crawl_replay.specs.Script.{header_of}
-use Rattle.crawl_replay.specs.ScriptLines.{IsNumber}
 use Rattle.crawl_replay.specs.declared.script.header.Header.{Header}
 use Rattle.crawl_replay.proofs.HeaderWords.{header_said}
-use Rattle.crawl_replay.proofs.NumberText.{at_space-joined, joined-at_space}
-use Rattle.text_lines.specs.Fields.{at_space, is_space}
-use Rattle.crawl_session.specs.Logs.{within_text, numbers_text, settings_line, suffix_from, next_suffix}
 
 -- ---- the first line
 

@@ -1,14 +1,6 @@
 -- According to the answers, each URL is handed out once, in order, by the queue of its host.
-use Rattle.std.proofs.Common.{◌≡◌, ◌≤◌, ℕ, zero, suc, Bool, if◌then◌else◌, is_some, List, [], ◌∷◌, ◌++◌, slice_get, Option, Some, None, refl, sym, ap, subst, ◌∙◌, arith}
-use Rattle.std.specs.List.{cons_option}
-use Rattle.crawl_core.specs.Flags.{one_if}
-use Rattle.crawl_core.specs.History.{accepted_urls, AcceptsOnce}
+use Rattle.crawl_session.proofs.Prelude.{◌≡◌, ◌≤◌, ℕ, zero, suc, Bool, if◌then◌else◌, is_some, List, [], ◌∷◌, ◌++◌, slice_get, Option, Some, None, refl, sym, ap, subst, ◌∙◌, arith, cons_option, one_if, accepted_urls, AcceptsOnce, start_sound, Asked, asked, accepted_of, accepts, busy_after, joined_from, joined_of, put_back_of, taken_of, EachOnceInOrder, start, history_of, state_after, Settings}
 use Rattle.crawl_core.proofs.QueueHistory.{accepts_once}
-use Rattle.crawl_core.proofs.RunParts.{start_sound}
-use Rattle.crawl_session.specs.Clients.{Asked, asked, accepted_of, accepts, busy_after, joined_from, joined_of, put_back_of, taken_of, EachOnceInOrder}
-use Rattle.crawl_session.specs.Frontiers.{start}
-use Rattle.crawl_session.specs.Sessions.{history_of, state_after}
-use Rattle.crawl_session.specs.Settings.{Settings}
 use Rattle.crawl_session.proofs.Assigned.{accepted_as_assigned}
 use Rattle.crawl_session.proofs.Conserved.{conserved, counted_takes, line_of, starts_empty, starts_free, starts_settled}
 use Rattle.crawl_session.proofs.Queues.{busy_of}

@@ -1,42 +1,11 @@
 -- A URL that was put back has its sender's unit until it is done.
-use Rattle.std.proofs.lemmas.Grind.{common_steps}
-use Rattle.std.proofs.Common.{◌≡◌, ℕ, zero, suc, ◌+◌, ◌≤◌, Bool, true, false, cond, ◌&&◌, ◌||◌, if◌then◌else◌, nat_eq, List, ◌∷◌, replicate, slice_get, slice_set, Option, Some, None, Result, Ok, Err, refl, sym, ap, subst, ◌∙◌, arith, eqb-true, ne_eqb}
-use Rattle.std.proofs.lemmas.Bool.Decides.{nat_tests}
-use Rattle.std.specs.List.{sum_by}
-use Rattle.std.specs.Ordering.{nat_cmp}
-use Rattle.std.specs.BTreeMap.{is_at}
-use Rattle.std.proofs.lemmas.Cmp.{nat_cmp_total}
-use Rattle.std.proofs.lemmas.List.Sums.{sum_by-cons, sum_by-set, sum_by_push}
-use Rattle.std.proofs.lemmas.Option.{slice_get_within}
+use Rattle.crawl_session.proofs.Prelude.{common_steps, ◌≡◌, ℕ, zero, suc, ◌+◌, ◌≤◌, Bool, true, false, cond, ◌&&◌, ◌||◌, if◌then◌else◌, nat_eq, List, ◌∷◌, replicate, slice_get, slice_set, Option, Some, None, Result, Ok, Err, refl, sym, ap, subst, ◌∙◌, arith, eqb-true, ne_eqb, nat_tests, sum_by, nat_cmp, is_at, nat_cmp_total, sum_by-cons, sum_by-set, sum_by_push, slice_get_within, Reply, fetch_of, in_fetch, one_if, GateTurn, gave_back, holds, let_go, turned_away, can_hand_over, handed_over, has_room, is_fetching, lets_in, holds_after, State, count_of, unfinished_in, turn, with_subqueue, Subqueue, after_finishing, unfinished, there, holds_less, sum_at, eqb_same, cond_both, list_any-insert_key, Sound, gate_effect, Deferred, Request, Offer, Next, Again, Later, Done, EndSeeds, Stats, RequestError, Exchange, Outcome, accepted_at, admitting, after, by_machine, client, deferring, deferring_taken, ends, exchange, finishing, handing, is_count, is_due, is_entered, offering, put_back, replies, retaking, seeds_ended, taking, taking_again, taking_next, Deferrals, Frontier, deferrals_at, no_deferrals, start, waits_again, with_deferrals, answered}
 use Rattle.crawl_core.specs.declared.event.Event.TheVariants as event
-use Rattle.crawl_core.specs.declared.reply.Reply.{Reply}
 use Rattle.crawl_core.specs.declared.reply.Reply.TheVariants as told
 use Rattle.crawl_core.specs.declared.reply.Refusal.TheVariants as why
-use Rattle.crawl_core.specs.Fetching.{fetch_of, in_fetch}
-use Rattle.crawl_core.specs.Flags.{one_if}
-use Rattle.crawl_core.specs.GateSide.{GateTurn, gave_back, holds, let_go, turned_away}
-use Rattle.crawl_core.specs.Handing.{can_hand_over, handed_over, has_room, is_fetching, lets_in}
-use Rattle.crawl_core.specs.History.{holds_after}
-use Rattle.crawl_core.specs.State.{State, count_of, unfinished_in}
-use Rattle.crawl_core.specs.Step.{turn, with_subqueue}
-use Rattle.crawl_core.specs.Subqueue.{Subqueue, after_finishing, unfinished}
-use Rattle.crawl_core.proofs.Counts.{there}
 use Rattle.crawl_core.proofs.GateHistory as gate_history
-use Rattle.crawl_core.proofs.GateHistory.{holds_less}
 use Rattle.crawl_core.proofs.Handing.{handed_is, is_free}
-use Rattle.crawl_core.proofs.Places.{sum_at}
-use Rattle.crawl_core.proofs.RunParts.{eqb_same}
-use Rattle.crawl_core.proofs.Effects.{cond_both}
-use Rattle.crawl_core.proofs.Sets.{list_any-insert_key}
-use Rattle.crawl_core.proofs.Sound.{Sound, gate_effect}
-use Rattle.crawl_session.specs.declared.deferrals.Deferred.{Deferred}
-use Rattle.crawl_session.specs.declared.request.Request.{Request}
-use Rattle.crawl_session.specs.declared.request.Request.TheVariants.{Offer, Next, Again, Later, Done, EndSeeds, Stats}
-use Rattle.crawl_session.specs.declared.request.RequestError.{RequestError}
 use Rattle.crawl_session.specs.Exchanges as exchanges
-use Rattle.crawl_session.specs.Exchanges.{Exchange, Outcome, accepted_at, admitting, after, by_machine, client, deferring, deferring_taken, ends, exchange, finishing, handing, is_count, is_due, is_entered, offering, put_back, replies, retaking, seeds_ended, taking, taking_again, taking_next}
-use Rattle.crawl_session.specs.Frontiers.{Deferrals, Frontier, deferrals_at, no_deferrals, start, waits_again, with_deferrals}
-use Rattle.crawl_session.specs.Sessions.{answered}
 use Rattle.crawl_session.proofs.Choices.{either_way}
 use Rattle.crawl_session.proofs.Flows.{fetches_busy, in_range}
 use Rattle.crawl_session.proofs.Queues.{Settled, queue_at}

@@ -1,25 +1,7 @@
 -- Parts of one crawl: each accepts only URLs whose hosts belong to its queues, and reports to which part every other URL belongs.
-use Rattle.std.proofs.Common.{◌≡◌, ◌≢◌, ℕ, ◌/◌, Bool, false, nat_lt, if◌then◌else◌, List, [], length, codes, slice_get, Some, None, Result, Ok, Err, IfOk, refl, sym, ap, ◌∙◌, arith}
-use Rattle.std.specs.Str.{bytes_eq}
-use Rattle.std.proofs.lemmas.Slice.Eq.{bytes_eq-Decides}
-use Rattle.crawl_core.proofs.RunParts.{eqb_same}
-use Rattle.crawl_keys.specs.Assignment.{subqueue_of}
-use Rattle.crawl_limits.specs.Limits.{line_limit}
-use Rattle.text_lines.specs.Fields.{at_space}
+use Rattle.crawl_session.proofs.Prelude.{◌≡◌, ◌≢◌, ℕ, ◌/◌, Bool, false, nat_lt, if◌then◌else◌, List, [], length, codes, slice_get, Some, None, Result, Ok, Err, IfOk, refl, sym, ap, ◌∙◌, arith, bytes_eq, bytes_eq-Decides, eqb_same, subqueue_of, line_limit, at_space, Unasked, Part, Request, Offer, RequestError, asked, accepted_of, exchange, Frontier, asked_of, part_with, placed, placed_if, request_for, plain_request, request_in, request_of, answered, line_exchange, Settings}
 use Rattle.text_lines.specs.declared.lines.LineError.TheVariants.{NotText}
-use Rattle.crawl_session.specs.declared.answer.Answer.TheVariants.{Unasked}
-use Rattle.crawl_session.specs.declared.part.Part.{Part}
-use Rattle.crawl_session.specs.declared.request.Request.{Request}
-use Rattle.crawl_session.specs.declared.request.Request.TheVariants.{Offer}
-use Rattle.crawl_session.specs.declared.request.RequestError.{RequestError}
 use Rattle.crawl_session.specs.declared.request.RequestError.TheVariants as wrong
-use Rattle.crawl_session.specs.Clients.{asked, accepted_of}
-use Rattle.crawl_session.specs.Exchanges.{exchange}
-use Rattle.crawl_session.specs.Frontiers.{Frontier}
-use Rattle.crawl_session.specs.Parts.{asked_of, part_with, placed, placed_if, request_for}
-use Rattle.crawl_session.specs.Requests.{plain_request, request_in, request_of}
-use Rattle.crawl_session.specs.Sessions.{answered, line_exchange}
-use Rattle.crawl_session.specs.Settings.{Settings}
 use Rattle.crawl_session.proofs.Assigned.{accepted_as_assigned, accepted_where}
 use Rattle.crawl_session.proofs.Placed.{OffersWhere, by_words}
 

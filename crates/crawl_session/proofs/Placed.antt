@@ -1,14 +1,6 @@
 -- What a line requests of a frontier that may be a part: what it requests of any frontier, or nothing.
-use Rattle.std.proofs.Common.{◌≡◌, ℕ, List, Option, Result, Ok, IfOk, sym, ap, subst, ◌∙◌, arith}
-use Rattle.crawl_keys.specs.Outcome.{Gives}
-use Rattle.crawl_session.specs.declared.part.Part.{Part}
-use Rattle.crawl_session.specs.declared.request.Request.{Request}
-use Rattle.crawl_session.specs.declared.request.Request.TheVariants.{Offer}
-use Rattle.crawl_session.specs.declared.request.RequestError.{RequestError}
+use Rattle.crawl_session.proofs.Prelude.{◌≡◌, ℕ, List, Option, Result, Ok, IfOk, sym, ap, subst, ◌∙◌, arith, Gives, Part, Request, Offer, RequestError, asked_by, asked_of, placed, placed_if, request_for, request_of, Settings}
 use Rattle.crawl_session.specs.declared.request.RequestError.TheVariants as wrong
-use Rattle.crawl_session.specs.Parts.{asked_by, asked_of, placed, placed_if, request_for}
-use Rattle.crawl_session.specs.Requests.{request_of}
-use Rattle.crawl_session.specs.Settings.{Settings}
 
 abbrev Asked : Type 0
 Asked = Result Request RequestError

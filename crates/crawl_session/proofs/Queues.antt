@@ -1,19 +1,5 @@
 -- What each request does to each queue: a URL joins its end, one is taken, or a fetch ends.
-use Rattle.std.proofs.Common.{◌≡◌, ℕ, Bool, true, false, ◌||◌, nat_eq, List, length, slice_get, slice_set, Option, Some, None, Result, refl, sym, ap, subst, ◌∙◌, arith}
-use Rattle.std.proofs.lemmas.Bool.{eqb-false}
-use Rattle.std.proofs.lemmas.List.{get_or-set_same, get_or-set_other}
-use Rattle.std.proofs.lemmas.Option.{slice_get_within}
-use Rattle.crawl_core.specs.declared.reply.Reply.{Reply}
-use Rattle.crawl_core.specs.State.{State}
-use Rattle.crawl_core.specs.Subqueue.{Subqueue}
-use Rattle.crawl_core.proofs.Places.{get_set_same, get_set_other, length-slice_set}
-use Rattle.crawl_session.specs.declared.answer.Answer.{Answer}
-use Rattle.crawl_session.specs.declared.answer.Answer.TheVariants.{Told}
-use Rattle.crawl_session.specs.declared.request.Request.{Request}
-use Rattle.crawl_session.specs.declared.request.RequestError.{RequestError}
-use Rattle.crawl_session.specs.Clients.{Asked, finishes, joins, puts_back, takes}
-use Rattle.crawl_session.specs.Exchanges.{Exchange, Outcome, by_machine, replies}
-use Rattle.crawl_session.specs.Frontiers.{Deferrals, Frontier, deferrals_at, with_deferrals}
+use Rattle.crawl_session.proofs.Prelude.{◌≡◌, ℕ, Bool, true, false, ◌||◌, nat_eq, List, length, slice_get, slice_set, Option, Some, None, Result, refl, sym, ap, subst, ◌∙◌, arith, eqb-false, get_or-set_same, get_or-set_other, slice_get_within, Reply, State, Subqueue, get_set_same, get_set_other, length-slice_set, Answer, Told, Request, RequestError, Asked, finishes, joins, puts_back, takes, Exchange, Outcome, by_machine, replies, Deferrals, Frontier, deferrals_at, with_deferrals}
 use Rattle.crawl_session.proofs.Joined.{Fine, Flow, busy_at, flow_still}
 
 -- ---- all queues

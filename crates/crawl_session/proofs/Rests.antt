@@ -1,44 +1,12 @@
 -- Between two requests the client holds no unit, so the answers to each request are those of the table.
-use Rattle.std.proofs.Common.{◌≡◌, ℕ, suc, arith, ◌<◌, ◌≤◌, Bool, true, false, ◌||◌, if◌then◌else◌, List, [], ◌∷◌, length, nat_eq, get_or, slice_get, Option, Some, None, Result, Ok, Err, IfOk, refl, sym, ap, subst, ◌∙◌, true≢false}
-use Rattle.std.proofs.lemmas.Bool.Decides.{nat_tests}
-use Rattle.std.specs.List.{All, list_any}
-use Rattle.std.proofs.lemmas.List.{length-replicate}
-use Rattle.std.specs.Ordering.{nat_cmp}
-use Rattle.std.specs.BTreeMap.{is_at}
-use Rattle.std.proofs.lemmas.Cmp.{nat_cmp_total}
-use Rattle.std.proofs.lemmas.List.Elements.{All-nil, All-cons}
-use Rattle.std.proofs.lemmas.Option.{slice_get-get_or}
+use Rattle.crawl_session.proofs.Prelude.{◌≡◌, ℕ, suc, arith, ◌<◌, ◌≤◌, Bool, true, false, ◌||◌, if◌then◌else◌, List, [], ◌∷◌, length, nat_eq, get_or, slice_get, Option, Some, None, Result, Ok, Err, IfOk, refl, sym, ap, subst, ◌∙◌, true≢false, nat_tests, All, list_any, length-replicate, nat_cmp, is_at, nat_cmp_total, All-nil, All-cons, slice_get-get_or, Event, Reply, in_fetch, GateSide, GateTurn, back, enter, gave_back, grant, holds, let_go, look, remembers, shown_word, turned_away, units_out, can_hand_over, holds_after, State, unfinished_in, Turn, turn, admit_to, done_with, put, refused, take_from, Subqueue, empty_subqueue, holds_less, start_sound, list_any-insert_key, lookup-insert_entry, Sound, gate_effect, Request, Offer, Next, Again, Later, Done, EndSeeds, Stats, RequestError, Asked, asked, Deferred, Exchange, Outcome, by_machine, client, after, deferring, deferring_taken, ends, admitting, entering, exchange, finishing, handing, is_count, is_due, is_entered, is_seen, is_empty, offering, put_back, replies, retaking, seeds_ended, stats_answer, taking, taking_again, taking_next, Frontier, deferrals_at, start, with_deferrals, request_for, answered, Settings, stats_for}
 use Rattle.std.proofs.lemmas.Bool.{cond_both}
-use Rattle.crawl_core.specs.declared.event.Event.{Event}
 use Rattle.crawl_core.specs.declared.event.Event.TheVariants as event
-use Rattle.crawl_core.specs.declared.reply.Reply.{Reply}
 use Rattle.crawl_core.specs.declared.reply.Reply.TheVariants as told
 use Rattle.crawl_core.specs.declared.reply.Refusal.TheVariants as why
-use Rattle.crawl_core.specs.Fetching.{in_fetch}
-use Rattle.crawl_core.specs.GateSide.{GateSide, GateTurn, back, enter, gave_back, grant, holds, let_go, look, remembers, shown_word, turned_away, units_out}
-use Rattle.crawl_core.specs.Handing.{can_hand_over}
-use Rattle.crawl_core.specs.History.{holds_after}
-use Rattle.crawl_core.specs.State.{State, unfinished_in}
-use Rattle.crawl_core.specs.Step.{Turn, turn, admit_to, done_with, put, refused, take_from}
-use Rattle.crawl_core.specs.Subqueue.{Subqueue, empty_subqueue}
 use Rattle.crawl_core.proofs.GateHistory as gate_history
-use Rattle.crawl_core.proofs.GateHistory.{holds_less}
 use Rattle.crawl_core.proofs.Holders.{Rising}
-use Rattle.crawl_core.proofs.RunParts.{start_sound}
-use Rattle.crawl_core.proofs.Sets.{list_any-insert_key, lookup-insert_entry}
-use Rattle.crawl_core.proofs.Sound.{Sound, gate_effect}
-use Rattle.crawl_session.specs.declared.request.Request.{Request}
-use Rattle.crawl_session.specs.declared.request.Request.TheVariants.{Offer, Next, Again, Later, Done, EndSeeds, Stats}
-use Rattle.crawl_session.specs.declared.request.RequestError.{RequestError}
-use Rattle.crawl_session.specs.Clients.{Asked, asked}
-use Rattle.crawl_session.specs.declared.deferrals.Deferred.{Deferred}
 use Rattle.crawl_session.specs.Exchanges as exchanges
-use Rattle.crawl_session.specs.Exchanges.{Exchange, Outcome, by_machine, client, after, deferring, deferring_taken, ends, admitting, entering, exchange, finishing, handing, is_count, is_due, is_entered, is_seen, is_empty, offering, put_back, replies, retaking, seeds_ended, stats_answer, taking, taking_again, taking_next}
-use Rattle.crawl_session.specs.Frontiers.{Frontier, deferrals_at, start, with_deferrals}
-use Rattle.crawl_session.specs.Parts.{request_for}
-use Rattle.crawl_session.specs.Sessions.{answered}
-use Rattle.crawl_session.specs.Settings.{Settings}
-use Rattle.crawl_session.specs.Stats.{stats_for}
 use Rattle.crawl_session.specs.Tables.{can_be_told, CanBeAnswered}
 use Rattle.crawl_session.proofs.Choices.{either_way}
 use Rattle.crawl_session.proofs.Assigned.{IsAssigned, as_asked, assigns_for, assigned_below}

@@ -1,23 +1,6 @@
 -- How often a URL is taken, done and put back, according to the answers.
-use Rattle.std.proofs.lemmas.Grind.{common_steps}
-use Rattle.std.proofs.Common.{◌≡◌, ℕ, zero, suc, ◌+◌, ◌≤◌, Bool, true, false, cond, ◌||◌, if◌then◌else◌, is_some, List, [], ◌∷◌, ◌++◌, slice_get, Option, Some, None, Result, refl, sym, ap, subst, ◌∙◌, arith}
-use Rattle.std.specs.List.{All, cons_option}
+use Rattle.crawl_session.proofs.Prelude.{common_steps, ◌≡◌, ℕ, zero, suc, ◌+◌, ◌≤◌, Bool, true, false, cond, ◌||◌, if◌then◌else◌, is_some, List, [], ◌∷◌, ◌++◌, slice_get, Option, Some, None, Result, refl, sym, ap, subst, ◌∙◌, arith, All, cons_option, bytes_eq, sum_by-append, sum_by-cons, All-append, All-head, All-nil, All-tail, same_text, start_sound, Sound, subqueue_of, Answer, Request, RequestError, AgainIfPutBack, Asked, accepted_of, accepts, asked, busy_after, busy_before, busy_from, busy_in, done_urls, finishes, joined_from, joined_of, joins, put_back_urls, puts_back, taken_of, takes, times, Frontier, start, request_for, line_exchange, state_after, Settings}
 use Rattle.std.specs.Option.{IfSome, option_or, option_to_list}
-use Rattle.std.specs.Str.{bytes_eq}
-use Rattle.std.proofs.lemmas.List.Sums.{sum_by-append, sum_by-cons}
-use Rattle.std.proofs.lemmas.List.Elements.{All-append, All-head, All-nil, All-tail}
-use Rattle.hash_index.proofs.Listed.{same_text}
-use Rattle.crawl_core.proofs.RunParts.{start_sound}
-use Rattle.crawl_core.proofs.Sound.{Sound}
-use Rattle.crawl_keys.specs.Assignment.{subqueue_of}
-use Rattle.crawl_session.specs.declared.answer.Answer.{Answer}
-use Rattle.crawl_session.specs.declared.request.Request.{Request}
-use Rattle.crawl_session.specs.declared.request.RequestError.{RequestError}
-use Rattle.crawl_session.specs.Clients.{AgainIfPutBack, Asked, accepted_of, accepts, asked, busy_after, busy_before, busy_from, busy_in, done_urls, finishes, joined_from, joined_of, joins, put_back_urls, puts_back, taken_of, takes, times}
-use Rattle.crawl_session.specs.Frontiers.{Frontier, start}
-use Rattle.crawl_session.specs.Parts.{request_for}
-use Rattle.crawl_session.specs.Sessions.{line_exchange, state_after}
-use Rattle.crawl_session.specs.Settings.{Settings}
 use Rattle.crawl_session.proofs.Assigned.{accepted_as_assigned}
 use Rattle.crawl_session.proofs.Conserved.{line_of, line_sound, starts_empty, starts_free, starts_settled}
 use Rattle.crawl_session.proofs.Flows.{answered_passes}

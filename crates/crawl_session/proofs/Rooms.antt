@@ -1,25 +1,7 @@
 -- A busy queue can put its URL back.
-use Rattle.std.proofs.Common.{◌≡◌, ℕ, suc, ◌≤◌, Bool, true, false, not, ◌&&◌, if◌then◌else◌, is_some, List, Option, Some, None, Ok, refl, sym, ap, ◌∙◌, arith}
-use Rattle.std.specs.Option.{option_map}
+use Rattle.crawl_session.proofs.Prelude.{◌≡◌, ℕ, suc, ◌≤◌, Bool, true, false, not, ◌&&◌, if◌then◌else◌, is_some, List, Option, Some, None, Ok, refl, sym, ap, ◌∙◌, arith, option_map, fetch_of, one_if, can_hand_over, HasRoom, count_of, Subqueue, gate_invariant, eqb_same, start_sound, Sound, none_unfinished, Deferred, Later, asked, busy_in, puts_back, Outcome, by_machine, deferring, deferring_taken, handing, put_back, replies, Frontier, deferrals_at, start, request_for, answered, history_of, line_exchange, state_after, Settings}
 use Rattle.crawl_core.specs.declared.reply.Reply.TheVariants as told
 use Rattle.crawl_core.specs.declared.reply.Refusal.TheVariants as why
-use Rattle.crawl_core.specs.Fetching.{fetch_of}
-use Rattle.crawl_core.specs.Flags.{one_if}
-use Rattle.crawl_core.specs.Handing.{can_hand_over}
-use Rattle.crawl_core.specs.Invariants.{HasRoom}
-use Rattle.crawl_core.specs.State.{count_of}
-use Rattle.crawl_core.specs.Subqueue.{Subqueue}
-use Rattle.crawl_core.proofs.RunLaws.{gate_invariant}
-use Rattle.crawl_core.proofs.RunParts.{eqb_same, start_sound}
-use Rattle.crawl_core.proofs.Sound.{Sound, none_unfinished}
-use Rattle.crawl_session.specs.declared.deferrals.Deferred.{Deferred}
-use Rattle.crawl_session.specs.declared.request.Request.TheVariants.{Later}
-use Rattle.crawl_session.specs.Clients.{asked, busy_in, puts_back}
-use Rattle.crawl_session.specs.Exchanges.{Outcome, by_machine, deferring, deferring_taken, handing, put_back, replies}
-use Rattle.crawl_session.specs.Frontiers.{Frontier, deferrals_at, start}
-use Rattle.crawl_session.specs.Parts.{request_for}
-use Rattle.crawl_session.specs.Sessions.{answered, history_of, line_exchange, state_after}
-use Rattle.crawl_session.specs.Settings.{Settings}
 use Rattle.crawl_session.proofs.Conserved.{settled_after_lines, starts_free, starts_settled}
 use Rattle.crawl_session.proofs.Emptied.{owned_after_lines}
 use Rattle.crawl_session.proofs.Flows.{fetches_busy}

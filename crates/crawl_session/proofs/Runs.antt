@@ -1,23 +1,7 @@
 -- The events of a session are a run.
-use Rattle.std.proofs.Common.{◌≡◌, ℕ, length, List, [], ◌∷◌, ◌++◌, map, Option, Result, refl, sym, ap, subst, arith}
-use Rattle.std.proofs.lemmas.Grind.{common_steps}
-use Rattle.std.specs.List.{zip}
-use Rattle.crawl_core.specs.declared.event.Event.{Event}
+use Rattle.crawl_session.proofs.Prelude.{◌≡◌, ℕ, length, List, [], ◌∷◌, ◌++◌, map, Option, Result, refl, sym, ap, subst, arith, common_steps, zip, Event, Reply, Run, IsRun, in_fetch, turn, Request, Offer, Next, Again, Later, Done, EndSeeds, Stats, RequestError, Deferred, Exchange, Outcome, client, after, deferring, ends, entering, exchange, finishing, offering, taking_again, taking_next, Frontier, deferrals_at, request_for, answered, line_exchange, history_of, state_after, Settings}
 use Rattle.crawl_core.specs.declared.event.Event.TheVariants as event
-use Rattle.crawl_core.specs.declared.reply.Reply.{Reply}
-use Rattle.crawl_core.specs.Run.{Run, IsRun}
-use Rattle.crawl_core.specs.Fetching.{in_fetch}
 use Rattle.crawl_core.specs.State.{State, start}
-use Rattle.crawl_core.specs.Step.{turn}
-use Rattle.crawl_session.specs.declared.request.Request.{Request}
-use Rattle.crawl_session.specs.declared.request.Request.TheVariants.{Offer, Next, Again, Later, Done, EndSeeds, Stats}
-use Rattle.crawl_session.specs.declared.request.RequestError.{RequestError}
-use Rattle.crawl_session.specs.declared.deferrals.Deferred.{Deferred}
-use Rattle.crawl_session.specs.Exchanges.{Exchange, Outcome, client, after, deferring, ends, entering, exchange, finishing, offering, taking_again, taking_next}
-use Rattle.crawl_session.specs.Frontiers.{Frontier, deferrals_at}
-use Rattle.crawl_session.specs.Parts.{request_for}
-use Rattle.crawl_session.specs.Sessions.{answered, line_exchange, history_of, state_after}
-use Rattle.crawl_session.specs.Settings.{Settings}
 
 -- the events of an exchange lead from the state to its state
 abbrev RunsFrom : State → Exchange → Type 0

@@ -1,34 +1,10 @@
 -- What the answers say about URLs is what the events say.
-use Rattle.std.proofs.Common.{◌≡◌, ℕ, suc, ◌+◌, Bool, true, false, cond, if◌then◌else◌, nat_eq, slice_get, List, [], ◌∷◌, ◌++◌, map, Option, Some, None, Result, Ok, Err, refl, sym, ap, subst, ◌∙◌, true≢false, arith}
-use Rattle.std.proofs.lemmas.Bool.Decides.{nat_tests}
-use Rattle.std.specs.List.{cons_option}
-use Rattle.std.proofs.lemmas.List.{map-append}
-use Rattle.std.proofs.lemmas.List.Elements.{filter_map-append}
-use Rattle.std.proofs.lemmas.List.Sums.{sum_by-append, sum_by-cons}
-use Rattle.crawl_core.specs.declared.event.Event.{Event}
+use Rattle.crawl_session.proofs.Prelude.{◌≡◌, ℕ, suc, ◌+◌, Bool, true, false, cond, if◌then◌else◌, nat_eq, slice_get, List, [], ◌∷◌, ◌++◌, map, Option, Some, None, Result, Ok, Err, refl, sym, ap, subst, ◌∙◌, true≢false, arith, nat_tests, cons_option, map-append, filter_map-append, sum_by-append, sum_by-cons, Event, Reply, in_fetch, Message, can_hand_over, State, turn, Subqueue, eqb_same, Told, Request, Offer, Next, Again, Later, Done, EndSeeds, Stats, RequestError, Deferred, Asked, asked, accepts, takes, finishes, puts_back, accepted_of, taken_of, done_of, put_back_of, NonePutBack, Deferrals, Frontier, NoneDeferred, deferrals_at, request_for, answered, line_exchange, history_of, Settings}
 use Rattle.crawl_core.specs.declared.event.Event.TheVariants as event
-use Rattle.crawl_core.specs.declared.reply.Reply.{Reply}
 use Rattle.crawl_core.specs.declared.reply.Reply.TheVariants as told
 use Rattle.crawl_core.specs.declared.reply.Refusal.TheVariants as why
-use Rattle.crawl_core.specs.Fetching.{in_fetch}
 use Rattle.crawl_core.specs.History.{accepted_by, accepted_in, accepted_urls, taken_by, taken_urls, done_by, done_in}
-use Rattle.crawl_core.specs.Messages.{Message}
-use Rattle.crawl_core.specs.Handing.{can_hand_over}
-use Rattle.crawl_core.specs.State.{State}
-use Rattle.crawl_core.specs.Step.{turn}
-use Rattle.crawl_core.specs.Subqueue.{Subqueue}
-use Rattle.crawl_core.proofs.RunParts.{eqb_same}
-use Rattle.crawl_session.specs.declared.answer.Answer.TheVariants.{Told}
-use Rattle.crawl_session.specs.declared.request.Request.{Request}
-use Rattle.crawl_session.specs.declared.request.Request.TheVariants.{Offer, Next, Again, Later, Done, EndSeeds, Stats}
-use Rattle.crawl_session.specs.declared.request.RequestError.{RequestError}
-use Rattle.crawl_session.specs.declared.deferrals.Deferred.{Deferred}
-use Rattle.crawl_session.specs.Clients.{Asked, asked, accepts, takes, finishes, puts_back, accepted_of, taken_of, done_of, put_back_of, NonePutBack}
 use Rattle.crawl_session.specs.Exchanges.{Exchange, Outcome, after, again, by_machine, client, deferring, deferring_taken, done_with, ends, exchange, finishing, handing, is_due, is_seen, offering, put_back, replies, retaking, seeds_ended, taking, taking_again, taking_next, told_again}
-use Rattle.crawl_session.specs.Frontiers.{Deferrals, Frontier, NoneDeferred, deferrals_at}
-use Rattle.crawl_session.specs.Parts.{request_for}
-use Rattle.crawl_session.specs.Sessions.{answered, line_exchange, history_of}
-use Rattle.crawl_session.specs.Settings.{Settings}
 use Rattle.crawl_session.proofs.Choices.{either_way}
 
 -- what the events of an exchange say about a queue agrees with the answer

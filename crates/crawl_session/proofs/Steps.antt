@@ -1,28 +1,13 @@
 -- From the steps of the machine to what comes of a request.
-use Rattle.std.proofs.Common.{◌≡◌, ◌⊎◌, inl, inr, Bool, true, false, if◌then◌else◌, List, [], ◌∷◌, Option, Result, IfOk, OnErr, refl, sym, ap, subst, ◌∙◌, true≢false, ℕ, arith}
-use Rattle.std.proofs.lemmas.Bool.Decides.{nat_tests}
+use Rattle.crawl_session.proofs.Prelude.{◌≡◌, ◌⊎◌, inl, inr, Bool, true, false, if◌then◌else◌, List, [], ◌∷◌, Option, Result, IfOk, OnErr, refl, sym, ap, subst, ◌∙◌, true≢false, ℕ, arith, nat_tests, is_at, list_any, remove_entry, nat_cmp, nat_cmp_total, Event, Reply, Word, GateSide, GateTurn, back, enter, enter_with, grant, holds, let_go, remembers, turned_away, Kept, State, unfinished_in, turn, list_any-insert_key, client, is_entered}
 use Rattle.std.specs.declared.alloc.AllocError.{AllocError}
-use Rattle.std.specs.BTreeMap.{is_at}
 use Rattle.std.specs.BTreeSet.{insert_key}
-use Rattle.std.specs.List.{list_any}
-use Rattle.std.specs.Map.{remove_entry}
-use Rattle.std.specs.Ordering.{nat_cmp}
 use Rattle.std.specs.Result.{IsOk}
 use Rattle.std.specs.Set.{remove_key}
-use Rattle.std.proofs.lemmas.Cmp.{nat_cmp_total}
-use Rattle.crawl_core.specs.declared.event.Event.{Event}
 use Rattle.crawl_core.specs.declared.event.Event.TheVariants.{Look, Enter, Back}
-use Rattle.crawl_core.specs.declared.reply.Reply.{Reply}
 use Rattle.crawl_core.specs.declared.reply.Refusal.TheVariants as why
-use Rattle.crawl_core.specs.declared.word.Word.{Word}
 use Rattle.crawl_core.specs.GateSide as gate_side
-use Rattle.crawl_core.specs.GateSide.{GateSide, GateTurn, back, enter, enter_with, grant, holds, let_go, remembers, turned_away}
-use Rattle.crawl_core.specs.Kept.{Kept}
 use Rattle.crawl_core.specs.Shows.{Shows, Makes}
-use Rattle.crawl_core.specs.State.{State, unfinished_in}
-use Rattle.crawl_core.specs.Step.{turn}
-use Rattle.crawl_core.proofs.Sets.{list_any-insert_key}
-use Rattle.crawl_session.specs.Exchanges.{client, is_entered}
 use Rattle.crawl_session.specs.Steps.{Leads, GoesBack, GivenUp, GivesUp, returned}
 
 -- ---- out of memory

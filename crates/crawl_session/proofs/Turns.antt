@@ -1,11 +1,5 @@
 -- What is read, after an unfinished line, and what is answered of it.
-use Rattle.std.proofs.Common.{◌≡◌, ℕ, inl, inr, List, [], ◌∷◌, ◌++◌, take, drop, Option, refl, sym, ap, subst, ◌∙◌, append_assoc, append-nil, take-append-drop}
-use Rattle.std.specs.Io.KnownBytes.{Appends, Consumes}
-use Rattle.std.specs.Str.Lines.{lines}
-use Rattle.std.proofs.KnownBytes.{Consumes-trans, Consumes-all, Appends-trans}
-use Rattle.crawl_session.specs.Input.{held_limit, IsUnfinished, AreWhole, Holds, AnswersWhole, Turns, Ends, ServesInput}
-use Rattle.crawl_session.specs.Serving.{ServesAll}
-use Rattle.crawl_session.specs.Settings.{SessionView}
+use Rattle.crawl_session.proofs.Prelude.{◌≡◌, ℕ, inl, inr, List, [], ◌∷◌, ◌++◌, take, drop, Option, refl, sym, ap, subst, ◌∙◌, append_assoc, append-nil, take-append-drop, Appends, Consumes, lines, Consumes-trans, Consumes-all, Appends-trans, held_limit, IsUnfinished, AreWhole, Holds, AnswersWhole, Turns, Ends, ServesInput, ServesAll, SessionView}
 use Rattle.crawl_session.proofs.Cuts.{lines_behind, whole-append, tail_asks, front_asks, take_cut, unfinished-append}
 use Rattle.crawl_session.proofs.Lines.{serves_none, serves_more, serves_alike}
 

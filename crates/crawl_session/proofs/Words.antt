@@ -1,38 +1,11 @@
 -- No answer depends on the words that senders remember from before.
-use Rattle.std.proofs.Common.{◌≡◌, ℕ, suc, Bool, true, cond, if◌then◌else◌, List, [], ◌∷◌, slice_get, Option, Some, None, Result, Ok, Err, refl, sym, ap, ◌∙◌, arith}
-use Rattle.std.proofs.lemmas.Bool.Decides.{nat_tests}
-use Rattle.std.specs.BTreeMap.{is_at, insert_entry}
-use Rattle.std.specs.Map.{lookup}
-use Rattle.std.specs.Ordering.{nat_cmp}
-use Rattle.std.proofs.lemmas.Cmp.{nat_cmp_total}
-use Rattle.crawl_core.specs.declared.event.Event.{Event}
+use Rattle.crawl_session.proofs.Prelude.{◌≡◌, ℕ, suc, Bool, true, cond, if◌then◌else◌, List, [], ◌∷◌, slice_get, Option, Some, None, Result, Ok, Err, refl, sym, ap, ◌∙◌, arith, nat_tests, is_at, insert_entry, lookup, nat_cmp, nat_cmp_total, Event, Reply, Word, GateSide, GateTurn, back, close, end_seeds, enter, enter_with, holds, remembers, shown_word, Message, in_fetch, can_hand_over, State, count_of, unfinished_in, Turn, turn, admit_to, by_gate, done_with, take_from, take_oldest, Subqueue, oldest, lookup-insert_entry, Request, Offer, Next, Again, Later, Done, EndSeeds, Stats, RequestError, Told, Deferred, Exchange, Outcome, by_machine, client, after, deferring, deferring_taken, ends, admitting, entering, exchange, finishing, handing, is_count, is_due, is_entered, is_seen, is_empty, offering, put_back, replies, retaking, seeds_ended, stats_answer, taking, taking_again, taking_next, request_for, Frontier, deferrals_at, with_deferrals, answered, answers, line_exchange, Settings, stats_for}
 use Rattle.crawl_core.specs.declared.event.Event.TheVariants as event
-use Rattle.crawl_core.specs.declared.reply.Reply.{Reply}
 use Rattle.crawl_core.specs.declared.reply.Reply.TheVariants as told
 use Rattle.crawl_core.specs.declared.reply.Refusal.TheVariants as why
-use Rattle.crawl_core.specs.declared.word.Word.{Word}
-use Rattle.crawl_core.specs.GateSide.{GateSide, GateTurn, back, close, end_seeds, enter, enter_with, holds, remembers, shown_word}
-use Rattle.crawl_core.specs.Messages.{Message}
-use Rattle.crawl_core.specs.Fetching.{in_fetch}
-use Rattle.crawl_core.specs.Handing.{can_hand_over}
-use Rattle.crawl_core.specs.State.{State, count_of, unfinished_in}
-use Rattle.crawl_core.specs.Step.{Turn, turn, admit_to, by_gate, done_with, take_from, take_oldest}
-use Rattle.crawl_core.specs.Subqueue.{Subqueue, oldest}
-use Rattle.crawl_core.proofs.Sets.{lookup-insert_entry}
-use Rattle.crawl_session.specs.declared.request.Request.{Request}
-use Rattle.crawl_session.specs.declared.request.Request.TheVariants.{Offer, Next, Again, Later, Done, EndSeeds, Stats}
-use Rattle.crawl_session.specs.declared.request.RequestError.{RequestError}
-use Rattle.crawl_session.specs.declared.answer.Answer.TheVariants.{Told}
-use Rattle.crawl_session.specs.declared.deferrals.Deferred.{Deferred}
 use Rattle.crawl_session.specs.Exchanges as exchanges
-use Rattle.crawl_session.specs.Exchanges.{Exchange, Outcome, by_machine, client, after, deferring, deferring_taken, ends, admitting, entering, exchange, finishing, handing, is_count, is_due, is_entered, is_seen, is_empty, offering, put_back, replies, retaking, seeds_ended, stats_answer, taking, taking_again, taking_next}
-use Rattle.crawl_session.specs.Parts.{request_for}
-use Rattle.crawl_session.specs.Frontiers.{Frontier, deferrals_at, with_deferrals}
 use Rattle.crawl_session.specs.Serving as serving
 use Rattle.crawl_session.specs.Steps.{with_words}
-use Rattle.crawl_session.specs.Sessions.{answered, answers, line_exchange}
-use Rattle.crawl_session.specs.Settings.{Settings}
-use Rattle.crawl_session.specs.Stats.{stats_for}
 
 abbrev pub Words : Type 0
 Words = List (ℕ × Word)

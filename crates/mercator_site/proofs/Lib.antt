@@ -1,3 +1,4 @@
+pub mod Prelude
 mod OwnPages
 mod Runs
 mod TopCrawls

@@ -1,16 +1,8 @@
 -- Results that ascend, those below a top together.
-use Rattle.std.proofs.lemmas.Grind.{common_steps}
-use Rattle.std.proofs.Common.{◌≡◌, ℕ, suc, List, [], ◌∷◌, ◌++◌, refl, true, false, arith}
+use Rattle.mercator_site.proofs.Prelude.{common_steps, ◌≡◌, ℕ, suc, List, [], ◌∷◌, ◌++◌, refl, true, false, arith, All-append, All-cons, All-nil, recursion_from_All, nat_cmp, slice_cmp, IsAscending, result_urls, AreOwn, from_own, own_of, while_own, begins, PageResult}
 use Rattle.std.proofs.lemmas.Bool.Decides.{nat_tests}
-use Rattle.std.proofs.lemmas.List.Elements.{All-append, All-cons, All-nil, recursion_from_All}
 use Rattle.std.specs.List.{AllByRecursion}
-use Rattle.std.specs.Ordering.{nat_cmp}
 use Rattle.std.specs.declared.cmp.Ordering.TheVariants.{Less}
-use Rattle.std.specs.Cmp.Lexicographic.{slice_cmp}
-use Rattle.crawl_certificate.specs.Certificate.{IsAscending, result_urls}
-use Rattle.mercator_site.specs.Own.{AreOwn, from_own, own_of, while_own}
-use Rattle.site_files.specs.Below.{begins}
-use Rattle.crawl_pages.specs.declared.page.PageResult.{PageResult}
 
 -- a text between two that begin so does
 between : (p a b c : List ℕ) → slice_cmp nat_cmp a b ≡ Less → slice_cmp nat_cmp b c ≡ Less → begins p a ≡ true → begins p c ≡ true → begins p b ≡ true

@@ -1,12 +1,5 @@
 -- The rows of URLs in order.
-use Rattle.std.proofs.lemmas.Grind.{common_steps}
-use Rattle.std.proofs.Common.{◌≡◌, ℕ, List, map, Result, IfOk, Vec, Global, arith}
-use Rattle.std.specs.Cmp.Lexicographic.{slice_cmp}
-use Rattle.std.specs.List.Sorted.{IsPermutation, IsSortedByKey}
-use Rattle.std.specs.Ordering.{nat_cmp}
-use Rattle.crawl_pages.specs.declared.page.PageResult.{PageResult}
-use Rattle.check_report.specs.declared.value.External.{External}
-use Rattle.mercator_site.specs.External.{AreExternal, outside_links, row_of, runs}
+use Rattle.mercator_site.proofs.Prelude.{common_steps, ◌≡◌, ℕ, List, map, Result, IfOk, Vec, Global, arith, slice_cmp, IsPermutation, IsSortedByKey, nat_cmp, PageResult, External, AreExternal, outside_links, row_of, runs}
 
 -- the rows of URLs that are those of the links, in order
 pub rows_of_links : {E : Type 0} (answer : Result (Vec External Global) E) (top : List ℕ) (pages : List PageResult) (urls : List (List ℕ)) → IsPermutation (outside_links top pages) urls → IsSortedByKey (λ url. url) (slice_cmp nat_cmp) urls → IfOk answer (λ all. map row_of all.items ≡ runs urls) → IfOk answer (λ all. AreExternal top pages (map row_of all.items))

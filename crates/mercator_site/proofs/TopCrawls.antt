@@ -1,27 +1,16 @@
 -- A crawl of a source that has the pages of a saved web.
-use Rattle.std.proofs.lemmas.Grind.{common_steps}
+use Rattle.mercator_site.proofs.Prelude.{common_steps, get_or, sym, ap, subst, ◌∙◌, arith, IsCrawl, canonical, resolve, allows, host_key, PageResult, AreAliasesIn, AreStarts, IsTopCrawl, is_left_out, starts, IsUnfinished, is_unfinished, of_crawl, of_crawl_by, AreOwn, IsSiteSource, PageFound, page_at, Alias}
 use Rattle.std.specs.Prelude.{◌≡◌, ℕ, Bool, true, List, [], ◌∷◌, ◌++◌, map, Result, Ok, Err}
 use Rattle.std.specs.Str.Lines.{lines}
-use Rattle.std.proofs.Common.{get_or, sym, ap, subst, ◌∙◌, arith}
-use Rattle.crawl_certificate.specs.Certificate.{IsCrawl}
-use Rattle.crawl_keys.specs.CanonicalText.{canonical, resolve}
-use Rattle.crawl_keys.specs.HostFilter.{allows}
-use Rattle.crawl_keys.specs.HostKey.{host_key}
 use Rattle.crawl_keys.specs.declared.error.KeyError.{KeyError}
 use Rattle.saved_pages.specs.SavedWeb.{page_of}
 use Rattle.crawl_pages.specs.declared.page.Page.{Page}
-use Rattle.crawl_pages.specs.declared.page.PageResult.{PageResult}
 use Rattle.crawl_run.specs.Crawls.{CrawlFails, is_incomplete}
 use Rattle.crawl_run.specs.declared.failure.CrawlFailure.{CrawlFailure}
 use Rattle.crawl_run.specs.declared.error.CrawlError.{CrawlError}
 use Rattle.crawl_run.specs.declared.error.CrawlError.TheVariants as crawl
-use Rattle.mercator_site.specs.Checks.{AreAliasesIn, AreStarts, IsTopCrawl, is_left_out, starts}
-use Rattle.mercator_site.specs.Faults.{IsUnfinished, is_unfinished, of_crawl, of_crawl_by}
-use Rattle.mercator_site.specs.Own.{AreOwn}
 use Rattle.mercator_site.specs.Sources.{IsSourceOf}
 use Rattle.saved_site.specs.Aliases.{AreAliases}
-use Rattle.saved_site.specs.Linked.{IsSiteSource, PageFound, page_at}
-use Rattle.site_files.specs.declared.alias.Alias.{Alias}
 
 -- the pages of a site are those of its saved web
 pub source_of : (top : List ℕ) (pages : List PageFound) (source : IsSiteSource top pages) → IsSourceOf (page_at pages) source.bytes

@@ -1,7 +1,5 @@
 -- Buffers, compactions and lists in turns, and sessions that break off.
-use Rattle.std.proofs.Common.{◌≡◌, ◌⊎◌, inl, inr, ℕ, ◌+◌, ◌-◌, ◌≤◌, List, [], ◌++◌, Option, Some, drop, take, slice_range, refl, sym, ap, subst, ◌∙◌, arith}
-use Rattle.std.proofs.KnownBytes.{Appends-nil, Appends-trans}
-use Rattle.std.proofs.lemmas.List.{drop-take, drop-drop}
+use Rattle.session_log.proofs.Prelude.{◌≡◌, ◌⊎◌, inl, inr, ℕ, ◌+◌, ◌-◌, ◌≤◌, List, [], ◌++◌, Option, Some, drop, take, slice_range, refl, sym, ap, subst, ◌∙◌, arith, Appends-nil, Appends-trans, drop-take, drop-drop, IsBreak}
 use Rattle.crawl_session.specs.Compacting.{Had}
 use Rattle.crawl_session.specs.Frontiers.{Frontier, Shows, start}
 use Rattle.crawl_session.specs.Listing.{Listed, Lists, done_in, in_progress_below, list_text, pending_below, stats_in}
@@ -14,7 +12,6 @@ use Rattle.crawl_session.proofs.Listed.{done_after}
 use Rattle.crawl_session.proofs.Listing.{done_both}
 use Rattle.session_log.specs.Compaction.{Compacted}
 use Rattle.session_log.specs.Lists.{IsBegun, IsListed, ListsLines, ListsLog, listed_of}
-use Rattle.session_log.specs.LogFile.{IsBreak}
 use Rattle.session_log.specs.Plans.{queues_of}
 use Rattle.session_log.specs.declared.listing.ListKind.TheVariants as kinds
 use Rattle.session_log.specs.declared.listing.ListPlan.{ListPlan}

@@ -1,14 +1,7 @@
 -- The rows of the results that found no page are those of all results.
-use Rattle.std.proofs.lemmas.Grind.{common_steps}
-use Rattle.std.proofs.Common.{◌≡◌, ◌∙◌, ℕ, Bool, true, false, not, List, [], ◌∷◌, ◌++◌, map, filter, refl, ap, arith}
-use Rattle.std.proofs.lemmas.Bool.{cases_Bool}
-use Rattle.std.specs.List.{flat_map}
+use Rattle.site_check.proofs.Prelude.{common_steps, ◌≡◌, ◌∙◌, ℕ, Bool, true, false, not, List, [], ◌∷◌, ◌++◌, map, filter, refl, ap, arith, cases_Bool, flat_map, Page, PageResult, Linked, is_unfound, linked, linked_at, result_at, rows_at, rows_with, broken_of, ways_at, ways_with, redirects_of, missing_texts, text_at}
 use Rattle.crawl_pages.proofs.StableSort.{filter-kept, filter-dropped}
-use Rattle.crawl_pages.specs.declared.page.Page.{Page}
-use Rattle.crawl_pages.specs.declared.page.PageResult.{PageResult}
 use Rattle.crawl_pages.specs.Pages.{is_found}
-use Rattle.site_check.specs.Broken.{Linked, is_unfound, linked, linked_at, result_at, rows_at, rows_with, broken_of, ways_at, ways_with, redirects_of}
-use Rattle.site_check.specs.Ignored.{missing_texts, text_at}
 use Rattle.site_check.specs.declared.linked.Linked as code
 
 -- what fails the test gives nothing

@@ -1,15 +1,6 @@
 -- What is counted for a result.
-use Rattle.std.proofs.lemmas.Grind.{common_steps}
-use Rattle.std.proofs.Common.{◌≡◌, ◌∙◌, ◌+◌, ◌<◌, ◌^◌, ◌++◌, ℕ, Bool, List, Option, Some, length, map, slice_get, sym, ap, arith, length-append}
-use Rattle.std.proofs.lemmas.List.{length-map}
-use Rattle.std.proofs.lemmas.List.Elements.{filter-append}
-use Rattle.std.proofs.lemmas.List.Sums.{count_by-le-length, length-filter}
-use Rattle.std.proofs.lemmas.Option.{slice_get-map, slice_get_within}
-use Rattle.std.specs.Option.{option_map}
-use Rattle.crawl_pages.specs.declared.page.PageResult.{PageResult}
+use Rattle.site_check.proofs.Prelude.{common_steps, ◌≡◌, ◌∙◌, ◌+◌, ◌<◌, ◌^◌, ◌++◌, ℕ, Bool, List, Option, Some, length, map, slice_get, sym, ap, arith, length-append, length-map, filter-append, count_by-le-length, length-filter, slice_get-map, slice_get_within, option_map, PageResult, Count, IsTally, Linked, linked, linked_at}
 use Rattle.crawl_sources.specs.Sources.{sources_of}
-use Rattle.crawl_sources.specs.Tallies.{Count, IsTally}
-use Rattle.site_check.specs.Broken.{Linked, linked, linked_at}
 use Rattle.site_check.specs.declared.linked.Linked as code
 
 abbrev pub with_pages : PageResult → ℕ → Linked

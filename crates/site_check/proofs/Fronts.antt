@@ -1,15 +1,7 @@
 -- A text that begins with another.
-use Rattle.std.proofs.lemmas.Grind.{common_steps}
-use Rattle.std.proofs.Common.{◌≡◌, ◌∙◌, ℕ, Bool, true, ◌||◌, List, [], ◌∷◌, ◌++◌, length, take, drop, cond, refl, sym, ap, inl, inr, arith}
+use Rattle.site_check.proofs.Prelude.{common_steps, ◌≡◌, ◌∙◌, ℕ, Bool, true, ◌||◌, List, [], ◌∷◌, ◌++◌, length, take, drop, cond, refl, sym, ap, inl, inr, arith, cases_Bool, cond-true, cond-false, take-append-drop, bytes_eq-Decides, Bor, list_any, pointed, begins}
 use Rattle.std.proofs.Math.Seq.{take-append_seam}
-use Rattle.std.proofs.lemmas.Bool.{cases_Bool, cond-true, cond-false}
-use Rattle.std.proofs.lemmas.List.{take-append-drop}
 use Rattle.std.proofs.lemmas.List.Folds.{list_any-append}
-use Rattle.std.proofs.lemmas.Slice.Eq.{bytes_eq-Decides}
-use Rattle.std.specs.Borrow.{Bor}
-use Rattle.std.specs.List.{list_any}
-use Rattle.crawl_sources.specs.Tallies.{pointed}
-use Rattle.site_check.specs.Broken.{begins}
 
 begins_with : (front url rest : List ℕ) → url ≡ front ++ rest → begins front url ≡ true
 begins_with front url rest e = grind (arith, common_steps, bytes_eq-Decides, take-append_seam)

@@ -1,20 +1,8 @@
 -- The links that lead to pages that are not there, list by list.
-use Rattle.std.proofs.lemmas.Grind.{common_steps}
-use Rattle.std.proofs.Common.{◌≡◌, ◌∙◌, ℕ, ◌+◌, ◌<◌, Bool, cond, List, [], ◌∷◌, ◌++◌, length, map, fold, take, get_or, length-take-le, Option, Some, None, refl, sym, ap, arith, append_assoc}
-use Rattle.std.proofs.lemmas.List.{length-map, map_more, take_more}
-use Rattle.std.proofs.lemmas.List.Sums.{fold-append, fold_more, fold_push}
-use Rattle.std.specs.Borrow.{Bor}
+use Rattle.site_check.proofs.Prelude.{common_steps, ◌≡◌, ◌∙◌, ℕ, ◌+◌, ◌<◌, Bool, cond, List, [], ◌∷◌, ◌++◌, length, map, fold, take, get_or, length-take-le, Option, Some, None, refl, sym, ap, arith, append_assoc, length-map, map_more, take_more, fold-append, fold_more, fold_push, Bor, flat_map, option_map_or, bytes_eq, Page, PageResult, result_at, HasNoLink, Indices, Numbers, Target, indices_at, indices_in, indices_with, lead_to, leads_at, leads_from, leads_of, missing_from, moved_target, number_at, number_in, number_with, own_number, target_at, targets_of, to_number, Lead}
 use Rattle.std.specs.BTreeMap as tree
-use Rattle.std.specs.List.{flat_map}
-use Rattle.std.specs.Option.{option_map_or}
-use Rattle.std.specs.Str.{bytes_eq}
-use Rattle.crawl_pages.specs.declared.page.Page.{Page}
-use Rattle.crawl_pages.specs.declared.page.PageResult.{PageResult}
 use Rattle.document_links.specs.declared.positions.LinkPlaces.{LinkPlaces}
 use Rattle.hash_order.specs.HashOrder.{by_hash, by_hash_ties}
-use Rattle.site_check.specs.Broken.{result_at}
-use Rattle.site_check.specs.Leads.{HasNoLink, Indices, Numbers, Target, indices_at, indices_in, indices_with, lead_to, leads_at, leads_from, leads_of, missing_from, moved_target, number_at, number_in, number_with, own_number, target_at, targets_of, to_number}
-use Rattle.site_check.specs.declared.leads.Lead.{Lead}
 use Rattle.site_check.specs.declared.leads.Target as made
 use Rattle.site_check.specs.declared.linked.Linked as code
 

@@ -1,3 +1,4 @@
+pub mod Prelude
 pub mod AllRows
 pub mod Counting
 pub mod Fronts

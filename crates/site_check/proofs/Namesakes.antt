@@ -1,20 +1,10 @@
 -- What is known of the pages that have a file name.
-use Rattle.std.proofs.lemmas.Grind.{common_steps}
-use Rattle.std.proofs.Common.{◌≡◌, ◌∙◌, ℕ, zero, suc, ◌+◌, ◌<◌, arith, Bool, true, false, cond, List, [], ◌∷◌, ◌++◌, filter, take, get_or, length, slice_get, Option, Some, None, refl, sym, ap, subst}
-use Rattle.std.proofs.lemmas.Bool.{cases_Bool, cond-true, cond-false}
-use Rattle.std.proofs.lemmas.List.Elements.{filter_more}
-use Rattle.std.proofs.lemmas.Option.{get_or_from_slice_get}
+use Rattle.site_check.proofs.Prelude.{common_steps, ◌≡◌, ◌∙◌, ℕ, zero, suc, ◌+◌, ◌<◌, arith, Bool, true, false, cond, List, [], ◌∷◌, ◌++◌, filter, take, get_or, length, slice_get, Option, Some, None, refl, sym, ap, subst, cases_Bool, cond-true, cond-false, filter_more, get_or_from_slice_get, Bor, list_any, bytes_eq, PageFile, SiteFiles, is_slash, behind_slashes, has_name, Names, named_at, IsKnown, known_with, known_at, only_told}
 use Rattle.std.proofs.lemmas.Map.Text.{btree_map_updates_str}
-use Rattle.std.specs.Borrow.{Bor}
 use Rattle.std.specs.BTreeMap as tree
 use Rattle.std.specs.Cmp.Lexicographic.{slice_cmp}
-use Rattle.std.specs.List.{list_any}
 use Rattle.std.specs.Ordering.{nat_cmp}
-use Rattle.std.specs.Str.{bytes_eq}
 use Rattle.check_report.specs.declared.value.Place.{Place}
-use Rattle.site_files.specs.Files.{PageFile}
-use Rattle.site_files.specs.declared.files.SiteFiles.{SiteFiles}
-use Rattle.site_check.specs.Names.{is_slash, behind_slashes, has_name, Names, named_at, IsKnown, known_with, known_at, only_told}
 use Rattle.site_check.specs.declared.names.Namesakes.{Namesakes}
 
 -- ---- the last part of a path

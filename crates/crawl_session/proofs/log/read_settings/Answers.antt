@@ -1,7 +1,4 @@
-use Rattle.std.proofs.Common.{◌≡◌, Some, None, map, sym, rules}
-use Rattle.std.proofs.lemmas.List.{map-append}
-use Rattle.crawl_replay.specs.Script.{header_of}
-use Rattle.crawl_session.specs.Logs.{next_suffix}
+use Rattle.crawl_session.proofs.Prelude.{◌≡◌, Some, None, map, sym, rules, map-append, header_of, next_suffix}
 use Rattle.crawl_session.proofs.Logs.{reads_more, back_some, back_none}
 use Rattle.crawl_session.proofs.log.read_settings.Goals as goal
 

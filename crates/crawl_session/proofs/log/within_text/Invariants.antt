@@ -1,5 +1,4 @@
-use Rattle.std.proofs.Common.{◌≡◌, map, take, string_bytes}
-use Rattle.crawl_session.specs.Logs.{within_text}
+use Rattle.crawl_session.proofs.Prelude.{◌≡◌, map, take, string_bytes, within_text}
 use Rattle.crawl_session.proofs.log.within_text.Given as goal
 
 abbrev pub invariant-loop-suffix : goal.invariant-loop-suffix

@@ -1,8 +1,4 @@
-use Rattle.std.proofs.Common.{◌≡◌, ◌-◌, ◌<◌, ◌++◌, length, take, drop, string_bytes, sym, ap, subst, ◌∙◌, arith}
-use Rattle.std.specs.Str.Lines.{lines}
-use Rattle.std.proofs.lemmas.List.{take_rest}
-use Rattle.crawl_session.specs.Input.{held_limit, IsUnfinished, AnswersWhole}
-use Rattle.crawl_session.specs.Serving.{ServesAll}
+use Rattle.crawl_session.proofs.Prelude.{◌≡◌, ◌-◌, ◌<◌, ◌++◌, length, take, drop, string_bytes, sym, ap, subst, ◌∙◌, arith, lines, take_rest, held_limit, IsUnfinished, AnswersWhole, ServesAll}
 use Rattle.crawl_session.proofs.Turns.{answers_none, answers_some}
 use Rattle.crawl_session.proofs.serving.answer_whole.Goals as goal
 

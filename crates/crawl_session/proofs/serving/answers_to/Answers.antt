@@ -1,6 +1,4 @@
-use Rattle.std.proofs.Common.{[], ◌∷◌, ◌++◌, string_bytes, sym, ap, subst, ◌∙◌, append_assoc}
-use Rattle.std.specs.Str.Lines.{lines}
-use Rattle.crawl_session.specs.Serving.{ServesAll}
+use Rattle.crawl_session.proofs.Prelude.{[], ◌∷◌, ◌++◌, string_bytes, sym, ap, subst, ◌∙◌, append_assoc, lines, ServesAll}
 use Rattle.crawl_session.proofs.Lines.{serves_more}
 use Rattle.crawl_session.proofs.serving.answers_to.Goals as goal
 

@@ -1,6 +1,4 @@
-use Rattle.std.proofs.Common.{◌≡◌, ℕ, List, ◌++◌, length, string_bytes}
-use Rattle.std.specs.Str.Lines.{lines}
-use Rattle.crawl_session.specs.Serving.{ServesAll}
+use Rattle.crawl_session.proofs.Prelude.{◌≡◌, ℕ, List, ◌++◌, length, string_bytes, lines, ServesAll}
 use Rattle.crawl_session.proofs.serving.answers_to.Given as goal
 
 abbrev pub invariant-loop-line : goal.invariant-loop-line

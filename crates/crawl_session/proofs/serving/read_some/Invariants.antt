@@ -1,5 +1,4 @@
-use Rattle.std.proofs.Common.{◌≡◌, length}
-use Rattle.std.specs.Io.KnownBytes.{Keeps}
+use Rattle.crawl_session.proofs.Prelude.{◌≡◌, length, Keeps}
 use Rattle.crawl_session.proofs.serving.read_some.Given as goal
 
 abbrev pub invariant-loop-turn : goal.invariant-loop-turn

@@ -1,7 +1,4 @@
-use Rattle.std.proofs.Common.{take, string_bytes, subst}
-use Rattle.std.specs.Io.KnownBytes.{Appends, Consumes}
-use Rattle.std.specs.Str.Lines.{lines}
-use Rattle.crawl_session.specs.Serving.{ServesAll}
+use Rattle.crawl_session.proofs.Prelude.{take, string_bytes, subst, Appends, Consumes, lines, ServesAll}
 use Rattle.crawl_session.proofs.Turns.{serves_tail}
 use Rattle.crawl_session.proofs.serving.turn.Goals as goal
 

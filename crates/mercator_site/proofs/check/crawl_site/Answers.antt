@@ -1,11 +1,4 @@
-use Rattle.std.proofs.Common.{◌≡◌, true, ◌∷◌, ◌∙◌, ℕ, List, [], refl, subst, map, string_bytes}
-use Rattle.std.proofs.lemmas.List.Elements.{All-nil}
-use Rattle.std.proofs.lemmas.Result.{err_from_is_err_and}
-use Rattle.crawl_certificate.specs.Certificate.{IsCrawl}
-use Rattle.crawl_keys.specs.HostFilter.{allows}
-use Rattle.crawl_keys.specs.HostKey.{host_key}
-use Rattle.saved_site.specs.Linked.{page_at}
-use Rattle.site_files.specs.Below.{begins}
+use Rattle.mercator_site.proofs.Prelude.{◌≡◌, true, ◌∷◌, ◌∙◌, ℕ, List, [], refl, subst, map, string_bytes, All-nil, err_from_is_err_and, IsCrawl, allows, host_key, page_at, begins}
 use Rattle.mercator_site.proofs.TopCrawls.{starts_in, top_crawl}
 use Rattle.mercator_site.proofs.check.crawl_site.Goals as goal
 

@@ -1,13 +1,9 @@
-use Rattle.std.proofs.Common.{ℕ, List, Result, Ok, Err, IfOk}
-use Rattle.mercator_site.specs.Asks.{Asks}
-use Rattle.mercator_site.specs.Checks.{AreAliasesIn, IsNamedCheck, IsNamedSiteCheck, IsSiteCheckAt}
+use Rattle.mercator_site.proofs.Prelude.{ℕ, List, Result, Ok, Err, IfOk, Asks, AreAliasesIn, IsNamedCheck, IsNamedSiteCheck, IsSiteCheckAt, IsTop, Alias}
 use Rattle.mercator_site.specs.declared.check.CheckReport.{CheckReport}
 use Rattle.mercator_site.specs.declared.fault.SiteFault.{SiteFault}
 use Rattle.mercator_site.proofs.TopCrawls.{aliases_in, source_of}
-use Rattle.site_files.specs.Below.{IsTop}
 use Rattle.saved_site.specs.Below.{IsWebBelow}
 use Rattle.saved_site.specs.Meaning.{IsSiteWeb}
-use Rattle.site_files.specs.declared.alias.Alias.{Alias}
 use Rattle.mercator_site.proofs.check.report_of_files.Goals as goal
 
 named_site : (answer : Result CheckReport SiteFault) (name top web : List ℕ) (aliases : List Alias) (asks : Asks) → IsSiteWeb web → AreAliasesIn web aliases → IfOk answer (λ report. IsNamedCheck name top web aliases asks report.is_broken report.text.items) → IfOk answer (λ report. IsNamedSiteCheck name asks report.is_broken report.text.items)

@@ -1,17 +1,10 @@
-use Rattle.std.proofs.Common.{ℕ, List, map, Ok, Vec, Global, refl, sym, ap, subst, ◌∙◌, ◌≡◌, ◌==◌, not, length, string_bytes}
+use Rattle.mercator_site.proofs.Prelude.{ℕ, List, map, Ok, Vec, Global, refl, sym, ap, subst, ◌∙◌, ◌≡◌, ◌==◌, not, length, string_bytes, err_from_is_err_and, External, canonical, PageResult, AreOthersListed, IsTopCrawl, row_of, own_of}
 use Rattle.std.specs.Option.{option_map}
-use Rattle.std.proofs.lemmas.Result.{err_from_is_err_and}
-use Rattle.check_report.specs.declared.value.External.{External}
-use Rattle.crawl_keys.specs.CanonicalText.{canonical}
-use Rattle.crawl_pages.specs.declared.page.PageResult.{PageResult}
 use Rattle.site_check.specs.Broken.{broken_of, redirects_of}
 use Rattle.site_check.specs.Ignored.{AreUnused, parts_in}
 use Rattle.site_check.specs.Names.{AreNamed}
 use Rattle.site_check.specs.Told.{rows_in, way_of}
 use Rattle.site_check.specs.Totals.{totals_of}
-use Rattle.mercator_site.specs.Checks.{AreOthersListed, IsTopCrawl}
-use Rattle.mercator_site.specs.External.{row_of}
-use Rattle.mercator_site.specs.Own.{own_of}
 use Rattle.mercator_site.proofs.TopCrawls.{same_url}
 use Rattle.mercator_site.proofs.check.report_of_pages.Goals as goal
 

@@ -1,12 +1,7 @@
-use Rattle.std.proofs.Common.{ℕ, List, ◌≡◌, map, IfOk, subst, rules}
+use Rattle.mercator_site.proofs.Prelude.{ℕ, List, ◌≡◌, map, IfOk, subst, rules, slice_cmp, nat_list_cmp_total, IsPermutation, nat_cmp, is_lt, pointed, row_of, runs}
 use Rattle.std.proofs.lemmas.List.Sorted.{answers_always, ranks_by, IsPermutation-map}
 use Rattle.std.specs.Borrow.{Bor}
-use Rattle.std.specs.Cmp.Lexicographic.{slice_cmp, nat_list_cmp_total}
-use Rattle.std.specs.List.Sorted.{IsPermutation}
-use Rattle.std.specs.Ordering.{nat_cmp, is_lt}
-use Rattle.crawl_sources.specs.Tallies.{pointed}
 use Rattle.crawl_report.proofs.Sets.{sorted_pointed}
-use Rattle.mercator_site.specs.External.{row_of, runs}
 use Rattle.mercator_site.proofs.Runs.{rows_of_links}
 use Rattle.mercator_site.proofs.external.external_links.Goals as goal
 

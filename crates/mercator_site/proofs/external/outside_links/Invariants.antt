@@ -1,6 +1,4 @@
-use Rattle.std.proofs.Common.{◌≡◌, take}
-use Rattle.crawl_sources.specs.Tallies.{pointed}
-use Rattle.mercator_site.specs.External.{outside_links}
+use Rattle.mercator_site.proofs.Prelude.{◌≡◌, take, pointed, outside_links}
 use Rattle.mercator_site.proofs.external.outside_links.Given as goal
 
 abbrev pub invariant-loop-one : goal.invariant-loop-one

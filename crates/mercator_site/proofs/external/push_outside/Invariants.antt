@@ -1,6 +1,4 @@
-use Rattle.std.proofs.Common.{◌≡◌, ◌++◌, take}
-use Rattle.crawl_sources.specs.Tallies.{pointed}
-use Rattle.mercator_site.specs.External.{outside}
+use Rattle.mercator_site.proofs.Prelude.{◌≡◌, ◌++◌, take, pointed, outside}
 use Rattle.mercator_site.proofs.external.push_outside.Given as goal
 
 abbrev pub invariant-loop-link : goal.invariant-loop-link

@@ -1,6 +1,4 @@
-use Rattle.std.proofs.Common.{◌≡◌, ◌≤◌, ◌+◌, ◌++◌, drop, map}
-use Rattle.crawl_sources.specs.Tallies.{pointed}
-use Rattle.mercator_site.specs.External.{row_of, runs_from}
+use Rattle.mercator_site.proofs.Prelude.{◌≡◌, ◌≤◌, ◌+◌, ◌++◌, drop, map, pointed, row_of, runs_from}
 use Rattle.mercator_site.proofs.external.runs_from.Given as goal
 
 abbrev pub invariant-loop-next : goal.invariant-loop-next

@@ -1,11 +1,6 @@
-use Rattle.std.proofs.Common.{ℕ, List, [], map, string_bytes, ap, subst, ◌∙◌, rules}
+use Rattle.mercator_site.proofs.Prelude.{ℕ, List, [], map, string_bytes, ap, subst, ◌∙◌, rules, err_from_is_err_and, Asks, asks_of, IsNamedCheck, IsTopIncomplete, IsTop}
 use Rattle.std.specs.Bool.{if◌then◌else◌}
-use Rattle.std.proofs.lemmas.Result.{err_from_is_err_and}
-use Rattle.mercator_site.specs.Asks.{Asks, asks_of}
-use Rattle.mercator_site.specs.Checks.{IsNamedCheck}
-use Rattle.mercator_site.specs.Faults.{IsTopIncomplete}
 use Rattle.mercator_site.proofs.TopCrawls.{aliases_in, source_of}
-use Rattle.site_files.specs.Below.{IsTop}
 use Rattle.mercator_site.proofs.folder.report_of_folder.Goals as goal
 
 pub returns-in_err-report-clause-incomplete : goal.returns-in_err-report-clause-incomplete

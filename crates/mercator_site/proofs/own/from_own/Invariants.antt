@@ -1,5 +1,4 @@
-use Rattle.std.proofs.Common.{◌≡◌, drop}
-use Rattle.mercator_site.specs.Own.{from_own}
+use Rattle.mercator_site.proofs.Prelude.{◌≡◌, drop, from_own}
 use Rattle.mercator_site.proofs.own.from_own.Given as goal
 
 abbrev pub invariant-loop-index : goal.invariant-loop-index

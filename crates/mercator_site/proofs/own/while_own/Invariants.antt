@@ -1,5 +1,4 @@
-use Rattle.std.proofs.Common.{◌≡◌, ◌++◌, take, drop}
-use Rattle.mercator_site.specs.Own.{while_own}
+use Rattle.mercator_site.proofs.Prelude.{◌≡◌, ◌++◌, take, drop, while_own}
 use Rattle.mercator_site.proofs.own.while_own.Given as goal
 
 abbrev pub invariant-loop-index : goal.invariant-loop-index

@@ -1,7 +1,5 @@
-use Rattle.std.proofs.Common.{arith, subst, sym}
-use Rattle.std.proofs.lemmas.Grind.{common_steps}
+use Rattle.mercator_site.proofs.Prelude.{arith, subst, sym, common_steps, AreOwn}
 use Rattle.mercator_site.proofs.OwnPages.{own_with}
-use Rattle.mercator_site.specs.Own.{AreOwn}
 use Rattle.mercator_site.proofs.start.seeds_of.Goals as goal
 
 pub loop-link-preserved : goal.loop-link-preserved

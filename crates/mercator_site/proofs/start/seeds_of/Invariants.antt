@@ -1,6 +1,4 @@
-use Rattle.std.proofs.Common.{◌≡◌, map, take, Ok, string_bytes}
-use Rattle.crawl_keys.specs.CanonicalText.{resolve}
-use Rattle.mercator_site.specs.Own.{AreOwn}
+use Rattle.mercator_site.proofs.Prelude.{◌≡◌, map, take, Ok, string_bytes, resolve, AreOwn}
 use Rattle.mercator_site.proofs.start.seeds_of.Given as goal
 
 abbrev pub invariant-loop-link : goal.invariant-loop-link

@@ -1,6 +1,5 @@
-use Rattle.std.proofs.Common.{◌≡◌, length}
+use Rattle.session_log.proofs.Prelude.{◌≡◌, length, has_sync}
 use Rattle.std.specs.Str.Lines.{lines}
-use Rattle.session_log.specs.LogFile.{has_sync}
 use Rattle.session_log.proofs.log_file.has_sync.Given as goal
 
 abbrev pub invariant-loop-line : goal.invariant-loop-line

@@ -1,8 +1,6 @@
-use Rattle.std.proofs.Common.{◌≡◌, ap, ◌∙◌, subst}
-use Rattle.std.proofs.KnownBytes.{prepend_known-nil}
+use Rattle.session_log.proofs.Prelude.{◌≡◌, ap, ◌∙◌, subst, prepend_known-nil, items}
 use Rattle.std.specs.Io.KnownBytes.{prepend_known}
 use Rattle.crawl_session.specs.Input.{ServesInput}
-use Rattle.session_log.specs.LogFile.{items}
 use Rattle.session_log.proofs.Logs.{is_break}
 use Rattle.session_log.proofs.resuming.serve_logged.Goals as goal
 

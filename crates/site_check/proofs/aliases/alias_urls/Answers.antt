@@ -1,9 +1,6 @@
-use Rattle.std.proofs.Common.{◌||◌, [], ◌∷◌, ◌++◌, take, sym, ap, ◌∙◌}
-use Rattle.std.proofs.lemmas.List.{take_more}
-use Rattle.std.specs.Str.{bytes_eq}
+use Rattle.site_check.proofs.Prelude.{◌||◌, [], ◌∷◌, ◌++◌, take, sym, ap, ◌∙◌, take_more, bytes_eq, is_alias}
 use Rattle.crawl_sources.proofs.Counts.{any_push, set_put}
 use Rattle.site_files.specs.declared.alias.Alias.{Alias}
-use Rattle.site_check.specs.Aliases.{is_alias}
 use Rattle.site_check.proofs.aliases.alias_urls.Goals as goal
 
 pub loop-alias-preserved : goal.loop-alias-preserved

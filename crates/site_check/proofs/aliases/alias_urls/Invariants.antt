@@ -1,5 +1,4 @@
-use Rattle.std.proofs.Common.{◌≡◌, ℕ, List, take}
-use Rattle.site_check.specs.Aliases.{is_alias, is_in}
+use Rattle.site_check.proofs.Prelude.{◌≡◌, ℕ, List, take, is_alias, is_in}
 use Rattle.site_check.proofs.aliases.alias_urls.Given as goal
 
 abbrev pub invariant-loop-alias : goal.invariant-loop-alias

@@ -1,9 +1,4 @@
-use Rattle.std.proofs.Common.{◌≡◌, ℕ, List, [], map, take, string_bytes}
-use Rattle.site_files.specs.declared.files.SiteFiles.{SiteFiles}
-use Rattle.site_check.specs.Ignored.{not_ignored, parts_in}
-use Rattle.site_check.specs.Names.{AreNamed}
-use Rattle.site_check.specs.Parts.{part_text}
-use Rattle.site_check.specs.Told.{rows_in}
+use Rattle.site_check.proofs.Prelude.{◌≡◌, ℕ, List, [], map, take, string_bytes, SiteFiles, not_ignored, parts_in, AreNamed, part_text, rows_in}
 use Rattle.site_check.proofs.anchors.part_rows.Given as goal
 
 abbrev pub invariant-loop-part : goal.invariant-loop-part

@@ -1,7 +1,4 @@
-use Rattle.std.proofs.Common.{Vec, Global, ◌∙◌}
-use Rattle.std.proofs.lemmas.Result.{IfOk-weaker}
-use Rattle.site_check.specs.Leads.{leads_from}
-use Rattle.site_check.specs.declared.leads.Lead.{Lead}
+use Rattle.site_check.proofs.Prelude.{Vec, Global, ◌∙◌, IfOk-weaker, leads_from, Lead}
 use Rattle.site_check.proofs.check.page_leads.Goals as goal
 
 -- the maps have what the lists have

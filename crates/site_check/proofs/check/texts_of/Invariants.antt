@@ -1,6 +1,4 @@
-use Rattle.std.proofs.Common.{◌≡◌, map, take}
-use Rattle.crawl_sources.specs.Tallies.{pointed}
-use Rattle.site_check.specs.Parts.{part_text}
+use Rattle.site_check.proofs.Prelude.{◌≡◌, map, take, pointed, part_text}
 use Rattle.site_check.proofs.check.texts_of.Given as goal
 
 abbrev pub invariant-loop-part : goal.invariant-loop-part

@@ -1,6 +1,4 @@
-use Rattle.std.proofs.Common.{◌≡◌, false, take}
-use Rattle.std.specs.List.{list_any}
-use Rattle.site_check.specs.Broken.{begins}
+use Rattle.site_check.proofs.Prelude.{◌≡◌, false, take, list_any, begins}
 use Rattle.site_check.proofs.ignored.begins_any.Given as goal
 
 abbrev pub invariant-loop-text : goal.invariant-loop-text

@@ -1,5 +1,4 @@
-use Rattle.std.proofs.Common.{◌≡◌, length, map, string_bytes}
-use Rattle.site_check.specs.Broken.{is_ignored}
+use Rattle.site_check.proofs.Prelude.{◌≡◌, length, map, string_bytes, is_ignored}
 use Rattle.site_check.proofs.ignored.is_ignored.Given as goal
 
 abbrev pub invariant-entries : goal.invariant-entries

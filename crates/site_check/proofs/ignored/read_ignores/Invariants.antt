@@ -1,7 +1,5 @@
-use Rattle.std.proofs.Common.{◌≡◌, ◌++◌, length, map, string_bytes}
-use Rattle.std.specs.List.{flat_map}
+use Rattle.site_check.proofs.Prelude.{◌≡◌, ◌++◌, length, map, string_bytes, flat_map, entries_in, entry_in}
 use Rattle.std.specs.Str.Lines.{lines}
-use Rattle.site_check.specs.Ignored.{entries_in, entry_in}
 use Rattle.site_check.proofs.ignored.read_ignores.Given as goal
 
 abbrev pub invariant-lines : goal.invariant-lines

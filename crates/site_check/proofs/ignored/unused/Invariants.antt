@@ -1,6 +1,4 @@
-use Rattle.std.proofs.Common.{◌≡◌, ◌++◌, map, take, string_bytes}
-use Rattle.crawl_sources.specs.Tallies.{pointed}
-use Rattle.site_check.specs.Ignored.{unused}
+use Rattle.site_check.proofs.Prelude.{◌≡◌, ◌++◌, map, take, string_bytes, pointed, unused}
 use Rattle.site_check.proofs.ignored.unused.Given as goal
 
 abbrev pub invariant-loop-entry : goal.invariant-loop-entry

@@ -1,5 +1,4 @@
-use Rattle.std.proofs.Common.{◌∙◌}
-use Rattle.site_check.specs.Leads.{number_at, number_with}
+use Rattle.site_check.proofs.Prelude.{◌∙◌, number_at, number_with}
 use Rattle.site_check.proofs.LeadsFound.{number_put, target_more}
 use Rattle.site_check.proofs.leads.insert_all.Goals as goal
 

@@ -1,5 +1,4 @@
-use Rattle.std.proofs.Common.{◌≡◌, ℕ, List, fold, map, take}
-use Rattle.site_check.specs.Leads.{number_at, number_with, target_at}
+use Rattle.site_check.proofs.Prelude.{◌≡◌, ℕ, List, fold, map, take, number_at, number_with, target_at}
 use Rattle.site_check.proofs.leads.insert_all.Given as goal
 
 abbrev pub invariant-loop-target : goal.invariant-loop-target

@@ -1,5 +1,4 @@
-use Rattle.std.proofs.Common.{◌≡◌, ◌+◌, ◌<◌, ◌^◌, length, take}
-use Rattle.site_check.specs.Leads.{indices_at, leads_from, number_at}
+use Rattle.site_check.proofs.Prelude.{◌≡◌, ◌+◌, ◌<◌, ◌^◌, length, take, indices_at, leads_from, number_at}
 use Rattle.site_check.proofs.leads.leads_from.Given as goal
 
 abbrev pub invariant-loop-place : goal.invariant-loop-place

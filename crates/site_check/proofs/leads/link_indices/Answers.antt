@@ -1,5 +1,4 @@
-use Rattle.std.proofs.Common.{◌∙◌, cond}
-use Rattle.std.specs.Str.{bytes_eq}
+use Rattle.site_check.proofs.Prelude.{◌∙◌, cond, bytes_eq}
 use Rattle.site_check.proofs.LeadsFound.{indices_put, place_more}
 use Rattle.site_check.proofs.leads.link_indices.Goals as goal
 

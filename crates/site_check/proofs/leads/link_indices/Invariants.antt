@@ -1,5 +1,4 @@
-use Rattle.std.proofs.Common.{◌≡◌, ℕ, List, take}
-use Rattle.site_check.specs.Leads.{indices_at, indices_in}
+use Rattle.site_check.proofs.Prelude.{◌≡◌, ℕ, List, take, indices_at, indices_in}
 use Rattle.site_check.proofs.leads.link_indices.Given as goal
 
 abbrev pub invariant-loop-one : goal.invariant-loop-one

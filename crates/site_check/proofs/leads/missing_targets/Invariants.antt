@@ -1,6 +1,4 @@
-use Rattle.std.proofs.Common.{◌≡◌, map, take, string_bytes}
-use Rattle.site_check.specs.Broken.{result_at}
-use Rattle.site_check.specs.Leads.{missing_from, target_at}
+use Rattle.site_check.proofs.Prelude.{◌≡◌, map, take, string_bytes, result_at, missing_from, target_at}
 use Rattle.site_check.proofs.leads.missing_targets.Given as goal
 
 abbrev pub invariant-loop-number : goal.invariant-loop-number

@@ -1,7 +1,4 @@
-use Rattle.std.proofs.Common.{◌≡◌, map, take}
-use Rattle.std.specs.List.{flat_map}
-use Rattle.site_check.specs.Broken.{result_at}
-use Rattle.site_check.specs.Leads.{moved_target, number_at, target_at}
+use Rattle.site_check.proofs.Prelude.{◌≡◌, map, take, flat_map, result_at, moved_target, number_at, target_at}
 use Rattle.site_check.proofs.leads.moved_targets.Given as goal
 
 abbrev pub invariant-loop-one : goal.invariant-loop-one

@@ -1,5 +1,4 @@
-use Rattle.std.proofs.Common.{◌≡◌, ◌++◌, length}
-use Rattle.site_check.specs.Leads.{leads_at, number_at}
+use Rattle.site_check.proofs.Prelude.{◌≡◌, ◌++◌, length, leads_at, number_at}
 use Rattle.site_check.proofs.leads.push_leads.Given as goal
 
 abbrev pub invariant-links : goal.invariant-links

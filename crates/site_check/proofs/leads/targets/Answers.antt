@@ -1,6 +1,4 @@
-use Rattle.std.proofs.Common.{◌∙◌, map, string_bytes, fold, ap}
-use Rattle.site_check.specs.Broken.{result_at}
-use Rattle.site_check.specs.Leads.{number_at, number_with, target_at}
+use Rattle.site_check.proofs.Prelude.{◌∙◌, map, string_bytes, fold, ap, result_at, number_at, number_with, target_at}
 use Rattle.site_check.proofs.LeadsFound.{none_at, numbers_of_all}
 use Rattle.site_check.proofs.leads.targets.Goals as goal
 

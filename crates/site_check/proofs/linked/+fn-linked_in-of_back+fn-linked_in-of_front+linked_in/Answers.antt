@@ -1,8 +1,4 @@
-use Rattle.std.proofs.Common.{◌≡◌, ◌∙◌, ◌+◌, ◌<◌, ◌^◌, List, IfOk, length, map, ap, sym, subst, arith, length-append}
-use Rattle.std.proofs.lemmas.Result.{IfOk-at_ok}
-use Rattle.crawl_pages.specs.declared.page.PageResult.{PageResult}
-use Rattle.crawl_sources.specs.Tallies.{pointed}
-use Rattle.site_check.specs.Broken.{linked, linked_at}
+use Rattle.site_check.proofs.Prelude.{◌≡◌, ◌∙◌, ◌+◌, ◌<◌, ◌^◌, List, IfOk, length, map, ap, sym, subst, arith, length-append, IfOk-at_ok, PageResult, pointed, linked, linked_at}
 use Rattle.site_check.proofs.linked.+fn-linked_in-of_back+fn-linked_in-of_front+linked_in.Goals as goal
 
 pub returns : goal.returns

@@ -1,8 +1,4 @@
-use Rattle.std.proofs.Common.{◌∙◌, length, refl, ap, sym, arith}
-use Rattle.std.proofs.lemmas.Bool.{ltb-false}
-use Rattle.std.proofs.lemmas.Option.{slice_get_read}
-use Rattle.std.specs.Option.{option_map, option_map_or}
-use Rattle.site_check.specs.Broken.{Linked, linked_at}
+use Rattle.site_check.proofs.Prelude.{◌∙◌, length, refl, ap, sym, arith, ltb-false, slice_get_read, option_map, option_map_or, Linked, linked_at}
 use Rattle.site_check.proofs.Counting.{pages_there, within_counts}
 use Rattle.site_check.proofs.linked.pages_at.Goals as goal
 

@@ -1,11 +1,4 @@
-use Rattle.std.proofs.Common.{◌≡◌, ◌∙◌, ◌+◌, ◌<◌, ◌^◌, ◌++◌, Some, refl, slice_get, ap, arith}
-use Rattle.std.proofs.lemmas.Grind.{common_steps}
-use Rattle.std.proofs.lemmas.Option.{slice_get-map, slice_get_read}
-use Rattle.std.specs.Borrow.{Bor}
-use Rattle.std.specs.Option.{option_map}
-use Rattle.crawl_sources.specs.Tallies.{pointed}
-use Rattle.crawl_pages.specs.declared.page.PageResult.{PageResult}
-use Rattle.site_check.specs.Broken.{linked, linked_at}
+use Rattle.site_check.proofs.Prelude.{◌≡◌, ◌∙◌, ◌+◌, ◌<◌, ◌^◌, ◌++◌, Some, refl, slice_get, ap, arith, common_steps, slice_get-map, slice_get_read, Bor, option_map, pointed, PageResult, linked, linked_at}
 use Rattle.site_check.proofs.Counting.{linked_more, sources_fit, with_pages}
 use Rattle.site_check.proofs.linked.sums.Goals as goal
 

@@ -1,7 +1,4 @@
-use Rattle.std.proofs.Common.{◌≡◌, ◌+◌, ◌<◌, ◌^◌, ◌++◌, List, length, map, take}
-use Rattle.crawl_sources.specs.Tallies.{pointed}
-use Rattle.crawl_pages.specs.declared.page.PageResult.{PageResult}
-use Rattle.site_check.specs.Broken.{linked, linked_at}
+use Rattle.site_check.proofs.Prelude.{◌≡◌, ◌+◌, ◌<◌, ◌^◌, ◌++◌, List, length, map, take, pointed, PageResult, linked, linked_at}
 use Rattle.site_check.proofs.linked.sums.Given as goal
 
 abbrev pub invariant-loop-index : goal.invariant-loop-index

@@ -1,7 +1,4 @@
-use Rattle.std.proofs.Common.{◌≡◌, ℕ, false, List, take, map}
-use Rattle.crawl_pages.specs.declared.page.PageResult.{PageResult}
-use Rattle.crawl_sources.specs.Tallies.{pointed, count_of, IsTally}
-use Rattle.site_check.specs.Broken.{linked, linked_at}
+use Rattle.site_check.proofs.Prelude.{◌≡◌, ℕ, false, List, take, map, PageResult, pointed, count_of, IsTally, linked, linked_at}
 use Rattle.site_check.proofs.linked.with_counts.Given as goal
 
 abbrev pub invariant-loop-one : goal.invariant-loop-one

@@ -1,7 +1,4 @@
-use Rattle.std.proofs.Common.{◌∙◌, cond, ap, Some}
-use Rattle.std.proofs.lemmas.Slice.Eq.{bytes_eq-Decides}
-use Rattle.std.specs.Str.{bytes_eq}
-use Rattle.site_check.specs.Names.{known_with, named_at}
+use Rattle.site_check.proofs.Prelude.{◌∙◌, cond, ap, Some, bytes_eq-Decides, bytes_eq, known_with, named_at}
 use Rattle.site_check.proofs.Namesakes.{known_put, name_put}
 use Rattle.site_check.proofs.names.add_name.Goals as goal
 

@@ -1,5 +1,4 @@
-use Rattle.std.proofs.Common.{◌≡◌, length}
-use Rattle.site_check.specs.Names.{behind_slashes}
+use Rattle.site_check.proofs.Prelude.{◌≡◌, length, behind_slashes}
 use Rattle.site_check.proofs.Namesakes.{name_on}
 use Rattle.site_check.proofs.names.behind_slashes.Given as goal
 

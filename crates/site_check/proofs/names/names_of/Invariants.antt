@@ -1,6 +1,4 @@
-use Rattle.std.proofs.Common.{ℕ, List, take, filter}
-use Rattle.site_files.specs.Files.{pages_of}
-use Rattle.site_check.specs.Names.{IsKnown, has_name, named_at}
+use Rattle.site_check.proofs.Prelude.{ℕ, List, take, filter, pages_of, IsKnown, has_name, named_at}
 use Rattle.site_check.proofs.names.names_of.Given as goal
 
 abbrev pub invariant-loop-number : goal.invariant-loop-number

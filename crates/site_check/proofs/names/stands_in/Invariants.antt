@@ -1,5 +1,4 @@
-use Rattle.std.proofs.Common.{◌≡◌, false, take}
-use Rattle.site_check.specs.Names.{stands_in}
+use Rattle.site_check.proofs.Prelude.{◌≡◌, false, take, stands_in}
 use Rattle.site_check.proofs.names.stands_in.Given as goal
 
 abbrev pub invariant-loop-place : goal.invariant-loop-place

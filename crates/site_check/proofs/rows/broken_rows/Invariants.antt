@@ -1,9 +1,4 @@
-use Rattle.std.proofs.Common.{◌≡◌, [], take, map, string_bytes}
-use Rattle.std.specs.List.{flat_map}
-use Rattle.site_check.specs.Broken.{linked_at, rows_with}
-use Rattle.site_check.specs.Ignored.{parts_in}
-use Rattle.site_check.specs.Names.{AreNamed}
-use Rattle.site_check.specs.Told.{rows_in}
+use Rattle.site_check.proofs.Prelude.{◌≡◌, [], take, map, string_bytes, flat_map, linked_at, rows_with, parts_in, AreNamed, rows_in}
 use Rattle.site_check.proofs.rows.broken_rows.Given as goal
 
 abbrev pub invariant-loop-index : goal.invariant-loop-index

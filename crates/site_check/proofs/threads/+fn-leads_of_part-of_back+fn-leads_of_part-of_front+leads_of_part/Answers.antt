@@ -1,5 +1,4 @@
-use Rattle.std.proofs.lemmas.Grind.{common_steps}
-use Rattle.std.proofs.Common.{arith, length-append}
+use Rattle.site_check.proofs.Prelude.{common_steps, arith, length-append}
 use Rattle.site_check.proofs.LeadsFound.{leads_behind}
 use Rattle.site_check.proofs.threads.+fn-leads_of_part-of_back+fn-leads_of_part-of_front+leads_of_part.Goals as goal
 

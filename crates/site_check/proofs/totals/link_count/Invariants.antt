@@ -1,6 +1,4 @@
-use Rattle.std.proofs.Common.{◌≡◌, sum_by, take}
-use Rattle.site_check.specs.Aliases.{is_in}
-use Rattle.site_check.specs.Totals.{capped, own_links}
+use Rattle.site_check.proofs.Prelude.{◌≡◌, sum_by, take, is_in, capped, own_links}
 use Rattle.site_check.proofs.totals.link_count.Given as goal
 
 abbrev pub invariant-loop-one : goal.invariant-loop-one

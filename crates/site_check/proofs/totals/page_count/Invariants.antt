@@ -1,5 +1,4 @@
-use Rattle.std.proofs.Common.{◌≡◌, ◌≤◌, count_by, take}
-use Rattle.site_check.specs.Aliases.{is_in, is_own_page}
+use Rattle.site_check.proofs.Prelude.{◌≡◌, ◌≤◌, count_by, take, is_in, is_own_page}
 use Rattle.site_check.proofs.totals.page_count.Given as goal
 
 abbrev pub invariant-loop-one : goal.invariant-loop-one

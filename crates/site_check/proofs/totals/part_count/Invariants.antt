@@ -1,5 +1,4 @@
-use Rattle.std.proofs.Common.{◌≡◌, ◌≤◌, count_by, take}
-use Rattle.site_check.specs.Totals.{is_part}
+use Rattle.site_check.proofs.Prelude.{◌≡◌, ◌≤◌, count_by, take, is_part}
 use Rattle.site_check.proofs.totals.part_count.Given as goal
 
 abbrev pub invariant-loop-one : goal.invariant-loop-one

@@ -1,5 +1,4 @@
-use Rattle.std.proofs.Common.{◌≡◌, sum_by, take, length}
-use Rattle.site_check.specs.Totals.{capped}
+use Rattle.site_check.proofs.Prelude.{◌≡◌, sum_by, take, length, capped}
 use Rattle.site_check.proofs.totals.place_count.Given as goal
 
 abbrev pub invariant-loop-one : goal.invariant-loop-one

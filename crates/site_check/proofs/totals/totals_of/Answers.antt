@@ -1,5 +1,4 @@
-use Rattle.std.proofs.Common.{◌∙◌}
-use Rattle.site_check.specs.Totals.{totals_by}
+use Rattle.site_check.proofs.Prelude.{◌∙◌, totals_by}
 use Rattle.site_check.proofs.totals.totals_of.Goals as goal
 
 pub returns : goal.returns

@@ -1,5 +1,4 @@
-use Rattle.std.proofs.Common.{◌≡◌, ◌≤◌, count_by, take, not}
-use Rattle.site_check.specs.Totals.{is_part}
+use Rattle.site_check.proofs.Prelude.{◌≡◌, ◌≤◌, count_by, take, not, is_part}
 use Rattle.site_check.proofs.totals.url_count.Given as goal
 
 abbrev pub invariant-loop-one : goal.invariant-loop-one

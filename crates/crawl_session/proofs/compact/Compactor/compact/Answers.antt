@@ -1,7 +1,4 @@
-use Rattle.std.proofs.Common.{subst, sym}
-use Rattle.std.specs.Io.KnownBytes.{Appends}
-use Rattle.std.specs.Str.Lines.{lines}
-use Rattle.std.proofs.KnownBytes.{Appends-nil}
+use Rattle.crawl_session.proofs.Prelude.{subst, sym, Appends, lines, Appends-nil}
 use Rattle.crawl_session.proofs.Compacted.{added, so_far_none, so_far_more}
 use Rattle.crawl_session.proofs.compact.Compactor.compact.Goals as goal
 

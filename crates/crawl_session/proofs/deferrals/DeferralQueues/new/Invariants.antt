@@ -1,5 +1,4 @@
-use Rattle.std.proofs.Common.{◌≡◌, replicate}
-use Rattle.crawl_session.specs.Frontiers.{no_deferrals}
+use Rattle.crawl_session.proofs.Prelude.{◌≡◌, replicate, no_deferrals}
 use Rattle.crawl_session.proofs.deferrals.DeferralQueues.new.Given as goal
 
 abbrev pub invariant-loop-made : goal.invariant-loop-made

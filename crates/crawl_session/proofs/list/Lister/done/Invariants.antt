@@ -1,5 +1,4 @@
-use Rattle.std.proofs.Common.{length}
-use Rattle.std.specs.Str.Lines.{lines}
+use Rattle.crawl_session.proofs.Prelude.{length, lines}
 use Rattle.crawl_session.proofs.Listing.{ListsFront}
 use Rattle.crawl_session.proofs.list.Lister.done.Given as goal
 

@@ -1,5 +1,4 @@
-use Rattle.std.proofs.Common.{Some}
-use Rattle.crawl_session.specs.Listing.{stats_at}
+use Rattle.crawl_session.proofs.Prelude.{Some, stats_at}
 use Rattle.crawl_session.proofs.Listing.{each_more}
 use Rattle.crawl_session.proofs.list.Lister.stats_by_queue.Goals as goal
 

@@ -1,10 +1,5 @@
-use Rattle.std.proofs.Common.{subst}
-use Rattle.crawl_keys.specs.Outcome.{Gives}
-use Rattle.crawl_session.specs.declared.request.Request.{Request}
+use Rattle.crawl_session.proofs.Prelude.{subst, Gives, Request, placed_if, request_of, SessionView}
 use Rattle.crawl_session.specs.declared.request.RequestError.TheVariants as wrong
-use Rattle.crawl_session.specs.Parts.{placed_if}
-use Rattle.crawl_session.specs.Requests.{request_of}
-use Rattle.crawl_session.specs.Settings.{SessionView}
 use Rattle.crawl_session.proofs.Placed.{placed_gives}
 use Rattle.crawl_session.proofs.session.Session.request_of_part.Goals as goal
 

@@ -1,8 +1,5 @@
-use Rattle.std.proofs.Common.{rules, ◌≡◌, not, if◌then◌else◌, ℕ, List, [], ◌∷◌, ◌++◌, Option, is_some, map, sym, ap, ◌∙◌, arith}
-use Rattle.std.proofs.lemmas.List.{map-id}
-use Rattle.crawl_core.specs.Kept.{has_text}
+use Rattle.crawl_session.proofs.Prelude.{rules, ◌≡◌, not, if◌then◌else◌, ℕ, List, [], ◌∷◌, ◌++◌, Option, is_some, map, sym, ap, ◌∙◌, arith, map-id, has_text, has_index}
 use Rattle.hash_index.specs.Lists.{index_of}
-use Rattle.hash_index.proofs.Listed.{has_index}
 use Rattle.crawl_session.proofs.texts.Texts.insert.Goals as goal
 
 -- what was found says whether the text was there

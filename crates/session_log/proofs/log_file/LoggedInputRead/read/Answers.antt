@@ -1,7 +1,4 @@
-use Rattle.std.proofs.Common.{◌≡◌, ◌++◌, length, take, drop, sym, ◌∙◌, rules, arith}
-use Rattle.std.proofs.KnownBytes.{prepend_known-read}
-use Rattle.std.proofs.lemmas.List.{take-append-drop, take_at, length-take}
-use Rattle.session_log.specs.LogFile.{items}
+use Rattle.session_log.proofs.Prelude.{◌≡◌, ◌++◌, length, take, drop, sym, ◌∙◌, rules, arith, prepend_known-read, take-append-drop, take_at, length-take, items}
 use Rattle.session_log.proofs.log_file.LoggedInputRead.read.Goals as goal
 
 pub returns-clause-bytes : goal.returns-clause-bytes

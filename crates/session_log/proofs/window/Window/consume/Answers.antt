@@ -1,5 +1,4 @@
-use Rattle.std.proofs.Common.{ℕ, arith}
-use Rattle.std.proofs.lemmas.List.{length-take, length-drop}
+use Rattle.session_log.proofs.Prelude.{ℕ, arith, length-take, length-drop}
 use Rattle.session_log.proofs.Logs.{consumed}
 use Rattle.session_log.proofs.window.Window.consume.Goals as goal
 

@@ -1,0 +1,28 @@
+-- The names that most proofs cite, passed on from one place. Declares nothing.
+pub use Rattle.crawl_pages.specs.declared.page.Page.{Page}
+pub use Rattle.crawl_pages.specs.declared.page.PageResult.{PageResult}
+pub use Rattle.crawl_sources.specs.Tallies.{Count, IsTally, count_of, pointed}
+pub use Rattle.site_check.specs.Aliases.{is_alias, is_alias_page, is_in, is_own_page}
+pub use Rattle.site_check.specs.Broken.{Linked, begins, broken_of, is_ignored, is_unfound, linked, linked_at, redirects_of, result_at, rows_at, rows_with, ways_at, ways_with}
+pub use Rattle.site_check.specs.Ignored.{entries_in, entry_in, missing_texts, not_ignored, parts_in, text_at, unused}
+pub use Rattle.site_check.specs.Leads.{HasNoLink, Indices, Numbers, Target, indices_at, indices_in, indices_with, lead_to, leads_at, leads_from, leads_of, missing_from, moved_target, number_at, number_in, number_with, own_number, target_at, targets_of, to_number}
+pub use Rattle.site_check.specs.Names.{AreNamed, IsKnown, Names, behind_slashes, has_name, is_slash, known_at, known_with, named_at, only_told, stands_in}
+pub use Rattle.site_check.specs.Parts.{part_text}
+pub use Rattle.site_check.specs.Told.{rows_in, way_of}
+pub use Rattle.site_check.specs.Totals.{capped, is_part, own_links, totals_by}
+pub use Rattle.site_check.specs.declared.leads.Lead.{Lead}
+pub use Rattle.site_files.specs.Files.{PageFile, pages_of}
+pub use Rattle.site_files.specs.declared.files.SiteFiles.{SiteFiles}
+pub use Rattle.std.proofs.Common.{Bool, Global, IfOk, List, None, Option, Some, Vec, [], ap, append_assoc, arith, cond, count_by, drop, false, filter, fold, get_or, inl, inr, length, length-append, length-take-le, map, not, refl, slice_get, string_bytes, subst, suc, sum_by, sym, take, true, zero, ℕ, ◌++◌, ◌+◌, ◌<◌, ◌^◌, ◌||◌, ◌∙◌, ◌∷◌, ◌≡◌, ◌≤◌}
+pub use Rattle.std.proofs.lemmas.Bool.{cases_Bool, cond-false, cond-true, ltb-false}
+pub use Rattle.std.proofs.lemmas.Grind.{common_steps}
+pub use Rattle.std.proofs.lemmas.List.{length-map, map_more, take-append-drop, take_more}
+pub use Rattle.std.proofs.lemmas.List.Elements.{filter-append, filter_more}
+pub use Rattle.std.proofs.lemmas.List.Sums.{count_by-le-length, fold-append, fold_more, fold_push, length-filter}
+pub use Rattle.std.proofs.lemmas.Option.{get_or_from_slice_get, slice_get-map, slice_get_read, slice_get_within}
+pub use Rattle.std.proofs.lemmas.Result.{IfOk-at_ok, IfOk-weaker}
+pub use Rattle.std.proofs.lemmas.Slice.Eq.{bytes_eq-Decides}
+pub use Rattle.std.specs.Borrow.{Bor}
+pub use Rattle.std.specs.List.{flat_map, list_any}
+pub use Rattle.std.specs.Option.{option_map, option_map_or}
+pub use Rattle.std.specs.Str.{bytes_eq}
