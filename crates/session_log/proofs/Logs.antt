@@ -1,5 +1,5 @@
 -- Buffers, compactions in turns, and sessions that break off.
-use Rattle.std.proofs.Common.{◌≡◌, ◌⊎◌, inl, inr, ℕ, ◌+◌, ◌-◌, ◌≤◌, List, ◌++◌, Option, drop, take, slice_range, sym, ap, subst, ◌∙◌, arith}
+use Rattle.std.proofs.Common.{◌≡◌, ◌⊎◌, ℕ, ◌+◌, ◌-◌, ◌≤◌, List, ◌++◌, Option, drop, take, slice_range, sym, ap, ◌∙◌, arith}
 use Rattle.std.proofs.KnownBytes.{Appends-trans}
 use Rattle.std.proofs.lemmas.List.{drop-take, drop-drop}
 use Rattle.crawl_session.specs.Compacting.{Had}
@@ -29,6 +29,4 @@ compacted_more had old next mid last new out_old out_mid out_new one two = recor
 
 -- a session that breaks off
 pub is_break : (why : ServeError) (fault : LoggedFault) → (fault ≡ ends.Session why) ⊎ ((fault ≡ ends.Log unlogged.CannotWrite) ⊎ (fault ≡ ends.Log unlogged.Changed)) → IsBreak fault
-is_break why fault (inl is) = subst (λ f. IsBreak f) (sym is) tt
-is_break why fault (inr (inl is)) = subst (λ f. IsBreak f) (sym is) tt
-is_break why fault (inr (inr is)) = subst (λ f. IsBreak f) (sym is) tt
+is_break why fault is = grind arith

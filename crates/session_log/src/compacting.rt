@@ -88,6 +88,7 @@ fn compact_lines<F: Read + Seek, O: Write>(
 }
 
 /// Like [`compact_lines`], with this buffer. Fails with `CannotRead` if a line is longer than the buffer.
+#[tactic(auto, using(crate::proofs::Logs::compacted_more))]
 fn compact_by<F: Read + Seek, O: Write>(
     alloc: Global,
     session: &mut Session,

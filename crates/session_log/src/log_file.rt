@@ -31,7 +31,11 @@ pub struct LogPlace<'p, R> {
 
 impl<'p, R: Files> LogPlace<'p, R> {
     /// The file of a log with this name.
-    pub(crate) fn new<F: OpenFile>(rt: &'p R, name: String, file: &F) -> io::Result<LogPlace<'p, R>> {
+    pub(crate) fn new<F: OpenFile>(
+        rt: &'p R,
+        name: String,
+        file: &F,
+    ) -> io::Result<LogPlace<'p, R>> {
         let found = file.metadata()?;
         let node = if found.is_file() {
             Some((found.dev(), found.ino()))

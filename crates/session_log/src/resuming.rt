@@ -72,6 +72,7 @@ fn rerun_file<F: Read + Seek>(
 ///
 /// # Errors
 /// `Session`; what was written before it stays. `Log` with `CannotWrite` or `Changed`.
+#[tactic(auto, using(crate::proofs::Logs::is_break))]
 pub fn serve_logged<F: Write + OpenFile + Drop, R: Files, I: Read, O: Write>(
     alloc: Global,
     session: &mut Session,

@@ -55,6 +55,7 @@ impl Window {
     }
 
     /// Hands on `count` bytes.
+    #[tactic(auto, using(crate::proofs::Logs::consumed))]
     pub fn consume(&mut self, count: usize)
         requires { count ≤ length (items self.old) }
         ensures { items self.new ≡ drop count (items self.old) }
