@@ -1,5 +1,5 @@
 -- The text of what a crawl found, by the report that was printed.
-use Rattle.std.proofs.Common.{◌≡◌, ℕ, List, [], Result, Ok, Err, Vec, Global, Bor, IfOk, sym, ap, subst, ◌∙◌, if◌then◌else◌}
+use Rattle.std.proofs.Common.{◌≡◌, ℕ, List, [], Result, Vec, Global, Bor, IfOk, if◌then◌else◌, arith}
 use Rattle.std.specs.Cmp.Lexicographic.{slice_cmp}
 use Rattle.std.specs.List.{flat_map}
 use Rattle.std.specs.List.Sorted.{IsPermutation, IsSortedByKey}
@@ -15,20 +15,8 @@ use Rattle.mercator.specs.WebCrawl.{AreUnreached, CrawlPlan, IsTextOf}
 
 pub unreached_told : (urls suffixes : List (List ℕ)) (pages given : List PageResult) (found shown : List (Bor (List ℕ))) → given ≡ pages → shown ≡ found
     → IsPermutation (unreached_of (allows suffixes) given urls) (pointed found) → IsSortedByKey (λ url. url) (slice_cmp nat_cmp) (pointed found) → AreUnreached urls suffixes pages (pointed shown)
-unreached_told urls suffixes pages given found shown same_pages same_shown moved ascends =
-    let both : unreached_of (allows suffixes) given urls ≡ unreached_of (allows suffixes) pages urls = ap (λ of. unreached_of (allows suffixes) of urls) same_pages in
-    record {
-      same =
-          subst (λ us. IsPermutation us (pointed shown)) both
-          (subst (λ xs. IsPermutation (unreached_of (allows suffixes) given urls) (pointed xs)) (sym same_shown) moved);
-      ascends = subst (λ xs. IsSortedByKey (λ url. url) (slice_cmp nat_cmp) (pointed xs)) (sym same_shown) ascends;
-    }
+unreached_told urls suffixes pages given found shown same_pages same_shown moved ascends = grind arith
 
 pub text_told : {E : Type 0} (result : Result (Vec (Vec ℕ Global) Global) E) (plan : CrawlPlan) (known suffixes : List (List ℕ)) (pages given : List PageResult) (counts shown : List ℕ) (urls : List (List ℕ)) → given ≡ pages → shown ≡ (if plan.queues then counts else [])
     → AreUnreached known suffixes pages urls → IfOk result (λ parts. joined parts.items ≡ flat_map (printed_line plan.options.json) (rows_with plan.options.parts given shown urls)) → IfOk result (λ parts. IsTextOf plan known suffixes pages counts (joined parts.items))
-text_told (Ok parts) plan known suffixes pages given counts shown urls same_pages same_counts unseen printed = record {
-  unreached = urls;
-  unseen = unseen;
-  written = printed ∙ (λ i. flat_map (printed_line plan.options.json) (rows_with plan.options.parts (same_pages i) (same_counts i) urls));
-}
-text_told (Err e) plan known suffixes pages given counts shown urls same_pages same_counts unseen printed = tt
+text_told result plan known suffixes pages given counts shown urls same_pages same_counts unseen printed = grind arith

@@ -1,5 +1,5 @@
 -- How the commands for a folder end.
-use Rattle.std.proofs.Common.{◌≡◌, ◌⊎◌, inl, inr, ℕ, Bool, true, false, if◌then◌else◌, List, Option, String, Global, refl, arith}
+use Rattle.std.proofs.Common.{◌≡◌, ◌⊎◌, inl, inr, ℕ, Bool, true, false, if◌then◌else◌, List, Option, String, Global, arith}
 use Rattle.crawl_run.specs.Crawls.{is_incomplete}
 use Rattle.crawl_run.specs.declared.error.CrawlError.{CrawlError}
 use Rattle.crawl_run.specs.declared.error.CrawlError.TheVariants as crawl
@@ -14,16 +14,13 @@ use Rattle.mercator.specs.declared.commands.planned.Plan.TheVariants as asks
 
 -- the status 2 is that of an incomplete crawl
 is_two : (b : Bool) → ◌≡◌ {A = ℕ} (if b then 2 else 1) 2 → b ≡ true
-is_two true two = refl
-is_two false two = absurd (omega (arith, two))
+is_two b two = grind arith
 
 incomplete_by : (error : CrawlError) (failure : CrawlFailure) → status_of_fault (of_crawl_by error failure) ≡ 2 → is_incomplete failure.error ≡ true
-incomplete_by crawl.NoMemory failure two = absurd (omega (arith, two))
-incomplete_by error failure two = is_two (is_incomplete failure.error) two
+incomplete_by error failure two = grind (arith, is_two)
 
 unfinished : (fault : SiteFault) → status_of_fault (of_site fault) ≡ 2 → is_unfinished fault ≡ true
-unfinished (unsited.Crawl failure) two = incomplete_by failure.error failure two
-unfinished fault two = absurd (omega (arith, two))
+unfinished fault two = grind (arith, incomplete_by)
 
 -- a check ends with this status only if its crawl is incomplete
 pub incomplete_check : (options : CheckOptions) (fault : SiteFault) → (is_unfinished fault ≡ true → IsSiteIncomplete options) → status_of_fault (of_site fault) ≡ 2 → IsSiteIncomplete options
@@ -31,16 +28,10 @@ incomplete_check options fault incomplete two = incomplete (unfinished fault two
 
 -- no folder has the status of a log in use
 not_in_use_by : (error : CrawlError) (failure : CrawlFailure) → status_of_fault (of_crawl_by error failure) ≡ 5 → ⊥
-not_in_use_by crawl.NoMemory failure five = omega (arith, five)
-not_in_use_by error failure five = is_five (is_incomplete failure.error) five
-  where
-    is_five : (b : Bool) → ◌≡◌ {A = ℕ} (if b then 2 else 1) 5 → ⊥
-    is_five true five = omega (arith, five)
-    is_five false five = omega (arith, five)
+not_in_use_by error failure five = grind arith
 
 pub not_in_use : (fault : SiteFault) → status_of_fault (of_site fault) ≡ 5 → ⊥
-not_in_use (unsited.Crawl failure) five = not_in_use_by failure.error failure five
-not_in_use fault five = omega (arith, five)
+not_in_use fault five = grind (arith, not_in_use_by)
 
 -- the report of a check is a text that its command may print
 pub can_print : (options : CheckOptions) (ignores : Option (String Global)) (input : Option (List ℕ)) (broken : Bool) (text : List ℕ) → IsChecked options ignores broken text

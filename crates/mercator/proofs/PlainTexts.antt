@@ -1,9 +1,9 @@
 -- The report of a crawl that has no other optional sections than queues and sources.
-use Rattle.std.proofs.Common.{◌≡◌, ℕ, ◌+◌, ◌<◌, Bool, false, List, [], ◌∷◌, length, get_or, refl, sym, ap, subst, ◌∙◌, arith, if◌then◌else◌}
+use Rattle.std.proofs.lemmas.Grind.{common_steps}
+use Rattle.std.proofs.Common.{◌≡◌, ℕ, ◌+◌, ◌<◌, Bool, false, List, [], length, get_or, sym, ap, subst, ◌∙◌, arith, if◌then◌else◌}
 use Rattle.std.proofs.lemmas.List.{get_or-map, length-map}
 use Rattle.std.proofs.lemmas.List.Sorted.{length_permutation}
 use Rattle.std.specs.Cmp.Lexicographic.{slice_cmp, nat_list_cmp_total}
-use Rattle.std.specs.List.{flat_map}
 use Rattle.std.specs.List.Sorted.{IsPermutation, IsSortedByKey}
 use Rattle.std.specs.Ordering.{is_lt, nat_cmp, ordering_reverse}
 use Rattle.std.specs.Str.Lines.{lines}
@@ -11,8 +11,6 @@ use Rattle.std.specs.declared.cmp.Ordering.TheVariants.{Less}
 use Rattle.crawl_certificate.specs.Certificate.{IsAscending, result_urls}
 use Rattle.crawl_keys.specs.HostFilter.{allows}
 use Rattle.crawl_report.proofs.Format.{text_same}
-use Rattle.crawl_report.specs.Json.{printed_line}
-use Rattle.crawl_report.specs.Rows.{rows_with}
 use Rattle.crawl_report.specs.Today.{text_with}
 use Rattle.crawl_report.specs.Unreached.{unreached_of}
 use Rattle.saved_pages.specs.SavedWeb.{page_urls}
@@ -32,8 +30,7 @@ in_order pages ascends k d low below =
     ap is_lt (nat_list_cmp_total.antisymm (get_or pages (k + 1) d).url (get_or pages k d).url ∙ ap ordering_reverse less)
 
 none_left : (urls : List (List ℕ)) → length urls ≡ 0 → urls ≡ []
-none_left [] none = refl
-none_left (url ∷ urls) none = absurd (omega (arith, none))
+none_left urls none = grind (arith, common_steps)
 
 -- no unreached pages if the report does not list them
 none_asked : (parts : Parts) (bytes : List ℕ) (suffixes : List (List ℕ)) (pages : List PageResult) (urls : List (List ℕ)) → parts.unreached ≡ false → AreUnreached (asked_pages parts (lines bytes)) suffixes pages urls → urls ≡ []
@@ -41,8 +38,7 @@ none_asked parts bytes suffixes pages urls none unseen =
     none_left urls (length_permutation [] urls (subst (λ a. IsPermutation (unreached_of (allows suffixes) pages (if a then page_urls (lines bytes) else [])) urls) none unseen.same))
 
 plain_print : (with_sources : Bool) (plan : CrawlPlan) (pages : List PageResult) (counts : List ℕ) (urls : List (List ℕ)) → IsPlain with_sources plan → urls ≡ [] → printed_with plan pages counts urls ≡ text_with plan.queues with_sources pages counts
-plain_print with_sources plan pages counts urls plain none =
-    λ i. flat_map (printed_line (plain.json i)) (rows_with (plain.parts i) pages (if plan.queues then counts else []) (none i))
+plain_print with_sources plan pages counts urls plain none = grind arith
 
 pub plain_text : (workers : ℕ) (with_sources : Bool) (plan : CrawlPlan) (bytes listed : List ℕ) (seeds suffixes : List (List ℕ)) (text : List ℕ) → IsPlain with_sources plan → IsCrawlText workers plan bytes listed seeds suffixes text
     → IsPlainText workers plan.queues with_sources bytes listed seeds suffixes text

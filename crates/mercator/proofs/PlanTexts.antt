@@ -1,15 +1,11 @@
 -- What a crawl prints; and plans that ask for one text print one.
-use Rattle.std.proofs.Common.{◌≡◌, ℕ, Bool, true, false, true≢false, not, ◌&&◌, List, [], ◌∷◌, ◌++◌, Option, Some, None, Result, Ok, String, Global, IsErr, IfSome, IsSomeAnd, ◌<◌, ◌≤◌, length, map, string_bytes, refl, sym, ap, subst, ◌∙◌}
+use Rattle.std.proofs.Common.{◌≡◌, ℕ, Bool, true, false, not, ◌&&◌, List, [], ◌∷◌, ◌++◌, Option, Some, None, Ok, String, Global, IsErr, IfSome, IsSomeAnd, ◌<◌, ◌≤◌, length, map, string_bytes, refl, sym, ap, subst, ◌∙◌, arith}
 use Rattle.std.specs.Bool.{if◌then◌else◌}
-use Rattle.std.specs.List.{flat_map}
 use Rattle.std.specs.List.Sorted.{IsPermutation}
 use Rattle.std.specs.Str.Lines.{lines}
 use Rattle.crawl_certificate.specs.Certificate.{result_urls}
 use Rattle.crawl_replay.specs.Replay.{IsReplay}
-use Rattle.crawl_replay.specs.Script.{Said, script_of}
-use Rattle.crawl_replay.specs.declared.script.error.ScriptError.{ScriptError}
-use Rattle.crawl_report.specs.Json.{printed_line}
-use Rattle.crawl_report.specs.Rows.{rows_with}
+use Rattle.crawl_replay.specs.Script.{script_of}
 use Rattle.crawl_report.specs.Unreached.{unreached_of}
 use Rattle.crawl_report.proofs.OneOrder.{one_order}
 use Rattle.crawl_pages.specs.declared.page.PageResult.{PageResult}
@@ -38,14 +34,11 @@ of_input P file bytes is of = of_known P (known_bytes file (Some bytes)) bytes (
 
 -- a file with replies has a script
 pub no_refusal : (known : Option (List ℕ)) (text : List ℕ) → OfFile known (λ bytes. IsReplay bytes text) → IsSomeAnd known (λ bytes. IsErr (script_of bytes)) → ⊥
-no_refusal None text of refused = absurd refused
-no_refusal (Some bytes) text of refused = true≢false (sym (subst (λ (r : Result Said ScriptError). IsErr r) (of_known (λ b. IsReplay b text) (Some bytes) bytes refl of).read refused))
+no_refusal known text of refused = grind (arith, of_known)
 
 -- of the input, and of no file of seeds
 of_web : (P : List ℕ → List ℕ → Type 0) (crawl : CrawlPlan) (bytes : List ℕ) → is_input (string_bytes crawl.file) ≡ true → crawl.options.listed ≡ None → OfFiles crawl (Some bytes) P → P bytes []
-of_web P crawl bytes is none of =
-    of_known (P bytes) (known_seeds crawl.options.listed (Some bytes)) [] (ap (λ l. known_seeds l (Some bytes)) none)
-    (of_input (λ b. OfFile (known_seeds crawl.options.listed (Some bytes)) (P b)) (string_bytes crawl.file) bytes is of)
+of_web P crawl bytes is none of = grind (arith, of_known, of_input)
 
 -- of two crawls that find the same pages, and ask for unreached ones or not, these are one list
 one_unreached : (known others suffixes : List (List ℕ)) (pages those : List PageResult) (urls other : List (List ℕ)) → known ≡ others → pages ≡ those → AreUnreached known suffixes pages urls → AreUnreached others suffixes those other → urls ≡ other
@@ -63,8 +56,7 @@ one_count workers urls counts others own its =
 -- what is printed of the same pages, counts and unreached pages with the same sections
 one_print : (crawl other : CrawlPlan) (pages others : List PageResult) (counts their : List ℕ) (urls those : List (List ℕ)) → AskForOneReport crawl other → pages ≡ others → (if crawl.queues then counts else []) ≡ (if other.queues then their else []) → urls ≡ those
     → printed_with crawl pages counts urls ≡ printed_with other others their those
-one_print crawl other pages others counts their urls those ask same_pages same_counts same_urls =
-    λ i. flat_map (printed_line (ask.json i)) (rows_with (ask.parts i) (same_pages i) (same_counts i) (same_urls i))
+one_print crawl other pages others counts their urls those ask same_pages same_counts same_urls = grind arith
 
 one_text : (crawl other : CrawlPlan) (bytes listed : List ℕ) (texts suffixes : List (List ℕ)) (text its : List ℕ) → AskForOneReport crawl other → crawl.queues ≡ other.queues → (crawl.queues ≡ true → crawl.workers ≡ other.workers)
     → IsCrawlText crawl.workers crawl bytes listed texts suffixes text → IsCrawlText other.workers other bytes listed texts suffixes its → text ≡ its
@@ -99,84 +91,47 @@ one_output plan other_plan bytes before after its ask own other = absurd ask
 
 -- the filter of a crawl is that of its suffix, which is good
 single : (suffix : List ℕ) (bad : Bool) (filter : List (List ℕ)) → not (is_good suffix) ≡ bad → filter_of (suffix ∷ []) ≡ Ok filter → (bad ≡ false) × (filter ≡ suffix ∷ [])
-single suffix true filter e is = absurd (let wrong = rw e at is in cc)
-single suffix false filter e is = (refl, (let right = rw e at is in cc))
+single suffix bad filter e is = grind arith
 
 pub filter_is : (within : Option (String Global)) (filter : List (List ℕ)) → filter_of (suffixes_of within) ≡ Ok filter → (is_bad_suffix within ≡ false) × (filter ≡ suffixes_of within)
-filter_is None filter is = (refl, cc)
-filter_is (Some suffix) filter is = single (string_bytes suffix) (not (is_good (string_bytes suffix))) filter refl is
+filter_is within filter is = grind (arith, single)
 
 -- if the suffix is good, only a file that is the input reads the input
 pub reads_neither : (bad any : Bool) → bad ≡ false → (not bad && any) ≡ false → any ≡ false
-reads_neither false any good unread = unread
-reads_neither true any good unread = absurd (cc)
+reads_neither bad any good unread = grind arith
 
 -- by whether FILE and the file of seeds are the input
 by_name : (own its : Bool) (before after : Option (List ℕ)) (bytes : List ℕ) → (own && its) ≡ false → (own ≡ false → after ≡ before)
     → IfSome (if its then after else None) (λ known. bytes ≡ known) → IfSome (if its then before else None) (λ known. bytes ≡ known)
-by_name own false before after bytes one same known = known
-by_name false true before after bytes one same known = subst (λ i. IfSome i (λ k. bytes ≡ k)) (same refl) known
-by_name true true before after bytes one same known = absurd (cc)
+by_name own its before after bytes one same known = grind arith
 
 -- what is known of the file of seeds once FILE was read was known before: not both are the input
 pub still_known : (file : List ℕ) (listed : Option (String Global)) (before after : Option (List ℕ)) (bytes : List ℕ) → (is_input file && lists_input listed) ≡ false → (is_input file ≡ false → after ≡ before)
     → IfSome (known_seeds listed after) (λ known. bytes ≡ known) → IfSome (known_seeds listed before) (λ known. bytes ≡ known)
-still_known file None before after bytes one same known = known
-still_known file (Some name) before after bytes one same known = by_name (is_input file) (is_input (string_bytes name)) before after bytes one same known
+still_known file listed before after bytes one same known = grind (arith, by_name)
 
 -- the two files of a crawl, as they were read, one after the other
 pub are_read : (crawl : CrawlPlan) (input after : Option (List ℕ)) (bytes list : List ℕ) → (is_input (string_bytes crawl.file) && lists_input crawl.options.listed) ≡ false
     → IfSome (known_bytes (string_bytes crawl.file) input) (λ known. bytes ≡ known) → length bytes ≤ most_input_bytes → (is_input (string_bytes crawl.file) ≡ false → after ≡ input)
     → IfSome (known_seeds crawl.options.listed after) (λ known. list ≡ known) → length list ≤ most_input_bytes → AreFiles crawl input bytes list
-are_read crawl input after bytes list one read few same seeds short = record {
-  read = read;
-  few = few;
-  read_seeds = still_known (string_bytes crawl.file) crawl.options.listed input after list one same seeds;
-  few_seeds = short;
-}
+are_read crawl input after bytes list one read few same seeds short = grind (arith, still_known)
 
 -- what holds of the bytes that were read holds of some that the files can have
 of_files : (crawl : CrawlPlan) (input : Option (List ℕ)) (bytes list : List ℕ) (P : List ℕ → List ℕ → Type 0) → AreFiles crawl input bytes list → P bytes list → OfFiles crawl input P
-of_files crawl input bytes list P are holds = record {
-  bytes = bytes;
-  read = are.read;
-  few = are.few;
-  holds = record {
-    bytes = list;
-    read = are.read_seeds;
-    few = are.few_seeds;
-    holds = holds;
-  };
-}
+of_files crawl input bytes list P are holds = grind arith
 
 -- what is printed of what was found in these files, by this filter, is the text of the plan's crawl
 pub told_of : (crawl : CrawlPlan) (input : Option (List ℕ)) (bytes list : List ℕ) (filter known : List (List ℕ)) (found : Crawled) (text : List ℕ) → (is_bad_suffix crawl.options.within ≡ false) × (filter ≡ suffixes_of crawl.options.within) → AreFiles crawl input bytes list
     → IsBegun bytes list (map string_bytes crawl.seeds.items) → IsFound crawl.workers bytes list (map string_bytes crawl.seeds.items) filter found → known ≡ asked_pages crawl.options.parts (lines bytes) → IsTextOf crawl known filter found.result found.counts.items text
     → IsToldCrawl crawl input text
-told_of crawl input bytes list filter known found text suffix are begun own same written =
-    let texts = map string_bytes crawl.seeds.items in
-    let suffixes = suffixes_of crawl.options.within in
-    let here : IsFound crawl.workers bytes list texts suffixes found = subst (λ s. IsFound crawl.workers bytes list texts s found) suffix.1 own in
-    let told = subst (λ us. IsTextOf crawl us suffixes found.result found.counts.items text) same (subst (λ s. IsTextOf crawl known s found.result found.counts.items text) suffix.1 written) in (
-      suffix.0,
-      of_files crawl input bytes list (λ bytes list. IsBegun bytes list texts × IsCrawlText crawl.workers crawl bytes list texts suffixes text) are
-          (begun, record { pages = found.result; crawl = here.crawl; counts = found.counts.items; counted = here.counted; told = told }),
-    )
+told_of crawl input bytes list filter known found text suffix are begun own same written = grind (arith, of_files)
 
 -- why nothing is found of the plan's files
 fails : (crawl : CrawlPlan) (input : Option (List ℕ)) (fault : Fault) → is_bad_suffix crawl.options.within ≡ false
     → OfFiles crawl input (λ bytes list. IsUnbegun crawl.workers crawl.max bytes list (map string_bytes crawl.seeds.items) (suffixes_of crawl.options.within) fault) → FailsCrawl crawl input fault
-fails crawl input wrong.CannotRead good of = good
-fails crawl input wrong.CannotReadSeeds good of = absurd of.holds.holds
-fails crawl input wrong.BadSuffix good of = absurd of.holds.holds
-fails crawl input wrong.NoMemory good of = tt
-fails crawl input fault good of = (good, of)
+fails crawl input fault good of = grind arith
 
 -- and of these files
 pub fails_in_files : (crawl : CrawlPlan) (input : Option (List ℕ)) (bytes list : List ℕ) (filter : List (List ℕ)) (fault : Fault) → (is_bad_suffix crawl.options.within ≡ false) × (filter ≡ suffixes_of crawl.options.within) → AreFiles crawl input bytes list
     → IsUnbegun crawl.workers crawl.max bytes list (map string_bytes crawl.seeds.items) filter fault → FailsCrawl crawl input fault
-fails_in_files crawl input bytes list filter fault suffix are unbegun =
-    let texts = map string_bytes crawl.seeds.items in
-    fails crawl input fault suffix.0
-    (of_files crawl input bytes list (λ bytes list. IsUnbegun crawl.workers crawl.max bytes list texts (suffixes_of crawl.options.within) fault) are
-    (subst (λ s. IsUnbegun crawl.workers crawl.max bytes list texts s fault) suffix.1 unbegun))
+fails_in_files crawl input bytes list filter fault suffix are unbegun = grind (arith, fails, of_files)

@@ -1,5 +1,5 @@
 -- The first seed that has no canonical URL.
-use Rattle.std.proofs.Common.{◌≡◌, ◌⊎◌, ℕ, suc, ◌+◌, ◌<◌, List, ◌∷◌, ◌++◌, length, map, take, drop, get_or, Err, refl, sym, ap, ◌∙◌, arith, inl, inr, drop-cons, add-one}
+use Rattle.std.proofs.Common.{◌≡◌, ◌⊎◌, ℕ, ◌+◌, ◌<◌, List, ◌∷◌, ◌++◌, length, map, take, drop, get_or, Err, refl, ap, ◌∙◌, arith, drop-cons, add-one}
 use Rattle.std.proofs.lemmas.List.{map-append, length-map, length-take-le, take-append-drop}
 use Rattle.crawl_keys.specs.CanonicalText.{canonical}
 use Rattle.crawl_keys.specs.declared.error.KeyError.{KeyError}
@@ -8,10 +8,7 @@ use Rattle.mercator.specs.Faults.{of_seed}
 use Rattle.mercator.specs.WebCrawl.{AreSeeds, IsFirstBadSeed, IsSeedFault}
 
 split_at : {S : Type 0} (xs : List S) (index : ℕ) (one : S) → index < length xs → one ≡ get_or xs index one → xs ≡ take index xs ++ one ∷ drop (index + 1) xs
-split_at xs index one within is =
-    let front = take-append-drop index xs in
-    let rest : drop index xs ≡ one ∷ drop (index + 1) xs = rw add-one (drop-cons xs index one within ∙ ap (λ x. x ∷ drop (suc index) xs) (sym is)) in
-    sym front ∙ ap (λ ys. take index xs ++ ys) rest
+split_at xs index one within is = grind (arith, take-append-drop, add-one, drop-cons)
 
 bad_at : {S : Type 0} (text : S → List ℕ) (texts : List S) (index : ℕ) (one : S) (seeds : List (List ℕ)) (refusal : KeyError) → index < length texts → one ≡ get_or texts index one → AreSeeds (map text (take index texts)) seeds → canonical (text one) ≡ Err refusal → IsFirstBadSeed (map text texts) (index + 1) refusal
 bad_at text texts index one seeds refusal within is named refused = record {
@@ -27,8 +24,4 @@ bad_at text texts index one seeds refusal within is named refused = record {
 
 -- its error, unless memory ran out
 pub seed_fault : {S : Type 0} (text : S → List ℕ) (texts : List S) (index : ℕ) (one : S) (seeds : List (List ℕ)) (refusal : KeyError) → index < length texts → one ≡ get_or texts index one → AreSeeds (map text (take index texts)) seeds → (canonical (text one) ≡ Err refusal) ⊎ (refusal ≡ key.NoMemory) → IsSeedFault (map text texts) (of_seed (index + 1) refusal)
-seed_fault text texts index one seeds key.NoMemory within is named why = tt
-seed_fault text texts index one seeds key.NotUrl within is named (inl refused) = bad_at text texts index one seeds key.NotUrl within is named refused
-seed_fault text texts index one seeds key.NotUrl within is named (inr memory) = absurd (cc)
-seed_fault text texts index one seeds key.NotHttp within is named (inl refused) = bad_at text texts index one seeds key.NotHttp within is named refused
-seed_fault text texts index one seeds key.NotHttp within is named (inr memory) = absurd (cc)
+seed_fault text texts index one seeds refusal within is named why = grind (arith, bad_at)

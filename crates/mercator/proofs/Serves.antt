@@ -1,8 +1,7 @@
 -- What a session prints, by its plan.
-use Rattle.std.proofs.Common.{◌≡◌, ◌⊎◌, inl, inr, ℕ, List, [], Bool, true, false, if◌then◌else◌, true≢false, Option, String, Global, refl, sym, ap, subst, ◌∙◌, arith}
+use Rattle.std.proofs.Common.{◌≡◌, ◌⊎◌, ℕ, List, Bool, true, false, if◌then◌else◌, Option, String, Global, subst, ◌∙◌, arith}
 use Rattle.std.proofs.lemmas.List.{append-nil}
 use Rattle.std.specs.Str.Lines.{lines}
-use Rattle.crawl_run.specs.Crawls.{is_incomplete}
 use Rattle.crawl_session.specs.Frontiers.{Shows, start}
 use Rattle.crawl_session.specs.Answers.{answer_lines}
 use Rattle.crawl_session.specs.Input.{ServesInput}
@@ -39,19 +38,11 @@ made_for session plan identity filter many filtered placed good = λ i. record {
 -- a session that was served to the end of its input
 pub gains_answers : (session : SessionView) (plan : SessionPlan) (input out_old out_new : Option (List ℕ)) (new : SessionView) → Shows session.core (start (queues_of plan) plan.max) → session.settings ≡ settings_of plan no_identity
     → is_bad_suffix plan.within ≡ false → ServesInput session input out_old out_new new → Gains (asks.Serve plan) input out_old out_new
-gains_answers session plan input out_old out_new new shown is good served =
-    let begun = start (queues_of plan) plan.max in
-    let told : served.text ≡ answer_lines (answers session.settings begun (lines served.bytes)) = (served.serves.comes begun shown).0 in
-    record {
-      text = served.text;
-      told = (good, record { bytes = served.bytes; read = served.read; answered = subst (λ s. served.text ≡ answer_lines (answers s begun (lines served.bytes))) is told });
-      gained = served.written;
-    }
+gains_answers session plan input out_old out_new new shown is good served = grind arith
 
 -- one that broke off
 pub breaks_off : (plan : SessionPlan) (input : Option (List ℕ)) (why : ServeError) (Unwritten : Type 0) → is_bad_suffix plan.within ≡ false → EndsBy (asks.Serve plan) input (of_session why) Unwritten
-breaks_off plan input serving.CannotRead Unwritten good = inr (inr good)
-breaks_off plan input why Unwritten good = inr (inr good)
+breaks_off plan input why Unwritten good = grind arith
 
 -- a session that resumed from a log, and was served to the end of its input
 pub gains_on : (session : SessionView) (plan : LogPlan) (identity : List ℕ) (resumed : SessionView) (input out_old out_new : Option (List ℕ)) (new : SessionView) → Shows session.core (start (queues_of plan.session) plan.session.max) → session.settings ≡ settings_of plan.session identity
@@ -79,29 +70,15 @@ gains_on session plan identity resumed input out_old out_new new shown is good l
 
 -- one that broke off
 pub ends_logged : (plan : LogPlan) (input : Option (List ℕ)) (why : LoggedFault) (Unwritten : Type 0) → is_bad_suffix plan.session.within ≡ false → IsBreak why → EndsBy (asks.ServeLog plan) input (of_logged why) Unwritten
-ends_logged plan input (ends.Session serving.CannotRead) Unwritten good is = inr (inr good)
-ends_logged plan input (ends.Session serving.CannotWrite) Unwritten good is = inr (inr good)
-ends_logged plan input (ends.Session serving.NoMemory) Unwritten good is = inr (inr good)
-ends_logged plan input (ends.Log unlogged.CannotWrite) Unwritten good is = inr (inr good)
-ends_logged plan input (ends.Log unlogged.Changed) Unwritten good is = inr (inr good)
-ends_logged plan input why Unwritten good is = absurd is
+ends_logged plan input why Unwritten good is = grind arith
 
 -- it has status 1
 pub plain_break : (why : LoggedFault) → IsBreak why → status_of_fault (of_logged why) ≡ 1
-plain_break (ends.Session serving.CannotRead) is = refl
-plain_break (ends.Session serving.CannotWrite) is = refl
-plain_break (ends.Session serving.NoMemory) is = refl
-plain_break (ends.Log unlogged.CannotWrite) is = refl
-plain_break (ends.Log unlogged.Changed) is = refl
-plain_break why is = absurd is
+plain_break why is = grind arith
 
 -- an open log that cannot be used has status 1
 pub plain_use : (why : LogFault) → IsUseFault why → status_of_fault (of_log why) ≡ 1
-plain_use unlogged.CannotRead is = refl
-plain_use unlogged.CannotWrite is = refl
-plain_use unlogged.Changed is = refl
-plain_use unlogged.NoMemory is = refl
-plain_use why is = absurd is
+plain_use why is = grind arith
 
 -- a log that is not listed
 pub plain_list : (why : LogFault) → IsReadFault why → status_of_fault (of_log why) ≡ 1
@@ -129,45 +106,31 @@ list_ends plan text input old new (Err fault) Unwritten is ends = inr (inl (ends
 
 -- one that did not begin
 pub log_fails : (within : Option (String Global)) (why : LogFault) → is_bad_suffix within ≡ false → FailsLog within (of_log why)
-log_fails within unlogged.NoMemory good = tt
-log_fails within why good = good
+log_fails within why good = grind arith
 
 -- it has status 1 if the suffix is bad
 pub plain_fails : (within : Option (String Global)) (fault : Fault) → is_bad_suffix within ≡ true → FailsLog within fault → status_of_fault fault ≡ 1
-plain_fails within wrong.BadSuffix bad fails = refl
-plain_fails within (wrong.Log unlogged.NoMemory) bad fails = absurd fails
-plain_fails within (wrong.Log why) bad fails = absurd (true≢false (sym bad ∙ fails))
-plain_fails within wrong.NoMemory bad fails = refl
-plain_fails within fault bad fails = absurd fails
+plain_fails within fault bad fails = grind arith
 
 -- an error of a log does not have status 2
 complete_why : (why : LogFault) → status_of_log why ≡ 2 → ⊥
-complete_why unlogged.InUse two = omega (arith, two)
-complete_why why two = omega (arith, two)
+complete_why why two = grind arith
 
 pub complete_fails : (within : Option (String Global)) (fault : Fault) → FailsLog within fault → status_of_fault fault ≡ 2 → ⊥
-complete_fails within wrong.BadSuffix fails two = omega (arith, two)
-complete_fails within (wrong.Log why) fails two = complete_why why two
-complete_fails within wrong.NoMemory fails two = omega (arith, two)
-complete_fails within fault fails two = fails
+complete_fails within fault fails two = grind (arith, complete_why)
 
 pub complete_log : (why : LogFault) → status_of_fault (of_log why) ≡ 2 → ⊥
-complete_log unlogged.NoMemory two = omega (arith, two)
-complete_log why two = complete_why why two
+complete_log why two = grind (arith, complete_why)
 
 -- status 5 is that of a log in use
 in_use_why : (why : LogFault) → status_of_log why ≡ 5 → why ≡ unlogged.InUse
-in_use_why unlogged.InUse five = refl
-in_use_why why five = absurd (omega (arith, five))
+in_use_why why five = grind arith
 
 in_use_crawl : (b : Bool) → ◌≡◌ {A = ℕ} (if b then 2 else 1) 5 → ⊥
-in_use_crawl true five = omega (arith, five)
-in_use_crawl false five = omega (arith, five)
+in_use_crawl b five = grind arith
 
 pub in_use : (fault : Fault) → status_of_fault fault ≡ 5 → fault ≡ wrong.Log unlogged.InUse
-in_use (wrong.Log why) five = ap (λ w. wrong.Log w) (in_use_why why five)
-in_use (wrong.Crawl failure) five = absurd (in_use_crawl (is_incomplete failure.error) five)
-in_use fault five = absurd (omega (arith, five))
+in_use fault five = grind (arith, in_use_why, in_use_crawl)
 
 -- the line of a log in use
 pub tells_in_use : (plan : Plan) (fault : Fault) (old new : Option (List ℕ)) → HasLog plan → status_of_fault fault ≡ 5 → Begins old new (told_lines plan fault) → TellsInUse plan old new
@@ -179,15 +142,9 @@ tells_in_use plan fault old new has five told = absurd has
 
 -- the line of an error is printed after what a session with a log may have printed
 pub tells_fault : (plan : Plan) (old middle new : Option (List ℕ)) (line : List ℕ) → (has_notices plan ≡ false → middle ≡ old) → MayNote plan old middle → Begins middle new line → TellsFault plan old new line
-tells_fault (asks.ServeLog plan) old middle new line silent noted told = (middle, noted, told)
-tells_fault (asks.Site options) old middle new line silent noted told = (middle, told)
-tells_fault (asks.Check options ignores) old middle new line silent noted told = (middle, told)
-tells_fault plan old middle new line silent noted told = subst (λ o. Begins o new line) (silent refl) told
+tells_fault plan old middle new line silent noted told = grind arith
 
 -- `err` after a success: what holds for a plan holds for the arguments that it comes from
 pub done_words : {E : Type 0} (plan : Plan) (contents : E → Option (List ℕ)) (input out_old out_new : Option (List ℕ)) (old new : E) → IsWithinLimits plan → Gains plan input out_old out_new → (has_notices plan ≡ false → new ≡ old) → MayNote plan (contents old) (contents new)
     → (new ≡ old) ⊎ ((plan : Plan) × IsWithinLimits plan × IsDoneWithNote plan input out_old out_new (contents old) (contents new))
-done_words (asks.ServeLog plan) contents input out_old out_new old new limits gains silent noted = inr (asks.ServeLog plan, limits, record { noting = refl; gains = gains; noted = noted })
-done_words (asks.Site options) contents input out_old out_new old new limits gains silent noted = inr (asks.Site options, limits, record { noting = refl; gains = gains; noted = noted })
-done_words (asks.Check options ignores) contents input out_old out_new old new limits gains silent noted = inr (asks.Check options ignores, limits, record { noting = refl; gains = gains; noted = noted })
-done_words plan contents input out_old out_new old new limits gains silent noted = inl (silent refl)
+done_words plan contents input out_old out_new old new limits gains silent noted = grind arith

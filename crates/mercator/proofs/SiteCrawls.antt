@@ -1,10 +1,9 @@
 -- The pages of a saved web that can be reached are one list, and so its report is one text.
-use Rattle.std.proofs.Common.{◌≡◌, ℕ, ◌≤◌, Bool, List, [], ◌∷◌, length, map, ◌++◌, Result, Ok, refl, sym, ap, subst, ◌∙◌}
+use Rattle.std.proofs.Common.{◌≡◌, ℕ, ◌≤◌, Bool, List, [], ◌∷◌, length, map, Result, Ok, refl, sym, ap, subst, ◌∙◌, arith}
 use Rattle.crawl_certificate.specs.Certificate.{IsCrawl, result_urls}
 use Rattle.crawl_certificate.proofs.OneCrawl.{one_crawl}
 use Rattle.crawl_keys.specs.HostFilter.{allows}
 use Rattle.crawl_keys.specs.declared.error.KeyError.{KeyError}
-use Rattle.crawl_sources.specs.Seeds.{seeds_in}
 use Rattle.saved_pages.specs.SavedWeb.{page_of}
 use Rattle.crawl_pages.specs.declared.page.Page.{Page}
 use Rattle.crawl_pages.specs.declared.page.PageResult.{PageResult}
@@ -32,10 +31,7 @@ same_oks : (xs ys : List (List ℕ)) → map as_ok xs ≡ map as_ok ys → xs �
 same_oks [] [] same = refl
 same_oks [] (y ∷ ys) same = absurd (cc)
 same_oks (x ∷ xs) [] same = absurd (cc)
-same_oks (x ∷ xs) (y ∷ ys) same =
-    let first : x ≡ y = cc in
-    let others : xs ≡ ys = same_oks xs ys (cc) in
-    rw (first, others) refl
+same_oks (x ∷ xs) (y ∷ ys) same = grind (arith, same_oks xs ys)
 
 -- what a crawl says of a meaning it says of a meaning that is the same at each URL
 pub crawl_of_same : (meaning other : List ℕ → Page) (allowed : List ℕ → Bool) (seeds : List (List ℕ)) (pages : List PageResult) → ((url : List ℕ) → meaning url ≡ other url) → IsCrawl meaning allowed seeds pages → IsCrawl other allowed seeds pages
@@ -59,8 +55,7 @@ found_of workers bytes listed texts suffixes meaning seeds found sound same name
 -- a crawl of the saved web that failed so
 failed_of : (workers max : ℕ) (bytes listed : List ℕ) (texts suffixes : List (List ℕ)) (failure : CrawlFailure) (error : CrawlError) → failure.error ≡ error → IsBegun bytes listed texts → CrawlFails workers max failure.error
     → IsSiteFailure workers bytes listed texts suffixes failure → IsUnbegun workers max bytes listed texts suffixes (of_crawl_by error failure)
-failed_of workers max bytes listed texts suffixes failure crawl.NoMemory is begun fails failed = tt
-failed_of workers max bytes listed texts suffixes failure error is begun fails failed = (begun, fails, failed)
+failed_of workers max bytes listed texts suffixes failure error is begun fails failed = grind arith
 
 -- by a meaning that is the same at each URL
 pub unbegun_of : (workers max : ℕ) (bytes listed : List ℕ) (texts suffixes : List (List ℕ)) (meaning : List ℕ → Page) (seeds : List (List ℕ)) (failure : CrawlFailure) → IsSound (lines bytes) → ((url : List ℕ) → meaning url ≡ page_of (lines bytes) url)
@@ -81,8 +76,7 @@ unbegun_of workers max bytes listed texts suffixes meaning seeds failure sound s
 -- likewise for a report
 refused_by : (workers max : ℕ) (bytes : List ℕ) (texts suffixes : List (List ℕ)) (failure : CrawlFailure) (error : CrawlError) → failure.error ≡ error → CrawlFails workers max failure.error
     → IsSiteFailure workers bytes [] texts suffixes failure → IsRefused workers max bytes texts suffixes (of_crawl_by error failure)
-refused_by workers max bytes texts suffixes failure crawl.NoMemory is fails failed = tt
-refused_by workers max bytes texts suffixes failure error is fails failed = (fails, failed)
+refused_by workers max bytes texts suffixes failure error is fails failed = grind arith
 
 pub refused_of : (workers max : ℕ) (bytes : List ℕ) (texts suffixes : List (List ℕ)) (meaning : List ℕ → Page) (seeds : List (List ℕ)) (failure : CrawlFailure) → IsSound (lines bytes) → ((url : List ℕ) → meaning url ≡ page_of (lines bytes) url)
     → AreAllSeeds [] texts seeds → CrawlFails workers max failure.error → IsJudgedAt meaning (allows suffixes) seeds failure.error failure.culprit → IsLost failure.error failure.losses
@@ -100,35 +94,25 @@ refused_of workers max bytes texts suffixes meaning seeds failure sound same nam
     })
 
 pub unread_refused : (workers max : ℕ) (bytes : List ℕ) (texts suffixes : List (List ℕ)) (fault : Fault) → IsUnread bytes [] texts fault → IsRefused workers max bytes texts suffixes fault
-unread_refused workers max bytes texts suffixes (wrong.Crawl failure) is = absurd is
-unread_refused workers max bytes texts suffixes fault is = is
+unread_refused workers max bytes texts suffixes fault is = grind arith
 
 -- the error of a crawl in a mode
 comes_by : (mode : Mode) (failure : CrawlFailure) (error : CrawlError) → failure.error ≡ error → ComesIn mode failure.error → ComesOf mode (of_crawl_by error failure)
-comes_by mode failure crawl.NoMemory is comes = tt
-comes_by mode failure error is comes = comes
+comes_by mode failure error is comes = grind arith
 
 pub comes_of : (mode : Mode) (failure : CrawlFailure) → ComesIn mode failure.error → ComesOf mode (of_crawl failure)
 comes_of mode failure comes = comes_by mode failure failure.error refl comes
 
 pub unread_comes : (mode : Mode) (bytes : List ℕ) (texts : List (List ℕ)) (fault : Fault) → IsUnread bytes [] texts fault → ComesOf mode fault
-unread_comes mode bytes texts (wrong.Crawl failure) is = absurd is
-unread_comes mode bytes texts fault is = tt
+unread_comes mode bytes texts fault is = grind arith
 
 -- why there are no web and seeds is why there is no crawl of them
 pub unread_unbegun : (workers max : ℕ) (bytes listed : List ℕ) (texts suffixes : List (List ℕ)) (fault : Fault) → IsUnread bytes listed texts fault → IsUnbegun workers max bytes listed texts suffixes fault
-unread_unbegun workers max bytes listed texts suffixes wrong.NoSeed is = absurd is
-unread_unbegun workers max bytes listed texts suffixes (wrong.Crawl failure) is = absurd is
-unread_unbegun workers max bytes listed texts suffixes fault is = is
+unread_unbegun workers max bytes listed texts suffixes fault is = grind arith
 
 -- a file of seeds and texts have one list of seeds
 one_seeds : (listed : List ℕ) (texts seeds others : List (List ℕ)) → AreAllSeeds listed texts seeds → AreAllSeeds listed texts others → seeds ≡ others
-one_seeds listed texts seeds others own its =
-    let both : seeds_in (lines listed) ≡ Ok its.first = its.filed in
-    let same : Ok own.first ≡ Ok its.first = sym own.filed ∙ both in
-    let filed : own.first ≡ its.first = cc in
-    let named : own.others ≡ its.others = same_oks own.others its.others (sym own.named ∙ its.named) in
-    own.joined ∙ ap (λ f. f ++ own.others) filed ∙ ap (λ o. its.first ++ o) named ∙ sym its.joined
+one_seeds listed texts seeds others own its = grind (arith, same_oks)
 
 pub one_site_crawl : (bytes listed : List ℕ) (texts suffixes : List (List ℕ)) (pages others : List PageResult) → IsSiteCrawl bytes listed texts suffixes pages → IsSiteCrawl bytes listed texts suffixes others → pages ≡ others
 one_site_crawl bytes listed texts suffixes pages others own other =

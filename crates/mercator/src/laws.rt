@@ -27,6 +27,7 @@ pub fn same_bytes_for_any_workers()
 
 /// If a crawl asks for no more than the lines of queues and of sources, its text is the report of its pages, followed by
 /// these lines.
+#[tactic(auto, using(crate::proofs::PlainTexts::plain_text))]
 pub fn plain_crawls_tell_the_report()
     ensures { (workers : ℕ) (with_sources : Bool) (plan : CrawlPlan) (bytes listed : List ℕ) (seeds suffixes : List (List ℕ)) (text : List ℕ)
         → IsPlain with_sources plan → IsCrawlText workers plan bytes listed seeds suffixes text → IsPlainText workers plan.queues with_sources bytes listed seeds suffixes text }

@@ -152,6 +152,7 @@ pub fn list_log<R: Files, O: Write>(
 ///
 /// # Errors
 /// `BadSuffix`; `Log`; `NoMemory`.
+#[tactic(auto, using(crate::proofs::PlanTexts::filter_is, std::proofs::lemmas::Result::err_from_is_err_and, crate::proofs::Serves::log_fails))]
 fn open_session<R: Files, L: LockFile<R::File>, V>(
     platform: &Platform<'_, R, L, V>,
     alloc: Global,

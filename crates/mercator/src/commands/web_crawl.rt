@@ -197,6 +197,7 @@ fn web_of<'a, R: Threads + Sync>(
 }
 
 /// Returns the canonical URLs of the seeds.
+#[tactic(auto, using(crate::proofs::Seeds::seed_fault))]
 fn seed_urls(alloc: Global, texts: &[String]) -> Result<Vec<CanonUrl>, Fault>
     ensures named { IfOk result (λ urls. AreSeeds (map string_bytes texts.now) urls.items) }
     ensures refused { IfErr result (λ fault. IsSeedFault (map string_bytes texts.now) fault) }

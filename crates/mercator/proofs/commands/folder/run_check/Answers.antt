@@ -1,4 +1,4 @@
-use Rattle.std.proofs.Common.{inl, inr, refl, subst, rules, List, ℕ}
+use Rattle.std.proofs.Common.{inl, inr, refl, subst, rules, List, ℕ, arith}
 use Rattle.std.proofs.lemmas.Result.{err_from_is_err_and}
 use Rattle.mercator.specs.Told.{IsChecked}
 use Rattle.mercator_site.specs.Ends.{IsFolderCheck}
@@ -18,10 +18,7 @@ returns-in_err-report-clause-incomplete g c =
     rw (same.1, same.2) (λ two. (incomplete_check c.args.options.now c.in_err-report.field-0.0 c.in_err-report.ensures.incomplete two, refl))
 
 pub returns-in_err-report-clause-no_log : goal.returns-in_err-report-clause-no_log
-returns-in_err-report-clause-no_log g c =
-    let r = c.from_residual-in_err-report in
-    let same = err_from_is_err_and r.result r.ensures.1 in
-    rw (same.1, same.2) (not_in_use c.in_err-report.field-0.0)
+returns-in_err-report-clause-no_log g c = grind (arith, err_from_is_err_and, not_in_use)
 
 pub returns-in_err-end-clause-fault : goal.returns-in_err-end-clause-fault
 returns-in_err-end-clause-fault g c = λ input.

@@ -1,26 +1,17 @@
-use Rattle.std.proofs.Common.{[], refl, sym, ◌∙◌, true≢false}
+use Rattle.std.proofs.Common.{[], refl, sym, ◌∙◌, true≢false, arith}
 use Rattle.std.proofs.KnownBytes.{Appends-nil}
 use Rattle.std.proofs.lemmas.Result.{err_from_is_err_and}
 use Rattle.mercator.proofs.Serves.{complete_fails, complete_log, log_fails, plain_fails}
 use Rattle.mercator.proofs.commands.sessions.compact_log.Goals as goal
 
 pub returns-in_err-log-clause-fault : goal.returns-in_err-log-clause-fault
-returns-in_err-log-clause-fault g c =
-    let r = c.from_residual in
-    let same = err_from_is_err_and r.result r.ensures.1 in
-    rw (same.1, same.2) (λ input. c.in_err-log.ensures.fault)
+returns-in_err-log-clause-fault g c = grind (arith, err_from_is_err_and)
 
 pub returns-in_err-log-clause-complete : goal.returns-in_err-log-clause-complete
-returns-in_err-log-clause-complete g c =
-    let r = c.from_residual in
-    let same = err_from_is_err_and r.result r.ensures.1 in
-    rw (same.1, same.2) (complete_fails c.args.plan.now.session.within c.in_err-log.field-0.0 c.in_err-log.ensures.fault)
+returns-in_err-log-clause-complete g c = grind (arith, err_from_is_err_and, complete_fails)
 
 pub returns-in_err-log-clause-suffix : goal.returns-in_err-log-clause-suffix
-returns-in_err-log-clause-suffix g c =
-    let r = c.from_residual in
-    let same = err_from_is_err_and r.result r.ensures.1 in
-    rw (same.1, same.2) (λ bad. plain_fails c.args.plan.now.session.within c.in_err-log.field-0.0 bad c.in_err-log.ensures.fault)
+returns-in_err-log-clause-suffix g c = grind (arith, err_from_is_err_and, plain_fails)
 
 pub returns-in_err-compact-clause-fault : goal.returns-in_err-compact-clause-fault
 returns-in_err-compact-clause-fault g c =
@@ -29,10 +20,7 @@ returns-in_err-compact-clause-fault g c =
     rw (same.1, same.2) (λ input. log_fails c.args.plan.now.session.within c.in_err-compact.field-0.0 c.in_ok-log.ensures.suffix)
 
 pub returns-in_err-compact-clause-complete : goal.returns-in_err-compact-clause-complete
-returns-in_err-compact-clause-complete g c =
-    let r = c.from_residual-in_err-compact in
-    let same = err_from_is_err_and r.result r.ensures.1 in
-    rw (same.1, same.2) (complete_log c.in_err-compact.field-0.0)
+returns-in_err-compact-clause-complete g c = grind (arith, err_from_is_err_and, complete_log)
 
 pub returns-in_err-compact-clause-suffix : goal.returns-in_err-compact-clause-suffix
 returns-in_err-compact-clause-suffix g c = λ bad. absurd (true≢false (sym bad ∙ c.in_ok-log.ensures.suffix))

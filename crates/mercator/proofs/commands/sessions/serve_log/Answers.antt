@@ -4,22 +4,13 @@ use Rattle.mercator.proofs.Serves.{complete_fails, ends_logged, gains_on, log_fa
 use Rattle.mercator.proofs.commands.sessions.serve_log.Goals as goal
 
 pub returns-in_err-opened-clause-fault : goal.returns-in_err-opened-clause-fault
-returns-in_err-opened-clause-fault g c =
-    let r = c.from_residual in
-    let same = err_from_is_err_and r.result r.ensures.1 in
-    rw (same.1, same.2) (inl (c.in_err-opened.ensures.fault, refl))
+returns-in_err-opened-clause-fault g c = grind (arith, err_from_is_err_and)
 
 pub returns-in_err-opened-clause-complete : goal.returns-in_err-opened-clause-complete
-returns-in_err-opened-clause-complete g c =
-    let r = c.from_residual in
-    let same = err_from_is_err_and r.result r.ensures.1 in
-    rw (same.1, same.2) (complete_fails c.args.plan.now.session.within c.in_err-opened.field-0.0 c.in_err-opened.ensures.fault)
+returns-in_err-opened-clause-complete g c = grind (arith, err_from_is_err_and, complete_fails)
 
 pub returns-in_err-opened-clause-suffix : goal.returns-in_err-opened-clause-suffix
-returns-in_err-opened-clause-suffix g c =
-    let r = c.from_residual in
-    let same = err_from_is_err_and r.result r.ensures.1 in
-    rw (same.1, same.2) (λ bad. plain_fails c.args.plan.now.session.within c.in_err-opened.field-0.0 bad c.in_err-opened.ensures.fault)
+returns-in_err-opened-clause-suffix g c = grind (arith, err_from_is_err_and, plain_fails)
 
 pub returns-in_err-log-clause-fault : goal.returns-in_err-log-clause-fault
 returns-in_err-log-clause-fault g c =
@@ -28,21 +19,13 @@ returns-in_err-log-clause-fault g c =
     rw (same.1, same.2) (inl (log_fails c.args.plan.now.session.within c.in_err-log.field-0.0 c.in_ok-opened.ensures.suffix, refl))
 
 pub returns-in_err-log-clause-complete : goal.returns-in_err-log-clause-complete
-returns-in_err-log-clause-complete g c =
-    let r = c.from_residual-in_err-log in
-    let same = err_from_is_err_and r.result r.ensures.1 in
-    let plain = plain_use c.in_err-log.field-0.0 c.in_err-log.ensures.fault in
-    rw (same.1, same.2) (λ two. omega (arith, two, plain))
+returns-in_err-log-clause-complete g c = grind (arith, err_from_is_err_and, plain_use)
 
 pub returns-in_err-log-clause-suffix : goal.returns-in_err-log-clause-suffix
 returns-in_err-log-clause-suffix g c = λ bad. absurd (true≢false (sym bad ∙ c.in_ok-opened.ensures.suffix))
 
 pub returns-in_err-log-clause-in_use : goal.returns-in_err-log-clause-in_use
-returns-in_err-log-clause-in_use g c =
-    let r = c.from_residual-in_err-log in
-    let same = err_from_is_err_and r.result r.ensures.1 in
-    let plain = plain_use c.in_err-log.field-0.0 c.in_err-log.ensures.fault in
-    rw (same.1, same.2) (λ five. absurd (omega (arith, five, plain)))
+returns-in_err-log-clause-in_use g c = grind (arith, err_from_is_err_and, plain_use)
 
 pub returns-in_err-serve_logged-clause-fault : goal.returns-in_err-serve_logged-clause-fault
 returns-in_err-serve_logged-clause-fault g c =
@@ -51,21 +34,13 @@ returns-in_err-serve_logged-clause-fault g c =
     rw (same.1, same.2) (ends_logged c.args.plan.now (g.I.Read.remaining c.args.input.now) c.in_err-serve_logged.field-0.0 _ c.in_ok-opened.ensures.suffix c.in_err-serve_logged.ensures.fault)
 
 pub returns-in_err-serve_logged-clause-complete : goal.returns-in_err-serve_logged-clause-complete
-returns-in_err-serve_logged-clause-complete g c =
-    let r = c.from_residual-in_err-serve_logged in
-    let same = err_from_is_err_and r.result r.ensures.1 in
-    let plain = plain_break c.in_err-serve_logged.field-0.0 c.in_err-serve_logged.ensures.fault in
-    rw (same.1, same.2) (λ two. omega (arith, two, plain))
+returns-in_err-serve_logged-clause-complete g c = grind (arith, err_from_is_err_and, plain_break)
 
 pub returns-in_err-serve_logged-clause-suffix : goal.returns-in_err-serve_logged-clause-suffix
 returns-in_err-serve_logged-clause-suffix g c = λ bad. absurd (true≢false (sym bad ∙ c.in_ok-opened.ensures.suffix))
 
 pub returns-in_err-serve_logged-clause-in_use : goal.returns-in_err-serve_logged-clause-in_use
-returns-in_err-serve_logged-clause-in_use g c =
-    let r = c.from_residual-in_err-serve_logged in
-    let same = err_from_is_err_and r.result r.ensures.1 in
-    let plain = plain_break c.in_err-serve_logged.field-0.0 c.in_err-serve_logged.ensures.fault in
-    rw (same.1, same.2) (λ five. absurd (omega (arith, five, plain)))
+returns-in_err-serve_logged-clause-in_use g c = grind (arith, err_from_is_err_and, plain_break)
 
 pub returns-in_err-serve_logged-clause-refused : goal.returns-in_err-serve_logged-clause-refused
 returns-in_err-serve_logged-clause-refused g c = λ bad. absurd (true≢false (sym bad ∙ c.in_ok-opened.ensures.suffix))

@@ -24,8 +24,4 @@ returns-in_err-crawled-clause-refused g c =
     c.in_err-crawled.ensures.numbers (rw (c.deref-4.ensures.value, c.new-source.ensures) at c.in_err-crawled.ensures.judged) c.in_err-crawled.ensures.lost (rw (c.deref-4.ensures.value, c.new-source.ensures) at c.in_err-crawled.ensures.counted))
 
 pub returns-in_err-web-clause-refused : goal.returns-in_err-web-clause-refused
-returns-in_err-web-clause-refused g c =
-    let r = c.from_residual in
-    let p = err_from_is_err_and r.result r.ensures.1 in
-    rw (p.1, p.2) (unread_unbegun c.args.settings.now.workers c.args.settings.now.max_pending c.args.files.0.items c.args.files.1.items _ c.args.settings.now.filter.now c.in_err-web.field-0.0
-    (rw (c.deref.ensures.value, c.deref-2.ensures.value, c.deref-3.ensures.value) at c.in_err-web.ensures.unread))
+returns-in_err-web-clause-refused g c = grind (arith, err_from_is_err_and, unread_unbegun)

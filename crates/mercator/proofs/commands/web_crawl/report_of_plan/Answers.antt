@@ -1,3 +1,4 @@
+use native.Mathlib.Omega.{arith}
 use Rattle.std.proofs.lemmas.Result.{err_from_is_err_and}
 use Rattle.crawl_report.specs.Printing.{joined}
 use Rattle.mercator.specs.Plans.{plan_of}
@@ -13,10 +14,7 @@ returns-clause-text g c =
     (rw c.deref.ensures.value at c.in_ok-parts.ensures)
 
 pub returns-in_err-files-clause-fault : goal.returns-in_err-files-clause-fault
-returns-in_err-files-clause-fault g c =
-    let r = c.from_residual-in_err-files in
-    let p = err_from_is_err_and r.result r.ensures.1 in
-    rw (p.1, p.2) (c.in_err-files.ensures.fault (filter_is c.args.crawl.now.options.now.within _ c.in_ok-filter.ensures).0)
+returns-in_err-files-clause-fault g c = grind (arith, err_from_is_err_and, filter_is)
 
 pub returns-in_err-crawled-clause-fault : goal.returns-in_err-crawled-clause-fault
 returns-in_err-crawled-clause-fault g c =

@@ -1,4 +1,4 @@
-use Rattle.std.proofs.Common.{[], map, string_bytes, Global, subst}
+use Rattle.std.proofs.Common.{[], map, string_bytes, Global, subst, arith}
 use Rattle.std.proofs.lemmas.Result.{err_from_is_err_and}
 use Rattle.crawl_certificate.specs.Certificate.{result_urls}
 use Rattle.crawl_run.specs.Crawls.{AreCounts}
@@ -33,19 +33,10 @@ returns-in_err-found-clause-refused g c =
     c.in_err-found.ensures.lost (rw (c.deref.ensures.value, c.new-source.ensures) at c.in_err-found.ensures.counted))
 
 pub returns-in_err-found-clause-mode : goal.returns-in_err-found-clause-mode
-returns-in_err-found-clause-mode g c =
-    let r = c.from_residual-in_err-found in
-    let p = err_from_is_err_and r.result r.ensures.1 in
-    rw (p.1, p.2) (comes_of c.args.settings.now.mode c.in_err-found.field-0.0 c.in_err-found.ensures.mode)
+returns-in_err-found-clause-mode g c = grind (arith, err_from_is_err_and, comes_of)
 
 pub returns-in_err-web-clause-refused : goal.returns-in_err-web-clause-refused
-returns-in_err-web-clause-refused g c =
-    let r = c.from_residual in
-    let p = err_from_is_err_and r.result r.ensures.1 in
-    rw (p.1, p.2) (unread_refused c.args.settings.now.workers c.args.settings.now.max_pending c.args.bytes.now _ c.args.settings.now.filter.now c.in_err-web.field-0.0 c.in_err-web.ensures.unread)
+returns-in_err-web-clause-refused g c = grind (arith, err_from_is_err_and, unread_refused)
 
 pub returns-in_err-web-clause-mode : goal.returns-in_err-web-clause-mode
-returns-in_err-web-clause-mode g c =
-    let r = c.from_residual in
-    let p = err_from_is_err_and r.result r.ensures.1 in
-    rw (p.1, p.2) (unread_comes c.args.settings.now.mode c.args.bytes.now _ c.in_err-web.field-0.0 c.in_err-web.ensures.unread)
+returns-in_err-web-clause-mode g c = grind (arith, err_from_is_err_and, unread_comes)
