@@ -240,17 +240,6 @@ fn compact<'a>(alloc: Global) -> Result<Arg<'a>, AllocError> {
 /// What `--list` can list.
 const KINDS: &[&str] = &["pending", "in-progress", "done", "stats"];
 
-/// The options of `serve` that `--list` excludes.
-const NOT_LISTED: &[&str] = &[
-    "workers",
-    "max-pending",
-    "within",
-    "part",
-    "sync",
-    "wait",
-    "compact",
-];
-
 /// The option `--list`. It requires `--log`. The settings are those of the log, so no option of a session can be given.
 fn list<'a>(alloc: Global) -> Result<Arg<'a>, AllocError> {
     option(
@@ -262,7 +251,13 @@ fn list<'a>(alloc: Global) -> Result<Arg<'a>, AllocError> {
     .value_parser(ValueParser::Names(KINDS))
     .hide_possible_values(true)
     .requires_arg("log")?
-    .conflicts_with_all(NOT_LISTED)
+    .conflicts_with("workers")?
+    .conflicts_with("max-pending")?
+    .conflicts_with("within")?
+    .conflicts_with("part")?
+    .conflicts_with("sync")?
+    .conflicts_with("wait")?
+    .conflicts_with("compact")
 }
 
 /// The option `--json` of `serve`, which requires `--list`.
