@@ -1,17 +1,8 @@
 -- The text of what a crawl found, by the report that was printed.
-use Rattle.std.proofs.Common.{◌≡◌, ℕ, List, [], Result, Vec, Global, Bor, IfOk, if◌then◌else◌, arith}
-use Rattle.std.specs.Cmp.Lexicographic.{slice_cmp}
-use Rattle.std.specs.List.{flat_map}
-use Rattle.std.specs.List.Sorted.{IsPermutation, IsSortedByKey}
-use Rattle.std.specs.Ordering.{nat_cmp}
-use Rattle.crawl_keys.specs.HostFilter.{allows}
+use Rattle.mercator.proofs.Prelude.{◌≡◌, ℕ, List, [], Result, Vec, Global, Bor, IfOk, if◌then◌else◌, arith, slice_cmp, flat_map, IsPermutation, IsSortedByKey, nat_cmp, allows, joined, unreached_of, PageResult, AreUnreached, CrawlPlan, IsTextOf}
 use Rattle.crawl_report.specs.Json.{printed_line}
-use Rattle.crawl_report.specs.Printing.{joined}
 use Rattle.crawl_report.specs.Rows.{rows_with}
 use Rattle.crawl_sources.specs.Tallies.{pointed}
-use Rattle.crawl_report.specs.Unreached.{unreached_of}
-use Rattle.crawl_pages.specs.declared.page.PageResult.{PageResult}
-use Rattle.mercator.specs.WebCrawl.{AreUnreached, CrawlPlan, IsTextOf}
 
 pub unreached_told : (urls suffixes : List (List ℕ)) (pages given : List PageResult) (found shown : List (Bor (List ℕ))) → given ≡ pages → shown ≡ found
     → IsPermutation (unreached_of (allows suffixes) given urls) (pointed found) → IsSortedByKey (λ url. url) (slice_cmp nat_cmp) (pointed found) → AreUnreached urls suffixes pages (pointed shown)

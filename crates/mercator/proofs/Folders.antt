@@ -1,15 +1,10 @@
 -- How the commands for a folder end.
-use Rattle.std.proofs.Common.{◌≡◌, ◌⊎◌, inl, inr, ℕ, Bool, true, false, if◌then◌else◌, List, Option, String, Global, arith}
-use Rattle.crawl_run.specs.Crawls.{is_incomplete}
-use Rattle.crawl_run.specs.declared.error.CrawlError.{CrawlError}
+use Rattle.mercator.proofs.Prelude.{◌≡◌, ◌⊎◌, inl, inr, ℕ, Bool, true, false, if◌then◌else◌, List, Option, String, Global, arith, is_incomplete, CrawlError, CrawlFailure, of_crawl_by, of_site, status_of_fault, IsBroken, IsChecked, IsTold}
 use Rattle.crawl_run.specs.declared.error.CrawlError.TheVariants as crawl
-use Rattle.crawl_run.specs.declared.failure.CrawlFailure.{CrawlFailure}
 use Rattle.mercator_site.specs.Faults.{IsSiteIncomplete, is_unfinished}
 use Rattle.mercator_site.specs.declared.fault.SiteFault.{SiteFault}
 use Rattle.mercator_site.specs.declared.fault.SiteFault.TheVariants as unsited
 use Rattle.mercator_site.specs.declared.options.CheckOptions.{CheckOptions}
-use Rattle.mercator.specs.Faults.{of_crawl_by, of_site, status_of_fault}
-use Rattle.mercator.specs.Told.{IsBroken, IsChecked, IsTold}
 use Rattle.mercator.specs.declared.commands.planned.Plan.TheVariants as asks
 
 -- the status 2 is that of an incomplete crawl

@@ -1,3 +1,4 @@
+pub mod Prelude
 pub mod CrawlTexts
 pub mod Folders
 pub mod PlanTexts

@@ -1,22 +1,10 @@
 -- The report of a crawl that has no other optional sections than queues and sources.
-use Rattle.std.proofs.lemmas.Grind.{common_steps}
-use Rattle.std.proofs.Common.{◌≡◌, ℕ, ◌+◌, ◌<◌, Bool, false, List, [], length, get_or, sym, ap, subst, ◌∙◌, arith, if◌then◌else◌}
-use Rattle.std.proofs.lemmas.List.{get_or-map, length-map}
+use Rattle.mercator.proofs.Prelude.{common_steps, ◌≡◌, ℕ, ◌+◌, ◌<◌, Bool, false, List, [], length, get_or, sym, ap, subst, ◌∙◌, arith, if◌then◌else◌, get_or-map, length-map, slice_cmp, nat_list_cmp_total, IsPermutation, IsSortedByKey, is_lt, nat_cmp, ordering_reverse, lines, IsAscending, result_urls, allows, unreached_of, page_urls, PageResult, AreUnreached, CrawlPlan, asked_pages, IsCrawlText, IsPlain, IsPlainText, printed_with}
 use Rattle.std.proofs.lemmas.List.Sorted.{length_permutation}
-use Rattle.std.specs.Cmp.Lexicographic.{slice_cmp, nat_list_cmp_total}
-use Rattle.std.specs.List.Sorted.{IsPermutation, IsSortedByKey}
-use Rattle.std.specs.Ordering.{is_lt, nat_cmp, ordering_reverse}
-use Rattle.std.specs.Str.Lines.{lines}
 use Rattle.std.specs.declared.cmp.Ordering.TheVariants.{Less}
-use Rattle.crawl_certificate.specs.Certificate.{IsAscending, result_urls}
-use Rattle.crawl_keys.specs.HostFilter.{allows}
 use Rattle.crawl_report.proofs.Format.{text_same}
 use Rattle.crawl_report.specs.Today.{text_with}
-use Rattle.crawl_report.specs.Unreached.{unreached_of}
-use Rattle.saved_pages.specs.SavedWeb.{page_urls}
 use Rattle.crawl_report.specs.declared.report.Parts.{Parts}
-use Rattle.crawl_pages.specs.declared.page.PageResult.{PageResult}
-use Rattle.mercator.specs.WebCrawl.{AreUnreached, CrawlPlan, asked_pages, IsCrawlText, IsPlain, IsPlainText, printed_with}
 
 -- results that ascend are in order
 in_order : (pages : List PageResult) → IsAscending (result_urls pages) → IsSortedByKey (λ r. r.url) (slice_cmp nat_cmp) pages

@@ -1,26 +1,12 @@
 -- What a crawl prints; and plans that ask for one text print one.
-use Rattle.std.proofs.Common.{◌≡◌, ℕ, Bool, true, false, not, ◌&&◌, List, [], ◌∷◌, ◌++◌, Option, Some, None, Ok, String, Global, IsErr, IfSome, IsSomeAnd, ◌<◌, ◌≤◌, length, map, string_bytes, refl, sym, ap, subst, ◌∙◌, arith}
+use Rattle.mercator.proofs.Prelude.{◌≡◌, ℕ, Bool, true, false, not, ◌&&◌, List, [], ◌∷◌, ◌++◌, Option, Some, None, Ok, String, Global, IsErr, IfSome, IsSomeAnd, ◌<◌, ◌≤◌, length, map, string_bytes, refl, sym, ap, subst, ◌∙◌, arith, IsPermutation, lines, result_urls, unreached_of, PageResult, AreCounts, allows, filter_of, is_good, crawl_of, is_bad_suffix, is_input, known_bytes, known_seeds, lists_input, suffixes_of, AreFiles, AskForOneCrawl, AskForOneReport, AskForOneText, FailsCrawl, Gains, IsToldCrawl, OfFile, OfFiles, AreUnreached, CrawlPlan, asked_pages, IsBegun, IsCrawlText, IsFound, IsTextOf, IsUnbegun, printed_with, Fault, Crawled, Plan, same_number_lists}
 use Rattle.std.specs.Bool.{if◌then◌else◌}
-use Rattle.std.specs.List.Sorted.{IsPermutation}
-use Rattle.std.specs.Str.Lines.{lines}
-use Rattle.crawl_certificate.specs.Certificate.{result_urls}
 use Rattle.crawl_replay.specs.Replay.{IsReplay}
 use Rattle.crawl_replay.specs.Script.{script_of}
-use Rattle.crawl_report.specs.Unreached.{unreached_of}
 use Rattle.crawl_report.proofs.OneOrder.{one_order}
-use Rattle.crawl_pages.specs.declared.page.PageResult.{PageResult}
-use Rattle.crawl_run.specs.Crawls.{AreCounts}
-use Rattle.crawl_keys.specs.HostFilter.{allows, filter_of, is_good}
-use Rattle.mercator.specs.Plans.{crawl_of, is_bad_suffix, is_input, known_bytes, known_seeds, lists_input, suffixes_of}
 use Rattle.mercator.specs.Limits.{most_input_bytes}
-use Rattle.mercator.specs.Told.{AreFiles, AskForOneCrawl, AskForOneReport, AskForOneText, FailsCrawl, Gains, IsToldCrawl, OfFile, OfFiles}
-use Rattle.mercator.specs.WebCrawl.{AreUnreached, CrawlPlan, asked_pages, IsBegun, IsCrawlText, IsFound, IsTextOf, IsUnbegun, printed_with}
-use Rattle.mercator.specs.declared.commands.fault.Fault.{Fault}
 use Rattle.mercator.specs.declared.commands.fault.Fault.TheVariants as wrong
-use Rattle.crawl_run.specs.declared.whole_crawl.Crawled.{Crawled}
-use Rattle.mercator.specs.declared.commands.planned.Plan.{Plan}
 use Rattle.mercator.specs.declared.commands.planned.Plan.TheVariants as asks
-use Rattle.std.proofs.lemmas.Grind.{same_number_lists}
 use Rattle.std.proofs.lemmas.Option.{get_or_from_slice_get}
 use Rattle.mercator.proofs.SiteCrawls.{one_site_crawl}
 

@@ -1,11 +1,8 @@
 -- The first seed that has no canonical URL.
-use Rattle.std.proofs.Common.{◌≡◌, ◌⊎◌, ℕ, ◌+◌, ◌<◌, List, ◌∷◌, ◌++◌, length, map, take, drop, get_or, Err, refl, ap, ◌∙◌, arith, drop-cons, add-one}
+use Rattle.mercator.proofs.Prelude.{◌≡◌, ◌⊎◌, ℕ, ◌+◌, ◌<◌, List, ◌∷◌, ◌++◌, length, map, take, drop, get_or, Err, refl, ap, ◌∙◌, arith, drop-cons, add-one, KeyError, of_seed, AreSeeds, IsFirstBadSeed, IsSeedFault}
 use Rattle.std.proofs.lemmas.List.{map-append, length-map, length-take-le, take-append-drop}
 use Rattle.crawl_keys.specs.CanonicalText.{canonical}
-use Rattle.crawl_keys.specs.declared.error.KeyError.{KeyError}
 use Rattle.crawl_keys.specs.declared.error.KeyError.TheVariants as key
-use Rattle.mercator.specs.Faults.{of_seed}
-use Rattle.mercator.specs.WebCrawl.{AreSeeds, IsFirstBadSeed, IsSeedFault}
 
 split_at : {S : Type 0} (xs : List S) (index : ℕ) (one : S) → index < length xs → one ≡ get_or xs index one → xs ≡ take index xs ++ one ∷ drop (index + 1) xs
 split_at xs index one within is = grind (arith, take-append-drop, add-one, drop-cons)

@@ -1,7 +1,6 @@
 -- What a session prints, by its plan.
-use Rattle.std.proofs.Common.{◌≡◌, ◌⊎◌, inl, inr, ℕ, List, [], Bool, true, false, if◌then◌else◌, true≢false, Option, String, Global, refl, sym, ap, subst, ◌∙◌, arith, Result, Ok, Err, IfOk, IfErr}
+use Rattle.mercator.proofs.Prelude.{◌≡◌, ◌⊎◌, inl, inr, ℕ, List, Bool, true, false, if◌then◌else◌, Option, String, Global, refl, subst, ◌∙◌, arith, Result, Ok, Err, IfOk, IfErr, lines, Begins, EndsByText, of_log, of_logged, of_session, status_of_fault, IsWithinLimits, has_notices, is_bad_suffix, suffixes_of, EndsBy, FailsList, FailsLog, Gains, HasLog, IsDoneWithNote, MayNote, TellsFault, TellsInUse, no_identity, settings_of, told_lines, Fault, Plan}
 use Rattle.std.proofs.lemmas.List.{append-nil}
-use Rattle.std.specs.Str.Lines.{lines}
 use Rattle.crawl_session.specs.Frontiers.{Shows, start}
 use Rattle.crawl_session.specs.Answers.{answer_lines}
 use Rattle.crawl_session.specs.Input.{ServesInput}
@@ -10,7 +9,6 @@ use Rattle.crawl_session.specs.Sessions.{answers, state_after}
 use Rattle.crawl_session.specs.Settings.{SessionView}
 use Rattle.crawl_session.specs.declared.serving.ServeError.{ServeError}
 use Rattle.crawl_session.specs.declared.serving.ServeError.TheVariants as serving
-use Rattle.mercator.specs.Ending.{Begins, EndsByText}
 use Rattle.session_log.specs.Faults.{status_of_log}
 use Rattle.session_log.specs.Lists.{IsListed}
 use Rattle.session_log.specs.LogFile.{IsBreak, IsReadFault, IsUseFault}
@@ -22,12 +20,7 @@ use Rattle.session_log.specs.declared.fault.LoggedFault.TheVariants as ends
 use Rattle.session_log.specs.declared.listing.ListPlan.{ListPlan}
 use Rattle.session_log.specs.declared.plan.LogPlan.{LogPlan}
 use Rattle.session_log.specs.declared.plan.SessionPlan.{SessionPlan}
-use Rattle.mercator.specs.Faults.{of_log, of_logged, of_session, status_of_fault}
-use Rattle.mercator.specs.Plans.{IsWithinLimits, has_notices, is_bad_suffix, suffixes_of}
-use Rattle.mercator.specs.Told.{EndsBy, FailsList, FailsLog, Gains, HasLog, IsDoneWithNote, MayNote, TellsFault, TellsInUse, no_identity, settings_of, told_lines}
-use Rattle.mercator.specs.declared.commands.fault.Fault.{Fault}
 use Rattle.mercator.specs.declared.commands.fault.Fault.TheVariants as wrong
-use Rattle.mercator.specs.declared.commands.planned.Plan.{Plan}
 use Rattle.mercator.specs.declared.commands.planned.Plan.TheVariants as asks
 
 -- a session that was made for a plan has its settings

@@ -1,26 +1,13 @@
 -- The pages of a saved web that can be reached are one list, and so its report is one text.
-use Rattle.std.proofs.Common.{◌≡◌, ℕ, ◌≤◌, Bool, List, [], ◌∷◌, length, map, Result, Ok, refl, sym, ap, subst, ◌∙◌, arith}
-use Rattle.crawl_certificate.specs.Certificate.{IsCrawl, result_urls}
+use Rattle.mercator.proofs.Prelude.{◌≡◌, ℕ, ◌≤◌, Bool, List, [], ◌∷◌, length, map, Result, Ok, refl, sym, ap, subst, ◌∙◌, arith, IsCrawl, result_urls, allows, KeyError, page_of, PageResult, lines, AreCounts, ComesIn, CrawlFails, IsJudgedAt, AreAllSeeds, ComesOf, IsBegun, IsCrawlReport, IsFound, IsRefused, IsSiteCrawl, IsSiteFailure, IsUnbegun, IsUnread, of_crawl, of_crawl_by, Fault, Crawled, CrawlError, CrawlFailure}
 use Rattle.crawl_certificate.proofs.OneCrawl.{one_crawl}
-use Rattle.crawl_keys.specs.HostFilter.{allows}
-use Rattle.crawl_keys.specs.declared.error.KeyError.{KeyError}
-use Rattle.saved_pages.specs.SavedWeb.{page_of}
 use Rattle.crawl_pages.specs.declared.page.Page.{Page}
-use Rattle.crawl_pages.specs.declared.page.PageResult.{PageResult}
-use Rattle.std.specs.Str.Lines.{lines}
 use Rattle.saved_pages.specs.WebFaults.{IsSound}
 use Rattle.crawl_report.specs.ReportText.{report}
-use Rattle.crawl_run.specs.Crawls.{AreCounts, ComesIn, CrawlFails, IsJudgedAt}
 use Rattle.crawl_run.specs.JudgedRuns.{CountsLosses}
 use Rattle.crawl_run.specs.Losses.{IsLost}
-use Rattle.mercator.specs.WebCrawl.{AreAllSeeds, ComesOf, IsBegun, IsCrawlReport, IsFound, IsRefused, IsSiteCrawl, IsSiteFailure, IsUnbegun, IsUnread}
-use Rattle.mercator.specs.Faults.{of_crawl, of_crawl_by}
-use Rattle.mercator.specs.declared.commands.fault.Fault.{Fault}
 use Rattle.mercator.specs.declared.commands.fault.Fault.TheVariants as wrong
-use Rattle.crawl_run.specs.declared.whole_crawl.Crawled.{Crawled}
-use Rattle.crawl_run.specs.declared.error.CrawlError.{CrawlError}
 use Rattle.crawl_run.specs.declared.error.CrawlError.TheVariants as crawl
-use Rattle.crawl_run.specs.declared.failure.CrawlFailure.{CrawlFailure}
 use Rattle.crawl_run.specs.declared.settings.Mode.{Mode}
 
 -- of texts that are all canonical, there is one list of URLs

@@ -1,9 +1,4 @@
-use Rattle.std.proofs.Common.{◌≡◌, inl, inr, IfErr, refl, sym, subst}
-use Rattle.std.proofs.lemmas.Result.{err_from_is_err_and}
-use Rattle.crawl_report.specs.Printing.{joined}
-use Rattle.mercator.specs.Told.{CannotTell, EndsBy, IsTold}
-use Rattle.mercator.specs.declared.commands.fault.Fault.{Fault}
-use Rattle.mercator.specs.declared.commands.planned.Plan.{Plan}
+use Rattle.mercator.proofs.Prelude.{◌≡◌, inl, inr, IfErr, refl, sym, subst, err_from_is_err_and, joined, CannotTell, EndsBy, IsTold, Fault, Plan}
 use Rattle.mercator.proofs.PlanTexts.{no_refusal}
 use Rattle.mercator.proofs.commands.run.Goals as goal
 

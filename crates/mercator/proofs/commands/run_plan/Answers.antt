@@ -1,6 +1,4 @@
-use Rattle.std.proofs.Common.{sym, ap, subst, ◌∙◌}
-use Rattle.mercator.specs.Ending.{Begins}
-use Rattle.mercator.specs.Told.{told_lines}
+use Rattle.mercator.proofs.Prelude.{sym, ap, subst, ◌∙◌, Begins, told_lines}
 use Rattle.mercator.proofs.Serves.{tells_fault, tells_in_use}
 use Rattle.mercator.proofs.commands.run_plan.Goals as goal
 

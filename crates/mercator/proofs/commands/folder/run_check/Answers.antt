@@ -1,6 +1,4 @@
-use Rattle.std.proofs.Common.{inl, inr, refl, subst, rules, List, ℕ, arith}
-use Rattle.std.proofs.lemmas.Result.{err_from_is_err_and}
-use Rattle.mercator.specs.Told.{IsChecked}
+use Rattle.mercator.proofs.Prelude.{inl, inr, refl, subst, rules, List, ℕ, arith, err_from_is_err_and, IsChecked}
 use Rattle.mercator_site.specs.Ends.{IsFolderCheck}
 use Rattle.mercator.proofs.Folders.{can_print, incomplete_check, not_in_use}
 use Rattle.mercator.proofs.commands.folder.run_check.Goals as goal

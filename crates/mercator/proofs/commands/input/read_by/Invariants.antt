@@ -1,5 +1,4 @@
-use Rattle.std.proofs.Common.{◌≤◌, vec_len}
-use Rattle.std.specs.Io.KnownBytes.{Consumes}
+use Rattle.mercator.proofs.Prelude.{◌≤◌, vec_len, Consumes}
 use Rattle.mercator.proofs.commands.input.read_by.Given as goal
 
 abbrev pub invariant-loop-turn : goal.invariant-loop-turn

@@ -1,6 +1,4 @@
-use Rattle.std.proofs.Common.{[], refl, sym, ◌∙◌, true≢false, arith}
-use Rattle.std.proofs.KnownBytes.{Appends-nil}
-use Rattle.std.proofs.lemmas.Result.{err_from_is_err_and}
+use Rattle.mercator.proofs.Prelude.{[], refl, sym, ◌∙◌, true≢false, arith, Appends-nil, err_from_is_err_and}
 use Rattle.mercator.proofs.Serves.{complete_fails, complete_log, log_fails, plain_fails}
 use Rattle.mercator.proofs.commands.sessions.compact_log.Goals as goal
 

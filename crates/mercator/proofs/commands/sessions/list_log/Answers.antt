@@ -1,5 +1,4 @@
-use Rattle.std.proofs.Common.{inl, refl}
-use Rattle.std.proofs.lemmas.Result.{err_from_is_err_and}
+use Rattle.mercator.proofs.Prelude.{inl, refl, err_from_is_err_and}
 use Rattle.mercator.proofs.Serves.{list_done, list_ends, list_fails, plain_list}
 use Rattle.mercator.proofs.commands.sessions.list_log.Goals as goal
 

@@ -1,5 +1,4 @@
-use Rattle.std.proofs.Common.{subst}
-use Rattle.mercator.specs.Ending.{Begins}
+use Rattle.mercator.proofs.Prelude.{subst, Begins}
 use Rattle.mercator.specs.FaultText.{torn_line}
 use Rattle.mercator.proofs.commands.sessions.resume_noted.Goals as goal
 

@@ -1,5 +1,4 @@
-use Rattle.std.proofs.Common.{refl, sym, ◌∙◌, inl, true≢false, arith}
-use Rattle.std.proofs.lemmas.Result.{err_from_is_err_and}
+use Rattle.mercator.proofs.Prelude.{refl, sym, ◌∙◌, inl, true≢false, arith, err_from_is_err_and}
 use Rattle.mercator.proofs.Serves.{complete_fails, ends_logged, gains_on, log_fails, plain_break, plain_fails, plain_use}
 use Rattle.mercator.proofs.commands.sessions.serve_log.Goals as goal
 

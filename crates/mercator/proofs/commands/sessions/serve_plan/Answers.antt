@@ -1,5 +1,4 @@
-use Rattle.std.proofs.lemmas.Result.{err_from_is_err_and}
-use Rattle.mercator.specs.Told.{no_identity}
+use Rattle.mercator.proofs.Prelude.{err_from_is_err_and, no_identity}
 use Rattle.mercator.proofs.PlanTexts.{filter_is}
 use Rattle.mercator.proofs.Serves.{breaks_off, gains_answers, made_for}
 use Rattle.mercator.proofs.commands.sessions.serve_plan.Goals as goal

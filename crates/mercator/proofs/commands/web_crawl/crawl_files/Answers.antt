@@ -1,7 +1,4 @@
-use Rattle.std.proofs.Common.{◌≤◌, length, arith}
-use Rattle.std.proofs.lemmas.Grind.{common_steps}
-use Rattle.std.proofs.lemmas.Result.{err_from_is_err_and}
-use Rattle.saved_web.specs.KnownPages.{page_at}
+use Rattle.mercator.proofs.Prelude.{◌≤◌, length, arith, common_steps, err_from_is_err_and, page_at}
 use Rattle.mercator.proofs.SiteCrawls.{found_of, unbegun_of, unread_unbegun}
 use Rattle.mercator.proofs.commands.web_crawl.crawl_files.Goals as goal
 

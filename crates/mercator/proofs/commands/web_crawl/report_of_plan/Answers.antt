@@ -1,7 +1,5 @@
+use Rattle.mercator.proofs.Prelude.{err_from_is_err_and, joined, plan_of}
 use native.Mathlib.Omega.{arith}
-use Rattle.std.proofs.lemmas.Result.{err_from_is_err_and}
-use Rattle.crawl_report.specs.Printing.{joined}
-use Rattle.mercator.specs.Plans.{plan_of}
 use Rattle.mercator.proofs.PlanTexts.{fails_in_files, filter_is, reads_neither, told_of}
 use Rattle.mercator.proofs.commands.web_crawl.report_of_plan.Goals as goal
 

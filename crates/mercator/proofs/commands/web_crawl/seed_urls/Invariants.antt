@@ -1,5 +1,4 @@
-use Rattle.std.proofs.Common.{map, take, string_bytes}
-use Rattle.mercator.specs.WebCrawl.{AreSeeds}
+use Rattle.mercator.proofs.Prelude.{map, take, string_bytes, AreSeeds}
 use Rattle.mercator.proofs.commands.web_crawl.seed_urls.Given as goal
 
 abbrev pub invariant-loop-index : goal.invariant-loop-index

@@ -1,8 +1,4 @@
-use Rattle.std.proofs.Common.{[], map, string_bytes, Global, subst, arith}
-use Rattle.std.proofs.lemmas.Result.{err_from_is_err_and}
-use Rattle.crawl_certificate.specs.Certificate.{result_urls}
-use Rattle.crawl_run.specs.Crawls.{AreCounts}
-use Rattle.saved_web.specs.KnownPages.{page_at}
+use Rattle.mercator.proofs.Prelude.{[], map, string_bytes, Global, subst, arith, err_from_is_err_and, result_urls, AreCounts, page_at}
 use Rattle.mercator.proofs.SiteCrawls.{comes_of, found_of, one_site_crawl, refused_of, unread_comes, unread_refused}
 use Rattle.mercator.proofs.commands.web_report.report_of_saved_web.Goals as goal
 

@@ -1,8 +1,6 @@
-use Rattle.std.proofs.Common.{ap, inr, refl, subst, sym}
+use Rattle.mercator.proofs.Prelude.{ap, inr, refl, subst, sym, list_all, IsVisible}
 use Rattle.std.proofs.lemmas.Str.{chars-nil}
-use Rattle.std.specs.List.{list_all}
 use Rattle.shown_text.specs.Shown.{is_visible_or_lf}
-use Rattle.mercator.specs.Plans.{IsVisible}
 use Rattle.mercator.proofs.commands.words.misread.Goals as goal
 
 pub returns : goal.returns

@@ -1,5 +1,4 @@
-use Rattle.std.proofs.Common.{◌≡◌, ℕ, List, ◌++◌}
-use Rattle.std.specs.Io.KnownBytes.{Appends}
+use Rattle.mercator.proofs.Prelude.{◌≡◌, ℕ, List, ◌++◌, Appends}
 use Rattle.mercator.proofs.commands.writing.begin.Given as goal
 
 abbrev pub invariant-loop-turn : goal.invariant-loop-turn

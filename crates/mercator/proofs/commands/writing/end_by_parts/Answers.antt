@@ -1,12 +1,5 @@
-use Rattle.std.proofs.lemmas.Grind.{common_steps}
-use Rattle.std.proofs.Common.{◌≡◌, ℕ, ◌+◌, ◌<◌, Option, Result, List, [], ◌++◌, length, take, get_or, Vec, Global, append-nil, arith}
-use Rattle.std.proofs.KnownBytes.{Appends-nil}
-use Rattle.std.proofs.lemmas.List.{take_all, take_more}
-use Rattle.std.specs.Io.KnownBytes.{Appends}
-use Rattle.crawl_report.specs.Printing.{joined}
+use Rattle.mercator.proofs.Prelude.{common_steps, ◌≡◌, ℕ, ◌+◌, ◌<◌, Option, Result, List, [], ◌++◌, length, take, get_or, Vec, Global, append-nil, arith, Appends-nil, take_all, take_more, Appends, joined, EndsByText, Fault}
 use Rattle.crawl_report.proofs.Printed.{joined_push}
-use Rattle.mercator.specs.Ending.{EndsByText}
-use Rattle.mercator.specs.declared.commands.fault.Fault.{Fault}
 use Rattle.mercator.proofs.commands.writing.end_by_parts.Goals as goal
 
 -- the parts before this one, and this one

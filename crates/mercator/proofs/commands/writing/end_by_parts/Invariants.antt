@@ -1,6 +1,4 @@
-use Rattle.std.proofs.Common.{take}
-use Rattle.std.specs.Io.KnownBytes.{Appends}
-use Rattle.crawl_report.specs.Printing.{joined}
+use Rattle.mercator.proofs.Prelude.{take, Appends, joined}
 use Rattle.mercator.proofs.commands.writing.end_by_parts.Given as goal
 
 abbrev pub invariant-loop-part : goal.invariant-loop-part
