@@ -1,5 +1,5 @@
 -- A session with the answer that the frontier is closed.
-use Rattle.crawl_session.proofs.Prelude.{◌≡◌, ℕ, Bool, if◌then◌else◌, List, [], ◌∷◌, ◌++◌, Option, Result, Ok, Err, sym, ap, subst, ◌∙◌, arith, append_assoc, append-nil, nat_tests, Event, Reply, State, turn, Told, Request, Offer, Next, Again, Later, Done, EndSeeds, Stats, RequestError, Deferred, Exchange, Outcome, counting, deferring, ends, exchange, finishing, offering, taking, taking_again, taking_next, Frontier, deferrals_at, request_for, answered, line_exchange, history_of, state_after, Settings}
+use Rattle.crawl_session.proofs.Prelude.{◌≡◌, ℕ, List, [], ◌∷◌, ◌++◌, Option, Result, Ok, Err, sym, ap, subst, ◌∙◌, arith, append_assoc, append-nil, Event, Reply, State, turn, Told, Request, Offer, Next, Again, Later, Done, EndSeeds, Stats, RequestError, Deferred, Outcome, counting, deferring, exchange, finishing, offering, taking, taking_again, taking_next, Frontier, deferrals_at, request_for, answered, line_exchange, history_of, state_after, Settings}
 use Rattle.crawl_core.specs.declared.event.Event.TheVariants as event
 use Rattle.crawl_core.specs.declared.reply.Reply.TheVariants as told
 use Rattle.crawl_session.proofs.Choices.{either_way}
@@ -22,19 +22,11 @@ closes_at e reply is = record { before = []; last = e; is = ap (λ r. (e, r) ∷
 closes_behind : (x : Event × Reply) (history : List (Event × Reply)) → Closes history → Closes (x ∷ history)
 closes_behind x history closes = record { before = x ∷ closes.before; last = closes.last; is = ap (λ l. x ∷ l) closes.is }
 
--- an event, followed by the rest of an exchange if its reply passes a test; otherwise its reply is the answer
-by_choice : (e : Event) (reply : Reply) (b : Bool) (x : Exchange) (state : State) → (x.answer ≡ Told told.Closed → Closes x.history)
-    → (if b then x else ends reply state).answer ≡ Told told.Closed → Closes ((e, reply) ∷ (if b then x else ends reply state).history)
-by_choice e reply b x state more closed = grind (arith, closes_behind, closes_at, told_is)
-
-never_seen : {X : Type 0} → Told told.Seen ≡ Told told.Closed → X
-never_seen e = absurd (cc)
-
 offering_closes : (state : State) (url : List ℕ) (named : ℕ) → (offering state url named).answer ≡ Told told.Closed → Closes (offering state url named).history
-offering_closes state url named closed = grind (arith, nat_tests, closes_behind, by_choice, never_seen, closes_at, told_is)
+offering_closes state url named closed = grind (arith, closes_behind, closes_at, told_is)
 
 taking_closes : (state : State) (named : ℕ) → (taking state named).answer ≡ Told told.Closed → Closes (taking state named).history
-taking_closes state named closed = grind (arith, nat_tests, closes_behind, by_choice, never_seen, closes_at, told_is)
+taking_closes state named closed = grind (arith, closes_behind, closes_at, told_is)
 
 abbrev ClosesSo : Outcome → Type 0
 ClosesSo x = x.answer ≡ Told told.Closed → Closes x.history

@@ -1,6 +1,6 @@
 -- Lines that were given to a session, one after another, and the text of those that are needed.
 use Rattle.crawl_session.proofs.Prelude.{◌≡◌, ℕ, Bool, true, false, if◌then◌else◌, List, [], ◌∷◌, ◌++◌, Option, refl, sym, ap, ◌∙◌, append_assoc, append-nil, arith, Appends, Appends-nil, Appends-trans, flat_map-append, Frontier, request_for, line_exchange, state_after, Settings, SessionView}
-use Rattle.crawl_session.specs.Compacting.{Had, having, is_needed, needed, had_after, log_line, log_text, Gives, Compacts}
+use Rattle.crawl_session.specs.Compacting.{Had, having, is_needed, needed, had_after, log_line, Gives, Compacts}
 use Rattle.crawl_session.proofs.Lines.{state_after-append}
 
 pub had_after-append : (settings : Settings) (had : Had) (state : Frontier) (front back : List (List ℕ)) → had_after settings had state (front ++ back) ≡ had_after settings (had_after settings had state front) (state_after settings state front) back
@@ -40,12 +40,9 @@ so_far_none had old out all = record {
 abbrev pub added : Bool → List ℕ → List ℕ
 added b line = if b then log_line line else []
 
-one_text : (b : Bool) (line : List ℕ) → log_text (if b then line ∷ [] else []) ≡ added b line
-one_text b line = grind (arith, append-nil)
-
 compacts_more : (had : Had) (old : SessionView) (front : List (List ℕ)) (text : List ℕ) (next : Had) (mid : SessionView) (line : List ℕ) (is : Bool) (last : Had) (new : SessionView)
     → Compacts had old front text next mid → Gives next mid line is last new → Compacts had old (front ++ line ∷ []) (text ++ added is line) last new
-compacts_more had old front text next mid line is last new so_far one = grind (arith, one_text, flat_map-append, needed-append, had_after-append, state_after-append)
+compacts_more had old front text next mid line is last new so_far one = grind (arith, flat_map-append, needed-append, had_after-append, state_after-append, append-nil)
 
 -- lines, and more of them
 pub compacts_both : (had : Had) (old : SessionView) (front : List (List ℕ)) (text : List ℕ) (next : Had) (mid : SessionView) (back : List (List ℕ)) (more : List ℕ) (last : Had) (new : SessionView)

@@ -1,5 +1,5 @@
 -- The lines of a log that are needed bring a new session to the same state, except for the gate words that senders remember.
-use Rattle.crawl_session.proofs.Prelude.{◌≡◌, ℕ, suc, arith, ◌<◌, ◌≤◌, Bool, true, false, ◌||◌, if◌then◌else◌, List, [], ◌∷◌, ◌++◌, length, get_or, slice_get, Option, Some, None, Result, Ok, Err, IfOk, refl, sym, ap, subst, ◌∙◌, true≢false, is_at, nat_cmp, remove_entry, lines, slice_get-get_or, Event, Reply, GateSide, GateTurn, back, close, end_seeds, enter, holds, Run, in_fetch, can_hand_over, State, unfinished_in, Turn, turn, admit_to, done_with, refused, take_from, Subqueue, empty_subqueue, Sound, gate_effect, Answer, Told, Counted, Unasked, Request, Offer, Next, Again, Later, Done, EndSeeds, Stats, RequestError, Had, had_none, having, says_closed, changes, asks_again, is_needed, needed, log_text, Deferred, Exchange, Outcome, by_machine, client, after, deferring, deferring_taken, ends, admitting, entering, exchange, finishing, handing, is_count, is_due, is_entered, is_seen, is_empty, offering, put_back, replies, retaking, seeds_ended, taking, taking_again, taking_next, request_for, Frontier, deferrals_at, start, with_deferrals, with_words, answered, answers, line_exchange, state_after, Settings}
+use Rattle.crawl_session.proofs.Prelude.{◌≡◌, ℕ, suc, arith, ◌<◌, ◌≤◌, Bool, true, false, ◌||◌, if◌then◌else◌, List, [], ◌∷◌, ◌++◌, length, get_or, slice_get, Option, Some, None, Result, Ok, Err, IfOk, refl, sym, ap, subst, ◌∙◌, true≢false, is_at, nat_cmp, remove_entry, lines, slice_get-get_or, Event, Reply, GateSide, GateTurn, back, end_seeds, enter, holds, Run, in_fetch, can_hand_over, State, unfinished_in, Turn, turn, admit_to, done_with, refused, Subqueue, empty_subqueue, Sound, gate_effect, Answer, Told, Counted, Unasked, Request, Offer, Next, Again, Later, Done, EndSeeds, Stats, RequestError, Had, had_none, having, says_closed, changes, asks_again, is_needed, needed, log_text, Deferred, Exchange, Outcome, by_machine, client, after, deferring, deferring_taken, ends, admitting, entering, exchange, finishing, handing, is_count, is_due, is_entered, is_seen, offering, put_back, replies, retaking, seeds_ended, taking, taking_again, taking_next, request_for, Frontier, deferrals_at, start, with_deferrals, with_words, answered, answers, line_exchange, state_after, Settings}
 use Rattle.std.proofs.lemmas.Bool.{cond_both}
 use Rattle.crawl_core.specs.declared.event.Event.TheVariants as event
 use Rattle.crawl_core.specs.declared.reply.Reply.TheVariants as told
@@ -37,14 +37,8 @@ record Idle (had : Had) (state : State) (done : Turn) : Type 0 where
 end_idle : (had : Had) (gate : GateSide) (messages : ℕ) → IdleGate had gate (end_seeds gate messages)
 end_idle had gate messages = grind arith
 
-close_idle : (had : Had) (gate : GateSide) (messages : ℕ) → (had.closed ≡ true → gate.closed ≡ true) → IdleGate had gate (close gate messages)
-close_idle had gate messages known = grind arith
-
 done_idle : (had : Had) (state : State) (named : ℕ) (queue : Option Subqueue) → Idle had state (done_with state named queue)
 done_idle had state named queue = grind arith
-
-take_idle : (had : Had) (state : State) (named : ℕ) (queue : Option Subqueue) → Idle had state (take_from state named queue)
-take_idle had state named queue = grind arith
 
 -- an entry that is refused leaves the gate as it is
 record Refuses (gate : GateSide) (done : GateTurn) : Type 0 where
@@ -77,11 +71,8 @@ stays_after had old state e more stays = record { same = stays.same }
 as_it_was : (state next : State) → next ≡ state → SameMachine state next
 as_it_was state next same = (state.gate.remembered, same)
 
-quiet_empty : (had : Had) (reply : Reply) → is_empty reply ≡ true → changes had reply ≡ false
-quiet_empty had reply is = grind arith
-
 next_stays : (had : Had) (state : State) (named : ℕ) → (had.closed ≡ true → state.gate.closed ≡ true) → Stays had state (taking state named)
-next_stays had state named known = grind (arith, take_idle, quiet_empty, stays_after, cond_both, close_idle, as_it_was)
+next_stays had state named known = grind (arith, stays_after, cond_both, as_it_was)
 
 admitting_stays : (had : Had) (workers : ℕ) (url : List ℕ) (named : ℕ) (state old : State) → named < workers → length state.subqueues ≡ workers → holds state.gate client ≡ true → SameMachine old (turn state (event.Back client)).state
     → Stays had old (admitting state url named)

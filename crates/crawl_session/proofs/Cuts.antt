@@ -1,5 +1,5 @@
 -- Lines of bytes that are cut in two, and of bytes after an unfinished line that was cut short.
-use Rattle.crawl_session.proofs.Prelude.{◌≡◌, ◌⊎◌, ℕ, ◌+◌, ◌<◌, ◌==◌, inl, inr, Bool, true, false, List, [], ◌∷◌, ◌++◌, length, take, map, nat_lt, slice_index, Option, Result, Err, refl, sym, ap, subst, ◌∙◌, arith, append-nil, append_assoc, eqb-true, ltb-true, ltb-false, lt-ltb, ne_eqb, common_steps, slice_split, bytes_eq, bytes_eq-Decides, lines, lines_of_parts, strip_carriage_return, length-append, length-take-le, take_all, All-nil, All-cons, All-append, All-take, slice_split_none, slice_split_at, length-slice_split, line_limit, Request, RequestError, held_limit, IsUnfinished, AreWhole, asked_of, request_for, request_of, Part, Settings}
+use Rattle.crawl_session.proofs.Prelude.{◌≡◌, ◌⊎◌, ℕ, ◌+◌, ◌<◌, ◌==◌, inl, inr, Bool, true, false, List, [], ◌∷◌, ◌++◌, length, take, map, nat_lt, slice_index, Option, Result, Err, refl, sym, ap, subst, ◌∙◌, arith, append-nil, append_assoc, eqb-true, ltb-true, ltb-false, lt-ltb, ne_eqb, common_steps, slice_split, bytes_eq-Decides, lines, lines_of_parts, strip_carriage_return, length-append, length-take-le, take_all, All-nil, All-cons, All-append, All-take, slice_split_none, slice_split_at, length-slice_split, line_limit, Request, RequestError, held_limit, IsUnfinished, AreWhole, asked_of, request_for, request_of, Part, Settings}
 use Rattle.text_lines.proofs.CutLines.{lines_cut}
 use Rattle.crawl_session.specs.declared.request.RequestError.TheVariants.{LineTooLong}
 
@@ -58,22 +58,15 @@ first_end (x ∷ xs) = by_byte (x == 10) refl (first_end xs)
 abbrev pub requests : Settings → List (List ℕ) → List (Result Request RequestError)
 requests settings ls = map (request_for settings) ls
 
--- a line that is longer than a word differs from the word
-another : (line word : List ℕ) → length word < length line → bytes_eq line word ≡ false
-another line word longer = grind (arith, bytes_eq-Decides)
-
 asks_too_long : (workers : ℕ) (suffixes : List (List ℕ)) (line : List ℕ) → line_limit < length line → request_of workers suffixes line ≡ Err LineTooLong
 asks_too_long workers suffixes line long = rw (lt-ltb line_limit (length line) long) refl
 
 refused_so : (part : Option Part) (line : List ℕ) → line_limit < length line → asked_of part line (Err LineTooLong) ≡ Err LineTooLong
-refused_so part line long = grind (arith, another)
-
-too_long : (settings : Settings) (line : List ℕ) → line_limit < length line → request_for settings line ≡ Err LineTooLong
-too_long settings line long = grind (arith, asks_too_long, refused_so)
+refused_so part line long = grind (arith, bytes_eq-Decides)
 
 -- two lines that are too long request the same
 both_long : (settings : Settings) (line other : List ℕ) → line_limit < length line → line_limit < length other → request_for settings line ≡ request_for settings other
-both_long settings line other first second = too_long settings line first ∙ sym (too_long settings other second)
+both_long settings line other first second = grind (arith, asks_too_long, refused_so)
 
 stripped_long : (line : List ℕ) → line_limit + 1 < length line → line_limit < length (strip_carriage_return line)
 stripped_long line long = grind (arith, slice_index, length-take-le)

@@ -1,5 +1,5 @@
 -- If the URLs of a queue are taken one after another, they are all those that wait in it, in order.
-use Rattle.crawl_session.proofs.Prelude.{◌≡◌, ℕ, zero, suc, ◌+◌, ◌-◌, ◌≤◌, ◌<◌, Bool, true, false, ◌||◌, if◌then◌else◌, is_some, nat_eq, List, [], ◌++◌, length, map, Option, Some, None, Ok, refl, sym, ap, ◌∙◌, arith, append_assoc, append-nil, true≢false, option_map, option_or, option_to_list, get_or-eq_default, common_steps, length-append, length-drop, length-map, map-append, nil_from_length, progress, Message, Turn, refused, take_from, take_oldest, Subqueue, oldest, waiting, cond_both, eqb_same, Sound, Answer, Told, Deferred, Row, Request, Next, Done, finishes, takes, Outcome, after, by_machine, ends, exchange, is_due, is_empty, retaking, stats_answer, taking, taking_next, Frontier, deferrals_at, Listed, pending_at, taken_each, url_row, waiting_at, waiting_in, stats_of}
+use Rattle.crawl_session.proofs.Prelude.{◌≡◌, ℕ, zero, suc, ◌+◌, ◌-◌, ◌≤◌, ◌<◌, Bool, true, false, ◌||◌, if◌then◌else◌, is_some, nat_eq, List, [], ◌++◌, length, map, Option, Some, None, Ok, refl, sym, ap, ◌∙◌, arith, append_assoc, append-nil, true≢false, option_map, option_or, option_to_list, get_or-eq_default, common_steps, length-append, length-drop, length-map, map-append, nil_from_length, progress, Message, Turn, refused, take_from, take_oldest, Subqueue, oldest, waiting, cond_both, eqb_same, Sound, Answer, Deferred, Row, Request, Next, Done, finishes, takes, Outcome, after, by_machine, ends, exchange, is_due, is_empty, retaking, stats_answer, taking, taking_next, Frontier, deferrals_at, Listed, pending_at, taken_each, url_row, waiting_at, waiting_in, stats_of}
 use Rattle.crawl_core.specs.declared.event.Event.TheVariants as event
 use Rattle.crawl_core.specs.declared.reply.Reply.TheVariants as told
 use Rattle.crawl_core.specs.declared.reply.Refusal.TheVariants as why
@@ -8,7 +8,7 @@ use Rattle.crawl_session.specs.declared.list.Row.TheVariants as variant
 use Rattle.crawl_session.proofs.Conserved.{answered_sound, line_of}
 use Rattle.crawl_session.proofs.Counting.{length_in_line}
 use Rattle.crawl_session.proofs.Flows.{answered_passes, fetches_busy, past}
-use Rattle.crawl_session.proofs.Joined.{Fine, busy_at, fetched_at, line_at, some_fetch, url_of}
+use Rattle.crawl_session.proofs.Joined.{busy_at, fetched_at, line_at, some_fetch, url_of}
 use Rattle.crawl_session.proofs.Owned.{Owned, answered_owned, fetched_holds}
 use Rattle.crawl_session.proofs.Queues.{Settled, busy_of, queue_at}
 
@@ -86,20 +86,13 @@ next_line state named queue fit apart =
 abbrev Has : ℕ → Answer → Type 0
 Has named answer = is_some (takes named (Ok (Next named)) answer) ≡ true
 
-has_it : (named : ℕ) (url : List ℕ) → Has named (Told (told.Taken url))
-has_it named url = ap (λ b. is_some (if b then Some url else None)) (eqb_same named)
-
 retakes : (state : Frontier) (named : ℕ) (queue : Option Subqueue) (ds : List Deferred) → is_due queue ds ≡ true → Has named (retaking state named ds).answer
 retakes state named queue ds due = grind arith
-
--- a free queue of which all was taken has none that was put back and is not due
-all_due : (found : Subqueue) (ds : List Deferred) → found.busy ≡ false → Fine (Some found) (record { waiting = ds; fetched = None }) → length found.accepted ≤ found.taken → 0 < length ds → is_due (Some found) ds ≡ true
-all_due found ds idle fine all some = grind arith
 
 takes_oldest : (state : Frontier) (named : ℕ) (found : Subqueue) → Fit state → queue_at state named ≡ Some found → found.busy ≡ false → is_due (Some found) (deferrals_at state named).waiting ≡ false → 0 < length (line_of state named)
     → (first : Option Message) → oldest found ≡ first
     → Has named (let done = take_oldest state.machine named found first in let rest = if is_empty done.reply then after done.state event.Close ends else ends done.reply done.state in rest.answer)
-takes_oldest state named found fit at idle due some first none = grind (arith, common_steps, has_it, past, line_length, all_due)
+takes_oldest state named found fit at idle due some first none = grind (arith, past, eqb_same, line_of, url_of, line_at, length_in_line, length-map, length-drop)
 
 next_takes : (state : Frontier) (named : ℕ) → Fit state → busy_of state named ≡ None → 0 < length (line_of state named) → Has named (exchange state (Next named)).answer
 next_takes state named fit free some = by_fetched (deferrals_at state named).fetched refl free

@@ -1,5 +1,5 @@
 -- If an answer says that the frontier is closed, all URLs are done, and no URL is accepted or taken afterwards.
-use Rattle.crawl_session.proofs.Prelude.{◌≡◌, ℕ, ◌+◌, ◌≤◌, ◌<◌, Bool, true, false, cond, is_some, List, [], ◌∷◌, ◌++◌, length, map, Option, Some, None, Result, refl, sym, ap, subst, ◌∙◌, arith, append-nil, cons_option, sum_by, option_to_list, drop_of_length-le, get_or-eq_default, sum_by-cons, sum_by-set, slice_get_within, Event, Reply, one_if, accepted_by, accepted_in, is_quiet, Message, Run, State, count_of, Subqueue, nat_tests, eqb_same, start_sound, Sound, gate_effect, none_unfinished, Answer, Told, Deferred, Request, RequestError, AllDone, accepted_of, asked, busy_in, done_of, joined_from, joined_of, joins, put_back_of, taken_of, takes, times, Deferrals, Frontier, deferrals_at, no_deferrals, start, request_for, history_of, line_exchange, state_after, Settings, nil_from_length}
+use Rattle.crawl_session.proofs.Prelude.{◌≡◌, ℕ, ◌+◌, ◌≤◌, ◌<◌, Bool, true, false, cond, is_some, List, [], ◌∷◌, ◌++◌, length, map, Option, Some, None, Result, refl, sym, ap, subst, ◌∙◌, arith, append-nil, cons_option, sum_by, option_to_list, drop_of_length-le, get_or-eq_default, sum_by-cons, sum_by-set, slice_get_within, Event, Reply, one_if, accepted_in, Message, Run, State, count_of, Subqueue, eqb_same, start_sound, Sound, gate_effect, none_unfinished, Answer, Told, Deferred, Request, RequestError, AllDone, accepted_of, asked, busy_in, done_of, joined_from, joined_of, joins, put_back_of, taken_of, takes, times, Deferrals, Frontier, deferrals_at, no_deferrals, start, request_for, history_of, line_exchange, state_after, Settings, nil_from_length}
 use Rattle.crawl_core.specs.declared.reply.Reply.TheVariants as told
 use Rattle.crawl_session.proofs.Closings.{session_closes}
 use Rattle.crawl_session.proofs.Compactions.{closes_run, stays_closed}
@@ -154,13 +154,10 @@ all_is_done settings max front line closed =
 
 -- ---- and nothing happens afterwards
 
-quiet_accepts : (queue : ℕ) (e : Event) (reply : Reply) → is_quiet reply ≡ true → accepted_by queue e reply ≡ None
-quiet_accepts queue e reply quiet = grind arith
-
 -- a run from a closed gate accepts nothing
 closed_run : (queue : ℕ) (old : State) (history : List (Event × Reply)) (new : State) → Sound old → old.gate.closed ≡ true → Run old history new → accepted_in queue history ≡ []
 closed_run queue old [] new sound closed run = refl
-closed_run queue old (x ∷ xs) new sound closed run = grind (arith, nat_tests, closed_run queue run.0 xs, gate_effect, quiet_accepts)
+closed_run queue old (x ∷ xs) new sound closed run = grind (arith, gate_effect, closed_run queue run.0 xs)
 
 -- nothing is taken if nothing waits before or afterwards
 takes_none : (queue : ℕ) (r : Result Request RequestError) (answer : Answer) (busy : Option (List ℕ)) → option_to_list (joins queue busy (record { request = r; answer = answer })) ≡ option_to_list (takes queue r answer) ++ [] → takes queue r answer ≡ None

@@ -1,5 +1,5 @@
 -- What happens in each queue is what the answers say.
-use Rattle.crawl_session.proofs.Prelude.{common_steps, ◌≡◌, ◌⊎◌, inl, inr, ℕ, zero, suc, ◌≤◌, Bool, true, false, not, ◌&&◌, ◌||◌, if◌then◌else◌, is_some, List, [], ◌∷◌, length, slice_get, slice_set, Option, Some, None, Result, Ok, Err, refl, sym, ap, subst, ◌∙◌, arith, true≢false, get_or-eq_default, Reply, fetch_of, in_fetch, GateTurn, gave_back, holds, let_go, turned_away, can_hand_over, is_fetching, Message, has_url, State, count_of, unfinished_in, Turn, turn, admit_to, counted, done_with, put, refused, take_from, take_oldest, with_subqueue, Subqueue, after_accepting, after_finishing, after_taking, next_message, oldest, there, cond_both, Sound, Answer, Told, Deferred, Request, Offer, Next, Again, Later, Done, EndSeeds, Stats, RequestError, finishes, joins, puts_back, takes, Exchange, Outcome, accepted_at, admitting, after, by_machine, client, deferring, deferring_taken, ends, exchange, finishing, handing, is_count, is_due, is_empty, is_entered, is_seen, offering, put_back, replies, retaking, seeds_ended, taking, taking_again, taking_next, Deferrals, Frontier, deferrals_at, waits_again, with_deferrals, answered}
+use Rattle.crawl_session.proofs.Prelude.{common_steps, ◌≡◌, ◌⊎◌, inl, inr, ℕ, zero, suc, ◌≤◌, Bool, true, false, not, ◌&&◌, ◌||◌, if◌then◌else◌, is_some, List, [], ◌∷◌, length, slice_get, slice_set, Option, Some, None, Result, Ok, Err, refl, sym, ap, subst, ◌∙◌, arith, true≢false, get_or-eq_default, Reply, fetch_of, in_fetch, GateTurn, gave_back, holds, let_go, turned_away, can_hand_over, is_fetching, Message, has_url, State, count_of, unfinished_in, Turn, turn, admit_to, counted, done_with, put, refused, take_from, with_subqueue, Subqueue, after_accepting, after_finishing, after_taking, next_message, oldest, there, cond_both, Sound, Answer, Told, Deferred, Request, Offer, Next, Again, Later, Done, EndSeeds, Stats, RequestError, finishes, joins, puts_back, takes, Exchange, Outcome, accepted_at, admitting, after, by_machine, client, deferring, deferring_taken, ends, exchange, finishing, handing, is_count, is_due, is_empty, is_entered, is_seen, offering, put_back, replies, retaking, seeds_ended, taking, taking_again, taking_next, Deferrals, Frontier, deferrals_at, waits_again, with_deferrals, answered}
 use Rattle.crawl_core.specs.declared.event.Event.TheVariants as event
 use Rattle.crawl_core.specs.declared.reply.Reply.TheVariants as told
 use Rattle.crawl_core.specs.declared.reply.Refusal.TheVariants as why
@@ -81,15 +81,9 @@ taken_by done named =
     let rest = if is_empty done.reply then after done.state event.Close ends else ends done.reply done.state in
     record rest { history = (event.Take named, done.reply) ∷ rest.history }
 
-takes_oldest : (state : State) (named : ℕ) (found : Subqueue) → slice_get state.subqueues named ≡ Some found → found.busy ≡ false → (m : Option Message) → oldest found ≡ m → Takes state named (taken_by (take_oldest state named found m) named)
-takes_oldest state named found at idle m none = grind arith
-
 takes_from : (state : State) (named : ℕ) (queue : Option Subqueue) → slice_get state.subqueues named ≡ queue → Takes state named (taken_by (take_from state named queue) named)
 takes_from state named None at = inl (refl, λ queue busy. (refl, (refl, refl)))
-takes_from state named (Some found) at =
-    cond_both (λ (t : Turn). Takes state named (taken_by t named)) found.busy (refused state why.Busy) (take_oldest state named found (oldest found))
-    (λ busy. inl (refl, λ queue busy. (refl, (refl, refl))))
-    (λ idle. takes_oldest state named found at idle (oldest found) refl)
+takes_from state named (Some found) at = grind (arith, cond_both)
 
 take_passes : (state : Frontier) (named : ℕ) (x : Exchange) → Settled state → (deferrals_at state named).fetched ≡ None → is_due (queue_at state named) (deferrals_at state named).waiting ≡ false → Takes state.machine named x → Passes state (as_next named) (by_machine state x)
 take_passes state named x settled none due (inl same) = passes_gate state (as_next named) x settled same.0 same.1

@@ -52,10 +52,6 @@ line_defers taken urls (e ∷ ds) d within is =
     ap (λ (l : List (List ℕ)). take n urls ++ e.url ∷ l) more
     ∙ sym (append_assoc (take n urls) (e.url ∷ in_line (taken + n) (drop n urls) ds) (d.url ∷ []))
 
--- if the first URL that was put back is due, it is next
-pub line_retakes : (taken : ℕ) (urls : List (List ℕ)) (d : Deferred) (ds : List Deferred) → d.after ≤ taken → in_line taken urls (d ∷ ds) ≡ d.url ∷ in_line taken urls ds
-line_retakes taken urls d ds due = grind arith
-
 -- if it is not due, the first URL that is still to be taken is next
 pub line_takes : (taken : ℕ) (url : List ℕ) (urls : List (List ℕ)) (d : Deferred) (ds : List Deferred) → taken < d.after → in_line taken (url ∷ urls) (d ∷ ds) ≡ url ∷ in_line (suc taken) urls (d ∷ ds)
 line_takes taken url urls d ds early = grind arith

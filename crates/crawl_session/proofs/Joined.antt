@@ -1,7 +1,7 @@
 -- A queue gives out the URLs that joined it, in order: each when it was accepted, and each time that it was put back.
 use Rattle.crawl_session.proofs.Prelude.{◌≡◌, ℕ, zero, suc, ◌+◌, ◌-◌, ◌<◌, Bool, true, false, not, ◌&&◌, if◌then◌else◌, is_some, nat_lt, List, [], ◌∷◌, ◌++◌, length, map, drop, slice_get, Option, Some, None, refl, ap, ◌∙◌, arith, append-nil, ltb-true, ltb-false, option_map, option_or, option_to_list, length-map, length-drop, map-append, drop-append-le, length_push, is_fetching, Message, SubqueueInvariant, fetch_of, Subqueue, after_accepting, after_finishing, after_taking, oldest, waiting, Deferred, accepted_at, is_due, Deferrals, waits_again}
 use Rattle.crawl_core.proofs.Simulation.{drop-slice_get}
-use Rattle.crawl_session.proofs.InLine.{Within, in_line, line_accepts, line_defers, line_retakes, line_takes, within_more}
+use Rattle.crawl_session.proofs.InLine.{Within, in_line, line_accepts, line_defers, line_takes, within_more}
 
 -- ---- one queue
 
@@ -56,19 +56,8 @@ got_before [] y i below = absurd (omega (arith, below))
 got_before (x ∷ xs) y zero below = refl
 got_before (x ∷ xs) y (suc i) below = got_before xs y i (omega (arith, below))
 
-fetch_stays : (queue : Subqueue) (m : Message) → SubqueueInvariant queue → fetch_of (after_accepting queue m) ≡ fetch_of queue
-fetch_stays queue m inv = grind (arith, got_before)
-
--- the URL that is being fetched: one that was put back, or else the machine's
-abbrev busy_of_kept : Option Deferred → Option (List ℕ) → Option (List ℕ)
-busy_of_kept (Some d) found = Some d.url
-busy_of_kept None found = found
-
-busy_is : (queue : Subqueue) (fetched : Option Deferred) → busy_at (Some queue) fetched ≡ busy_of_kept fetched (fetch_of queue)
-busy_is queue fetched = grind arith
-
 pub flow_accepts : (queue : Subqueue) (m : Message) (deferrals : Deferrals) → SubqueueInvariant queue → Fine (Some queue) deferrals → Flow (Some queue) deferrals (Some m.url) None false (Some (after_accepting queue m)) deferrals
-flow_accepts queue m deferrals inv fine = grind (arith, drop-append-le, map-append, line_accepts, fits_in, in_line, busy_is, fetch_stays)
+flow_accepts queue m deferrals inv fine = grind (arith, drop-append-le, map-append, line_accepts, fits_in, in_line, got_before)
 
 pub is_some_map : {A B : Type 0} (f : A → B) (o : Option A) → is_some (option_map f o) ≡ is_some o
 is_some_map f o = grind arith
@@ -111,19 +100,16 @@ pub flow_takes : (queue : Subqueue) (m : Message) (deferrals : Deferrals) → ol
 flow_takes queue m deferrals first idle none due = grind (arith, append-nil, line_of_first, one_less, idle_busy)
 
 pub flow_retakes : (queue : Subqueue) (d : Deferred) (more : List Deferred) (deferrals : Deferrals) → deferrals.waiting ≡ d ∷ more → deferrals.fetched ≡ None → is_due (Some queue) (d ∷ more) ≡ true → Flow (Some queue) deferrals None (Some d.url) false (Some queue) (record { waiting = more; fetched = Some d })
-flow_retakes queue d more deferrals waits none due = grind (arith, append-nil, line_retakes, ltb-false, idle_busy)
+flow_retakes queue d more deferrals waits none due = grind (arith, append-nil, ltb-false, idle_fetch)
 
 pub some_fetch : (queue : Subqueue) → SubqueueInvariant queue → queue.busy ≡ true → is_some (fetch_of queue) ≡ true
 some_fetch queue inv busy = grind (arith, is_some_map, there_is)
-
-idle_fetched : (queue : Option Subqueue) → is_fetching queue ≡ false → fetched_at queue ≡ None
-idle_fetched queue idle = grind arith
 
 pub flow_finishes : (queue : Subqueue) (deferrals : Deferrals) → SubqueueInvariant queue → queue.busy ≡ true → deferrals.fetched ≡ None → Flow (Some queue) deferrals None None true (Some (after_finishing queue)) deferrals
 flow_finishes queue deferrals inv busy none = grind (arith, append-nil, some_fetch)
 
 pub flow_finishes_again : (queue : Option Subqueue) (d : Deferred) (deferrals : Deferrals) → is_fetching queue ≡ false → deferrals.fetched ≡ Some d → Flow queue deferrals None None true queue (record { waiting = deferrals.waiting; fetched = None })
-flow_finishes_again queue d deferrals idle is = grind (arith, append-nil, idle_fetched)
+flow_finishes_again queue d deferrals idle is = grind (arith, append-nil)
 
 pub flow_defers : (queue : Subqueue) (url : List ℕ) (sender : ℕ) (deferrals : Deferrals) → SubqueueInvariant queue → Fine (Some queue) deferrals → fetch_of queue ≡ Some url → deferrals.fetched ≡ None
     → Flow (Some queue) deferrals (busy_at (Some queue) deferrals.fetched) None true (Some (after_finishing queue)) (waits_again deferrals (record { url = url; sender = sender; after = length queue.accepted }))

@@ -36,12 +36,6 @@ unfolding state_by
 state_as settings state [] = refl
 state_as settings state (line ∷ more) = state_as settings (line_exchange settings state line).state more
 
-pub answers_alike : (settings : Settings) (state : Frontier) (ls others : List (List ℕ)) → requests settings ls ≡ requests settings others → answers settings state ls ≡ answers settings state others
-answers_alike settings state ls others same = answers_as settings state ls ∙ ap (answers_by state) same ∙ sym (answers_as settings state others)
-
-pub state_alike : (settings : Settings) (state : Frontier) (ls others : List (List ℕ)) → requests settings ls ≡ requests settings others → state_after settings state ls ≡ state_after settings state others
-state_alike settings state ls others same = state_as settings state ls ∙ ap (state_by state) same ∙ sym (state_as settings state others)
-
 -- ---- serving
 
 pub serves_none : (old : SessionView) → ServesAll old [] [] old
@@ -52,4 +46,4 @@ pub serves_more : (old : SessionView) (front : List (List ℕ)) (text : List ℕ
 serves_more old front text mid back more new first second = grind (arith, flat_map-append, answers-append, state_after-append)
 
 pub serves_alike : (old : SessionView) (ls others : List (List ℕ)) (text : List ℕ) (new : SessionView) → requests old.settings ls ≡ requests old.settings others → ServesAll old ls text new → ServesAll old others text new
-serves_alike old ls others text new same serves = grind (arith, answers_alike, state_alike)
+serves_alike old ls others text new same serves = grind (arith, answers_as, answers_by, state_as, state_by)

@@ -64,8 +64,7 @@ done_told settings state (line ∷ more) queue sound settled =
 -- the state that the lines lead to
 pub done_after : (settings : Settings) (lines : List (List ℕ)) (state : Frontier) → (done_in settings lines state).state ≡ state_after settings state lines
 done_after settings [] state = refl
-done_after settings (line ∷ more) state =
-    ap (λ (s : Frontier). (done_in settings more s).state) (line_told state 0 (request_for settings line)).after ∙ done_after settings more (line_exchange settings state line).state
+done_after settings (line ∷ more) state = grind (arith, done_after settings more)
 
 -- ---- each queue
 
@@ -124,7 +123,7 @@ record Left (state : Frontier) (queue n : ℕ) (x : Listed) : Type 0 where
   left : nat_lt queue n ≡ false → line_of x.state queue ≡ line_of state queue
 
 pending_told : (state : Frontier) (queue n : ℕ) → Fit state → Left state queue n (pending_below n state)
-pending_told state queue zero fit = record { fit = fit; rows = none_below queue (line_of state queue); left = λ _. refl }
+pending_told state queue zero fit = grind (arith, line_of)
 pending_told state queue (suc n) fit =
     let before = pending_told state queue n fit in
     let mid = (pending_below n state).state in

@@ -1,17 +1,14 @@
 -- What comes before the settings in the first line of a log is read as it was written.
-use Rattle.crawl_session.proofs.Prelude.{◌≡◌, ℕ, ◌<◌, ◌^◌, true, false, not, if◌then◌else◌, List, [], ◌∷◌, ◌++◌, codes, Option, Some, None, option_and_then, IfSome, refl, ap, ◌∙◌, arith, append_assoc, nat_tests, decimal, list_all, option_map, bytes_eq, IsNumber, at_space-joined, at_space-number, number_of_is, at_space, is_space, settings_line}
+use Rattle.crawl_session.proofs.Prelude.{◌≡◌, ℕ, ◌<◌, ◌^◌, true, false, not, List, [], ◌∷◌, ◌++◌, codes, Option, Some, None, option_and_then, IfSome, refl, ap, ◌∙◌, arith, append_assoc, nat_tests, decimal, list_all, option_map, bytes_eq, IsNumber, at_space-joined, at_space-number, number_of_is, is_space, settings_line}
 use Rattle.crawl_replay.specs.Numbers.{number_of}
 use Rattle.crawl_session.specs.LogStarts.{identity_read, identity_text, part_in, part_text, read_part, read_start, start_text, value_in, value_of}
 use Rattle.crawl_session.proofs.Logs.{front_of, number_printed}
 
 -- ---- what other words begin
 
-other_word : (word first rest : List ℕ) → bytes_eq first word ≡ false → value_in word (first, rest) ≡ None
-other_word word first rest other = ap (λ b. if b then at_space rest else None) other
-
 settings_other : (word : List ℕ) (workers max : ℕ) (suffixes : List (List ℕ)) → bytes_eq (codes "workers") word ≡ false → bytes_eq (codes "within") word ≡ false → value_of word (settings_line workers max suffixes) ≡ None
-settings_other word workers max [] first second = grind (arith, nat_tests, option_and_then, at_space-joined, other_word, front_of)
-settings_other word workers max (suffix ∷ more) first second = grind (arith, nat_tests, option_and_then, at_space-joined, other_word, front_of)
+settings_other word workers max [] first second = grind (arith, at_space-joined, front_of)
+settings_other word workers max (suffix ∷ more) first second = grind (arith, at_space-joined, front_of)
 
 -- ---- the identity
 

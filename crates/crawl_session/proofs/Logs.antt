@@ -1,5 +1,5 @@
 -- Logs: what they give back, and their first lines.
-use Rattle.crawl_session.proofs.Prelude.{◌≡◌, ℕ, ◌<◌, ◌≤◌, ◌^◌, Bool, true, not, if◌then◌else◌, List, [], ◌∷◌, ◌++◌, length, nat_lt, codes, Option, Some, None, option_and_then, refl, sym, ap, subst, ◌∙◌, arith, append_assoc, append-nil, decimal, All, list_all, bytes_eq, and_parts, nat_tests, flat_map-append, get_or_default_zero, All-head, All-tail, bytes_eq-Decides, AreLimits, header_of, IsNumber, at_space-joined, joined-at_space, at_space, is_space, within_text, numbers_text, settings_line, suffix_from, next_suffix}
+use Rattle.crawl_session.proofs.Prelude.{◌≡◌, ℕ, ◌<◌, ◌≤◌, ◌^◌, Bool, true, not, if◌then◌else◌, List, [], ◌∷◌, ◌++◌, length, nat_lt, codes, Option, Some, None, option_and_then, refl, sym, ap, subst, ◌∙◌, arith, append_assoc, append-nil, decimal, All, list_all, bytes_eq, and_parts, flat_map-append, get_or_default_zero, All-head, All-tail, bytes_eq-Decides, AreLimits, header_of, IsNumber, at_space-joined, joined-at_space, at_space, is_space, within_text, numbers_text, settings_line, suffix_from, next_suffix}
 use Rattle.std.proofs.lemmas.Fmt.{decimal_is_IsNumeral, length-decimal-le}
 use Rattle.std.proofs.lemmas.Str.Parse.{digit_at}
 use Rattle.crawl_keys.specs.HostFilter.{is_good, is_suffix_byte}
@@ -8,13 +8,9 @@ use Rattle.crawl_replay.proofs.HeaderWords.{header_said}
 
 -- ---- the first line
 
--- a good suffix has no space
-apart : (b : ℕ) → is_suffix_byte b ≡ true → not (is_space b) ≡ true
-apart b e = grind (arith, nat_tests, e)
-
 all_apart : (text : List ℕ) → list_all is_suffix_byte text ≡ true → list_all (λ b. not (is_space b)) text ≡ true
 all_apart [] e = refl
-all_apart (x ∷ xs) e = let both = and_parts (is_suffix_byte x) (list_all is_suffix_byte xs) e in rw (apart x both.0, all_apart xs both.1) refl
+all_apart (x ∷ xs) e = grind (arith, and_parts, all_apart xs)
 
 abbrev IsGood : List ℕ → Type 0
 IsGood suffix = is_good suffix ≡ true

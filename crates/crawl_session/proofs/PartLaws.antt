@@ -1,6 +1,5 @@
 -- Parts of one crawl: each accepts only URLs whose hosts belong to its queues, and reports to which part every other URL belongs.
-use Rattle.crawl_session.proofs.Prelude.{◌≡◌, ◌≢◌, ℕ, ◌/◌, Bool, false, nat_lt, if◌then◌else◌, List, [], length, codes, slice_get, Some, None, Result, Ok, Err, IfOk, refl, sym, ap, ◌∙◌, arith, bytes_eq, bytes_eq-Decides, eqb_same, subqueue_of, line_limit, at_space, Unasked, Part, Request, Offer, RequestError, asked, accepted_of, exchange, Frontier, asked_of, part_with, placed, placed_if, request_for, plain_request, request_in, request_of, answered, line_exchange, Settings}
-use Rattle.text_lines.specs.declared.lines.LineError.TheVariants.{NotText}
+use Rattle.crawl_session.proofs.Prelude.{◌≡◌, ◌≢◌, ℕ, ◌/◌, Bool, false, nat_lt, if◌then◌else◌, List, [], length, codes, slice_get, Some, None, Result, Ok, Err, IfOk, refl, sym, ap, ◌∙◌, arith, bytes_eq, bytes_eq-Decides, eqb_same, subqueue_of, line_limit, at_space, Unasked, Part, Request, Offer, RequestError, asked, accepted_of, exchange, Frontier, asked_of, part_with, placed, placed_if, request_for, plain_request, request_of, answered, line_exchange, Settings}
 use Rattle.crawl_session.specs.declared.request.RequestError.TheVariants as wrong
 use Rattle.crawl_session.proofs.Assigned.{accepted_as_assigned, accepted_where}
 use Rattle.crawl_session.proofs.Placed.{OffersWhere, by_words}
@@ -31,13 +30,9 @@ shares_no_url first second own other old older lines others queue there k l url 
 
 -- ---- elsewhere
 
--- a word without a space that is no request is not read as one
-asks_nothing : (workers : ℕ) (suffixes : List (List ℕ)) (word : List ℕ) (request : Request) (b : Bool) → at_space word ≡ None → plain_request word ≡ None → request_in workers suffixes (if b then Ok word else Err (NotText 1)) ≡ Ok request → ⊥
-asks_nothing workers suffixes word request b single plain asks = grind arith
-
 -- a line that is a request is no such word
 no_word : (workers : ℕ) (suffixes : List (List ℕ)) (line word : List ℕ) (request : Request) → nat_lt line_limit (length word) ≡ false → at_space word ≡ None → plain_request word ≡ None → request_of workers suffixes line ≡ Ok request → bytes_eq line word ≡ false
-no_word workers suffixes line word request short single plain asks = grind (arith, bytes_eq-Decides, asks_nothing)
+no_word workers suffixes line word request short single plain asks = grind (arith, bytes_eq-Decides)
 
 -- a part reads an offer by the queue that the offer names
 offer_placed : (settings : Settings) (part : Part) (line url : List ℕ) (queue : ℕ) → settings.part ≡ Some part → request_of settings.workers settings.suffixes line ≡ Ok (Offer url queue) → request_for settings line ≡ placed part (Offer url queue)

@@ -1,5 +1,5 @@
 -- What a line requests of a frontier that may be a part: what it requests of any frontier, or nothing.
-use Rattle.crawl_session.proofs.Prelude.{◌≡◌, ℕ, List, Option, Result, Ok, IfOk, sym, ap, subst, ◌∙◌, arith, Gives, Part, Request, Offer, RequestError, asked_by, asked_of, placed, placed_if, request_for, request_of, Settings}
+use Rattle.crawl_session.proofs.Prelude.{◌≡◌, ℕ, List, Option, Result, Ok, IfOk, arith, Gives, Part, Request, Offer, RequestError, asked_by, asked_of, placed, placed_if, request_for, request_of, Settings}
 use Rattle.crawl_session.specs.declared.request.RequestError.TheVariants as wrong
 
 abbrev Asked : Type 0
@@ -25,8 +25,5 @@ OffersWhere P _ = Unit {0}
 
 -- ---- what a part makes of a request
 
-gives_itself : (asks : Asked) → Gives wrong.NoMemory (λ (r : Request). r) asks asks
-gives_itself asks = grind arith
-
 pub placed_gives : (part : Part) (asks own : Asked) (request : Request) → asks ≡ Ok request → own ≡ placed part request → Gives wrong.NoMemory (λ (r : Request). r) own (placed_if part asks)
-placed_gives part asks own request is same = subst (λ (r : Asked). Gives wrong.NoMemory (λ (q : Request). q) own r) (same ∙ ap (placed_if part) (sym is)) (gives_itself own)
+placed_gives part asks own request is same = grind arith

@@ -11,7 +11,7 @@ pub use Rattle.crawl_core.specs.Fetching.{fetch_of, in_fetch}
 pub use Rattle.crawl_core.specs.Flags.{one_if}
 pub use Rattle.crawl_core.specs.GateSide.{GateSide, GateTurn, back, close, end_seeds, enter, enter_with, gave_back, grant, holds, let_go, look, remembers, shown_word, turned_away, units_out}
 pub use Rattle.crawl_core.specs.Handing.{can_hand_over, handed_over, has_room, is_fetching, lets_in, progress}
-pub use Rattle.crawl_core.specs.History.{AcceptsOnce, accepted_by, accepted_in, accepted_urls, holds_after, is_quiet}
+pub use Rattle.crawl_core.specs.History.{AcceptsOnce, accepted_in, accepted_urls, holds_after}
 pub use Rattle.crawl_core.specs.Invariants.{HasRoom, SubqueueInvariant}
 pub use Rattle.crawl_core.specs.Kept.{Kept, has_text}
 pub use Rattle.crawl_core.specs.Messages.{Message, has_url}

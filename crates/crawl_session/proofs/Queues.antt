@@ -95,12 +95,8 @@ change_queue state machine named old new settled at is = record {
   other_too = λ there apart. refl;
 }
 
--- the deferrals of one queue are replaced
-apart_from : (named there : ℕ) → nat_eq named there ≡ false → (there ≡ named → ⊥)
-apart_from named there apart same = eqb-false named there apart (sym same)
-
 pub change_deferrals : (state : Frontier) (named : ℕ) (queue : Subqueue) (deferrals : Deferrals) → Settled state → queue_at state named ≡ Some queue → Change state (with_deferrals state named deferrals) named (Some queue) deferrals
-change_deferrals state named queue deferrals settled at = grind (arith, slice_get_within, length-slice_set, get_or-set_same, get_or-set_other, apart_from)
+change_deferrals state named queue deferrals settled at = grind (arith, slice_get_within, length-slice_set, get_or-set_same, get_or-set_other, eqb-false)
 
 -- both are replaced, and the number of senders too
 pub change_both : (state : Frontier) (machine : State) (named senders : ℕ) (old new : Subqueue) (deferrals : Deferrals) → Settled state → queue_at state named ≡ Some old → machine.subqueues ≡ slice_set state.machine.subqueues named new

@@ -1,5 +1,5 @@
 -- A busy queue can put its URL back.
-use Rattle.crawl_session.proofs.Prelude.{◌≡◌, ℕ, suc, ◌≤◌, Bool, true, false, not, ◌&&◌, if◌then◌else◌, is_some, List, Option, Some, None, Ok, refl, sym, ap, ◌∙◌, arith, option_map, fetch_of, one_if, can_hand_over, HasRoom, count_of, Subqueue, gate_invariant, eqb_same, start_sound, Sound, none_unfinished, Deferred, Later, asked, busy_in, puts_back, Outcome, by_machine, deferring, deferring_taken, handing, put_back, replies, Frontier, deferrals_at, start, request_for, answered, history_of, line_exchange, state_after, Settings}
+use Rattle.crawl_session.proofs.Prelude.{◌≡◌, ℕ, suc, ◌≤◌, Bool, true, false, not, ◌&&◌, is_some, List, Option, Some, None, Ok, refl, sym, ap, ◌∙◌, arith, option_map, fetch_of, one_if, can_hand_over, HasRoom, count_of, Subqueue, gate_invariant, eqb_same, start_sound, Sound, none_unfinished, Deferred, Later, asked, busy_in, puts_back, Outcome, deferring, deferring_taken, Frontier, deferrals_at, start, request_for, answered, history_of, line_exchange, state_after, Settings}
 use Rattle.crawl_core.specs.declared.reply.Reply.TheVariants as told
 use Rattle.crawl_core.specs.declared.reply.Refusal.TheVariants as why
 use Rattle.crawl_session.proofs.Conserved.{settled_after_lines, starts_free, starts_settled}
@@ -37,16 +37,8 @@ can_defer state named url found sound owned within at fetched = grind (arith, fe
 abbrev PutsBack : ℕ → Outcome → Bool → Type 0
 PutsBack named x busy = puts_back named (Ok (Later named)) x.answer ≡ busy
 
-fetch_back : (state : Frontier) (named : ℕ) (found : Subqueue) → queue_at state named ≡ Some found → Sound state.machine → Owned state → count_of state.machine ≤ state.machine.gate.max → (fetched : Option (List ℕ)) → fetch_of found ≡ fetched → PutsBack named (deferring_taken state named (Some fetched)) (is_some fetched)
-fetch_back state named found at sound owned within None is = refl
-fetch_back state named found at sound owned within (Some url) is =
-    let sender = suc state.senders in
-    let can = can_defer state named url found sound owned within at is in
-    ap (λ b. puts_back named (Ok (Later named)) (if b then by_machine (record (put_back state named url sender) { senders = sender }) (handing state.machine named sender) else replies (told.Refused why.Nothing) state).answer) can
-    ∙ eqb_same named
-
 taken_back : (state : Frontier) (named : ℕ) (queue : Option Subqueue) → queue_at state named ≡ queue → Sound state.machine → Owned state → count_of state.machine ≤ state.machine.gate.max → PutsBack named (deferring_taken state named (option_map fetch_of queue)) (is_some (busy_at queue None))
-taken_back state named queue at sound owned within = grind (arith, fetch_back)
+taken_back state named queue at sound owned within = grind (arith, can_defer, eqb_same)
 
 deferring_back : (state : Frontier) (named : ℕ) (fetched : Option Deferred) → Sound state.machine → Owned state → count_of state.machine ≤ state.machine.gate.max → PutsBack named (deferring state named fetched) (is_some (busy_at (queue_at state named) fetched))
 deferring_back state named fetched sound owned within = grind (arith, taken_back, queue_at, eqb_same)

@@ -1,5 +1,5 @@
 -- The events of a session are a run.
-use Rattle.crawl_session.proofs.Prelude.{◌≡◌, ℕ, length, List, [], ◌∷◌, ◌++◌, map, Option, Result, refl, sym, ap, subst, arith, common_steps, zip, Event, Reply, Run, IsRun, in_fetch, turn, Request, Offer, Next, Again, Later, Done, EndSeeds, Stats, RequestError, Deferred, Exchange, Outcome, client, after, deferring, ends, entering, exchange, finishing, offering, taking_again, taking_next, Frontier, deferrals_at, request_for, answered, line_exchange, history_of, state_after, Settings}
+use Rattle.crawl_session.proofs.Prelude.{◌≡◌, ℕ, length, List, [], ◌∷◌, ◌++◌, map, Result, refl, sym, ap, subst, arith, common_steps, zip, Event, Reply, Run, IsRun, turn, Request, Offer, Next, Again, Later, Done, EndSeeds, Stats, RequestError, Exchange, Outcome, after, entering, exchange, Frontier, request_for, answered, line_exchange, history_of, state_after, Settings}
 use Rattle.crawl_core.specs.declared.event.Event.TheVariants as event
 use Rattle.crawl_core.specs.State.{State, start}
 
@@ -13,33 +13,18 @@ runs_after state e more rest = ((turn state e).state, record { reply_is = refl; 
 entering_runs : (state : State) (url : List ℕ) (queue : ℕ) → RunsFrom state (entering state url queue)
 entering_runs state url queue = grind arith
 
-offering_runs : (state : State) (url : List ℕ) (queue : ℕ) → RunsFrom state (offering state url queue)
-offering_runs state url queue = runs_after state (event.Look client) (λ _ looked. entering looked url queue) (λ _ looked. entering_runs looked url queue)
-
 -- likewise for what comes of a request
 abbrev RunsTo : Frontier → Outcome → Type 0
 RunsTo frontier x = Run frontier.machine x.history x.state.machine
 
-next_runs : (frontier : Frontier) (queue : ℕ) (waiting : List Deferred) (fetched : Option Deferred) → RunsTo frontier (taking_next frontier queue waiting fetched)
-next_runs frontier queue waiting fetched = grind arith
-
-again_runs : (frontier : Frontier) (queue : ℕ) (fetched : Option Deferred) → RunsTo frontier (taking_again frontier queue fetched)
-again_runs frontier queue fetched = grind arith
-
-finishing_runs : (frontier : Frontier) (queue : ℕ) (fetched : Option Deferred) → RunsTo frontier (finishing frontier queue fetched)
-finishing_runs frontier queue fetched = grind arith
-
-deferring_runs : (frontier : Frontier) (queue : ℕ) (fetched : Option Deferred) (found : Option (Option (List ℕ))) → in_fetch frontier.machine queue ≡ found → RunsTo frontier (deferring frontier queue fetched)
-deferring_runs frontier queue fetched found is = grind arith
-
 pub exchange_runs : (frontier : Frontier) (request : Request) → RunsTo frontier (exchange frontier request)
-exchange_runs frontier (Offer url queue) = offering_runs frontier.machine url queue
-exchange_runs frontier (Next queue) = next_runs frontier queue (deferrals_at frontier queue).waiting (deferrals_at frontier queue).fetched
-exchange_runs frontier (Again queue) = again_runs frontier queue (deferrals_at frontier queue).fetched
-exchange_runs frontier (Later queue) = deferring_runs frontier queue (deferrals_at frontier queue).fetched (in_fetch frontier.machine queue) refl
-exchange_runs frontier (Done queue) = finishing_runs frontier queue (deferrals_at frontier queue).fetched
+exchange_runs frontier (Offer url queue) = grind (arith, runs_after, entering_runs)
+exchange_runs frontier (Next queue) = grind arith
+exchange_runs frontier (Again queue) = grind arith
+exchange_runs frontier (Later queue) = grind arith
+exchange_runs frontier (Done queue) = grind arith
 exchange_runs frontier (Stats queue) = refl
-exchange_runs frontier EndSeeds = runs_after frontier.machine event.EndSeeds ends (λ _ ended. refl)
+exchange_runs frontier EndSeeds = grind arith
 
 pub answered_runs : (frontier : Frontier) (asked : Result Request RequestError) → RunsTo frontier (answered frontier asked)
 answered_runs frontier asked = grind (arith, exchange_runs)

@@ -97,8 +97,5 @@ after_return state new entered shows =
 by_end : (state : State) (new : Kept) → Shows new (looked state) ⊎ ((is_entered (turn (looked state) (Enter client)).reply ≡ true) × Shows new (returned (looked state))) → GivenUp state new
 by_end state new shown = grind (arith, after_look, after_return)
 
-looked_back : (old : Kept) (reply : Reply) (mid new : Kept) → Makes old (Look client) reply mid → GoesBack mid new → GivesUp old new
-looked_back old reply mid new makes more state shown = by_end state new (more (looked state) (leads old (Look client) reply mid makes state shown))
-
 pub gives_up_looking : {X E : Type 0} (old : Kept) (reply : Reply) (mid : Kept) (result : Result X E) (new : Kept) → Makes old (Look client) reply mid → OnErr result (GoesBack mid new) → OnErr result (GivesUp old new)
-gives_up_looking old reply mid result new makes more = grind (arith, looked_back)
+gives_up_looking old reply mid result new makes more = grind (arith, by_end, leads)

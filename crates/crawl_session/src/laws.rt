@@ -68,6 +68,7 @@ pub fn words_are_forgotten()
 
 /// The answers say what happened to the URLs: the URLs that were accepted into a subqueue are those of the events. As long as
 /// nothing was put back, so are the URLs that were taken from it, and the number of those that are done.
+#[tactic(auto, using(crate::proofs::Sees::sees_accepted, crate::proofs::Sees::sees_taken))]
 pub fn clients_see_the_events()
     ensures accepted { (settings : Settings) (state : Frontier) (lines : List (List ℕ)) (queue : ℕ) → accepted_urls queue (history_of settings state lines) ≡ accepted_of queue (asked settings state lines) }
     ensures taken { (settings : Settings) (state : Frontier) (lines : List (List ℕ)) (queue : ℕ) → NoneDeferred state → NonePutBack (asked settings state lines) → taken_urls queue (history_of settings state lines) ≡ taken_of queue (asked settings state lines) }
@@ -109,6 +110,7 @@ pub fn answers_are_those_of_the_table()
 
 /// Closed means done, for good: if a line is answered `closed`, every URL that was accepted was taken and is done, and after that
 /// none is accepted or taken, whatever the requests are.
+#[tactic(auto, using(crate::proofs::Emptied::all_is_done))]
 pub fn closed_means_done()
     ensures done { (settings : Settings) (max : ℕ) (front : List (List ℕ)) (line : List ℕ) → (line_exchange settings (state_after settings (start settings.workers max) front) line).answer ≡ Told told.Closed → AllDone (asked settings (start settings.workers max) (front ++ line ∷ [])) }
     ensures for_good { (settings : Settings) (max : ℕ) (front : List (List ℕ)) (line : List ℕ) (back : List (List ℕ)) (queue : ℕ) → (line_exchange settings (state_after settings (start settings.workers max) front) line).answer ≡ Told told.Closed

@@ -1,8 +1,8 @@
 -- The saved web of pages has at each URL the page that these have.
-use Rattle.saved_site.proofs.Prelude.{◌≡◌, ℕ, true, List, [], ◌∷◌, ◌++◌, Option, Some, None, codes, refl, ap, ◌∙◌, arith, false, flat_map, lines, and_parts, cases_Bool, cond-true, cond-false, Line, under_page, page_in, web_text, fits_under, fits, all_fit, SitePage, Under, Links, Moved, bytes_eq, bytes_eq-Decides, is_below}
+use Rattle.saved_site.proofs.Prelude.{◌≡◌, ℕ, true, List, [], ◌∷◌, ◌++◌, Option, Some, None, codes, refl, ap, ◌∙◌, arith, false, flat_map, lines, and_parts, cases_Bool, cond-true, cond-false, Line, under_page, page_in, web_text, fits_under, fits, all_fit, SitePage, Under, Links, Moved, bytes_eq-Decides, is_below}
 use Rattle.saved_pages.specs.SavedWeb.{lines_behind, put_link, link_texts, put_moved, moved_text, page_with, page_behind, page_of}
 use Rattle.saved_site.proofs.Says as lemma
-use Rattle.saved_site.proofs.Sound.{AllPages, links, under_lines, page_lines, at_link, at_moved, at_page, at_header, web_cut}
+use Rattle.saved_site.proofs.Sound.{AllPages, links, under_lines, page_lines, at_page, at_header, web_cut}
 use Rattle.crawl_pages.specs.declared.page.Page.TheVariants as page
 
 -- ---- what belongs to a page, with the next pages after it
@@ -42,10 +42,10 @@ under_is (Moved text) pages url fit all =
 
 links_skipped : (texts : List (List ℕ)) (rest : List (List ℕ)) (url : List ℕ) → all_fit texts ≡ true → lines_behind (links texts ++ rest) url ≡ lines_behind rest url
 links_skipped [] rest url fit = refl
-links_skipped (text ∷ more) rest url fit = grind (arith, and_parts, cond-false, links, at_link, links_skipped more rest url)
+links_skipped (text ∷ more) rest url fit = grind (arith, and_parts, cond-false, links, links_skipped more rest url)
 
 under_skipped : (under : Under) (rest : List (List ℕ)) (url : List ℕ) → fits_under under ≡ true → lines_behind (under_lines under ++ rest) url ≡ lines_behind rest url
-under_skipped under rest url fit = grind (arith, links_skipped, cond-false, at_moved)
+under_skipped under rest url fit = grind (arith, links_skipped, cond-false)
 
 -- ---- all pages
 
@@ -63,9 +63,6 @@ abbrev pub AreBelow : List ℕ → List SitePage → Type 0
 AreBelow top [] = Unit {0}
 AreBelow top (page ∷ more) = (is_below top page.url ≡ true) × AreBelow top more
 
-not_there : (top first url : List ℕ) → is_below top first ≡ true → is_below top url ≡ false → bytes_eq first url ≡ false
-not_there top first url is out = grind (arith, cases_Bool, bytes_eq-Decides)
-
 pub none_outside : (top : List ℕ) (pages : List SitePage) (url : List ℕ) → AreBelow top pages → is_below top url ≡ false → page_in pages url ≡ page.Missing
 none_outside top [] url all out = refl
-none_outside top (first ∷ more) url all out = grind (arith, cond-false, not_there, none_outside top more url all.1 out)
+none_outside top (first ∷ more) url all out = grind (arith, cond-false, none_outside top more url all.1 out, cases_Bool, bytes_eq-Decides)

@@ -31,12 +31,9 @@ page_length page = grind (arith, length-append)
 pub moved_length : (text : List ℕ) → length (moved_line text) ≡ length text + 7
 moved_length text = grind (arith, length-append)
 
-link_length : (text : List ℕ) → length (link_line text) ≡ length text + 6
-link_length text = grind (arith, length-append)
-
 pub links_length : (texts : List (List ℕ)) → length (link_lines texts) ≡ length (flat_map (λ (text : List ℕ). text) texts) + 6 * length texts
 links_length [] = refl
-links_length (text ∷ more) = grind (arith, link_length, length-append, links_length more)
+links_length (text ∷ more) = grind (arith, length-append, links_length more)
 
 -- one line more
 pub links_more : (before now more : List ℕ) (texts : List (List ℕ)) (k : ℕ) (text : List ℕ) → k < length texts → text ≡ get_or texts k [] → now ≡ before ++ link_lines (take k texts) → more ≡ now ++ link_line text → more ≡ before ++ link_lines (take (k + 1) texts)

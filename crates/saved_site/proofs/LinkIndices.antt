@@ -16,9 +16,6 @@ pub record Looked (base : List ℕ) (texts : List (List ℕ)) (urls : List (List
 lead_push : (urls : List (List ℕ)) (indices : List ℕ) (links : List (List ℕ)) (index : ℕ) (url : List ℕ) → LeadTo urls indices links → slice_get urls index ≡ Some url → LeadTo urls (indices ++ index ∷ []) (links ++ url ∷ [])
 lead_push urls indices links index url lead at = grind (arith, map_push)
 
-pub looked_start : (base : List ℕ) (texts : List (List ℕ)) (urls : List (List ℕ)) (indices : List ℕ) (rest : List (List ℕ)) → indices ≡ [] → rest ≡ texts → Looked base texts urls indices rest
-looked_start base texts urls indices rest none is = grind arith
-
 -- a link that leads to a URL
 pub looked_some : (base : List ℕ) (texts : List (List ℕ)) (old new : List (List ℕ)) (indices longer text : List ℕ) (rest more : List (List ℕ)) (index : ℕ) → Looked base texts old indices rest → KeepIndices old new → rest ≡ text ∷ more → longer ≡ indices ++ index ∷ [] → LeadsTo new (Some index) (link_url base text) → Looked base texts new longer more
 looked_some base texts old new indices longer text rest more index l keep is push leads = by_link (link_url base text) refl leads
@@ -55,7 +52,7 @@ count_first : (base text : List ℕ) (more : List (List ℕ)) → none_count bas
 count_first base text more = sum_by-cons (λ (t : List ℕ). weight (link_url base t)) text more
 
 pub count_some : (base : List ℕ) (urls : List (List ℕ)) (text : List ℕ) (rest more : List (List ℕ)) (index : ℕ) → rest ≡ text ∷ more → LeadsTo urls (Some index) (link_url base text) → none_count base rest ≡ none_count base more
-count_some base urls text rest more index is leads = grind (arith, count_first)
+count_some base urls text rest more index is leads = grind (arith, sum_by-cons)
 
 pub count_none : (base : List ℕ) (urls : List (List ℕ)) (text : List ℕ) (rest more : List (List ℕ)) → rest ≡ text ∷ more → LeadsTo urls None (link_url base text) → none_count base rest ≡ 1 + none_count base more
 count_none base urls text rest more is leads = grind (arith, common_steps, count_first)

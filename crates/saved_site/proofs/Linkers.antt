@@ -13,12 +13,9 @@ led_one old new list longer one is keep led own =
     by_has true all = all
     by_has false all = All-push (λ (p : LinkedPage). IsLed new p.leads) list one all own
 
-found_one : (urls : List (List ℕ)) (list : List LinkedPage) (one : LinkedPage) (b : Bool) → found_all urls (if b then list else list ++ one ∷ []) ≡ (if b then found_all urls list else found_all urls list ++ found_in urls one ∷ [])
-found_one urls list one b = grind (arith, map_push)
-
 -- what is found of them with one more
 pub found_with : (top : List ℕ) (old new : List (List ℕ)) (list longer : List LinkedPage) (one : LinkedPage) (page : SitePage) → longer ≡ with_one list one → KeepIndices old new → AreLed old list → found_in new one ≡ found_of page → is_next top [] page.url ≡ true → found_all new longer ≡ with_found top (found_all old list) (found_of page)
-found_with top old new list longer one page is keep led own kept = grind (arith, has_found, found_one, same_found, cond-true)
+found_with top old new list longer one page is keep led own kept = grind (arith, has_found, same_found, cond-true, map_push)
 
 pub kept_with : (top : List ℕ) (pages longer : List PageFound) (page : SitePage) → longer ≡ with_found top pages (found_of page) → AreKept top pages → IsPage page → is_next top [] page.url ≡ true → AreKept top longer
 kept_with top pages longer page is all owes kept =

@@ -1,5 +1,5 @@
 -- Pages in parts, one after another.
-use Rattle.saved_site.proofs.Prelude.{◌≡◌, ℕ, ◌+◌, ◌<◌, List, [], ◌∷◌, ◌++◌, length, drop, get_or, Option, Some, None, refl, sym, ap, subst, ◌∙◌, append-nil, arith, flat_map, option_or, unwrap_or, drop_more, flat_map-append, All-append, Page, PageFound, page_with, page_at, IsKept, AreKept}
+use Rattle.saved_site.proofs.Prelude.{◌≡◌, ℕ, ◌+◌, ◌<◌, List, [], ◌∷◌, ◌++◌, length, drop, get_or, Some, None, refl, sym, ap, subst, ◌∙◌, append-nil, arith, flat_map, option_or, unwrap_or, drop_more, flat_map-append, All-append, Page, PageFound, page_with, page_at, IsKept, AreKept}
 use Rattle.crawl_pages.specs.declared.page.Page.TheVariants as page
 
 with-append : (front back : List PageFound) (url : List ℕ) → page_with (front ++ back) url ≡ option_or (page_with front url) (page_with back url)
@@ -27,9 +27,3 @@ parts_push top parts longer part is all own =
 pub at_with : (pages : List PageFound) (url : List ℕ) → page_at pages url ≡ unwrap_or (page_with pages url) page.Missing
 at_with [] url = refl
 at_with (first ∷ more) url = grind (arith, at_with more url)
-
-pub at_some : (pages : List PageFound) (url : List ℕ) (x : Page) → Some x ≡ page_with pages url → x ≡ page_at pages url
-at_some pages url x is = ap (λ (o : Option Page). unwrap_or o page.Missing) is ∙ sym (at_with pages url)
-
-pub at_none : (pages : List PageFound) (url : List ℕ) → None ≡ page_with pages url → page.Missing ≡ page_at pages url
-at_none pages url is = ap (λ (o : Option Page). unwrap_or o page.Missing) is ∙ sym (at_with pages url)

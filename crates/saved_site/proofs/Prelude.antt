@@ -6,7 +6,7 @@ pub use Rattle.document_links.specs.Texts.{all_fit, fits, is_inner}
 pub use Rattle.hash_index.proofs.Keeping.{pushed_item}
 pub use Rattle.hash_index.specs.Lists.{index_of}
 pub use Rattle.hash_order.specs.HashOrder.{hash_of}
-pub use Rattle.saved_pages.specs.WebLines.{is_link, is_moved_line, is_page, is_page_at, line_of, line_of_text, said_apart, says_moved, says_page, url_said}
+pub use Rattle.saved_pages.specs.WebLines.{is_link, is_moved_line, is_page, is_page_at, line_of, line_of_text, says_moved, says_page, url_said}
 pub use Rattle.saved_pages.specs.declared.line.Line.{Line}
 pub use Rattle.saved_site.specs.Below.{IsWebBelow, is_next}
 pub use Rattle.saved_site.specs.LinkTables.{AreKnown, AreOfFolder, IsTableOf, LeadsTo, TextIndex}

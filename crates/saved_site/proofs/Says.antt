@@ -1,5 +1,7 @@
 -- What the lines of pages, links and redirects say.
-use Rattle.saved_site.proofs.Prelude.{◌≡◌, ℕ, ◌+◌, ◌≤◌, true, List, ◌++◌, length, Some, Ok, codes, refl, ap, ◌∙◌, arith, length-append, lt-ltb, nat_le, list_all, is_utf8, IsUtf8, and_parts, leb-true, cond-true, IsUtf8-append, IsUtf8-from_is_utf8, said_apart, line_of_text, line_of, Line, is_inner, fits}
+use Rattle.saved_site.proofs.Prelude.{◌≡◌, ℕ, ◌+◌, ◌≤◌, true, List, ◌++◌, length, Some, Ok, codes, refl, ◌∙◌, arith, length-append, lt-ltb, nat_le, list_all, is_utf8, IsUtf8, and_parts, leb-true, cond-true, IsUtf8-append, IsUtf8-from_is_utf8, line_of_text, line_of, Line, is_inner, fits}
+use borrow.Author.Tests.{tests}
+use borrow.Author.Rules.{rules}
 use Rattle.text_lines.proofs.CutLines.{text_of-utf8}
 use Rattle.saved_pages.proofs.WebLines.{line_of-utf8}
 use Rattle.crawl_limits.specs.Limits.{line_limit}
@@ -36,8 +38,7 @@ at_page : (url : List ℕ) → at_space (codes "page " ++ url) ≡ Some (codes "
 at_page url = grind (arith, cond-true, lt-ltb, length-append)
 
 pub says_page : (url : List ℕ) → fits 5 url ≡ true → Says (codes "page " ++ url) (line_says.Page url)
-says_page url fit =
-    behind_front (codes "page ") url 5 (line_says.Page url) refl page_utf8 fit (ap (said_apart (codes "page " ++ url)) (at_page url))
+says_page url fit = search (rules, tests, arith, behind_front, page_utf8, at_page)
 
 -- ---- a link
 
@@ -49,8 +50,7 @@ at_link : (text : List ℕ) → at_space (codes "link " ++ text) ≡ Some (codes
 at_link text = grind (arith, cond-true, lt-ltb, length-append)
 
 pub says_link : (text : List ℕ) → fits 5 text ≡ true → Says (codes "link " ++ text) (line_says.Link text)
-says_link text fit =
-    behind_front (codes "link ") text 5 (line_says.Link text) refl link_utf8 fit (ap (said_apart (codes "link " ++ text)) (at_link text))
+says_link text fit = search (rules, tests, arith, behind_front, link_utf8, at_link)
 
 -- ---- a redirect
 
@@ -62,8 +62,7 @@ at_moved : (text : List ℕ) → at_space (codes "moved " ++ text) ≡ Some (cod
 at_moved text = grind (arith, cond-true, lt-ltb, length-append)
 
 pub says_moved : (text : List ℕ) → fits 6 text ≡ true → Says (codes "moved " ++ text) (line_says.Moved text)
-says_moved text fit =
-    behind_front (codes "moved ") text 6 (line_says.Moved text) refl moved_utf8 fit (ap (said_apart (codes "moved " ++ text)) (at_moved text))
+says_moved text fit = search (rules, tests, arith, behind_front, moved_utf8, at_moved)
 
 -- ---- the first line
 
@@ -72,8 +71,4 @@ unfolding lib.Utf8.encode
 header_utf8 = (codes "savedweb 2", (refl, refl))
 
 pub says_header : Says (codes "savedweb 2") line_says.Other
-says_header = record {
-  reads = λ number. text_of-utf8 number (codes "savedweb 2") (omega arith) header_utf8;
-  of_text = refl;
-  of_line = line_of-utf8 (codes "savedweb 2") header_utf8;
-}
+says_header = search (rules, tests, arith, text_of-utf8, header_utf8, line_of-utf8)

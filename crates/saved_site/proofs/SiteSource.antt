@@ -27,28 +27,19 @@ other_url page first url is own its = grind (arith, bytes_eq-Decides, tied_itsel
 
 -- ---- what holds of all
 
-all_by : (o : Ordering) (page first : SitePage) (more later : List SitePage) → IsPage page → AllPages (first ∷ more) → AllPages later → AllPages (put_by o page first more later)
-all_by o page first more later is all rest = grind arith
-
 all_put : (page : SitePage) (pages : List SitePage) → IsPage page → AllPages pages → AllPages (put page pages)
 all_put page [] is all = (is, tt)
-all_put page (first ∷ more) is all = grind (arith, all_by, all_put page more is all.1)
-
-below_by : (top : List ℕ) (o : Ordering) (page first : SitePage) (more later : List SitePage) → is_below top page.url ≡ true → AreBelow top (first ∷ more) → AreBelow top later → AreBelow top (put_by o page first more later)
-below_by top o page first more later is all rest = grind arith
+all_put page (first ∷ more) is all = grind (arith, all_put page more is all.1)
 
 below_put : (top : List ℕ) (page : SitePage) (pages : List SitePage) → is_below top page.url ≡ true → AreBelow top pages → AreBelow top (put page pages)
 below_put top page [] is all = (is, tt)
-below_put top page (first ∷ more) is all = grind (arith, below_by, below_put top page more is all.1)
+below_put top page (first ∷ more) is all = grind (arith, below_put top page more is all.1)
 
 -- ---- they ascend
 
-up_by : (last : List ℕ) (page first : SitePage) (more later : List SitePage) (o : Ordering) → slice_cmp nat_cmp page.url first.url ≡ o → is_behind last page.url ≡ true → AscendsBehind last (first ∷ more) → (is_behind first.url page.url ≡ true → AscendsBehind first.url later) → AscendsBehind last (put_by o page first more later)
-up_by last page first more later o is behind up rest = grind (arith, one_url, behind_back)
-
 up_put : (last : List ℕ) (page : SitePage) (pages : List SitePage) → is_behind last page.url ≡ true → AscendsBehind last pages → AscendsBehind last (put page pages)
 up_put last page [] behind up = (behind, tt)
-up_put last page (first ∷ more) behind up = grind (arith, up_by, up_put first.url page more)
+up_put last page (first ∷ more) behind up = grind (arith, up_put first.url page more, one_url, behind_back)
 
 -- ---- the page at a URL
 
@@ -58,12 +49,9 @@ first_of_two b f p q r never = grind arith
 one_of_two : {X : Type 0} (b f : Bool) (p q r : X) → f ≡ b → (if b then p else r) ≡ (if b then p else (if f then q else r))
 one_of_two b f p q r is = grind arith
 
-in_by : (page first : SitePage) (more later : List SitePage) (url : List ℕ) (o : Ordering) → slice_cmp nat_cmp page.url first.url ≡ o → page_in later url ≡ (if bytes_eq page.url url then under_page url page.under else page_in more url) → page_in (put_by o page first more later) url ≡ (if bytes_eq page.url url then under_page url page.under else page_in (first ∷ more) url)
-in_by page first more later url o is rest = grind (arith, one_of_two, one_url, first_of_two, other_url)
-
 in_put : (page : SitePage) (pages : List SitePage) (url : List ℕ) → page_in (put page pages) url ≡ (if bytes_eq page.url url then under_page url page.under else page_in pages url)
 in_put page [] url = refl
-in_put page (first ∷ more) url = grind (arith, in_by, in_put page more url)
+in_put page (first ∷ more) url = grind (arith, in_put page more url, one_of_two, one_url, first_of_two, other_url)
 
 -- ---- all pages in order
 

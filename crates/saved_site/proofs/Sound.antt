@@ -67,10 +67,6 @@ passes number some mixed page free = grind arith
 page_passes : (b : Bool) (fault : WebError) → b ≡ false → (if b then Some fault else None) ≡ None
 page_passes b fault new = cond-false b (Some fault) None new
 
--- a list of lines and one more of them
-any_push : (p : List ℕ → Bool) (earlier : List (List ℕ)) (line : List ℕ) (b : Bool) → list_any p earlier ≡ b → (list_any p (earlier ++ line ∷ []) ≡ (b || (p line || false)))
-any_push p earlier line b is = grind (arith, list_any-append)
-
 -- ---- the lines under a page
 
 -- after these lines comes a page, and no redirect belongs to it
@@ -79,14 +75,8 @@ record OnPage (earlier : List (List ℕ)) : Type 0 where
   page : list_any is_page earlier ≡ true
   free : list_any is_moved_line (under_last_page earlier) ≡ false
 
-link_is : (text : List ℕ) → fits 5 text ≡ true → (is_page (codes "link " ++ text) ≡ false) × (is_moved_line (codes "link " ++ text) ≡ false)
-link_is text fit = grind arith
-
-under_push : (earlier : List (List ℕ)) (line : List ℕ) → is_page line ≡ false → under_last_page (earlier ++ line ∷ []) ≡ under_last_page earlier ++ line ∷ []
-under_push earlier line other = grind (arith, under_more, cond-false)
-
 on_page_link : (earlier : List (List ℕ)) (text : List ℕ) → fits 5 text ≡ true → OnPage earlier → OnPage (earlier ++ (codes "link " ++ text) ∷ [])
-on_page_link earlier text fit on = grind (arith, link_is, length-append, any_push, under_push)
+on_page_link earlier text fit on = grind (arith, length-append, under_more, cond-false, list_any-append)
 
 links_sound : (earlier : List (List ℕ)) (texts : List (List ℕ)) → all_fit texts ≡ true → OnPage earlier → SoundAfter fault_after earlier (links texts)
 links_sound earlier [] fit on = tt
@@ -110,7 +100,7 @@ second_push : (earlier more : List (List ℕ)) → 0 < length earlier → is_sec
 second_push earlier more some second = grind arith
 
 moved_passes : (number : ℕ) (second some link moved : Bool) (fault : WebError) → second ≡ true → some ≡ true → link ≡ false → moved ≡ false → (if second then under_fault number some (link || moved) else Some fault) ≡ None
-moved_passes number second some link moved fault is page no_link no_move = grind (arith, cond-true, passes, or_from)
+moved_passes number second some link moved fault is page no_link no_move = grind (arith, cond-true, or_from)
 
 page_there : (earlier : List (List ℕ)) (page : List ℕ) → is_page page ≡ true → list_any is_page (earlier ++ page ∷ []) ≡ true
 page_there earlier page is = grind (arith, list_any-append)
@@ -146,12 +136,6 @@ behind_other a b e = sym (is_eq-slice_cmp a b) ∙ ap is_eq (lt_less (slice_cmp 
 
 -- ---- which pages the lines are
 
-pub at_link : (text url : List ℕ) → fits 5 text ≡ true → is_page_at url (codes "link " ++ text) ≡ false
-at_link text url fit = grind arith
-
-pub at_moved : (text url : List ℕ) → fits 6 text ≡ true → is_page_at url (codes "moved " ++ text) ≡ false
-at_moved text url fit = grind arith
-
 pub at_page : (page : SitePage) (url : List ℕ) → IsPage page → is_page_at url (codes "page " ++ page.url) ≡ bytes_eq page.url url
 at_page page url is =
     ap (λ (said : Line (List ℕ)). option_map_or (λ (own : List ℕ). bytes_eq own url) (url_said said) false) (lemma.says_page page.url is.fit).of_line
@@ -159,10 +143,10 @@ at_page page url is =
 
 none_links : (texts : List (List ℕ)) (url : List ℕ) → all_fit texts ≡ true → list_any (is_page_at url) (links texts) ≡ false
 none_links [] url fit = refl
-none_links (text ∷ more) url fit = grind (arith, and_parts, or_from, at_link, none_links more url)
+none_links (text ∷ more) url fit = grind (arith, and_parts, or_from, none_links more url)
 
 none_under : (under : Under) (url : List ℕ) → fits_under under ≡ true → list_any (is_page_at url) (under_lines under) ≡ false
-none_under under url fit = grind (arith, none_links, or_from, at_moved)
+none_under under url fit = grind (arith, none_links, or_from)
 
 none_page : (page : SitePage) (url : List ℕ) → IsPage page → is_behind page.url url ≡ true → list_any (is_page_at url) (page_lines page) ≡ false
 none_page page url is behind = grind (arith, or_from, at_page, behind_other, none_under)
@@ -206,7 +190,7 @@ pub at_header : (url : List ℕ) → is_page_at url (codes "savedweb 2") ≡ fal
 at_header url = grind arith
 
 header_first : UpTo (codes "savedweb 2" ∷ []) []
-header_first = grind (arith, at_header)
+header_first = grind arith
 
 pub web_sound : (pages : List SitePage) → AllPages pages → AscendsBehind [] pages → IsSound (lines (web_text pages))
 web_sound pages all up = grind (arith, web_cut, header_sound, pages_sound, header_first)

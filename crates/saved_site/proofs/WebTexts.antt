@@ -65,7 +65,7 @@ bytes_of : (top : List ℕ) (texts : List TextAt) (all : AreInOrder top [] texts
 bytes_of top texts all = ap (λ (b : List ℕ). codes "savedweb 2" ++ 10 ∷ b) (sym (text_pages top [] texts all).text)
 
 pub text_web : (top : List ℕ) (texts : List TextAt) → AreInOrder top [] texts → IsSiteWeb (web_bytes texts)
-text_web top texts all = grind (arith, text_pages, bytes_of, site_web)
+text_web top texts all = grind (arith, text_pages, all_taken, web_sound, web_at)
 
 pub text_below : (top : List ℕ) (texts : List TextAt) → AreInOrder top [] texts → IsWebBelow top (web_bytes texts)
 text_below top texts all =

@@ -1,6 +1,5 @@
 pub mod Aliases
 pub mod Below
-pub mod Errors
 pub mod LinkTables
 pub mod Linked
 pub mod LinkedPages

@@ -1,4 +1,4 @@
--- The page that a crawl finds at a URL of a site.
+-- The page that a crawl finds at a URL of a site, and why a site has no saved web.
 use Rattle.std.specs.Prelude.{◌≡◌, ℕ, List, [], ◌∷◌, if◌then◌else◌}
 use Rattle.std.specs.Str.Lines.{lines}
 use Rattle.std.specs.Str.{bytes_eq}
@@ -6,6 +6,8 @@ use Rattle.saved_pages.specs.SavedWeb.{link_url, found_page, page_of}
 use Rattle.saved_pages.specs.WebFaults.{IsSound}
 use Rattle.crawl_pages.specs.declared.page.Page.{Page}
 use Rattle.crawl_pages.specs.declared.page.Page.TheVariants as page
+use Rattle.site_files.specs.declared.error.SiteError.{SiteError}
+use Rattle.site_files.specs.declared.error.SiteError.TheVariants as wrong
 use Rattle.saved_site.specs.Pages.{ascending, web_text}
 use Rattle.saved_site.specs.declared.page.Under.{Under}
 use Rattle.saved_site.specs.declared.page.Under.TheVariants.{Links, Moved}
@@ -28,3 +30,11 @@ pub record IsSiteWeb (bytes : List ℕ) : Type 0 where
   pub written : bytes ≡ web_text (ascending pages)
   pub sound : IsSound (lines bytes)
   pub read : (url : List ℕ) → page_of (lines bytes) url ≡ page_in (ascending pages) url
+
+-- ---- errors
+
+-- the saved web is too large, or an allocation failed
+abbrev pub IsOfWeb : SiteError → Type 0
+IsOfWeb wrong.TooLarge = Unit {0}
+IsOfWeb wrong.NoMemory = Unit {0}
+IsOfWeb error = ⊥

@@ -1,6 +1,6 @@
 //! Makes the pages of a site, round by round.
 ghost use Rattle.std.specs.Prelude.{IfErr};
-ghost use Rattle.saved_site.specs.Errors.{IsOfWeb};
+ghost use Rattle.saved_site.specs.Meaning.{IsOfWeb};
 
 use crate::page::PageSink;
 use crate::page_maker::{Batch, next_batch};

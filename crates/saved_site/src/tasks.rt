@@ -1,6 +1,6 @@
 //! The pages that are still to be made, and the number of bytes of the saved web.
 ghost use Rattle.std.specs.Prelude.{IfErr};
-ghost use Rattle.saved_site.specs.Errors.{IsOfWeb};
+ghost use Rattle.saved_site.specs.Meaning.{IsOfWeb};
 
 use crate::new_page::NewPage;
 use crate::spellings::text_spelling;

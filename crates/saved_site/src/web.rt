@@ -2,9 +2,8 @@
 ghost use Rattle.std.specs.Prelude.{IfErr, IfOk, string_bytes};
 ghost use Rattle.saved_site.specs.Aliases.{AreAliases};
 ghost use Rattle.saved_site.specs.Below.{IsWebBelow};
-ghost use Rattle.saved_site.specs.Errors.{IsOfWeb};
 ghost use Rattle.saved_site.specs.Linked.{IsSiteSource};
-ghost use Rattle.saved_site.specs.Meaning.{IsSiteWeb};
+ghost use Rattle.saved_site.specs.Meaning.{IsOfWeb, IsSiteWeb};
 
 use crate::aliases::aliases_among;
 use crate::linked::LinkedPages;

@@ -1,8 +1,5 @@
-use Rattle.crawl_session.proofs.Emptied.{all_is_done, closed_for_good}
+use Rattle.crawl_session.proofs.Emptied.{closed_for_good}
 use Rattle.crawl_session.proofs.laws.closed_means_done.Goals as goal
-
-pub returns-clause-done : goal.returns-clause-done
-returns-clause-done c = all_is_done
 
 pub returns-clause-for_good : goal.returns-clause-for_good
 returns-clause-for_good c = closed_for_good

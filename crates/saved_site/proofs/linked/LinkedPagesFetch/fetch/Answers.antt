@@ -1,9 +1,9 @@
 use Rattle.std.proofs.Common.{arith}
-use Rattle.saved_site.proofs.Parts.{at_some, at_none}
+use Rattle.saved_site.proofs.Parts.{at_with}
 use Rattle.saved_site.proofs.linked.LinkedPagesFetch.fetch.Goals as goal
 
 pub returns-in-Some-clause-meaning : goal.returns-in-Some-clause-meaning
-returns-in-Some-clause-meaning c = grind (arith, at_some)
+returns-in-Some-clause-meaning c = grind (arith, at_with)
 
 pub returns-in-None-clause-meaning : goal.returns-in-None-clause-meaning
-returns-in-None-clause-meaning c = grind (arith, at_none)
+returns-in-None-clause-meaning c = grind (arith, at_with)

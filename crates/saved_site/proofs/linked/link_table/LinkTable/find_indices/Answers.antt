@@ -1,9 +1,6 @@
 use Rattle.saved_site.proofs.Prelude.{◌≡◌, ℕ, ◌+◌, ◌<◌, [], ◌∷◌, drop, length, Option, None, ap, sym, subst, ◌∙◌, arith, drop_more, link_url, LeadsTo}
-use Rattle.saved_site.proofs.LinkIndices.{none_count, looked_start, looked_some, looked_none, count_some, count_none}
+use Rattle.saved_site.proofs.LinkIndices.{none_count, looked_some, looked_none, count_some, count_none}
 use Rattle.saved_site.proofs.linked.link_table.LinkTable.find_indices.Goals as goal
-
-pub texts-init : goal.texts-init
-texts-init c = grind (arith, looked_start)
 
 pub texts-preserved-in-Continue-branch-3 : goal.texts-preserved-in-Continue-branch-3
 texts-preserved-in-Continue-branch-3 c = grind (arith, drop_more, none_count, count_some, looked_some)
