@@ -71,7 +71,7 @@ fn check_rules(alloc: Global, options: &CheckOptions) -> Result<Rules, AllocErro
 /// Makes the saved web of a folder. Appends a note about everything that is skipped or changed.
 ///
 /// # Errors
-/// `CannotReadFolder`, `BadBase`, `NoFiles`, `TooLarge`, `NoMemory`. The notes before an error stay.
+/// `CannotReadFolder`, `BadBase`, `NoFiles`, `TooLarge`, `NoMemory`. The notes about the names of the folder stay after an error.
 pub fn web_of_folder<R: Files<File: Send, Dir: Send> + Threads + Sync>(
     rt: &R,
     alloc: Global,
@@ -87,8 +87,9 @@ pub fn web_of_folder<R: Files<File: Send, Dir: Send> + Threads + Sync>(
     let FolderNames {
         names,
         links,
-        notes: found,
+        notes: mut found,
     } = folder_names(rt, alloc, folder, &rules)?;
+    notes.append(&mut found)?;
     let input = SiteNames {
         names: names.as_slice(),
         links: links.as_slice(),
@@ -97,13 +98,11 @@ pub fn web_of_folder<R: Files<File: Send, Dir: Send> + Threads + Sync>(
     };
     let files = SiteFiles::new(alloc, input)?;
     let bytes = OnDisk { rt, alloc, folder };
-    let web = site_web(rt, &files, &[], found, &bytes)?;
     let Web {
         text,
-        notes: mut all,
-        ..
-    } = web;
-    notes.append(&mut all)?;
+        notes: mut found,
+    } = site_web(rt, &files, &[], Vec::new(alloc), &bytes)?;
+    notes.append(&mut found)?;
     Ok(text)
 }
 
@@ -112,7 +111,7 @@ pub fn web_of_folder<R: Files<File: Send, Dir: Send> + Threads + Sync>(
 ///
 /// # Errors
 /// `CannotReadFolder`, `BadBase`, `NoFiles`, `BadSeed`, `NoStart`, `NoDocuments`, `TooLarge`, `BadHost`, `NoMemory`; `Crawl` if the
-/// crawl is incomplete. The notes before an error stay.
+/// crawl is incomplete. The notes about the names of the folder stay after an error.
 pub fn report_of_folder<R: Files<File: Send, Dir: Send> + Threads + Wait + Sync>(
     rt: &R,
     alloc: Global,
