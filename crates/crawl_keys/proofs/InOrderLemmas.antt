@@ -1,7 +1,6 @@
 -- Suffixes in order are the suffixes given.
 use Rattle.crawl_keys.proofs.Prelude.{◌≡◌, ◌↔◌, ℕ, Bool, true, false, ◌||◌, List, [], ◌∷◌, Ok, Result, refl, ap, sym, subst, ◌∙◌, fold, bytes_eq, Contains, insert_key, slice_cmp, nat_list_eq_equiv, list_any, nat_cmp, match_ordering, bytes_eq-Decides, or-false, allows, in_order, is_within, host_key}
-use Rattle.std.specs.declared.cmp.Ordering.{Ordering}
-use Rattle.std.specs.declared.cmp.Ordering.TheVariants.{Less, Equal, Greater}
+use Rattle.std.proofs.Common.{Ordering, Less, Equal, Greater}
 use Rattle.std.proofs.lemmas.Map.Lookups.{exact_bytes}
 use Rattle.std.proofs.lemmas.Map.Views.{Contains-from_any, list_any-from_Contains}
 use Rattle.crawl_keys.specs.declared.filter.error.FilterError.{FilterError}

@@ -1,14 +1,11 @@
 -- Texts of a list by their indices.
-use Rattle.hash_index.proofs.Prelude.{◌≡◌, ◌⊎◌, inl, inr, ℕ, zero, suc, ◌<◌, Bool, true, false, List, [], ◌∷◌, ◌++◌, length, take, slice_get, Option, Some, None, is_some, refl, ap, subst, ◌∙◌, suc-le-suc, zero-le, arith, option_map, bytes_eq, both_ways, index_of, is_this, stands_at, AreApart}
+use Rattle.hash_index.proofs.Prelude.{◌≡◌, ◌⊎◌, inl, inr, ℕ, zero, suc, ◌<◌, Bool, true, false, List, [], ◌∷◌, ◌++◌, length, take, slice_get, Option, Some, None, is_some, refl, ap, subst, suc-le-suc, zero-le, arith, option_map, bytes_eq, both_ways, index_of, is_this, stands_at, AreApart}
 use Rattle.std.specs.Bool.{if◌then◌else◌}
 use Rattle.std.specs.List.{list_any}
 use Rattle.std.proofs.lemmas.Slice.Eq.{bytes_eq-Decides}
 
 pub same_text : (u v : List ℕ) → bytes_eq u v ≡ true → u ≡ v
 same_text u v e = (bytes_eq-Decides u v).0 e
-
-pub text_itself : (u : List ℕ) → bytes_eq u u ≡ true
-text_itself u = (bytes_eq-Decides u u).1 refl
 
 -- an element of a list with one more
 pub push_cases : {X : Type 0} (xs : List X) (y : X) (k : ℕ) (x : X) → slice_get (xs ++ y ∷ []) k ≡ Some x → ((k < length xs) × (slice_get xs k ≡ Some x)) ⊎ ((k ≡ length xs) × (y ≡ x))
@@ -32,7 +29,7 @@ at_index texts k key stands = by_text (slice_get texts k) stands
     by_text (Some text) is = ap Some (same_text text key is)
 
 pub stands_there : (texts : List (List ℕ)) (k : ℕ) (key : List ℕ) → slice_get texts k ≡ Some key → stands_at texts k key ≡ true
-stands_there texts k key at = ap (λ o. is_this o key) at ∙ text_itself key
+stands_there texts k key at = grind (arith, bytes_eq-Decides)
 
 -- the text is at the index that is returned
 pub found_at : (texts : List (List ℕ)) (key : List ℕ) (k : ℕ) → index_of texts key ≡ Some k → slice_get texts k ≡ Some key
@@ -52,7 +49,7 @@ found_at (text ∷ texts) key k found = by_first (bytes_eq text key) refl found 
 -- if none is returned, it is nowhere
 pub absent_at : (texts : List (List ℕ)) (key : List ℕ) → index_of texts key ≡ None → (k : ℕ) → slice_get texts k ≡ Some key → ⊥
 absent_at [] key none k at = cc
-absent_at (text ∷ texts) key none k at = grind (arith, both_ways, text_itself, absent_at texts key)
+absent_at (text ∷ texts) key none k at = grind (arith, both_ways, absent_at texts key, bytes_eq-Decides)
 
 -- the index at which it is, is the one that is returned
 pub stands_first : (texts : List (List ℕ)) (key : List ℕ) (k : ℕ) → AreApart texts → stands_at texts k key ≡ true → index_of texts key ≡ Some k

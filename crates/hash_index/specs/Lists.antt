@@ -1,7 +1,5 @@
 -- Lists of texts, and the index of a text.
-use Rattle.std.specs.Prelude.{◌≡◌, ℕ, suc, Bool, false, List, [], ◌∷◌, slice_get, Option, Some, None, if◌then◌else◌}
-use Rattle.std.specs.Option.{option_map}
-use Rattle.std.specs.Str.{bytes_eq}
+use Rattle.std.specs.Prelude.{◌≡◌, ℕ, suc, Bool, false, List, [], ◌∷◌, slice_get, Option, Some, None, if◌then◌else◌, option_map, bytes_eq}
 
 -- the index of the text, the first of them
 abbrev pub index_of : List (List ℕ) → List ℕ → Option ℕ

@@ -1,6 +1,5 @@
 //! The hash index.
-ghost use Rattle.std.specs.Prelude.{◌≡◌, ◌<◌, ◌≤◌, ◌^◌, ◌∷◌, ◌++◌, ℕ, List, [], Some, None, true, false, length, IfOk};
-ghost use Rattle.std.specs.Str.{bytes_eq};
+ghost use Rattle.std.specs.Prelude.{◌≡◌, ◌<◌, ◌≤◌, ◌^◌, ◌∷◌, ◌++◌, ℕ, List, [], Some, None, true, false, length, IfOk, bytes_eq};
 ghost use Rattle.hash_index.specs.Lists.{index_of};
 ghost use Rattle.hash_index.specs.Index.{IsKept, IsIndexOf, with_slots, capacity_of};
 

@@ -1,8 +1,7 @@
 //! The indices of texts whose hash has no vacant slot.
-ghost use Rattle.std.specs.Prelude.{◌≡◌, ◌⊎◌, ℕ, List, Some, None, true, false, length, unwrap_or, IfOk, IfSome};
+ghost use Rattle.std.specs.Prelude.{◌≡◌, ◌⊎◌, ℕ, List, Some, None, true, false, length, unwrap_or, IfOk, IfSome, bytes_eq};
 ghost use Rattle.std.specs.BTreeMap.{get, get_by_text};
 ghost use Rattle.std.specs.Ordering.{nat_cmp};
-ghost use Rattle.std.specs.Str.{bytes_eq};
 ghost use Rattle.hash_index.specs.Lists.{stands_at};
 ghost use Rattle.hash_index.specs.Overflow.{IsBeside};
 

@@ -1,7 +1,6 @@
 -- URLs by their indices in a list.
 use native.Mathlib.Omega.{arith}
-use Rattle.std.proofs.Common.{◌≡◌, ℕ, zero, suc, List, [], ◌∷◌, ◌++◌, length, map, slice_get, Some, Result, Ok, Err, IfOk, refl, ap, ◌∙◌}
-use Rattle.std.proofs.lemmas.List.{map-id}
+use Rattle.std.proofs.Common.{◌≡◌, ℕ, zero, suc, List, [], ◌∷◌, ◌++◌, length, map, slice_get, Some, Result, Ok, Err, IfOk, refl, ap, ◌∙◌, map-id}
 use Rattle.hash_index.specs.Lists.{index_of}
 use Rattle.hash_index.proofs.Listed.{found_at}
 use Rattle.saved_pages.specs.UrlIndices.{LeadTo, KeepIndices}

@@ -1,6 +1,5 @@
 -- What one more line of a saved web adds to the pages, and to what the checks remember.
-use Rattle.std.specs.Prelude.{◌≡◌, ℕ, ◌==◌, Bool, false, ◌||◌, not, List, [], ◌∷◌, ◌++◌, length, codes, if◌then◌else◌, Option, Some, None}
-use Rattle.std.specs.Str.{bytes_eq}
+use Rattle.std.specs.Prelude.{◌≡◌, ℕ, ◌==◌, Bool, false, ◌||◌, not, List, [], ◌∷◌, ◌++◌, length, codes, if◌then◌else◌, Option, Some, None, bytes_eq}
 use Rattle.saved_pages.specs.PageLists.{PageRead, has}
 use Rattle.saved_pages.specs.WebChecks.{Before}
 use Rattle.saved_pages.specs.WebLines.{is_page, is_link, is_moved_line}

@@ -1,7 +1,6 @@
 -- The pages of a saved web as a list, in the order in which they were read.
-use Rattle.std.specs.Prelude.{ℕ, Bool, List, [], ◌∷◌, map, if◌then◌else◌, Option, Some, None, is_some, refl}
+use Rattle.std.specs.Prelude.{ℕ, Bool, List, [], ◌∷◌, map, if◌then◌else◌, Option, Some, None, is_some, refl, bytes_eq}
 use Rattle.std.specs.Coded.{Coded, code_by, coded×, coded_list, coded_ℕ}
-use Rattle.std.specs.Str.{bytes_eq}
 
 -- a page that was read: its URL, and the bytes after its line
 pub record PageRead : Type 0 where

@@ -1,6 +1,5 @@
 -- The page that a saved web has at a URL.
-use Rattle.std.specs.Prelude.{◌≡◌, ◌⊎◌, ℕ, not, List, [], ◌∷◌, if◌then◌else◌, Option, Some, None, count_by, is_none}
-use Rattle.std.specs.List.{filter_map, take_while}
+use Rattle.std.specs.Prelude.{◌≡◌, ◌⊎◌, ℕ, not, List, [], ◌∷◌, if◌then◌else◌, Option, Some, None, count_by, is_none, filter_map, take_while}
 use Rattle.std.specs.Result.{result_ok}
 use Rattle.crawl_keys.specs.CanonicalText.{resolve}
 use Rattle.saved_pages.specs.WebLines.{line_of, is_page, is_link, is_moved_line, is_page_at, page_url}

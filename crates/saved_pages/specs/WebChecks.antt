@@ -1,6 +1,5 @@
 -- Which check a line of a saved web fails first, by what is known of the lines before it.
-use Rattle.std.specs.Prelude.{ℕ, ◌==◌, Bool, true, false, ◌||◌, List, codes, if◌then◌else◌, Option, Some, None, Result, Ok, Err}
-use Rattle.std.specs.Str.{bytes_eq}
+use Rattle.std.specs.Prelude.{ℕ, ◌==◌, Bool, true, false, ◌||◌, List, codes, if◌then◌else◌, Option, Some, None, Result, Ok, Err, bytes_eq}
 use Rattle.crawl_keys.specs.CanonicalText.{canonical}
 use Rattle.crawl_keys.specs.Outcome.{Gives}
 use Rattle.crawl_keys.specs.declared.error.KeyError.{KeyError}

@@ -1,7 +1,6 @@
 -- Which lines are a saved web, and the error of lines that are not: that of the first line that fails a check.
-use Rattle.std.specs.Prelude.{◌≡◌, ◌⊎◌, ℕ, ◌+◌, ◌<◌, Bool, false, List, [], ◌∷◌, length, codes, if◌then◌else◌, Option}
+use Rattle.std.specs.Prelude.{◌≡◌, ◌⊎◌, ℕ, ◌+◌, ◌<◌, Bool, false, List, [], ◌∷◌, length, codes, if◌then◌else◌, Option, bytes_eq}
 use Rattle.std.specs.List.{list_any}
-use Rattle.std.specs.Str.{bytes_eq}
 use Rattle.text_lines.specs.LeastFault.{SoundAfter, IsLeastFault}
 use Rattle.saved_pages.specs.WebChecks.{Before, line_fault}
 use Rattle.saved_pages.specs.WebLines.{is_page, is_link, is_moved_line, is_page_at}

@@ -45,11 +45,7 @@ impl Above {
     fn in_version(self, second: bool) -> Above
         ensures { result ≡ record self { second = second } }
     {
-        Above {
-            second,
-            link: self.link,
-            moved: self.moved,
-        }
+        Above { second, ..self }
     }
 
     /// Returns what is known below the line of a page: the page has no links and has not moved. The version stays.
@@ -57,9 +53,9 @@ impl Above {
         ensures { result ≡ record { second = self.second; link = false; moved = false } }
     {
         Above {
-            second: self.second,
             link: false,
             moved: false,
+            ..self
         }
     }
 
@@ -67,11 +63,7 @@ impl Above {
     fn with_link(self) -> Above
         ensures { result ≡ record self { link = true } }
     {
-        Above {
-            second: self.second,
-            link: true,
-            moved: self.moved,
-        }
+        Above { link: true, ..self }
     }
 
     /// Returns what is known below a moved line.
@@ -79,9 +71,8 @@ impl Above {
         ensures { result ≡ record self { moved = true } }
     {
         Above {
-            second: self.second,
-            link: self.link,
             moved: true,
+            ..self
         }
     }
 }

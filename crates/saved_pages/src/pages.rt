@@ -1,7 +1,6 @@
 //! The pages of a saved web, found by their URLs.
-ghost use Rattle.std.specs.Prelude.{◌≡◌, ◌==◌, ◌++◌, ◌∷◌, [], not, length, map, slice_get, IfOk, OnOk, IfSome, if◌then◌else◌};
+ghost use Rattle.std.specs.Prelude.{◌≡◌, ◌==◌, ◌++◌, ◌∷◌, [], not, length, map, slice_get, IfOk, OnOk, IfSome, if◌then◌else◌, option_map};
 ghost use Rattle.hash_index.specs.Lists.{index_of};
-ghost use Rattle.std.specs.Option.{option_map};
 ghost use Rattle.saved_pages.specs.PageLists.{page_with, has, urls};
 
 use crate::known_page::KnownPage;

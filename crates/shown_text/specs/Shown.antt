@@ -1,10 +1,8 @@
 -- How a text is shown to people.
-use Rattle.std.specs.Prelude.{ℕ, ◌==◌, Bool, false, ◌&&◌, ◌||◌, not, List, ◌++◌, codes, nat_le, if◌then◌else◌}
+use Rattle.std.specs.Prelude.{ℕ, ◌==◌, Bool, false, ◌&&◌, ◌||◌, not, List, ◌++◌, codes, nat_le, if◌then◌else◌, flat_map, chars}
 use Rattle.std.specs.Char.{encode_utf8, is_control}
 use Rattle.std.specs.Fmt.{digits}
 use Rattle.std.specs.Int.{is_in_range}
-use Rattle.std.specs.List.{flat_map}
-use Rattle.std.specs.Str.{chars}
 use Rattle.shown_text.specs.declared.escape.Lines.{Lines}
 use Rattle.shown_text.specs.declared.escape.Lines.TheVariants as lines
 

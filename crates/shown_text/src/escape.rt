@@ -1,6 +1,5 @@
 //! Escapes the hidden characters of a text.
-ghost use Rattle.std.specs.Prelude.{◌≡◌, ◌-◌, ◌≤◌, ◌++◌, IfOk, IsUtf8, OnOk, length, string_bytes};
-ghost use Rattle.std.specs.List.{take_while};
+ghost use Rattle.std.specs.Prelude.{◌≡◌, ◌-◌, ◌≤◌, ◌++◌, IfOk, IsUtf8, OnOk, length, string_bytes, take_while};
 ghost use Rattle.shown_text.specs.Shown.{escape_of, is_escaped, is_hidden, is_plain, shown, shown_char, shown_char_in, shown_in, shown_lines};
 
 use std::alloc::{AllocError, Global};

@@ -1,7 +1,6 @@
 //! Laws about shown texts. A law is a function that does nothing; its clauses are the theorem.
-ghost use Rattle.std.specs.Prelude.{◌≡◌, ℕ, true, List, IsUtf8};
+ghost use Rattle.std.specs.Prelude.{◌≡◌, ℕ, true, List, IsUtf8, chars};
 ghost use Rattle.std.specs.List.{list_all};
-ghost use Rattle.std.specs.Str.{chars};
 ghost use Rattle.shown_text.specs.Shown.{is_printed, is_visible, is_visible_or_lf, shown, shown_lines};
 
 /// A shown text has no hidden character, and one of several lines none but LF.

@@ -1,6 +1,5 @@
 //! The fields of a line.
-ghost use Rattle.std.specs.Prelude.{◌≡◌};
-ghost use Rattle.std.specs.Option.{option_map};
+ghost use Rattle.std.specs.Prelude.{◌≡◌, option_map};
 ghost use Rattle.text_lines.specs.Fields.{at_space};
 
 /// What is before the first space of a text, and what is after it, or `None` if it has no space.
