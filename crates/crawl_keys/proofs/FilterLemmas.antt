@@ -1,5 +1,5 @@
 -- A host is within a suffix if a look-up of the host, or of the text after one of its dots, finds the suffix.
-use Rattle.crawl_keys.proofs.Prelude.{◌≡◌, ◌≤◌, ◌<◌, ◌+◌, ◌-◌, ℕ, Bool, true, false, ◌&&◌, ◌||◌, not, List, [], ◌∷◌, ◌++◌, map, length, drop, suc, refl, ap, sym, ◌∙◌, ⊎_elim, arith, cond, String, Global, cases_order, false_from_ne_true, and_right, cases_Bool, or-false, bytes_eq-Decides, bytes_eq, string_bytes, nat_eq, codes, insert_key, length-map, ends_with, list_any, after_first, position_or_len, position, nat_cmp, is_eq, slice_cmp, is_dot, is_within}
+use Rattle.crawl_keys.proofs.Prelude.{◌≡◌, ◌≤◌, ◌<◌, ◌+◌, ◌-◌, ℕ, Bool, false, ◌&&◌, ◌||◌, not, List, [], ◌∷◌, ◌++◌, map, length, drop, suc, refl, ap, sym, ◌∙◌, ⊎_elim, arith, cond, String, Global, cases_order, false_from_ne_true, and_right, cases_Bool, or-false, bytes_eq-Decides, bytes_eq, string_bytes, nat_eq, codes, insert_key, length-map, ends_with, list_any, after_first, position_or_len, position, nat_cmp, is_eq, slice_cmp, is_dot, is_within}
 use Rattle.std.proofs.lemmas.Map.Text.{is_eq-slice_cmp}
 use Rattle.std.specs.String.{string_cmp}
 
@@ -58,13 +58,7 @@ ends_with-dot (b ∷ more) suffix =
 -- some element passes one of two tests exactly if some element passes the first or some element passes the second
 pub list_any-or : {A : Type 0} (p q : A → Bool) (xs : List A) → list_any (λ x. p x || q x) xs ≡ (list_any p xs || list_any q xs)
 list_any-or p q [] = refl
-list_any-or p q (x ∷ xs) = rw (list_any-or p q xs) (mixed (p x) (q x) (list_any p xs) (list_any q xs))
-  where
-    mixed : (a b c d : Bool) → ((a || b) || (c || d)) ≡ ((a || c) || (b || d))
-    mixed true b c d = refl
-    mixed false true true d = refl
-    mixed false true false d = refl
-    mixed false false c d = refl
+list_any-or p q (x ∷ xs) = grind (arith, list_any-or p q xs)
 
 -- tests that agree give the same result
 pub list_any-same : {A : Type 0} (p q : A → Bool) → ((x : A) → p x ≡ q x) → (xs : List A) → list_any p xs ≡ list_any q xs

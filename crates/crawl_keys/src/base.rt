@@ -18,7 +18,7 @@ use crate::plain::{
     HostPlace, PlainLink, begins_path, behind_ups, is_plain, len_before, plain_link,
 };
 use crate::{CanonUrl, KeyError, before_fragment};
-use std::alloc::{AllocError, Global};
+use std::alloc::Global;
 use std::marker::Model;
 use url::Url;
 
@@ -104,13 +104,6 @@ impl Base {
         ensures { IsFolderOf self.now result.now }
     {
         &self.url.ascii()[..self.folder]
-    }
-
-    /// The page's URL, which shares the text. The only error is `NoMemory`.
-    pub fn keep(&self, _alloc: Global) -> Result<CanonUrl, KeyError>
-        ensures { Gives KeyError.NoMemory (λ url. url) result (Ok self.now) }
-    {
-        self.url.copy()
     }
 
     /// The canonical URL of a link on the page. The result is that of [`crate::resolve`] with the page's
@@ -370,20 +363,6 @@ impl Base {
         let own = &self.url.ascii()[..self.folder];
         let its = &other.url.ascii()[..other.folder];
         own == its
-    }
-}
-
-impl Clone for Base {
-    ghost is_clone = { λ base copy. copy ≡ base };
-
-    fn clone(&self) -> Result<Base, AllocError> {
-        let url = self.url.clone()?;
-        Ok(Base {
-            url,
-            root: self.root,
-            folder: self.folder,
-            parsed: self.parsed.anew(),
-        })
     }
 }
 

@@ -13,7 +13,6 @@ use url::Url;
 #[derive(Drop)]
 pub struct Parsed {
     cell: OnceBox<Url>,
-    alloc: Global,
 }
 
 impl Parsed {
@@ -21,13 +20,7 @@ impl Parsed {
     pub fn new(alloc: Global) -> Parsed {
         Parsed {
             cell: OnceBox::new(alloc),
-            alloc,
         }
-    }
-
-    /// An empty cell for another owner.
-    pub fn anew(&self) -> Parsed {
-        Parsed::new(self.alloc)
     }
 
     /// The URL that the text of a page parses to. `None` means unknown.

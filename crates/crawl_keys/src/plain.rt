@@ -250,14 +250,7 @@ fn has_plain_query(last: u8, text: &[u8], run: usize) -> bool
         return false;
     }
     let (path, query) = text.split_at(end);
-    !query.is_empty() && is_plain_path(last, path) && are_kept(query)
-}
-
-/// Whether the text stays unchanged by the rule for a path. `false` means unknown.
-fn is_plain_path(last: u8, text: &[u8]) -> bool
-    ensures { result ≡ true → spec.is_plain last text.now ≡ true }
-{
-    plain_run(last, text) == text.len()
+    !query.is_empty() && plain_run(last, path) == path.len() && are_kept(query)
 }
 
 /// Whether a query keeps each byte unchanged.

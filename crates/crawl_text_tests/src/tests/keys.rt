@@ -171,24 +171,11 @@ fn bases_of_texts(rt: HostRuntime) {
     }
 }
 
-// Whether the base of the text has this URL, as have its copy and the URL that it keeps.
+// Whether the base of the text has this URL, to which a link to an anchor of the page leads.
 fn is_base(alloc: Global, row: &Row) -> bool {
     match Base::canonical(alloc, row.0) {
-        Ok(base) => base.as_str() == row.1 && is_cloned(&base) && keeps(alloc, &base),
+        Ok(base) => base.as_str() == row.1 && is_answer(base.resolve(alloc, "#g"), row.1),
         Err(error) => is_reason(error, row.1),
-    }
-}
-
-// Whether the URL that the base keeps, and a link to an anchor of the page, are the page's.
-fn keeps(alloc: Global, base: &Base) -> bool {
-    is_answer(base.keep(alloc), base.as_str())
-        && is_answer(base.resolve(alloc, "#g"), base.as_str())
-}
-
-fn is_cloned(base: &Base) -> bool {
-    match base.clone() {
-        Ok(copy) => copy.as_str() == base.as_str(),
-        Err(_) => false,
     }
 }
 
