@@ -1,13 +1,11 @@
 -- Each move of a seat keeps the rule of a list that only grows.
-use Rattle.crawl_queues.proofs.Prelude.{common_steps, ◌≡◌, ◌≢◌, ℕ, zero, suc, List, [], ◌∷◌, ◌++◌, set, true, false, true≢false, refl, sym, ap, ◌∙◌, subst, arith, some, some-ne-none, some-injective, get_elem?, Entry, ListView, holding, owning, beginning, Stays, Fits, Grows, Adding, Compares}
+use Rattle.crawl_queues.proofs.Prelude.{common_steps, ◌≡◌, ◌≢◌, ℕ, zero, suc, List, [], ◌∷◌, ◌++◌, set, true, refl, sym, ap, ◌∙◌, subst, arith, some, some-ne-none, some-injective, get_elem?, Entry, ListView, holding, owning, beginning, Stays, Fits, Grows, Adding, Compares}
 use Rattle.atomic_table.specs.Table.{Me, Allows, Splits, Joins, keeps, opening}
 use Rattle.atomic_table.proofs.Lists.{at_set, at_snoc, set_again}
+use Rattle.crawl_queues.proofs.Passing.{no}
 
 abbrev pub Sitting : Type 0
 Sitting = Me (Unit {0}) ListView
-
-off : {X : Type 0} → false ≡ true → X
-off e = absurd (true≢false (sym e))
 
 pub stays_front : {X : Type 0} (xs ys : List X) → Stays xs (xs ++ ys)
 stays_front [] ys k p e = absurd (cc)
@@ -62,10 +60,10 @@ compares slots seat m owns table h _ at _ =
     )
 
 pub tells : (seat : ℕ) (v : ListView) → v ≡ owning v.all → Splits Grows seat v v (beginning v.all)
-tells seat v is table h at = grind (arith, common_steps, set_again, off, at_snoc)
+tells seat v is table h at = grind (arith, common_steps, set_again, no, at_snoc)
 
 pub repeats : (seat : ℕ) (v : ListView) → Splits Grows seat v v (beginning v.begins)
-repeats seat v table h at = grind (arith, common_steps, set_again, off, at_snoc)
+repeats seat v table h at = grind (arith, common_steps, set_again, no, at_snoc)
 
 pub hands_in : (seat : ℕ) (v : ListView) (other : ℕ) (u : ListView) → v ≡ owning v.all → Joins Grows seat v other u (holding v.all u.begins) (beginning [])
-hands_in seat v other u is table h at apart there = grind (arith, common_steps, at_set, fits_set, off, stays_nil)
+hands_in seat v other u is table h at apart there = grind (arith, common_steps, at_set, fits_set, no, stays_nil)

@@ -27,6 +27,20 @@ all_push F views w mine old j u e = ⊎_elim (old j u) (λ (t : (j ≡ length vi
 pub quiet : (home : Home) (writer reader : ℕ) (sent taken : List Entry) (j : ℕ) → PassFits home writer reader sent taken j spent
 quiet home writer reader sent taken j = record { sends = no; takes = no }
 
+-- other passes, which fit the same list
+abbrev with_passes : {items : List Message} {views new : List PassView} (k : SubqueueInvariant items views) (writer reader : ℕ) → All (PassFits k.home writer reader k.sent k.taken) new → SubqueueInvariant items new
+with_passes k writer reader passes = record {
+  home = k.home;
+  writer = writer;
+  reader = reader;
+  sent = k.sent;
+  taken = k.taken;
+  split = k.split;
+  rule = k.rule;
+  units = k.units;
+  passes = passes;
+}
+
 pub begins : SubqueueInvariant [] (undivided no_home ∷ [])
 begins = record {
   home = no_home;
@@ -74,19 +88,9 @@ divides id v is items views k at =
     let l = pushing v.home v.sent in
     let vs = set views id l in
     let F = PassFits k.home id (length vs) k.sent k.taken in
-    record {
-      home = k.home;
-      writer = id;
-      reader = length vs;
-      sent = k.sent;
-      taken = k.taken;
-      split = k.split;
-      rule = k.rule;
-      units = k.units;
-      passes = all_push F vs (popping v.home v.taken v.empty_pops) (record { sends = no; takes = λ _. (refl, t.1, t.2) })
-          (all_set F views id l (record { sends = λ _. (refl, s.1, s.2); takes = no })
-          (λ j u apart e. let o = k.passes j u e in record { sends = λ p. absurd (apart ((o.sends p).0 ∙ sym s.0)); takes = λ p. absurd (apart ((o.takes p).0 ∙ sym t.0)) }));
-    }
+    with_passes k id (length vs) (all_push F vs (popping v.home v.taken v.empty_pops) (record { sends = no; takes = λ _. (refl, t.1, t.2) })
+    (all_set F views id l (record { sends = λ _. (refl, s.1, s.2); takes = no })
+    (λ j u apart e. let o = k.passes j u e in record { sends = λ p. absurd (apart ((o.sends p).0 ∙ sym s.0)); takes = λ p. absurd (apart ((o.takes p).0 ∙ sym t.0)) })))
 
 -- a `popping` that has counted a pop that found nothing
 unfoldable pub counts : (id : ℕ) (v : PassView) → v ≡ popping v.home v.taken v.empty_pops → Forks SubqueueInvariant id v (popping v.home v.taken (v.empty_pops + 1)) spent
@@ -95,17 +99,7 @@ counts id v is items views k at =
     let t = mine.takes (ap (λ z. z.takes) is) in
     let l = popping v.home v.taken (v.empty_pops + 1) in
     let F = PassFits k.home k.writer k.reader k.sent k.taken in
-    record {
-      home = k.home;
-      writer = k.writer;
-      reader = k.reader;
-      sent = k.sent;
-      taken = k.taken;
-      split = k.split;
-      rule = k.rule;
-      units = k.units;
-      passes = all_push F (set views id l) spent (quiet k.home k.writer k.reader k.sent k.taken _) (all_set F views id l (record { sends = no; takes = λ _. t }) (λ j u apart e. k.passes j u e));
-    }
+    with_passes k k.writer k.reader (all_push F (set views id l) spent (quiet k.home k.writer k.reader k.sent k.taken _) (all_set F views id l (record { sends = no; takes = λ _. t }) (λ j u apart e. k.passes j u e)))
 
 pub all_of-snoc : (g : GateId) (items : List Message) (x : Message) → AllOfGate g items → IsSeatOf g x.unit → AllOfGate g (items ++ x ∷ [])
 all_of-snoc g [] x a o = (o, tt)
@@ -177,17 +171,7 @@ unites id v other u is are items views k at two there =
     let Now : ℕ → PassView → Type 0 = λ j y. j ≢ other → PassFits k.home k.writer id k.sent k.taken j y in
     let now : All Now vs = all_set Now views id w (λ _. record { sends = λ _. (mine.0, mine.1, mine.2); takes = λ _. (refl, theirs.1, mine.2) })
     (λ j y apart e away. record { sends = (k.passes j y e).sends; takes = λ p. absurd (away (((k.passes j y e).takes p).0 ∙ sym theirs.0)) }) in
-    record {
-      home = k.home;
-      writer = k.writer;
-      reader = id;
-      sent = k.sent;
-      taken = k.taken;
-      split = k.split;
-      rule = k.rule;
-      units = k.units;
-      passes = all_set (PassFits k.home k.writer id k.sent k.taken) vs other spent (quiet k.home k.writer id k.sent k.taken other) (λ j y apart e. now j y e apart);
-    }
+    with_passes k k.writer id (all_set (PassFits k.home k.writer id k.sent k.taken) vs other spent (quiet k.home k.writer id k.sent k.taken other) (λ j y apart e. now j y e apart))
 
 -- what a pass with both rights knows
 pub compares : (id : ℕ) (v : PassView) → v.sends ≡ true → v.takes ≡ true → Learns SubqueueInvariant id v (λ items. v.sent ≡ v.taken ++ map plain items)

@@ -1,6 +1,5 @@
 -- Lists of entries: which subqueue a URL has, and what is true of the entries that one subqueue accepted.
-use Rattle.std.specs.Prelude.{◌≡◌, ℕ, ◌+◌, ◌==◌, ◌||◌, Bool, false, List, [], ◌∷◌, ◌++◌, if◌then◌else◌}
-use Rattle.std.specs.Prelude.{bytes_eq}
+use Rattle.std.specs.Prelude.{bytes_eq, ◌≡◌, ℕ, ◌+◌, ◌==◌, ◌||◌, Bool, false, List, [], ◌∷◌, ◌++◌, if◌then◌else◌}
 use Rattle.crawl_keys.specs.Assignment.{subqueue_of}
 use Rattle.crawl_queues.specs.declared.entry.Entry.{Entry}
 
