@@ -13,10 +13,6 @@ key_self key = let same : eqb key key ≡ true = grind (arith, nat_tests) in sym
 pub at_book : (books : List Book) (j : ℕ) (x : Book) → j < length books → x ≡ get_or books j x → At (map book_of books) j (book_of x)
 at_book books j x lt is = slice_get-map book_of books j ∙ ap (option_map book_of) (slice_get_read books (length books) j x refl lt is)
 
-pub mapped : (books : List Book) → length (map book_of books) ≡ length books
-mapped [] = refl
-mapped (b ∷ bs) = let r = mapped bs in omega arith
-
 pub removed : (key : ℕ) (m n : BTreeMap ℕ PassId) → ((q : ℕ) → get nat_cmp n q ≡ cond (is_at (nat_cmp key) q) None (get nat_cmp m q)) → (q : ℕ) → key < q → get nat_cmp n q ≡ get nat_cmp m q
 removed key m n h q lt = grind (arith, key_is)
 

@@ -39,42 +39,32 @@ see-requires-clause-narrow g c = omega (arith, c.subqueue-queue.ensures.below, c
 pub see-requires-clause-room : goal.see-requires-clause-room
 see-requires-clause-room g c = subst (λ v. vec_len v < vec_capacity v) (sym c.in-Seen.ensures.rest.2) c.requires.room
 
+-- the books after the URL was accepted
+module _ (g : _) (c : goal.After-accept g) where
+  abbrev e : Entry
+  e = entry c.args.candidate.now.url.now c.args.book.now.id c.in-Admitted.number c.args.candidate.now.hops
+
+  below : c.subqueue-queue.result < g.K.Name.workers
+  below = omega (arith, c.subqueue-queue.ensures.below, c.workers.ensures.0)
+
+  get : slice_get (book_of c.args.book.now).counts c.subqueue-queue.result ≡ Some c.in-Admitted.number
+  get =
+      let counts = (book_of c.args.book.now).counts in
+      slice_get_read counts (length counts) c.subqueue-queue.result c.index-own.result.now refl (omega (arith, below, c.requires.book.len)) c.index-own.ensures ∙ ap Some (sym c.in-Admitted.ensures.replies.0)
+
+  after : book_of c.accept.new.self ≡ book_accepting (book_of c.args.book.now) c.subqueue-queue.result c.in-Admitted.number e
+  after = c.accept.ensures.log e c.in-Admitted.ensures.index ∙ ap (λ (x : BookId). book_accepting x c.subqueue-queue.result c.in-Admitted.number e) c.in-Admitted.ensures.same
+
 pub returns-in-Admitted-clause-books : goal.returns-in-Admitted-clause-books
 returns-in-Admitted-clause-books g c =
-    let b = book_of c.args.book.now in
-    let url = c.args.candidate.now.url.now in
-    let queue = c.subqueue-queue.result in
-    let own = c.index-own.result.now in
-    let reply = c.in-Admitted.ensures.replies in
-    let below : queue < g.K.Name.workers = omega (arith, c.subqueue-queue.ensures.below, c.workers.ensures.0) in
-    let get : slice_get b.counts queue ≡ Some own = slice_get_read b.counts (length b.counts) queue own refl (omega (arith, below, c.requires.book.len)) c.index-own.ensures in
-    let at : queue ≡ subqueue_of url g.K.Name.workers = c.subqueue-queue.ensures.value ∙ ap (subqueue_of url) c.workers.ensures.0 in
-    let n = c.in-Admitted.number in
-    let e = entry url b.id n c.args.candidate.now.hops in
-    let after : book_of c.accept.new.self ≡ book_accepting b queue n e =
-    c.accept.ensures.log e c.in-Admitted.ensures.index ∙ ap (λ (x : BookId). book_accepting x queue n e) c.in-Admitted.ensures.same in
-    (at, get ∙ ap Some (sym reply.0), reply.2, after)
+    (c.subqueue-queue.ensures.value ∙ ap (subqueue_of c.args.candidate.now.url.now) c.workers.ensures.0, get g c, c.in-Admitted.ensures.replies.2, after g c)
 
 pub returns-in-Admitted-clause-book : goal.returns-in-Admitted-clause-book
 returns-in-Admitted-clause-book g c =
-    let b = book_of c.args.book.now in
-    let url = c.args.candidate.now.url.now in
-    let queue = c.subqueue-queue.result in
-    let own = c.index-own.result.now in
-    let reply = c.in-Admitted.ensures.replies in
-    let is = c.requires.book in
-    let below : queue < g.K.Name.workers = omega (arith, c.subqueue-queue.ensures.below, c.workers.ensures.0) in
-    let get : slice_get b.counts queue ≡ Some own = slice_get_read b.counts (length b.counts) queue own refl (omega (arith, below, is.len)) c.index-own.ensures in
-    let n = c.in-Admitted.number in
-    let e = entry url b.id n c.args.candidate.now.hops in
-    let after : book_of c.accept.new.self ≡ book_accepting b queue n e =
-    c.accept.ensures.log e c.in-Admitted.ensures.index ∙ ap (λ (x : BookId). book_accepting x queue n e) c.in-Admitted.ensures.same in
-    subst (IsBook g.K.Name.workers) (sym after) (book_accepts g.K.Name.workers b queue n e is below (get ∙ ap Some (sym reply.0)) refl refl)
+    subst (IsBook g.K.Name.workers) (sym (after g c)) (book_accepts g.K.Name.workers (book_of c.args.book.now) c.subqueue-queue.result c.in-Admitted.number (e g c) c.requires.book (below g c) (get g c) refl refl)
 
 pub returns-in-Admitted-clause-known : goal.returns-in-Admitted-clause-known
-returns-in-Admitted-clause-known g c =
-    let e = entry c.args.candidate.now.url.now c.args.book.now.id c.in-Admitted.number c.args.candidate.now.hops in
-    c.accept.ensures.known g.K.Name.queues g.K.Name.workers e c.in-Admitted.ensures.index c.in-Admitted.ensures.known
+returns-in-Admitted-clause-known g c = c.accept.ensures.known g.K.Name.queues g.K.Name.workers (e g c) c.in-Admitted.ensures.index c.in-Admitted.ensures.known
 
 pub returns-in-Seen-clause-books : goal.returns-in-Seen-clause-books
 returns-in-Seen-clause-books g c =

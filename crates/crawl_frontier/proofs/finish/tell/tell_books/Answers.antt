@@ -1,6 +1,6 @@
 use Rattle.crawl_frontier.proofs.Prelude.{◌≡◌, ◌≢◌, ◌∙◌, List, map, length, refl, sym, ap, subst, arith, slice_get_read, book_of, ShardId, At, LogIsOf}
 use Rattle.crawl_frontier.proofs.Gets.{get_set_other, get_within}
-use Rattle.crawl_frontier.proofs.Settling.{mapped}
+use Rattle.std.proofs.lemmas.List.{length-map}
 use Rattle.crawl_frontier.proofs.Telling.{map_set_same, book_more}
 use Rattle.crawl_frontier.proofs.finish.tell.tell_books.Goals as goal
 
@@ -8,7 +8,7 @@ pub loop-index-init : goal.loop-index-init
 loop-index-init g c = (refl, refl, λ k le. refl, λ j b lt at. absurd (omega (arith, lt)))
 
 pub tell_book-requires-clause-known : goal.tell_book-requires-clause-known
-tell_book-requires-clause-known g c = grind (arith, mapped, slice_get_read)
+tell_book-requires-clause-known g c = grind (arith, length-map, slice_get_read)
 
 pub loop-index-preserved : goal.loop-index-preserved
 loop-index-preserved g c =
@@ -19,7 +19,7 @@ loop-index-preserved g c =
     let cur = c.loop-index.books.items in
     let b = c.index_mut.result.now in
     let new = c.tell_book.new.book in
-    let len : length cur ≡ length start = sym (mapped cur) ∙ (ap length i.1 ∙ mapped start) in
+    let len : length cur ≡ length start = sym (length-map cur book_of) ∙ (ap length i.1 ∙ length-map start book_of) in
     let here : At cur n b = slice_get_read cur (length cur) n b refl (omega (arith, len, c.args.books.now.ok.0)) c.index_mut.ensures.value in
     let first : At start n b = sym (i.2 n (omega arith)) ∙ here in
     let log : LogIsOf shards (book_of b).log = subst (λ (l : List ShardId). LogIsOf l (book_of b).log) i.0 c.tell_book.ensures.log in (
@@ -34,4 +34,4 @@ loop-index-preserved g c =
 pub returns-clause-logs : goal.returns-clause-logs
 returns-clause-logs g c = λ j b at.
     let lt = get_within (map book_of c.args.books.now.items) j b at in
-    c.loop-index.invariant.3 j b (omega (arith, lt, mapped c.args.books.now.items, c.args.books.now.ok.0)) at
+    c.loop-index.invariant.3 j b (omega (arith, lt, length-map c.args.books.now.items book_of, c.args.books.now.ok.0)) at

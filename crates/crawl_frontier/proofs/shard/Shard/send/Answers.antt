@@ -1,12 +1,21 @@
-use Rattle.crawl_frontier.proofs.Prelude.{rules, ◌≡◌, ◌+◌, ◌<◌, ◌∙◌, ◌++◌, ◌∷◌, [], List, length, length-append, map, slice_get, false, Some, None, cond, eqb, ap, refl, sym, subst, arith, is_some, slice_get_read, index_of, Entry, ShardId, shard, MayFollow, KeepsRule, has_url, count_of, entry, rule-snoc, count_of-le}
+use Rattle.crawl_frontier.proofs.Prelude.{rules, ◌≡◌, ℕ, ◌+◌, ◌<◌, ◌∙◌, ◌++◌, ◌∷◌, [], List, length, length-append, map, slice_get, false, Some, None, cond, eqb, ap, refl, sym, subst, arith, is_some, slice_get_read, index_of, Entry, ShardId, shard, MayFollow, KeepsRule, has_url, count_of, entry, rule-snoc, count_of-le}
 use Rattle.hash_order.specs.HashOrder.{hash_of}
 use Rattle.hash_index.specs.Index.{IsIndexOf}
+use Rattle.hash_index.specs.declared.index.HashIndex.{HashIndex}
 use Rattle.hash_index.proofs.Keeping.{pushed_item}
 use Rattle.crawl_queues.specs.declared.rule.PassView.{PassView}
+use Rattle.crawl_frontier.specs.Tables.{count_in}
 use Rattle.crawl_frontier.proofs.Urls.{has_index, index_within, url_there}
 use Rattle.crawl_frontier.proofs.Undo.{raised}
 use Rattle.crawl_frontier.proofs.Admitting.{answered}
 use Rattle.crawl_frontier.proofs.shard.Shard.send.Goals as goal
+
+-- what a shard says of its list still holds after room was made
+with_room : (workers queue : ℕ) (index : HashIndex) (old new : List Entry) (counted : ℕ → ℕ)
+    → new ≡ old → KeepsRule workers queue [] old → IsIndexOf hash_of (map (λ e. e.url) old) index → ((id : ℕ) → counted id ≡ count_of id old) → length old < 4294967296
+    → KeepsRule workers queue [] new × IsIndexOf hash_of (map (λ e. e.url) new) index × ((id : ℕ) → counted id ≡ count_of id new) × (length new < 4294967296)
+with_room workers queue index old new counted same rule is counts few =
+    subst (λ (es : List Entry). KeepsRule workers queue [] es × IsIndexOf hash_of (map (λ e. e.url) es) index × ((id : ℕ) → counted id ≡ count_of id es) × (length es < 4294967296)) (sym same) (rule, is, counts, few)
 
 pub overflow_add-own : goal.overflow_add-own
 overflow_add-own g c = grind (arith, count_of-le)
@@ -50,36 +59,21 @@ push-requires-clause-follows g c =
 
 pub invariant_of-self-in_default-make_room : goal.invariant_of-self-in_default-make_room
 invariant_of-self-in_default-make_room g c =
-    let items : c.make_room.new.sent.items ≡ c.self.inside.sent.items = c.make_room.ensures.sent in (
-      search (rules, c.self.invariant.0),
-      c.self.invariant.1,
-      subst (KeepsRule g.K.Name.workers c.self.inside.queue []) (sym items) c.self.invariant.2,
-      subst (λ (es : List Entry). IsIndexOf hash_of (map (λ e. e.url) es) c.find_or_insert.new.self) (sym items) c.find_or_insert.ensures.before,
-      λ id. c.make_room.ensures.counts id ∙ c.self.invariant.4 id ∙ ap (count_of id) (sym items),
-      subst (λ (es : List Entry). length es < 4294967296) (sym items) c.self.invariant.5,
-    )
+    let counted = λ (id : ℕ). c.make_room.ensures.counts id ∙ c.self.invariant.4 id in
+    let kept = with_room _ _ c.find_or_insert.new.self _ _ (count_in c.make_room.new.counts) c.make_room.ensures.sent c.self.invariant.2 c.find_or_insert.ensures.before counted c.self.invariant.5 in
+    (search (rules, c.self.invariant.0), c.self.invariant.1, kept.0, kept.1, kept.2, kept.3)
 
 pub invariant_of-self-in_default-copies : goal.invariant_of-self-in_default-copies
 invariant_of-self-in_default-copies g c =
-    let items : c.make_room.new.sent.items ≡ c.self.inside.sent.items = c.make_room.ensures.sent in (
-      search (rules, c.self.invariant.0),
-      c.self.invariant.1,
-      subst (KeepsRule g.K.Name.workers c.self.inside.queue []) (sym items) c.self.invariant.2,
-      subst (λ (es : List Entry). IsIndexOf hash_of (map (λ e. e.url) es) c.find_or_insert.new.self) (sym items) c.find_or_insert.ensures.before,
-      λ id. c.make_room.ensures.counts id ∙ c.self.invariant.4 id ∙ ap (count_of id) (sym items),
-      subst (λ (es : List Entry). length es < 4294967296) (sym items) c.self.invariant.5,
-    )
+    let counted = λ (id : ℕ). c.make_room.ensures.counts id ∙ c.self.invariant.4 id in
+    let kept = with_room _ _ c.find_or_insert.new.self _ _ (count_in c.make_room.new.counts) c.make_room.ensures.sent c.self.invariant.2 c.find_or_insert.ensures.before counted c.self.invariant.5 in
+    (search (rules, c.self.invariant.0), c.self.invariant.1, kept.0, kept.1, kept.2, kept.3)
 
 pub invariant_of-self-in-Err-push : goal.invariant_of-self-in-Err-push
 invariant_of-self-in-Err-push g c =
-    let items : c.make_room.new.sent.items ≡ c.self.inside.sent.items = c.make_room.ensures.sent in (
-      search (rules, c.self.invariant.0),
-      search rules,
-      subst (KeepsRule g.K.Name.workers c.self.inside.queue []) (sym items) c.self.invariant.2,
-      subst (λ (es : List Entry). IsIndexOf hash_of (map (λ e. e.url) es) c.find_or_insert.new.self) (sym items) c.find_or_insert.ensures.before,
-      λ id. c.make_room.ensures.counts id ∙ c.self.invariant.4 id ∙ ap (count_of id) (sym items),
-      subst (λ (es : List Entry). length es < 4294967296) (sym items) c.self.invariant.5,
-    )
+    let counted = λ (id : ℕ). c.make_room.ensures.counts id ∙ c.self.invariant.4 id in
+    let kept = with_room _ _ c.find_or_insert.new.self _ _ (count_in c.make_room.new.counts) c.make_room.ensures.sent c.self.invariant.2 c.find_or_insert.ensures.before counted c.self.invariant.5 in
+    (search (rules, c.self.invariant.0), search rules, kept.0, kept.1, kept.2, kept.3)
 
 pub invariant_of-self-in-Ok-push : goal.invariant_of-self-in-Ok-push
 invariant_of-self-in-Ok-push g c =
