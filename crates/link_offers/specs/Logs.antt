@@ -1,6 +1,5 @@
 -- What a log says of links.
-use Rattle.std.specs.Prelude.{◌≡◌, ℕ, Bool, IsTrue, List, ◌++◌, map}
-use Rattle.std.specs.List.{All, Contains}
+use Rattle.std.specs.Prelude.{◌≡◌, ℕ, Bool, IsTrue, List, ◌++◌, map, All, Contains}
 use Rattle.crawl_keys.specs.Assignment.{subqueue_of}
 use Rattle.crawl_queues.specs.declared.book.Logged.{Logged}
 use Rattle.crawl_queues.specs.declared.book.Logged.TheVariants.{Accepted, Seen}

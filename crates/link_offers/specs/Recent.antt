@@ -1,6 +1,5 @@
 -- What a worker remembers of the URLs that it offered.
-use Rattle.std.specs.Prelude.{ℕ, List, Option, None, Some, IfSome}
-use Rattle.std.specs.List.{All}
+use Rattle.std.specs.Prelude.{ℕ, List, Option, None, Some, IfSome, All}
 use Rattle.crawl_queues.specs.declared.book.Logged.{Logged}
 use Rattle.link_offers.specs.declared.recent.RecentUrls.{RecentUrls}
 use Rattle.link_offers.specs.declared.recent.Slot.{Slot}
