@@ -1,6 +1,5 @@
 -- What a run in which nothing is lost leaves in its account.
-use Rattle.std.specs.Prelude.{◌≡◌, ℕ, Bool, true, IsTrue, List, map}
-use Rattle.std.specs.List.{All}
+use Rattle.std.specs.Prelude.{◌≡◌, ℕ, Bool, true, IsTrue, List, map, All}
 use Rattle.crawl_keys.specs.Assignment.{subqueue_of}
 use Rattle.crawl_pages.specs.declared.page.PageResult.{PageResult}
 use Rattle.crawl_queues.specs.declared.entry.Entry.{Entry}
