@@ -1,6 +1,5 @@
 -- What a page is, and its links.
-use Rattle.std.specs.Prelude.{ℕ, Bool, true, false, List, []}
-use Rattle.std.specs.Option.{option_to_list}
+use Rattle.std.specs.Prelude.{ℕ, Bool, true, false, List, [], option_to_list}
 use Rattle.crawl_pages.specs.declared.page.Page.{Page}
 use Rattle.crawl_pages.specs.declared.page.Page.TheVariants.{Found, Moved, Missing}
 

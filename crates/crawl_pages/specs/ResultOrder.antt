@@ -1,9 +1,7 @@
 -- The order of results: ascending by URL; results with the same URL stay in the order given.
-use Rattle.std.specs.Prelude.{◌≡◌, ◌≢◌, ℕ, Bool, List, [], ◌∷◌, filter, AllPairs, if◌then◌else◌}
-use Rattle.std.specs.List.Sorted.{IsSortedByKey}
+use Rattle.std.specs.Prelude.{◌≡◌, ◌≢◌, ℕ, Bool, List, [], ◌∷◌, filter, AllPairs, if◌then◌else◌, IsSortedByKey, bytes_eq}
 use Rattle.std.specs.Ordering.{is_lt, nat_cmp}
 use Rattle.std.specs.Cmp.Lexicographic.{slice_cmp}
-use Rattle.std.specs.Str.{bytes_eq}
 use Rattle.crawl_pages.specs.declared.page.PageResult.{PageResult}
 
 -- x before the first of the list that is not less

@@ -1,6 +1,5 @@
 //! The numbers of results: sixteen bytes of each URL, after the bytes that all URLs begin with.
-ghost use Rattle.std.specs.Prelude.{◌≡◌, ◌+◌, ◌*◌, ◌<◌, ◌≤◌};
-ghost use Rattle.std.specs.List.{All};
+ghost use Rattle.std.specs.Prelude.{◌≡◌, ◌+◌, ◌*◌, ◌<◌, ◌≤◌, All};
 ghost use Rattle.result_order.specs.Sorting.{AllBeginAlike, AreNumbered, IsNumbered, IsNumberSet, pages_of};
 
 use crate::beginning::beginning_of;
