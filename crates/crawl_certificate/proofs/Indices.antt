@@ -1,14 +1,13 @@
 -- The index of a URL among the entries of all queues, computed from its index in its own queue.
-use Rattle.crawl_certificate.proofs.Prelude.{◌≡◌, inl, inr, ℕ, zero, suc, ◌+◌, ◌<◌, true, List, [], ◌∷◌, ◌++◌, length, take, get_or, slice_get, Option, Some, None, is_some, refl, sym, ap, subst, ◌∙◌, arith, length-append, common_steps, Contains, bytes_eq, cases_lt, false_from_ne_true, length-map, map-append, All-contains, slice_get_within, get_or_from_slice_get, subqueue_of, Entry, AccountId, get_last, entries_in, DifferByUrl, is_accepted, entry_urls, at_this, stands_at, Finds, AreFirsts, AreLaidOut}
-use Rattle.std.specs.Bool.{if◌then◌else◌}
-use Rattle.std.specs.Option.{option_map}
+use Rattle.crawl_certificate.proofs.Prelude.{◌≡◌, inl, inr, ℕ, zero, suc, ◌+◌, ◌<◌, true, List, [], ◌∷◌, ◌++◌, length, take, get_or, slice_get, Option, Some, None, is_some, refl, sym, ap, subst, ◌∙◌, arith, length-append, common_steps, Contains, bytes_eq, cases_lt, false_from_ne_true, length-map, map-append, All-contains, slice_get_within, get_or_from_slice_get, subqueue_of, Entry, AccountId, get_last, entries_in, DifferByUrl, is_accepted, entry_urls, at_this, stands_at, Finds, AreFirsts, AreLaidOut, get_before}
+use Rattle.std.proofs.Common.{if◌then◌else◌, option_map}
 use Rattle.hash_index.specs.Lists.{index_of}
 use Rattle.hash_index.proofs.Listed.{found_at, absent_at, has_index}
 use Rattle.crawl_frontier.proofs.Urls.{entry_there, url_at}
 use Rattle.crawl_certificate.proofs.Certified.{from_map}
 use Rattle.crawl_certificate.proofs.KeptRules.{account_differs, at_whole}
 use Rattle.crawl_certificate.proofs.Lists.{same_text, any_from}
-use Rattle.crawl_certificate.proofs.Places.{among_at, any_map, get_push}
+use Rattle.crawl_certificate.proofs.Places.{among_at, any_map}
 use Rattle.crawl_certificate.proofs.Queues.{QueuesFrom, at_least, from_first}
 
 -- ---- numbers in options
@@ -89,7 +88,7 @@ module _ (account : AccountId) (all : List Entry) (firsts : List ℕ) (are : Are
 pub firsts_push : (n : ℕ) (queues : List (List Entry)) (firsts : List ℕ) (first : ℕ) (own : List Entry) → length firsts ≡ n → first ≡ length (entries_in (take n queues)) → slice_get queues n ≡ Some own
     → AreFirsts n queues firsts → AreFirsts (n + 1) queues (firsts ++ first ∷ [])
 firsts_push n queues firsts first own count is at are = λ queue below. elim (cases_lt queue n) [
-  | inl before ↦ let old = are queue before in (old.0, old.1, get_push firsts first queue (length (entries_in (take queue queues))) old.2)
+  | inl before ↦ let old = are queue before in (old.0, old.1, get_before firsts first (length (entries_in (take queue queues))) queue old.2)
   | inr not_before ↦
       let last : n ≡ queue = omega (arith, below, not_before) in
       let here : slice_get (firsts ++ first ∷ []) n ≡ Some (length (entries_in (take n queues))) =

@@ -1,23 +1,18 @@
 -- Lists without repeats: sorted they ascend, and two with the same elements are one in another order.
-use Rattle.crawl_certificate.proofs.Prelude.{◌≡◌, ◌≢◌, inl, inr, ℕ, zero, suc, ◌<◌, true, false, List, [], ◌∷◌, ◌++◌, length, get_or, refl, sym, ap, subst, ◌∙◌, arith, suc-le-suc, zero-le, slice_cmp, nat_list_cmp_total, nat_cmp, is_lt, is_eq, ordering_reverse, Ordering, Less, Equal, Greater, IsPermutation, IsSortedByKey, bytes_eq, or_parts, both_ways, false_from_ne_true, cases_Bool, get_or-map, length-map, All-contains, All-from_recursion, sorted_far, ranks_by, IsPermutation-refl, IsPermutation-cons, IsPermutation-trans, IsPermutation-sym, IsPermutation-middle, Contains-permutation, is_eq-slice_cmp, Entry, PageResult, has_result, twice, entry_urls, result_urls, IsAscending, DifferByUrl}
+use Rattle.crawl_certificate.proofs.Prelude.{◌≡◌, ◌≢◌, inl, inr, ℕ, zero, suc, ◌<◌, false, List, [], ◌∷◌, ◌++◌, length, get_or, refl, sym, ap, subst, ◌∙◌, arith, suc-le-suc, zero-le, slice_cmp, nat_list_cmp_total, nat_cmp, is_lt, is_eq, ordering_reverse, Ordering, Less, Equal, Greater, IsPermutation, IsSortedByKey, bytes_eq, or_parts, both_ways, false_from_ne_true, get_or-map, length-map, All-contains, All-from_recursion, sorted_far, ranks_by, IsPermutation-refl, IsPermutation-cons, IsPermutation-trans, IsPermutation-sym, IsPermutation-middle, Contains-permutation, is_eq-slice_cmp, Entry, PageResult, has_result, twice, entry_urls, result_urls, IsAscending, DifferByUrl}
 use Rattle.std.specs.List.{Contains, AllByRecursion, IsDistinct}
 use Rattle.std.proofs.lemmas.Map.Keys.{IsDistinct-IsPermutation}
+use Rattle.crawl_keys.proofs.FilterLemmas.{bytes_eq-comm}
 use Rattle.crawl_certificate.proofs.Lists.{no_element, here, there, first_or_later, same_text, text_itself}
 
 -- ---- texts that differ
-
-pub text_swap : (a b : List ℕ) → bytes_eq a b ≡ bytes_eq b a
-text_swap a b = elim (cases_Bool (bytes_eq b a)) [
-  | inl same ↦ subst (λ u. bytes_eq u b ≡ true) (same_text b a same) (text_itself b) ∙ sym same
-  | inr other ↦ false_from_ne_true _ (λ same. both_ways _ other (subst (λ u. bytes_eq u a ≡ true) (same_text a b same) (text_itself a))) ∙ sym other
-]
 
 abbrev pub Distinct : List (List ℕ) → Type 0
 Distinct urls = IsDistinct bytes_eq urls
 
 differs_all : (url : List ℕ) (results : List PageResult) → has_result results url ≡ false → AllByRecursion (λ y. bytes_eq url y ≡ false) (result_urls results)
 differs_all url [] none = tt
-differs_all url (r ∷ rs) none = let parts = or_parts (bytes_eq r.url url) (has_result rs url) none in (text_swap url r.url ∙ parts.0, differs_all url rs parts.1)
+differs_all url (r ∷ rs) none = let parts = or_parts (bytes_eq r.url url) (has_result rs url) none in (bytes_eq-comm url r.url ∙ parts.0, differs_all url rs parts.1)
 
 pub distinct_results : (results : List PageResult) → twice results ≡ false → Distinct (result_urls results)
 unfolding IsDistinct
@@ -37,7 +32,7 @@ distinct_entries (e ∷ rest) apart = (
 )
 
 pub distinct_permuted : (xs ys : List (List ℕ)) → IsPermutation xs ys → Distinct xs → Distinct ys
-distinct_permuted xs ys moved distinct = IsDistinct-IsPermutation bytes_eq text_swap xs ys moved distinct
+distinct_permuted xs ys moved distinct = IsDistinct-IsPermutation bytes_eq bytes_eq-comm xs ys moved distinct
 
 pub distinct_at : (xs : List (List ℕ)) → Distinct xs → (i j : ℕ) (d : List ℕ) → i < j → j < length xs → bytes_eq (get_or xs i d) (get_or xs j d) ≡ false
 unfolding IsDistinct

@@ -25,11 +25,6 @@ place_among (y ∷ ys) x has = elim (first_or_later y x ys has) [
 pub among_at : {X : Type 0} (xs : List X) (k : ℕ) (x : X) → slice_get xs k ≡ Some x → Contains xs x
 among_at xs k x at = (k, slice_get_within xs k x at, get_or_from_slice_get xs k x x at)
 
-pub get_push : {X : Type 0} (xs : List X) (y : X) (k : ℕ) (x : X) → slice_get xs k ≡ Some x → slice_get (xs ++ y ∷ []) k ≡ Some x
-get_push [] y k x at = absurd (cc)
-get_push (z ∷ zs) y zero x at = at
-get_push (z ∷ zs) y (suc k) x at = get_push zs y k x at
-
 -- what the reference at an index points to
 pub get_pointed : {X : Type 0} (xs : List (Bor X)) (k : ℕ) (d : Bor X) → get_or (pointed xs) k d.now ≡ (get_or xs k d).now
 get_pointed xs k d = grind (arith, common_steps)
@@ -56,10 +51,7 @@ set_put old new key updates url =
     updates.0 url ∙ ap (λ b. cond b true (is_in old url)) (sym (by_hash_ties key url)) ∙ or_by_cond (bytes_eq key url) (is_in old url)
   where
     or_by_cond : (b o : Bool) → cond b true o ≡ (o || b)
-    or_by_cond true true = refl
-    or_by_cond true false = refl
-    or_by_cond false true = refl
-    or_by_cond false false = refl
+    or_by_cond b o = grind arith
 
 -- ---- what is found
 

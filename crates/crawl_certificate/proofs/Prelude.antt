@@ -11,7 +11,7 @@ pub use Rattle.crawl_certificate.specs.Reachable.{WalkOf}
 pub use Rattle.crawl_certificate.specs.ResultPages.{page_in}
 pub use Rattle.crawl_certificate.specs.Walks.{AreFrom, IsWalk}
 pub use Rattle.crawl_certificate.specs.declared.marks.Marks.{Marks}
-pub use Rattle.crawl_frontier.proofs.Gets.{get_last, same_at}
+pub use Rattle.crawl_frontier.proofs.Gets.{get_before, get_last, same_at}
 pub use Rattle.crawl_frontier.specs.Accounts.{AccountId, At}
 pub use Rattle.crawl_keys.specs.Assignment.{subqueue_of}
 pub use Rattle.crawl_keys.specs.HostFilter.{allows}

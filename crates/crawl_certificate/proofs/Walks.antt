@@ -2,9 +2,10 @@
 use Rattle.crawl_certificate.proofs.Prelude.{common_steps, ◌≡◌, ℕ, zero, suc, ◌+◌, ◌<◌, ◌^◌, ◌==◌, Bool, true, false, not, ◌||◌, ◌&&◌, List, [], ◌∷◌, ◌++◌, length, get_or, slice_get, Option, Some, None, IfSome, IsSomeAnd, Vec, Global, refl, sym, ap, subst, ◌∙◌, arith, length-append, if◌then◌else◌, Bor, bytes_eq, and_from, cases_lt, eq-eqb, not_from_true, or_from, or_left, or_right, slice_get_read, All-contains_itself, All-weaker, list_any-append, list_any_none, Entry, same_at, PageResult, links_of, DifferByUrl, first_fault, has_result, is_accepted, is_behind, is_founded, is_linked, stands_in, twice, NothingLost, entry_urls, result_urls, Urls, at_this, is_in, pointed, stands_at, MarksOnly, in_one, AreFrom, IsWalk}
 use Rattle.std.specs.List.{AllByRecursion, Contains, IsDistinct, list_any}
 use Rattle.crawl_certificate.proofs.Certified.{in_map}
+use Rattle.crawl_keys.proofs.FilterLemmas.{bytes_eq-comm}
 use Rattle.crawl_certificate.proofs.Lists.{any_from, same_text, text_itself}
 use Rattle.crawl_certificate.proofs.NothingLost.{accepted_in, nothing_lost}
-use Rattle.crawl_certificate.proofs.Order.{Distinct, distinct_entries, text_swap}
+use Rattle.crawl_certificate.proofs.Order.{Distinct, distinct_entries}
 use Rattle.crawl_certificate.proofs.Places.{among_at, length_pointed, read_pointed}
 
 -- an entry that is linked from the result of the entry before it
@@ -16,7 +17,7 @@ linked_from entries results i j r before at there same e link far = grind (arith
 
 none_with : (url : List ℕ) (results : List PageResult) → AllByRecursion (λ y. bytes_eq url y ≡ false) (result_urls results) → has_result results url ≡ false
 none_with url [] none = refl
-none_with url (r ∷ rs) none = or_from (bytes_eq r.url url) (has_result rs url) (text_swap r.url url ∙ none.0) (none_with url rs none.1)
+none_with url (r ∷ rs) none = or_from (bytes_eq r.url url) (has_result rs url) (bytes_eq-comm r.url url ∙ none.0) (none_with url rs none.1)
 
 once : (results : List PageResult) → Distinct (result_urls results) → twice results ≡ false
 unfolding IsDistinct

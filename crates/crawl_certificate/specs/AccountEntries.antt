@@ -1,6 +1,5 @@
 -- The entries of an account.
-use Rattle.std.specs.Prelude.{◌≢◌, List, take}
-use Rattle.std.specs.List.{AllPairs, flat_map}
+use Rattle.std.specs.Prelude.{◌≢◌, List, take, AllPairs, flat_map}
 use Rattle.crawl_queues.specs.declared.entry.Entry.{Entry}
 use Rattle.crawl_frontier.specs.Accounts.{AccountId}
 

@@ -1,7 +1,6 @@
 -- Which URL has the error of a run that is not certified.
-use Rattle.std.specs.Prelude.{◌≡◌, ◌⊎◌, ℕ, Bool, false, not, ◌&&◌, ◌||◌, List, nat_lt, count_by, Option, Some, None, Result, Ok, Err}
+use Rattle.std.specs.Prelude.{◌≡◌, ◌⊎◌, ℕ, Bool, false, not, ◌&&◌, ◌||◌, List, nat_lt, count_by, Option, Some, None, Result, Ok, Err, bytes_eq}
 use Rattle.std.specs.List.{list_any}
-use Rattle.std.specs.Str.{bytes_eq}
 use Rattle.crawl_queues.specs.declared.entry.Entry.{Entry}
 use Rattle.crawl_pages.specs.declared.page.PageResult.{PageResult}
 use Rattle.crawl_pages.specs.Pages.{links_of}

@@ -1,6 +1,5 @@
 -- The pages of results.
-use Rattle.std.specs.Prelude.{ℕ, List, [], ◌∷◌, if◌then◌else◌}
-use Rattle.std.specs.Str.{bytes_eq}
+use Rattle.std.specs.Prelude.{ℕ, List, [], ◌∷◌, if◌then◌else◌, bytes_eq}
 use Rattle.crawl_pages.specs.declared.page.Page.{Page}
 use Rattle.crawl_pages.specs.declared.page.Page.TheVariants.{Missing}
 use Rattle.crawl_pages.specs.declared.page.PageResult.{PageResult}

@@ -1,7 +1,5 @@
 //! When a run is certified.
-ghost use Rattle.std.specs.Prelude.{◌≡◌, List, true, length, vec_len, IfOk, OnOk};
-ghost use Rattle.std.specs.List.{All};
-ghost use Rattle.std.specs.List.Sorted.{IsPermutation};
+ghost use Rattle.std.specs.Prelude.{◌≡◌, List, true, length, vec_len, IfOk, OnOk, All, IsPermutation};
 ghost use Rattle.crawl_keys.specs.HostFilter.{allows};
 ghost use Rattle.crawl_certificate.specs.AccountEntries.{entries_of, DifferByUrl};
 ghost use Rattle.crawl_certificate.specs.ResultPages.{page_in};

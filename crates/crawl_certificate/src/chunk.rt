@@ -56,18 +56,16 @@ impl<'r, 'e, 'a> Chunk<'r, 'e, 'a> {
         ensures front { result.0.first ≡ self.entry.first }
         ensures back { self.entry.first + length self.entry.results.now < 2 ^ 64 → result.1.first ≡ self.entry.first + length result.0.results.now }
     {
-        let accepted = self.accepted;
         let (front, back) = self.results.split_at(count);
         (
             Chunk {
-                accepted,
-                first: self.first,
                 results: front,
+                ..self
             },
             Chunk {
-                accepted,
                 first: self.first.saturating_add(count),
                 results: back,
+                ..self
             },
         )
     }

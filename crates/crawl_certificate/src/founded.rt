@@ -1,7 +1,6 @@
 //! Whether an entry is unfounded: no seed and no link leads to it, or the filter does not allow it.
-ghost use Rattle.std.specs.Prelude.{◌≡◌, ◌==◌, Bool, not, ◌&&◌, map, length, if◌then◌else◌};
+ghost use Rattle.std.specs.Prelude.{◌≡◌, ◌==◌, Bool, not, ◌&&◌, map, length, if◌then◌else◌, bytes_eq};
 ghost use Rattle.std.specs.List.{list_any};
-ghost use Rattle.std.specs.Str.{bytes_eq};
 ghost use Rattle.crawl_queues.specs.declared.entry.Entry.{Entry};
 ghost use Rattle.crawl_keys.specs.HostFilter.{allows};
 ghost use Rattle.crawl_certificate.specs.Least.{IsLeast, url_of};

@@ -1,7 +1,5 @@
 //! What holds of certificates. None does anything when it is called.
-ghost use Rattle.std.specs.Prelude.{◌≡◌, ℕ, ◌==◌, Bool, false, not, List, [], ◌∷◌, ◌++◌, Option, None, Some, length, count_by, slice_get};
-ghost use Rattle.std.specs.List.{All};
-ghost use Rattle.std.specs.List.Sorted.{IsPermutation};
+ghost use Rattle.std.specs.Prelude.{◌≡◌, ℕ, ◌==◌, Bool, false, not, List, [], ◌∷◌, ◌++◌, Option, None, Some, length, count_by, slice_get, All, IsPermutation, bytes_eq};
 ghost use Rattle.crawl_queues.specs.declared.entry.Entry.{Entry};
 ghost use Rattle.crawl_frontier.specs.Accounts.{AccountId, AllKeepRule};
 ghost use Rattle.crawl_keys.specs.Assignment.{subqueue_of};
@@ -15,7 +13,6 @@ ghost use Rattle.crawl_certificate.specs.Culprits.{HasNoneAt, IsCulprit};
 ghost use Rattle.crawl_certificate.specs.Queues.{AreQueues};
 ghost use Rattle.crawl_certificate.specs.declared.culprit.Culprit.{Culprit};
 ghost use Rattle.crawl_certificate.specs.declared.error.CertError.{CertError};
-ghost use Rattle.std.specs.Str.{bytes_eq};
 ghost use Rattle.crawl_pages.specs.declared.page.Page.TheVariants.{Found, Missing, Moved};
 ghost use Rattle.crawl_certificate.specs.declared.error.CertError.TheVariants as fault;
 ghost use Rattle.crawl_certificate.specs.SmallRuns.{url_a, url_b, url_c, url_d, every, all_but_d, entry, result_of, ring_entries, ring_found, gone};

@@ -1,7 +1,6 @@
 //! One pass over the results: which entries have a result, and which are linked. The URL of each result, and each link, is
 //! looked up once.
-ghost use Rattle.std.specs.Prelude.{◌≡◌, ◌+◌, ◌==◌, ℕ, Bool, false, ◌&&◌, ◌||◌, not, List, map, length, None, IfOk};
-ghost use Rattle.std.specs.Str.{bytes_eq};
+ghost use Rattle.std.specs.Prelude.{◌≡◌, ◌+◌, ◌==◌, ℕ, Bool, false, ◌&&◌, ◌||◌, not, List, map, length, None, IfOk, bytes_eq};
 ghost use Rattle.crawl_queues.specs.declared.entry.Entry.{Entry};
 ghost use Rattle.crawl_keys.specs.HostFilter.{allows};
 ghost use Rattle.crawl_pages.specs.Pages.{links_of};

@@ -1,7 +1,6 @@
 //! What a run misses: accepted seeds and links, results of entries. For each error the least URL that has it.
-ghost use Rattle.std.specs.Prelude.{◌≡◌, ℕ, List, Bool, not, ◌&&◌, map, length};
+ghost use Rattle.std.specs.Prelude.{◌≡◌, ℕ, List, Bool, not, ◌&&◌, map, length, bytes_eq};
 ghost use Rattle.std.specs.List.{list_any};
-ghost use Rattle.std.specs.Str.{bytes_eq};
 ghost use Rattle.crawl_keys.specs.HostFilter.{allows};
 ghost use Rattle.crawl_certificate.specs.CertFaults.{stands_in};
 ghost use Rattle.crawl_certificate.specs.Least.{IsLeast, url_of};

@@ -1,7 +1,6 @@
 //! The pass over the results by threads: each has a chunk, and what they find is put together.
-ghost use Rattle.std.specs.Prelude.{◌≡◌, ◌<◌, Bool, ◌&&◌, map, length, vec_len, IfOk};
+ghost use Rattle.std.specs.Prelude.{◌≡◌, ◌<◌, Bool, ◌&&◌, map, length, vec_len, IfOk, bytes_eq};
 ghost use Rattle.std.specs.List.{list_any};
-ghost use Rattle.std.specs.Str.{bytes_eq};
 ghost use Rattle.crawl_keys.specs.HostFilter.{allows};
 ghost use Rattle.crawl_queues.specs.declared.entry.Entry.{Entry};
 ghost use Rattle.crawl_certificate.specs.Least.{IsLeast, url_of, lesser};
@@ -19,6 +18,7 @@ use std::thread::{Threads, join};
 
 /// What the chunk says. With several threads each half of it has half of them; a thread that cannot be started has its work done
 /// by this one.
+#[tactic(auto, using(std::proofs::lemmas::Grind::common_steps, crate::proofs::Together::marks_long))]
 pub fn marks_by<'r, 'e, R: Threads + Sync>(
     rt: &R,
     alloc: Global,

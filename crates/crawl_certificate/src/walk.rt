@@ -3,8 +3,7 @@
 //! Such a run can only have an unfounded entry, a result whose URL is no entry, or two results with one URL. Results in the order of
 //! the entries are just theirs. The links of a worker's results, in their order, meet the URLs that it was the first to offer in the
 //! order in which each queue accepted them. So a link is only compared with the next of these.
-ghost use Rattle.std.specs.Prelude.{◌≡◌, ◌+◌, ◌<◌, ◌^◌, ◌==◌, ◌&&◌, Bool, List, None, Some, true, false, length, vec_len, IfOk, IfSome, IsSomeAnd, if◌then◌else◌};
-ghost use Rattle.std.specs.List.{Contains};
+ghost use Rattle.std.specs.Prelude.{◌≡◌, ◌+◌, ◌<◌, ◌^◌, ◌==◌, ◌&&◌, Bool, List, None, Some, true, false, length, vec_len, IfOk, IfSome, IsSomeAnd, if◌then◌else◌, Contains};
 ghost use Rattle.crawl_queues.specs.declared.entry.Entry.{Entry};
 ghost use Rattle.crawl_keys.specs.HostFilter.{allows};
 ghost use Rattle.crawl_pages.specs.Pages.{links_of};

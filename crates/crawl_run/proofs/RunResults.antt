@@ -1,5 +1,5 @@
 -- From the ends of a run to its results, and from an account to its counts.
-use Rattle.crawl_run.proofs.Prelude.{◌≡◌, ◌⊎◌, inl, inr, ℕ, ◌+◌, Bool, List, [], ◌∷◌, ◌++◌, length, slice_get, Option, Some, sym, ap, ◌∙◌, arith, length-append, cases_lt, All-nil, All-append, ArePages, CountsOf, first_fault, CertError, IsCulprit, is_at_fault, no_memory, Culprit, get_push, get_last, AccountId, WorkerId, Entry, Page, PageResult, AllRan, WorkerEnd, AreCounts, ComesIn, CountedBelow, IsJudged, IsJudgedAt, IsOfRun, of_cert, all_found}
+use Rattle.crawl_run.proofs.Prelude.{◌≡◌, ◌⊎◌, inl, inr, ℕ, ◌+◌, Bool, List, [], ◌∷◌, ◌++◌, length, slice_get, Option, Some, sym, ap, ◌∙◌, arith, length-append, cases_lt, All-nil, All-append, ArePages, CountsOf, first_fault, CertError, IsCulprit, is_at_fault, no_memory, Culprit, get_last, AccountId, WorkerId, Entry, Page, PageResult, AllRan, WorkerEnd, AreCounts, ComesIn, CountedBelow, IsJudged, IsJudgedAt, IsOfRun, of_cert, all_found, get_before}
 use Rattle.crawl_run.specs.declared.error.CrawlError.{CrawlError}
 use Rattle.crawl_certificate.specs.declared.error.CertError.TheVariants as cert
 use Rattle.crawl_run.specs.declared.settings.Mode.{Mode}
@@ -19,7 +19,7 @@ one_more_counted some account counts entries counted at = record {
   each = λ queue below. elim (cases_lt queue some) [
     | inl less ↦
         let old = counted.each queue less in
-        (old.0, (old.1.0, get_push counts (length entries) queue (length old.0) old.1.1))
+        (old.0, (old.1.0, get_before counts (length entries) (length old.0) queue old.1.1))
     | inr not_before ↦
         let last : queue ≡ some = omega (arith, below, not_before) in
         (entries, (ap (slice_get account.queues) last ∙ at, ap (slice_get (counts ++ length entries ∷ [])) (last ∙ sym counted.len) ∙ get_last counts (length entries)))

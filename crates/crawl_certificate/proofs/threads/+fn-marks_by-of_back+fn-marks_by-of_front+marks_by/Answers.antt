@@ -1,18 +1,6 @@
-use Rattle.crawl_certificate.proofs.Prelude.{common_steps, arith, IfOk-at_ok, allows, AreMarks}
-use Rattle.crawl_certificate.proofs.Together.{halves_together, marks_long}
+use Rattle.crawl_certificate.proofs.Prelude.{IfOk-at_ok, allows, AreMarks}
+use Rattle.crawl_certificate.proofs.Together.{halves_together}
 use Rattle.crawl_certificate.proofs.threads.+fn-marks_by-of_back+fn-marks_by-of_front+marks_by.Goals as goal
-
-pub together-requires-clause-fetched : goal.together-requires-clause-fetched
-together-requires-clause-fetched g t c = grind (arith, common_steps, marks_long)
-
-pub together-requires-clause-more_fetched : goal.together-requires-clause-more_fetched
-together-requires-clause-more_fetched g t c = grind (arith, common_steps, marks_long)
-
-pub together-requires-clause-linked : goal.together-requires-clause-linked
-together-requires-clause-linked g t c = grind (arith, common_steps, marks_long)
-
-pub together-requires-clause-more_linked : goal.together-requires-clause-more_linked
-together-requires-clause-more_linked g t c = grind (arith, common_steps, marks_long)
 
 pub returns : goal.returns
 returns g t c =
