@@ -1,6 +1,5 @@
 -- What a crawl lost: what its seeds and its workers did, together.
-use Rattle.std.specs.Prelude.{◌-◌, ◌^◌, ◌≤◌, min, List, [], ◌∷◌, Result, Ok, Err}
-use Rattle.std.specs.List.{sum_by}
+use Rattle.std.specs.Prelude.{◌-◌, ◌^◌, ◌≤◌, min, List, [], ◌∷◌, Result, Ok, Err, sum_by}
 use Rattle.crawl_certificate.specs.declared.error.CertError.TheVariants as cert
 use Rattle.crawl_frontier.specs.declared.error.OfferError.{OfferError}
 use Rattle.crawl_frontier.specs.declared.offer.Offer.{Offer}

@@ -1,7 +1,6 @@
 //! Theorems that connect the definitions of this crate and of the crates below it. Each is the contract of a function that
 //! does nothing when it is called.
-ghost use Rattle.std.specs.Prelude.{◌≡◌, ℕ, ◌+◌, ◌-◌, ◌^◌, List, length, map, ◌<◌, Bool, false};
-ghost use Rattle.std.specs.List.{All, Contains, flat_map};
+ghost use Rattle.std.specs.Prelude.{◌≡◌, ℕ, ◌+◌, ◌-◌, ◌^◌, List, length, map, ◌<◌, Bool, false, All, Contains, flat_map};
 ghost use Rattle.crawl_certificate.specs.AccountEntries.{entries_in};
 ghost use Rattle.crawl_certificate.specs.CertFaults.{seed_missing, not_fetched, link_missing};
 ghost use Rattle.crawl_certificate.specs.Certificate.{NothingLost};

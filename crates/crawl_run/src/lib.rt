@@ -19,5 +19,5 @@ mod whole_crawl;
 pub use error::CrawlError;
 pub use failure::CrawlFailure;
 pub use settings::{CrawlSettings, Mode};
-pub use watched::{Observe, Unobserved, Watched};
+pub use watched::{Observe, Watched};
 pub use whole_crawl::{Crawled, crawl, crawl_with};

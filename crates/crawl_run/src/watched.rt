@@ -31,14 +31,6 @@ pub trait Observe {
     fn fetched(&self, pages: u64);
 }
 
-/// An observer that does nothing.
-#[derive(Clone, Copy)]
-pub struct Unobserved;
-
-impl Observe for Unobserved {
-    fn fetched(&self, _pages: u64) {}
-}
-
 /// How many fetches a worker reports at a time.
 const FETCHES_PER_REPORT: u32 = 64;
 

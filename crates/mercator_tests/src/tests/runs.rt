@@ -1,5 +1,5 @@
 //! Runs of the program by its arguments, with a reader and writers that may fail.
-use crawl_run::Unobserved;
+use crawl_run::Observe;
 use mercator::{Platform, run_words};
 use session_log::testing::NoLocks;
 use std::alloc::{AllocError, Global};
@@ -112,6 +112,14 @@ pub fn words(alloc: Global, text: &str) -> Result<Vec<String>, AllocError> {
         }
     }
     Ok(words)
+}
+
+/// An observer that does nothing.
+#[derive(Clone, Copy)]
+struct Unobserved;
+
+impl Observe for Unobserved {
+    fn fetched(&self, _pages: u64) {}
 }
 
 /// A platform that cannot lock files, without an observer and without colour.
