@@ -1,6 +1,5 @@
 -- The pages that were read, and what a saved web has at a URL.
-use Rattle.std.specs.Prelude.{ℕ, List, Option}
-use Rattle.std.specs.Option.{option_map}
+use Rattle.std.specs.Prelude.{ℕ, List, Option, option_map}
 use Rattle.std.specs.Str.Lines.{lines}
 use Rattle.saved_pages.specs.PageLists.{PageRead, urls, page_with}
 use Rattle.saved_pages.specs.SavedWeb.{page_behind}

@@ -1,6 +1,5 @@
 -- The links of a page, found in parts of its lines.
-use Rattle.std.specs.Prelude.{◌≡◌, ℕ, List, count_by, is_none}
-use Rattle.std.specs.List.{filter_map}
+use Rattle.std.specs.Prelude.{◌≡◌, ℕ, List, count_by, is_none, filter_map}
 use Rattle.saved_pages.specs.SavedWeb.{link_texts, link_url}
 use Rattle.saved_web.specs.declared.long.LinksFound.{LinksFound}
 

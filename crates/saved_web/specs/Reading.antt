@@ -1,8 +1,7 @@
 -- What is known of the lines of a saved web while they are read one by one, and once they are.
-use Rattle.std.specs.Prelude.{◌≡◌, ℕ, Bool, List, [], ◌∷◌, ◌++◌, length, codes, None}
+use Rattle.std.specs.Prelude.{◌≡◌, ℕ, Bool, List, [], ◌∷◌, ◌++◌, length, codes, None, bytes_eq}
 use Rattle.std.specs.List.{list_any}
 use Rattle.std.specs.Option.{option_or}
-use Rattle.std.specs.Str.{bytes_eq}
 use Rattle.saved_web.specs.KnownPages.{KnownPages, known_behind, known_page}
 use Rattle.saved_pages.specs.AddedPages.{has_some}
 use Rattle.text_lines.specs.LeastFault.{SoundAfter}

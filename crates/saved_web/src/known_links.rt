@@ -1,6 +1,5 @@
 //! Link texts, and the URLs that they lead to.
-ghost use Rattle.std.specs.Prelude.{◌≡◌, ◌<◌, true, [], length, get_or, IfOk, IfErr, IfSome};
-ghost use Rattle.std.specs.List.{Contains};
+ghost use Rattle.std.specs.Prelude.{◌≡◌, ◌<◌, true, [], length, get_or, IfOk, IfErr, IfSome, Contains};
 ghost use Rattle.crawl_keys.specs.Folders.{is_of_folder};
 ghost use Rattle.saved_web.specs.KnownLinks.{AreLinks, AreOfFolder};
 ghost use Rattle.saved_pages.specs.SavedWeb.{link_url};

@@ -1,5 +1,5 @@
 //! A long page of a saved web, whose links are found by threads.
-ghost use Rattle.std.specs.Prelude.{◌≡◌, ◌+◌, ◌++◌, ◌<◌, [], true, false, Some, IfOk, IfErr, IfSome};
+ghost use Rattle.std.specs.Prelude.{◌≡◌, ◌+◌, ◌++◌, ◌<◌, [], true, false, Some, IfSome};
 ghost use Rattle.std.specs.List.{list_any};
 ghost use Rattle.std.specs.Str.Lines.{lines};
 ghost use Rattle.saved_web.specs.LongPages.{AreFound};
@@ -8,12 +8,11 @@ ghost use Rattle.saved_pages.specs.WebLines.{is_page};
 
 use crate::folder::Folder;
 use crate::known_links::KnownLinks;
-use crate::link_cache::LinkCache;
-use crate::links::{find_links, moved_text, page_behind};
+use crate::links::{find_links, moved_text};
 use crate::threads::cut_before_page;
 use crate::web::base_of;
 use crawl_keys::CanonUrl;
-use crawl_pages::{FetchError, Links, Page};
+use crawl_pages::{Links, Page};
 use saved_pages::{Line, line_of};
 use simdutf8::compat::from_utf8;
 use std::alloc::Global;
@@ -53,30 +52,13 @@ impl LinksFound {
     }
 }
 
-/// The page at this URL, with these lines under its own, up to the next page or to the end. The links of a long one are found by
-/// threads.
-pub fn page_in_threads<'a, R: Threads>(
-    rt: &R,
-    alloc: Global,
-    cache: &mut LinkCache<'a>,
-    url: &CanonUrl,
-    behind: &'a str,
-) -> Result<Page, FetchError>
-    ensures page { IfOk result (λ page. page ≡ page_behind url.now (Some (lines behind.now))) }
-    ensures refused { IfErr result (λ e. e ≡ FetchError.NoMemory) }
-{
-    match long_page(rt, alloc, url, behind) {
-        Some(page) => Ok(page),
-        None => page_behind(alloc, cache, base_of(alloc, url)?, behind),
-    }
-}
-
-/// Likewise if it is long and has links; nothing if one thread has to read it.
-fn long_page<R: Threads>(rt: &R, alloc: Global, url: &CanonUrl, behind: &str) -> Option<Page>
+/// The page at this URL, with these lines under its own, up to the next page or to the end, if it has links and threads find them;
+/// nothing if one thread has to read it.
+pub fn long_page<R: Threads>(rt: &R, alloc: Global, url: &CanonUrl, behind: &str) -> Option<Page>
     ensures { IfSome result (λ page. page ≡ page_behind url.now (Some (lines behind.now))) }
 {
     let (own, after) = cut_before_page(behind.as_bytes(), 0);
-    if own.len() < LEAST || !begins_with_page(after) {
+    if !begins_with_page(after) {
         return None;
     }
     match moved_text(behind) {

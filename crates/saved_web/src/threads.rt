@@ -1,4 +1,4 @@
-//! A saved web that threads read: each reads a part of its lines, and the parts are put together.
+//! A saved web that threads read: each reads a chunk of its lines, and the chunks are put together.
 ghost use Rattle.std.specs.Prelude.{◌≡◌, ◌++◌, ◌<◌, ◌≤◌, length, IfSome};
 ghost use Rattle.std.specs.Str.Lines.{lines};
 ghost use Rattle.saved_web.specs.Reading.{AreRead, AreReadBehind, IsHeader};
@@ -14,33 +14,32 @@ use text_lines::{cut_line, first_line, text_of};
 /// Threads do not read an input of fewer bytes than this.
 const LEAST: usize = 1 << 19;
 
-/// How often the lines are halved. The number of threads that read a part is two to this power.
+/// How often the lines are halved. The number of threads that read a chunk is two to this power.
 const HALVINGS: u32 = 2;
 
 /// Some of the lines after the header of a saved web.
 #[derive(Clone, Copy)]
-struct Part<'a> {
+struct LineChunk<'a> {
     /// The web has version 2.
     second: bool,
     bytes: &'a [u8],
 }
 
-impl<'a> Part<'a> {
-    /// Returns two parts with about half of the lines each. The second begins with a page, if a page follows the middle.
-    fn halves(self) -> (Part<'a>, Part<'a>)
+impl<'a> LineChunk<'a> {
+    /// Returns two chunks with about half of the lines each. The second begins with a page, if a page follows the middle.
+    fn halves(self) -> (LineChunk<'a>, LineChunk<'a>)
         ensures second { (result.0.second ≡ self.entry.second) × (result.1.second ≡ self.entry.second) }
         ensures lines { lines self.entry.bytes.now ≡ lines result.0.bytes.now ++ lines result.1.bytes.now }
     {
-        let second = self.second;
         let (front, back) = cut_before_page(self.bytes, self.bytes.len() / 2);
         (
-            Part {
-                second,
+            LineChunk {
                 bytes: front,
+                ..self
             },
-            Part {
-                second,
+            LineChunk {
                 bytes: back,
+                ..self
             },
         )
     }
@@ -61,11 +60,11 @@ pub fn pages_in_threads<'a, R: Threads + Sync>(
     }
     let (line, more) = first_line(bytes)?;
     let second = version(line)?;
-    let behind = Part {
+    let behind = LineChunk {
         second,
         bytes: more,
     };
-    pages_of_part(rt, alloc, HALVINGS, behind)
+    pages_of_chunk(rt, alloc, HALVINGS, behind)
 }
 
 /// Returns whether the header, which is this line, says version 2. `None` if the line is not a header.
@@ -81,44 +80,44 @@ fn version(line: &[u8]) -> Option<bool>
     }
 }
 
-/// Returns the pages of the part. The part is halved the given number of times, and a thread reads each half. If a thread cannot be
+/// Returns the pages of the chunk. It is halved the given number of times, and a thread reads each half. If a thread cannot be
 /// started, the thread that needs it reads both halves.
-fn pages_of_part<'a, R: Threads + Sync>(
+fn pages_of_chunk<'a, R: Threads + Sync>(
     rt: &R,
     alloc: Global,
     halvings: u32,
-    part: Part<'a>,
+    chunk: LineChunk<'a>,
 ) -> Option<WebPages<'a>>
-    ensures { IfSome result (AreReadBehind part.entry.second (lines part.entry.bytes.now)) }
+    ensures { IfSome result (AreReadBehind chunk.entry.second (lines chunk.entry.bytes.now)) }
 {
     if halvings == 0 {
-        return read_part(alloc, part);
+        return read_chunk(alloc, chunk);
     }
     let fewer = halvings - 1;
-    let (front, back) = part.halves();
+    let (front, back) = chunk.halves();
     let of_front = move || -> Option<WebPages<'_>>
         ensures { IfSome result (AreReadBehind front.entry.second (lines front.entry.bytes.now)) }
-    { pages_of_part(rt, alloc, fewer, front) };
+    { pages_of_chunk(rt, alloc, fewer, front) };
     let of_back = move || -> Option<WebPages<'_>>
         ensures { IfSome result (AreReadBehind back.entry.second (lines back.entry.bytes.now)) }
-    { pages_of_part(rt, alloc, fewer, back) };
+    { pages_of_chunk(rt, alloc, fewer, back) };
     let (first, second) = join(rt, of_front, of_back);
     let first = first?;
     let second = second?;
     first.and(rt, second)
 }
 
-/// Returns the pages of the part. `None` if it is not UTF-8.
-fn read_part(alloc: Global, part: Part<'_>) -> Option<WebPages<'_>>
-    ensures { IfSome result (AreReadBehind part.entry.second (lines part.entry.bytes.now)) }
+/// Returns the pages of the chunk. `None` if it is not UTF-8.
+fn read_chunk(alloc: Global, chunk: LineChunk<'_>) -> Option<WebPages<'_>>
+    ensures { IfSome result (AreReadBehind chunk.entry.second (lines chunk.entry.bytes.now)) }
 {
-    match from_utf8(part.bytes) {
-        Ok(text) => read_text(alloc, part.second, text),
+    match from_utf8(chunk.bytes) {
+        Ok(text) => read_text(alloc, chunk.second, text),
         Err(_) => None,
     }
 }
 
-/// Returns the pages of a part that is this text.
+/// Returns the pages of a chunk that is this text.
 fn read_text(alloc: Global, second: bool, text: &str) -> Option<WebPages<'_>>
     ensures { IfSome result (AreReadBehind second (lines text.now)) }
 {

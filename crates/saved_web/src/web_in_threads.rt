@@ -1,10 +1,10 @@
 //! A saved web as a source of a crawl.
-ghost use Rattle.std.specs.Prelude.{◌≡◌, IfOk, IfErr};
+ghost use Rattle.std.specs.Prelude.{◌≡◌, IfOk, IfErr, IfSome};
 ghost use Rattle.saved_web.specs.KnownPages.{page_at};
 
 use crate::ahead::Ahead;
 use crate::link_cache::LinkCache;
-use crate::long::{LEAST, page_in_threads};
+use crate::long::{LEAST, long_page};
 use crate::web::SavedWeb;
 use crawl_keys::CanonUrl;
 use crawl_pages::{FetchError, Page, SessionFetch};
@@ -43,6 +43,19 @@ impl<'w, 'a, R: Threads + Sync> WebInThreads<'w, 'a, R> {
     }
 }
 
+impl<'w, 'a, R: Threads> WebInThreads<'w, 'a, R> {
+    /// Returns the page at the URL if it is long and threads resolved its links.
+    fn long_page(&self, alloc: Global, url: &CanonUrl) -> Option<Page>
+        ensures { IfSome result (λ page. page ≡ page_at self.now.web.now url.now) }
+    {
+        if !self.long {
+            return None;
+        }
+        let page = self.web.pages.long(url, LEAST)?;
+        long_page(self.rt, alloc, url, page.behind())
+    }
+}
+
 impl<'w, 'a, R: Threads> SessionFetch for WebInThreads<'w, 'a, R> {
     ghost use Rattle.saved_web.specs.KnownPages.{page_at};
 
@@ -73,12 +86,9 @@ impl<'w, 'a, R: Threads> SessionFetch for WebInThreads<'w, 'a, R> {
         if let Some(page) = self.ahead.page(alloc, url) {
             return Ok(page);
         }
-        if !self.long {
-            return self.web.page(alloc, session, url);
-        }
-        match self.web.pages.get(url) {
-            Some(page) => page_in_threads(self.rt, alloc, session, url, page.behind()),
-            None => Ok(Page::Missing),
+        match self.long_page(alloc, url) {
+            Some(page) => Ok(page),
+            None => self.web.page(alloc, session, url),
         }
     }
 }

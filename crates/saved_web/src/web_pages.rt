@@ -1,7 +1,5 @@
 //! The pages of a saved web, in the parts in which they were read.
-ghost use Rattle.std.specs.Prelude.{◌≡◌, ◌++◌, ℕ, List, Some, true, false, slice_get, IfOk, IfSome};
-ghost use Rattle.std.specs.List.{flat_map};
-ghost use Rattle.std.specs.Option.{option_map};
+ghost use Rattle.std.specs.Prelude.{◌≡◌, ◌++◌, ℕ, List, Some, true, false, slice_get, IfOk, IfSome, flat_map, option_map};
 ghost use Rattle.saved_pages.specs.PageLists.{page_with, has, urls};
 
 use crawl_keys::CanonUrl;
@@ -28,9 +26,8 @@ pub struct WebPages<'a> {
 
 // Contracts see the pages of all parts, in order.
 impl<'a> Model for WebPages<'a> {
-    ghost use Rattle.std.specs.Prelude.{List};
+    ghost use Rattle.std.specs.Prelude.{List, flat_map};
     ghost use Rattle.std.specs.Coded.{coded_list};
-    ghost use Rattle.std.specs.List.{flat_map};
     ghost use Rattle.saved_pages.specs.PageLists.{PageRead, page_read_code};
 
     ghost Value = { List PageRead };
@@ -50,33 +47,60 @@ impl<'a> WebPages<'a> {
         Ok(WebPages { parts })
     }
 
-    /// Returns the page with the URL.
+    /// Returns the page with the URL: that of the first part that has one.
+    #[tactic(auto, using(crate::proofs::PartPages::passed_part, crate::proofs::PartPages::found_part))]
     pub fn get(&self, url: &CanonUrl) -> Option<&KnownPage<'a>>
         ensures page { option_map (λ page. page.now) result ≡ page_with self.now url.now }
         ensures same { IfSome result (λ page. page.now.url ≡ url.now) }
     {
-        first_with(&self.parts, url)
+        for part in &self.parts {
+            if let Some(page) = part.get(url) {
+                return Some(page);
+            }
+        }
+        None
     }
 
     /// Returns the index of the page with the URL.
+    #[tactic(auto, using(crate::proofs::PartPlaces::summed_index, crate::proofs::PartPlaces::found_index))]
     pub fn find(&self, url: &CanonUrl) -> Option<usize>
         ensures { IfSome result (λ index. slice_get self.now index ≡ page_with self.now url.now) }
     {
-        index_with(&self.parts, url)
+        let mut before: usize = 0;
+        for part in &self.parts {
+            if let Some(index) = part.find(url) {
+                return before.checked_add(index);
+            }
+            before = before.checked_add(part.len())?;
+        }
+        None
     }
 
     /// Returns the page at the index.
+    #[tactic(auto, using(crate::proofs::PartPlaces::passed_rest, crate::proofs::PartPlaces::lent_page, crate::proofs::PartPlaces::from_part, crate::proofs::PartPlaces::found_place))]
     pub fn page(&self, index: usize) -> Option<&KnownPage<'a>>
         ensures { IfSome result (λ page. slice_get self.now index ≡ Some page.now) }
     {
-        page_at(&self.parts, index)
+        let mut index = index;
+        for part in &self.parts {
+            if index < part.len() {
+                return part.at(index);
+            }
+            index -= part.len();
+        }
+        None
     }
 
     /// Returns the URLs of the pages.
+    #[tactic(auto, using(crate::proofs::PartPages::urls_more))]
     pub fn urls(&self, alloc: Global) -> Result<Vec<CanonUrl>, NoMemory>
         ensures { IfOk result (λ all. all.items ≡ urls self.now) }
     {
-        urls_in(alloc, &self.parts)
+        let mut all = Vec::new(alloc);
+        for part in &self.parts {
+            part.push_urls(alloc, &mut all)?;
+        }
+        Ok(all)
     }
 
     /// Reads what look-ups of URLs with these hashes read, and the beginning of their pages: first all slots, then what the slots
@@ -136,6 +160,18 @@ impl<'a> WebPages<'a> {
         true
     }
 
+    /// Returns the page with the URL, if it has about the given number of bytes.
+    pub fn long(&self, url: &CanonUrl, bytes: usize) -> Option<&KnownPage<'a>>
+        ensures { IfSome result (λ page. page_with self.now url.now ≡ Some page.now) }
+    {
+        let index = self.find(url)?;
+        let page = self.page(index)?;
+        if page.bytes_before(self.page(index.saturating_add(1))) < bytes {
+            return None;
+        }
+        Some(page)
+    }
+
     /// Whether some page has about the given number of bytes.
     pub fn has_long_page(&self, bytes: usize) -> bool {
         for part in &self.parts {
@@ -161,62 +197,6 @@ impl<'a> WebPages<'a> {
             Err(_) => None,
         }
     }
-}
-
-/// Returns the page with the URL in the first part that has one.
-#[tactic(auto, using(crate::proofs::PartPages::passed_part, crate::proofs::PartPages::found_part))]
-fn first_with<'p, 'a>(parts: &'p [Pages<'a>], url: &CanonUrl) -> Option<&'p KnownPage<'a>>
-    ensures page { option_map (λ page. page.now) result ≡ page_with (flat_map (λ part. part) parts.now) url.now }
-    ensures same { IfSome result (λ page. page.now.url ≡ url.now) }
-{
-    for part in parts {
-        if let Some(page) = part.get(url) {
-            return Some(page);
-        }
-    }
-    None
-}
-
-/// Returns the index of the page with the URL among those of the parts.
-#[tactic(auto, using(crate::proofs::PartPlaces::summed_index, crate::proofs::PartPlaces::found_index))]
-fn index_with(parts: &[Pages<'_>], url: &CanonUrl) -> Option<usize>
-    ensures { IfSome result (λ index. slice_get (flat_map (λ part. part) parts.now) index ≡ page_with (flat_map (λ part. part) parts.now) url.now) }
-{
-    let mut before: usize = 0;
-    for part in parts {
-        if let Some(index) = part.find(url) {
-            return before.checked_add(index);
-        }
-        before = before.checked_add(part.len())?;
-    }
-    None
-}
-
-/// Returns the page at the index among those of the parts.
-#[tactic(auto, using(crate::proofs::PartPlaces::passed_rest, crate::proofs::PartPlaces::lent_page, crate::proofs::PartPlaces::from_part, crate::proofs::PartPlaces::found_place))]
-fn page_at<'p, 'a>(parts: &'p [Pages<'a>], index: usize) -> Option<&'p KnownPage<'a>>
-    ensures { IfSome result (λ page. slice_get (flat_map (λ part. part) parts.now) index ≡ Some page.now) }
-{
-    let mut index = index;
-    for part in parts {
-        if index < part.len() {
-            return part.at(index);
-        }
-        index -= part.len();
-    }
-    None
-}
-
-/// Returns the URLs of the pages of the parts.
-#[tactic(auto, using(crate::proofs::PartPages::urls_more))]
-fn urls_in(alloc: Global, parts: &[Pages<'_>]) -> Result<Vec<CanonUrl>, NoMemory>
-    ensures { IfOk result (λ all. all.items ≡ urls (flat_map (λ part. part) parts.now)) }
-{
-    let mut all = Vec::new(alloc);
-    for part in parts {
-        part.push_urls(alloc, &mut all)?;
-    }
-    Ok(all)
 }
 
 /// Whether a page of the parts and a page of the others have the same URL.
