@@ -46,10 +46,7 @@ set_put old new key updates url =
     updates.0 url ∙ ap (λ b. cond b true (sets.contains by_hash old url)) (sym (by_hash_ties key url)) ∙ or_by_cond (bytes_eq key url) (sets.contains by_hash old url)
   where
     or_by_cond : (b o : Bool) → cond b true o ≡ (o || b)
-    or_by_cond true true = refl
-    or_by_cond true false = refl
-    or_by_cond false true = refl
-    or_by_cond false false = refl
+    or_by_cond b o = grind arith
 
 -- ---- what a map has after one count was written
 

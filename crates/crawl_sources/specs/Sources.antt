@@ -1,10 +1,8 @@
 -- The pages that link to the missing URLs of a report: a line for each URL, in the report's order.
-use Rattle.std.specs.Prelude.{ℕ, Bool, List, [], ◌∷◌, ◌++◌, length, map, filter, fold, codes, if◌then◌else◌, Option, Some, None}
+use Rattle.std.specs.Prelude.{ℕ, Bool, List, [], ◌∷◌, ◌++◌, length, map, filter, fold, codes, if◌then◌else◌, Option, Some, None, decimal, bytes_eq}
 use Rattle.std.specs.List.{list_any, flat_map}
-use Rattle.std.specs.Fmt.{decimal}
 use Rattle.std.specs.Ordering.{is_lt, nat_cmp}
 use Rattle.std.specs.Cmp.Lexicographic.{slice_cmp}
-use Rattle.std.specs.Str.{bytes_eq}
 use Rattle.crawl_pages.specs.Pages.{links_of, is_missing}
 use Rattle.crawl_pages.specs.ResultOrder.{results_by_url}
 use Rattle.crawl_pages.specs.declared.page.PageResult.{PageResult}

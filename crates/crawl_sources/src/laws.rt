@@ -1,6 +1,5 @@
 //! What holds of sources and of seeds. None does anything when it is called.
-ghost use Rattle.std.specs.Prelude.{◌≡◌, ℕ, false, List, [], Some, None};
-ghost use Rattle.std.specs.List.{All, Contains};
+ghost use Rattle.std.specs.Prelude.{◌≡◌, ℕ, false, List, [], Some, None, All, Contains};
 ghost use Rattle.std.specs.Ordering.{is_lt, nat_cmp};
 ghost use Rattle.std.specs.Cmp.Lexicographic.{slice_cmp};
 ghost use Rattle.text_lines.specs.LeastFault.{SoundAfter, IsLeastFault};

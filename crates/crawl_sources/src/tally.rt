@@ -1,6 +1,5 @@
 //! A count of the results that link to a URL.
-ghost use Rattle.std.specs.Prelude.{◌≡◌, OnOk};
-ghost use Rattle.std.specs.Option.{option_map};
+ghost use Rattle.std.specs.Prelude.{◌≡◌, OnOk, option_map};
 ghost use Rattle.crawl_sources.specs.Sources.{least_with};
 ghost use Rattle.crawl_sources.specs.Tallies.{pointed, none_counted, counted};
 
@@ -20,8 +19,7 @@ pub struct Tally<'a> {
 
 // Contracts see pages as their texts. No more are counted than were looked through, so that a count never overflows.
 impl<'a> Model for Tally<'a> {
-    ghost use Rattle.std.specs.Prelude.{◌≤◌};
-    ghost use Rattle.std.specs.Option.{option_map};
+    ghost use Rattle.std.specs.Prelude.{◌≤◌, option_map};
     ghost use Rattle.crawl_sources.specs.Tallies.{Count, pointed};
 
     ghost Value = { Count };
