@@ -1,7 +1,5 @@
 -- The lines of a report, whatever prints them: their fixed text, and the members of their JSON objects.
-use Rattle.std.specs.Prelude.{ℕ, List, [], ◌∷◌, ◌++◌, codes, Option}
-use Rattle.std.specs.Fmt.{decimal}
-use Rattle.std.specs.Option.{option_map}
+use Rattle.std.specs.Prelude.{ℕ, List, [], ◌∷◌, ◌++◌, codes, Option, decimal, option_map}
 use Rattle.json.specs.Json.{Members, no_members, member}
 use Rattle.crawl_report.specs.ReportText.{moved_part}
 use Rattle.crawl_sources.specs.Sources.{page_text}

@@ -1,6 +1,5 @@
 -- Members of the JSON objects of a report.
-use Rattle.std.specs.Prelude.{ℕ, List, codes, Option, None, Some}
-use Rattle.std.specs.Fmt.{decimal}
+use Rattle.std.specs.Prelude.{ℕ, List, codes, Option, None, Some, decimal}
 use Rattle.json.specs.Json.{Json, null, string, number, Members, member}
 
 abbrev pub kind : List ℕ → Members → Members

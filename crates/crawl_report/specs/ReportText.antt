@@ -1,7 +1,5 @@
 -- The report of results: a line for each in ascending order of URL, then the total.
-use Rattle.std.specs.Prelude.{ℕ, ◌+◌, ◌==◌, List, [], ◌∷◌, ◌++◌, length, codes, count_by, if◌then◌else◌}
-use Rattle.std.specs.List.{flat_map}
-use Rattle.std.specs.Fmt.{decimal}
+use Rattle.std.specs.Prelude.{ℕ, ◌+◌, ◌==◌, List, [], ◌∷◌, ◌++◌, length, codes, count_by, if◌then◌else◌, flat_map, decimal}
 use Rattle.crawl_pages.specs.Pages.{is_found, is_missing, is_moved}
 use Rattle.crawl_pages.specs.ResultOrder.{results_by_url}
 use Rattle.crawl_pages.specs.declared.page.Page.{Page}

@@ -1,7 +1,6 @@
 -- The text of results, queues and sources, part by part.
-use Rattle.std.specs.Prelude.{ℕ, Bool, List, [], ◌∷◌, ◌++◌, codes, if◌then◌else◌}
+use Rattle.std.specs.Prelude.{ℕ, Bool, List, [], ◌∷◌, ◌++◌, codes, if◌then◌else◌, decimal}
 use Rattle.std.specs.List.{enumerate_from, flat_map}
-use Rattle.std.specs.Fmt.{decimal}
 use Rattle.crawl_report.specs.ReportText.{report}
 use Rattle.crawl_pages.specs.declared.page.PageResult.{PageResult}
 use Rattle.crawl_sources.specs.Sources.{sources}

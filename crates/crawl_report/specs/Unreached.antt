@@ -1,7 +1,6 @@
 -- Which pages of a web no result has.
-use Rattle.std.specs.Prelude.{ℕ, Bool, ◌&&◌, not, List, filter}
+use Rattle.std.specs.Prelude.{ℕ, Bool, ◌&&◌, not, List, filter, bytes_eq}
 use Rattle.std.specs.List.{list_any}
-use Rattle.std.specs.Str.{bytes_eq}
 use Rattle.std.specs.BTreeSet.{BTreeSet, contains}
 use Rattle.hash_order.specs.HashOrder.{by_hash}
 use Rattle.crawl_pages.specs.declared.page.PageResult.{PageResult}

@@ -1,6 +1,5 @@
 //! Members of a JSON object.
-ghost use Rattle.std.specs.Prelude.{◌≡◌, ◌++◌, ◌∷◌, [], OnOk, decimal, codes};
-ghost use Rattle.std.specs.Option.{option_map};
+ghost use Rattle.std.specs.Prelude.{◌≡◌, ◌++◌, ◌∷◌, [], OnOk, decimal, codes, option_map};
 ghost use Rattle.json.specs.Token.{key, string, number};
 ghost use Rattle.json.specs.Tree.{json_tokens};
 ghost use Rattle.crawl_report.specs.Members.{text_or_null};

@@ -1,7 +1,5 @@
 //! A report as bytes.
-ghost use Rattle.std.specs.Prelude.{◌≡◌, ◌<◌, [], length, IfOk, count_by};
-ghost use Rattle.std.specs.List.{flat_map};
-ghost use Rattle.crawl_pages.specs.Pages.{is_found, is_missing, is_moved};
+ghost use Rattle.std.specs.Prelude.{◌≡◌, ◌<◌, [], length, IfOk, flat_map};
 ghost use Rattle.crawl_report.specs.Json.{printed_line};
 ghost use Rattle.crawl_report.specs.Lines as line;
 ghost use Rattle.crawl_report.specs.Lines.{line_of};
@@ -113,33 +111,22 @@ pub(crate) fn row_of(one: &PageResult) -> Row<'_>
 pub(crate) fn total_of(pages: &[PageResult]) -> Row<'static>
     ensures { line_of result ≡ total_of pages.now }
 {
+    let mut found: usize = 0;
+    let mut missing: usize = 0;
+    let mut moved: usize = 0;
+    for one in pages {
+        match &one.page {
+            Page::Found { .. } => found += 1,
+            Page::Moved { .. } => moved += 1,
+            Page::Missing => missing += 1,
+        }
+    }
     Row::Total {
         results: pages.len(),
-        found: count_found(pages),
-        missing: count_missing(pages),
-        moved: count_moved(pages),
+        found,
+        missing,
+        moved,
     }
-}
-
-/// Returns the number of results that found a page.
-fn count_found(pages: &[PageResult]) -> usize
-    ensures { result ≡ count_by (λ r. is_found r.page) pages.now }
-{
-    pages.iter().filter(|one| one.page.is_found()).count()
-}
-
-/// Returns the number of results whose page is missing.
-fn count_missing(pages: &[PageResult]) -> usize
-    ensures { result ≡ count_by (λ r. is_missing r.page) pages.now }
-{
-    pages.iter().filter(|one| one.page.is_missing()).count()
-}
-
-/// Returns the number of results whose page has moved.
-fn count_moved(pages: &[PageResult]) -> usize
-    ensures { result ≡ count_by (λ r. is_moved r.page) pages.now }
-{
-    pages.iter().filter(|one| one.page.is_moved()).count()
 }
 
 /// Returns what is printed, followed by a line for each queue. The queues are numbered from 0.

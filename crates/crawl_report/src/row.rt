@@ -1,6 +1,5 @@
 //! A line of a report, and its two forms: a line of text, and a JSON object.
-ghost use Rattle.std.specs.Prelude.{◌≡◌, ◌++◌, ◌∷◌, [], OnOk, IfOk, decimal, string_bytes};
-ghost use Rattle.std.specs.Option.{option_map};
+ghost use Rattle.std.specs.Prelude.{◌≡◌, ◌++◌, ◌∷◌, [], OnOk, IfOk, decimal, string_bytes, option_map};
 ghost use Rattle.json.specs.Token.{begin_object, end_object};
 ghost use Rattle.json.specs.Tree.{json_tokens};
 ghost use Rattle.crawl_report.specs.ReportText.{moved_part};

@@ -1,6 +1,5 @@
 //! The lines of the results, in consecutive chunks that threads print.
-ghost use Rattle.std.specs.Prelude.{◌≡◌, IfOk};
-ghost use Rattle.std.specs.List.{flat_map};
+ghost use Rattle.std.specs.Prelude.{◌≡◌, IfOk, flat_map};
 ghost use Rattle.crawl_report.specs.Json.{printed_line};
 ghost use Rattle.crawl_report.specs.Printing.{joined};
 ghost use Rattle.crawl_report.specs.Rows.{result_lines};

@@ -1,6 +1,5 @@
 //! The URLs to which pages moved.
-ghost use Rattle.std.specs.Prelude.{◌≡◌, true, IfOk};
-ghost use Rattle.std.specs.Option.{option_map};
+ghost use Rattle.std.specs.Prelude.{◌≡◌, true, IfOk, option_map};
 ghost use Rattle.crawl_report.specs.Printing.{Adds};
 ghost use Rattle.crawl_report.specs.Rows.{moved_lines};
 

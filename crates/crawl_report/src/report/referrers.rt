@@ -1,7 +1,6 @@
 //! Which pages link to the missing URLs of a report, and to the moved ones.
-ghost use Rattle.std.specs.Prelude.{◌≡◌, ℕ, List, ◌∷◌, true, IfOk, IsSome, map, filter};
+ghost use Rattle.std.specs.Prelude.{◌≡◌, ℕ, List, ◌∷◌, true, IfOk, IsSome, map, filter, bytes_eq};
 ghost use Rattle.std.specs.List.{list_any, flat_map};
-ghost use Rattle.std.specs.Str.{bytes_eq};
 ghost use Rattle.crawl_pages.specs.declared.page.PageResult.{PageResult};
 ghost use Rattle.crawl_report.specs.Lines as line;
 ghost use Rattle.crawl_report.specs.Lines.{line_of};
