@@ -1,6 +1,5 @@
 -- The URL that a subqueue is busy with.
-use Rattle.std.specs.Prelude.{ℕ, ◌-◌, List, length, slice_get, if◌then◌else◌, Option, None}
-use Rattle.std.specs.Option.{option_map}
+use Rattle.std.specs.Prelude.{ℕ, ◌-◌, List, length, slice_get, if◌then◌else◌, Option, None, option_map}
 use Rattle.crawl_core.specs.Kept.{KeptQueue}
 use Rattle.crawl_core.specs.State.{State}
 use Rattle.crawl_core.specs.Subqueue.{Subqueue}

@@ -1,7 +1,6 @@
 -- The unit of the URL that a subqueue is busy with goes to a sender: `Done`, `Look` and `Enter` in one call. And how far a
 -- subqueue is.
-use Rattle.std.specs.Prelude.{◌≡◌, ℕ, suc, ◌-◌, Bool, false, nat_eq, not, ◌&&◌, length, slice_get, if◌then◌else◌, Option, None, Some}
-use Rattle.std.specs.Option.{option_map}
+use Rattle.std.specs.Prelude.{◌≡◌, ℕ, suc, ◌-◌, Bool, false, nat_eq, not, ◌&&◌, length, slice_get, if◌then◌else◌, Option, None, Some, option_map}
 use Rattle.crawl_core.specs.declared.event.Event.TheVariants.{Look, Enter, Done}
 use Rattle.crawl_core.specs.declared.machine.handing.Progress.{Progress}
 use Rattle.crawl_core.specs.GateSide.{GateSide, holds}

@@ -1,7 +1,6 @@
 -- Messages, and what is defined of a list of them. Nothing here speaks of the machine.
-use Rattle.std.specs.Prelude.{◌≡◌, ℕ, Bool, List, map, take, nat_eq, slice_get, Option, Some}
+use Rattle.std.specs.Prelude.{◌≡◌, ℕ, Bool, List, map, take, nat_eq, slice_get, Option, Some, bytes_eq}
 use Rattle.std.specs.List.{count_by, filter, find, list_any}
-use Rattle.std.specs.Str.{bytes_eq}
 
 -- a URL that a subqueue accepted; its number is how many earlier ones of the same sender the subqueue accepted
 pub record Message : Type 0 where

@@ -1,6 +1,5 @@
 -- The state of a frontier: the gate's half, and each subqueue's.
-use Rattle.std.specs.Prelude.{ℕ, List, replicate}
-use Rattle.std.specs.List.{sum_by}
+use Rattle.std.specs.Prelude.{ℕ, List, replicate, sum_by}
 use Rattle.crawl_core.specs.declared.word.Word.{Word}
 use Rattle.crawl_core.specs.GateSide.{GateSide, new_gate, units_out, shown_word}
 use Rattle.crawl_core.specs.Subqueue.{Subqueue, empty_subqueue, unfinished}

@@ -1,7 +1,6 @@
 //! Laws of whole runs: what holds of any events and the replies that [`run`](crate::run) gives to them. None does anything
 //! when it is called.
-ghost use Rattle.std.specs.Prelude.{◌≡◌, ℕ, List, ◌++◌, ◌∷◌, [], length, map, slice_get, Some};
-ghost use Rattle.std.specs.List.{zip, Contains};
+ghost use Rattle.std.specs.Prelude.{◌≡◌, ℕ, List, ◌++◌, ◌∷◌, [], length, map, slice_get, Some, zip, Contains};
 ghost use Rattle.crawl_core.specs.Messages.{Message};
 ghost use Rattle.crawl_core.specs.Subqueue.{Subqueue};
 ghost use Rattle.crawl_core.specs.State.{State, start, count_of};

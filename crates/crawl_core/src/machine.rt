@@ -1,6 +1,5 @@
 //! The machine: what it keeps, how it begins, and one step of it.
-ghost use Rattle.std.specs.Prelude.{◌≡◌, ◌<◌, ◌≤◌, ◌⊎◌, ◌↔◌, false, Err, IfOk, OnOk, OnErr};
-ghost use Rattle.std.specs.Result.{IsOk};
+ghost use Rattle.std.specs.Prelude.{◌≡◌, ◌<◌, ◌≤◌, ◌⊎◌, ◌↔◌, false, Err, IfOk, OnOk, OnErr, IsOk};
 ghost use Rattle.crawl_core.specs.Growth.{needs_memory};
 ghost use Rattle.crawl_core.specs.Limits.{queue_limit};
 ghost use Rattle.crawl_limits.specs.Limits.{AreLimits, worker_limit, pending_limit};

@@ -1,6 +1,5 @@
 //! What the machine keeps of one subqueue.
-ghost use Rattle.std.specs.Prelude.{◌≡◌, ◌∷◌, [], true, false, drop, IfOk, IfSome, IfNone, OnErr, OnSome};
-ghost use Rattle.std.specs.Option.{option_map};
+ghost use Rattle.std.specs.Prelude.{◌≡◌, ◌∷◌, [], true, false, drop, IfOk, IfSome, IfNone, OnErr, OnSome, option_map};
 ghost use Rattle.crawl_core.specs.Fetching.{kept_fetch};
 ghost use Rattle.crawl_core.specs.Handing.{kept_progress};
 ghost use Rattle.crawl_core.specs.Kept.{empty_queue, has_seen, number_at};

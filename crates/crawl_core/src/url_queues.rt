@@ -1,6 +1,5 @@
 //! The subqueues of a machine, each read and changed by its number.
-ghost use Rattle.std.specs.Prelude.{◌≡◌, ◌∷◌, [], ◌<◌, true, false, length, replicate, slice_get, slice_set, Some, None, drop, IfOk, IfSome, IfNone, OnErr, OnSome};
-ghost use Rattle.std.specs.Option.{option_map};
+ghost use Rattle.std.specs.Prelude.{◌≡◌, ◌∷◌, [], ◌<◌, true, false, length, replicate, slice_get, slice_set, Some, None, drop, IfOk, IfSome, IfNone, OnErr, OnSome, option_map};
 ghost use Rattle.crawl_core.specs.Fetching.{kept_fetch};
 ghost use Rattle.crawl_core.specs.Handing.{kept_progress};
 ghost use Rattle.crawl_core.specs.Kept.{KeptQueue, empty_queue, has_seen, number_at};

@@ -1,7 +1,5 @@
 -- The lines of replies.
-use Rattle.std.specs.Prelude.{ℕ, true, false, List, [], ◌∷◌, ◌++◌, codes}
-use Rattle.std.specs.List.{flat_map}
-use Rattle.std.specs.Fmt.{decimal}
+use Rattle.std.specs.Prelude.{ℕ, true, false, List, [], ◌∷◌, ◌++◌, codes, flat_map, decimal}
 use Rattle.crawl_core.specs.declared.reply.Reply.{Reply}
 use Rattle.crawl_core.specs.declared.reply.Reply.TheVariants.{Word, Entered, Lost, Accepted, Seen, Count, Taken, Empty, Closed, Pending, Refused}
 use Rattle.crawl_core.specs.declared.reply.Refusal.{Refusal}

@@ -1,7 +1,5 @@
 -- The lines of a script as the format says them: which bytes a line has that says this or that.
-use Rattle.std.specs.Prelude.{◌≡◌, ◌≢◌, ◌⊎◌, ◌+◌, ◌≤◌, ◌<◌, ◌^◌, ℕ, List, [], ◌∷◌, ◌++◌, length, codes, Option, Some, None, Result, Ok, Err}
-use Rattle.std.specs.List.{All}
-use Rattle.std.specs.Str.{IsUtf8}
+use Rattle.std.specs.Prelude.{◌≡◌, ◌≢◌, ◌⊎◌, ◌+◌, ◌≤◌, ◌<◌, ◌^◌, ℕ, List, [], ◌∷◌, ◌++◌, length, codes, Option, Some, None, Result, Ok, Err, All, IsUtf8}
 use Rattle.std.specs.Str.Parse.{digits_value}
 use Rattle.crawl_keys.specs.Assignment.{subqueue_of}
 use Rattle.crawl_keys.specs.CanonicalText.{canonical}

@@ -1,6 +1,5 @@
 //! Laws of scripts and of what they make the machine do. None does anything when it is called.
-ghost use Rattle.std.specs.Prelude.{◌≡◌, ◌↔◌, ℕ, List, Option, Result, map, slice_get, Some, Ok};
-ghost use Rattle.std.specs.List.{zip};
+ghost use Rattle.std.specs.Prelude.{◌≡◌, ◌↔◌, ℕ, List, Option, Result, map, slice_get, Some, Ok, zip};
 ghost use Rattle.std.specs.Str.Lines.{lines};
 ghost use Rattle.crawl_core.specs.State.{State, start};
 ghost use Rattle.crawl_core.specs.Subqueue.{Subqueue};

@@ -1,12 +1,11 @@
 //! What a session needs in addition to the events: handing the unit of a URL in progress to a sender, the progress of a
 //! subqueue, and the number of units that are held.
-ghost use Rattle.std.specs.Prelude.{◌≡◌, false, slice_get, unwrap_or, IfOk, OnErr, OnOk};
+ghost use Rattle.std.specs.Prelude.{◌≡◌, false, slice_get, unwrap_or, IfOk, OnErr, OnOk, option_map};
 ghost use Rattle.std.specs.BTreeMap.{is_at, insert_entry};
 ghost use Rattle.std.specs.BTreeSet.{insert_key};
 ghost use Rattle.std.specs.List.{list_any};
 ghost use Rattle.std.specs.Map.{remove_entry};
 ghost use Rattle.std.specs.Ordering.{nat_cmp};
-ghost use Rattle.std.specs.Option.{option_map};
 ghost use Rattle.crawl_core.specs.Handing.{Hands, lets_in, progress_of};
 ghost use Rattle.crawl_core.specs.Shows.{Shows};
 ghost use Rattle.crawl_core.specs.State.{State, count_of};

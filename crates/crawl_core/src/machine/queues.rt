@@ -1,6 +1,5 @@
 //! The events on a subqueue.
-ghost use Rattle.std.specs.Prelude.{◌≡◌, IfOk, OnErr};
-ghost use Rattle.std.specs.Option.{option_map};
+ghost use Rattle.std.specs.Prelude.{◌≡◌, IfOk, OnErr, option_map};
 ghost use Rattle.crawl_core.specs.Fetching.{in_fetch};
 ghost use Rattle.crawl_core.specs.Moves.{Moves};
 ghost use Rattle.crawl_core.specs.Shows.{Shows};

@@ -1,7 +1,6 @@
 //! A line of a script after the first, and the event that it says.
-ghost use Rattle.std.specs.Prelude.{◌≡◌, ℕ, ◌≤◌, Ok, IfOk, IfSome};
+ghost use Rattle.std.specs.Prelude.{◌≡◌, ℕ, ◌≤◌, Ok, IfOk, IfSome, option_map};
 ghost use Rattle.crawl_limits.specs.Limits.{worker_limit};
-ghost use Rattle.std.specs.Option.{option_map};
 ghost use Rattle.crawl_keys.specs.Outcome.{Gives};
 ghost use Rattle.crawl_keys.specs.Assignment.{subqueue_of};
 ghost use Rattle.crawl_keys.specs.CanonicalText.{canonical};
