@@ -1,1 +1,2 @@
 pub mod Slashes
+pub mod Ways

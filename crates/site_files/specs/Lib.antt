@@ -1,2 +1,7 @@
 pub mod Below
 pub mod Files
+pub mod Names
+pub mod Pages
+pub mod Server
+pub mod Urls
+pub mod Vectors

@@ -89,7 +89,9 @@ impl<'a> SiteFiles<'a> {
     }
 
     /// The scheme and the authority of all URLs.
-    pub fn origin(&self) -> &str {
+    pub fn origin(&self) -> &str
+        ensures { result.now ≡ string_bytes self.now.site.origin }
+    {
         self.site.origin.as_str()
     }
 

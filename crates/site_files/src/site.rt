@@ -1,10 +1,12 @@
 //! The pages of a site, by the names of its files.
-ghost use Rattle.std.specs.Prelude.{◌≡◌, ◌++◌, ◌∷◌, ℕ, List, [], IfErr, IfOk, IfSome, Ok, false, string_bytes, true};
+ghost use Rattle.std.specs.Prelude.{◌≡◌, ◌++◌, ◌∷◌, ℕ, List, [], IfErr, IfOk, IfSome, None, Ok, false, if◌then◌else◌, string_bytes, true};
 ghost use Rattle.std.specs.List.{list_any};
+ghost use Rattle.std.specs.Option.{option_map};
 ghost use Rattle.crawl_keys.specs.CanonicalText.{canonical};
 ghost use Rattle.percent_encoding.specs.Percent.{percent_decode};
 ghost use Rattle.site_files.specs.Below.{IsTop, is_mark, without_slashes};
 ghost use Rattle.site_files.specs.Files.{IsOfFiles};
+ghost use Rattle.site_files.specs.Server.{before_query, key_with, query_of, url_of};
 
 use crate::alias::{FolderLink, LinkedFolders};
 use crate::below::is_slashed;
@@ -35,8 +37,11 @@ pub struct Rules {
     pub threads: usize,
 }
 
-/// The path of a name, and its query after a `?`.
-pub(crate) fn split_name(name: &str, queries: bool) -> (&str, Option<&str>) {
+/// What is before the first `?` of a text, and what is after it, if there is one and a query is read there.
+pub(crate) fn split_name(name: &str, queries: bool) -> (&str, Option<&str>)
+    ensures path { result.0.now ≡ (if queries then before_query name.now else name.now) }
+    ensures query { option_map (λ q. q.now) result.1 ≡ (if queries then query_of name.now else None) }
+{
     if !queries {
         return (name, None);
     }
@@ -128,7 +133,7 @@ impl Site {
             return Err(SiteError::BadBase);
         };
         let mut top = String::from_str(alloc, origin)?;
-        push_respelled(alloc, path.trim_end_matches('/'), &mut top)?;
+        push_respelled(alloc, path.trim_end_matches('/').as_bytes(), &mut top)?;
         top.push('/')?;
         let top_url = top_at(alloc, &page, top.as_str())?;
         Ok(Site {
@@ -145,8 +150,8 @@ impl Site {
     fn linked_folders(&self, links: &[FolderLink]) -> Result<LinkedFolders, AllocError> {
         let mut linked = Vec::new(*self.top.allocator());
         for link in links {
-            let name = self.url_of(link.name.as_str(), None)?;
-            let own = self.url_of(link.own.as_str(), None)?;
+            let name = self.url_of(link.name.as_bytes(), None)?;
+            let own = self.url_of(link.own.as_bytes(), None)?;
             linked.push(FolderLink { name, own })?;
         }
         LinkedFolders::new(linked)
@@ -225,7 +230,7 @@ impl Site {
     ) -> Result<(), SiteError>
         ensures { IfErr result IsOfFiles }
     {
-        let url = self.url_of(path, query)?;
+        let url = self.url_of(path.as_bytes(), query)?;
         add(url.as_str(), source, entries)
     }
 
@@ -236,18 +241,20 @@ impl Site {
         let Some(folder) = name.strip_suffix("/") else {
             return Ok(());
         };
-        let url = self.url_of(folder, None)?;
-        let target = self.url_of(name, None)?;
+        let url = self.url_of(folder.as_bytes(), None)?;
+        let target = self.url_of(name.as_bytes(), None)?;
         add(url.as_str(), Source::Moved(target), entries)
     }
 
     /// The URL of a path below the top, with a query.
-    fn url_of(&self, path: &str, query: Option<&str>) -> Result<String, AllocError> {
+    pub(crate) fn url_of(&self, path: &[u8], query: Option<&str>) -> Result<String, AllocError>
+        ensures { IfOk result (λ url. string_bytes url ≡ url_of (string_bytes self.now.top) (key_with (option_map (λ q. q.now) query.entry) path.now)) }
+    {
         let alloc = *self.top.allocator();
         let mut url = self.top.clone()?;
         push_name(path, &mut url)?;
         if let Some(query) = query {
-            push_query(alloc, query, &mut url)?;
+            push_query(alloc, query.as_bytes(), &mut url)?;
         }
         Ok(url)
     }

@@ -1,10 +1,15 @@
 //! The URLs for which a server returns a page of the site, although they are not its URL: another spelling, a query, a path through a
 //! symbolic link to a folder, or a name without its `.html`.
 ghost use Rattle.std.specs.Prelude.{◌≡◌, IfOk, string_bytes};
-ghost use Rattle.site_files.specs.Files.{with_html};
+ghost use Rattle.std.specs.Option.{option_map};
+ghost use Rattle.site_files.specs.Files.{host_of, server_of};
+ghost use Rattle.site_files.specs.Server.{is_accepted, known_query, path_at, plain_url};
+ghost use Rattle.site_files.specs.Urls.{with_html};
 
-use crate::escapes::{push_looked_up, push_query, push_respelled};
+use crate::below::unescaped;
+use crate::escapes::{looked_up, push_respelled};
 use crate::files::SiteFiles;
+use crate::site::split_name;
 use crawl_keys::CanonUrl;
 use memchr::{memchr_iter, memchr3};
 use std::alloc::{AllocError, Global};
@@ -25,12 +30,16 @@ impl SiteFiles<'_> {
     /// # Errors
     /// Out of memory.
     pub fn look_up(&self, alloc: Global, url: &CanonUrl) -> Result<Option<usize>, AllocError> {
+        if self.find(url.as_str()).is_some() {
+            return Ok(None);
+        }
         let Some(plain) = self.plain_of(alloc, url.as_str())? else {
             return Ok(None);
         };
-        match self.find(plain.as_str()) {
+        let own = self.site.linked.own_url(alloc, plain.as_str())?;
+        match self.find(own.as_str()) {
             Some(page) => Ok(Some(page)),
-            None => self.look_up_html(alloc, plain.as_str()),
+            None => self.look_up_html(alloc, own.as_str()),
         }
     }
 
@@ -44,37 +53,50 @@ impl SiteFiles<'_> {
         Ok(self.find(html.as_str()))
     }
 
-    /// The URL of a file or folder that a server looks up for a canonical URL of the site, by the own names of folders. `None` if the URL
-    /// is that of a page, or is not below the top.
-    fn plain_of(&self, alloc: Global, url: &str) -> Result<Option<String>, AllocError> {
-        let Some(rest) = url.strip_prefix(self.origin()) else {
+    /// The URL of the file or folder that a server looks up for a URL, or `None` if it looks up none.
+    fn plain_of(&self, alloc: Global, url: &str) -> Result<Option<String>, AllocError>
+        ensures { IfOk result (λ plain. option_map string_bytes plain ≡ plain_url (server_of self.now) url.now) }
+    {
+        let (path, query) = split_name(url, true);
+        let Some(path) = self.path_at(alloc, path.as_bytes())? else {
             return Ok(None);
         };
-        if !rest.starts_with('/') || self.find(url).is_some() {
+        let query = self.known_query(query);
+        let plain = self.site.url_of(path.as_slice(), query)?;
+        if !self.is_accepted(plain.as_str(), url) {
             return Ok(None);
         }
-        let (path, query) = match rest.split_once('?') {
-            Some((path, query)) => (path, Some(query)),
-            None => (rest, None),
+        Ok(Some(plain))
+    }
+
+    /// The path that a server looks up for the path of a URL, or `None` if that is not below the top.
+    fn path_at(&self, alloc: Global, path: &[u8]) -> Result<Option<Vec<u8>>, AllocError>
+        ensures { IfOk result (λ found. option_map (λ p. p.items) found ≡ path_at (server_of self.now) path.now) }
+    {
+        let Some(rest) = path.strip_prefix(self.origin().as_bytes()) else {
+            return Ok(None);
         };
         let mut spelled = String::from_str(alloc, self.origin())?;
-        push_respelled(alloc, path, &mut spelled)?;
-        let Some(below) = spelled.as_str().strip_prefix(self.top()) else {
+        push_respelled(alloc, rest, &mut spelled)?;
+        let Some(below) = spelled.as_bytes().strip_prefix(self.top().as_bytes()) else {
             return Ok(None);
         };
-        let mut plain = String::from_str(alloc, self.top())?;
-        if !push_looked_up(alloc, below, &mut plain)? {
-            return Ok(None);
-        }
-        if self.rules.queries
-            && let Some(query) = query
-        {
-            push_query(alloc, query, &mut plain)?;
-        }
-        if self.rules.exact && plain.as_str() != url {
-            return Ok(None);
-        }
-        Ok(Some(self.site.linked.own_url(alloc, plain.as_str())?))
+        let below = unescaped(alloc, below)?;
+        looked_up(alloc, below.as_slice())
+    }
+
+    /// The query of a URL, if it counts.
+    fn known_query<'q>(&self, query: Option<&'q str>) -> Option<&'q str>
+        ensures { option_map (λ q. q.now) result ≡ known_query (host_of self.now.rules.now) (option_map (λ q. q.now) query.entry) }
+    {
+        if self.rules.queries { query } else { None }
+    }
+
+    /// Whether a server accepts the spelling of a URL for which this one is looked up.
+    fn is_accepted(&self, plain: &str, url: &str) -> bool
+        ensures { result ≡ is_accepted (host_of self.now.rules.now) plain.now url.now }
+    {
+        !self.rules.exact || plain == url
     }
 }
 
