@@ -1,2 +1,4 @@
+pub mod Listing
 pub mod Slashes
+pub mod Table
 pub mod Ways

@@ -5,10 +5,10 @@ use Rattle.site_files.specs.declared.error.SiteError.{SiteError}
 use Rattle.site_files.specs.declared.error.SiteError.TheVariants as wrong
 use Rattle.site_files.specs.declared.files.SiteFiles.{SiteFiles}
 use Rattle.site_files.specs.declared.site.Entry.{Entry}
-use Rattle.site_files.specs.declared.site.Rules.{Rules}
 use Rattle.site_files.specs.declared.site.Source.{Source}
 use Rattle.site_files.specs.declared.site.Source.TheVariants.{File, Index, Moved}
-use Rattle.site_files.specs.Server.{Host, Server}
+use Rattle.site_files.specs.Entries.{server_at}
+use Rattle.site_files.specs.Server.{Server}
 
 -- a page's URL, and the index of its file among the names; a redirect has no file
 pub record PageFile : Type 0 where
@@ -40,17 +40,5 @@ IsOfFiles (wrong.Io error) = ⊥
 IsOfFiles error = Unit {0}
 
 -- the host and the place of the folder
-abbrev pub host_of : Rules → Host
-host_of rules = record {
-  indices = map string_bytes rules.index_files.items;
-  queries = rules.queries;
-  exact = rules.exact;
-  fallback = rules.html_fallback;
-}
-
 abbrev pub server_of : SiteFiles → Server
-server_of files = record {
-  host = host_of files.rules.now;
-  origin = string_bytes files.site.origin;
-  top = string_bytes files.site.top;
-}
+server_of files = server_at files.rules.now files.site

@@ -1,4 +1,5 @@
 pub mod Below
+pub mod Entries
 pub mod Files
 pub mod Names
 pub mod Pages

@@ -4,7 +4,7 @@ use Rattle.std.specs.List.{enumerate_from, flat_map}
 use Rattle.std.specs.Option.{option_map}
 use Rattle.crawl_keys.specs.CanonicalText.{canonical}
 use Rattle.crawl_keys.specs.declared.error.KeyError.{KeyError}
-use Rattle.site_files.specs.Server.{Host, Server, before_query, key_with, names_of, plain_url, query_of, url_of}
+use Rattle.site_files.specs.Server.{Server, before_query, key_with, names_of, plain_url, query_of, url_of}
 use Rattle.site_files.specs.Urls.{with_html}
 
 -- a folder that is listed by another name. Both names end in a slash, and the top has none
@@ -27,24 +27,27 @@ pub record Page : Type 0 where
   pub text : List ℕ
   pub response : Response
 
+abbrev pub page : List ℕ → Response → Page
+page text response = record { text = text; response = response }
+
 -- ---- the pages of a name
 
 abbrev pub ends_in_slash : List ℕ → Bool
 ends_in_slash name = slice_index name (length name - 1) == 47
 
--- the path of a file's name, and the query if the host knows one there
-abbrev pub path_in : Host → List ℕ → List ℕ
-path_in host name = if host.queries then before_query name else name
+-- the path of a file's name, and its query if there are queries in names
+abbrev pub path_in : Bool → List ℕ → List ℕ
+path_in queries name = if queries then before_query name else name
 
-abbrev pub query_in : Host → List ℕ → Option (List ℕ)
-query_in host name = if host.queries then query_of name else None
+abbrev pub query_in : Bool → List ℕ → Option (List ℕ)
+query_in queries name = if queries then query_of name else None
 
 -- a file at the URL of its name
 abbrev pub file_page : Server → ℕ → List ℕ → Page
-file_page server number name = record {
-  text = url_of server.top (key_with (query_in server.host name) (path_in server.host name));
-  response = Found number;
-}
+file_page server number name =
+    page
+    (url_of server.top (key_with (query_in server.host.queries name) (path_in server.host.queries name)))
+    (Found number)
 
 abbrev pub named_page : Server → ℕ → List ℕ → Option Page
 named_page server number name = if ends_in_slash name then None else Some (file_page server number name)
@@ -58,24 +61,18 @@ folder_of index path =
 
 -- a file at the URL of its folder
 abbrev pub folder_page : Server → ℕ → Option (List ℕ) → List ℕ → Page
-folder_page server number query folder = record {
-  text = url_of server.top (key_with query folder);
-  response = Found number;
-}
+folder_page server number query folder = page (url_of server.top (key_with query folder)) (Found number)
 
 abbrev pub index_page : Server → List ℕ → ℕ → List ℕ → Option Page
 index_page server index number name =
     if ends_in_slash name then None
-    else option_map (folder_page server number (query_in server.host name)) (folder_of index (path_in server.host name))
+    else option_map (folder_page server number (query_in server.host.queries name)) (folder_of index (path_in server.host.queries name))
 
 -- a folder without its slash, which is moved to the folder
-abbrev pub moved_page : Server → List ℕ → Option Page
-moved_page server name =
+abbrev pub moved_page : List ℕ → List ℕ → Option Page
+moved_page top name =
     if ends_in_slash name
-    then Some (record {
-      text = url_of server.top (key_with None (take (length name - 1) name));
-      response = Moved (url_of server.top (key_with None name));
-    })
+    then Some (page (url_of top (key_with None (take (length name - 1) name))) (Moved (url_of top (key_with None name))))
     else None
 
 -- ---- the pages of a folder
@@ -92,7 +89,7 @@ index_pages server names index = filter_map (λ file. index_page server index fi
 abbrev pub pages : Server → List (List ℕ) → List Page
 pages server names =
     named_pages server names ++ flat_map (index_pages server names) server.host.indices
-    ++ filter_map (moved_page server) names
+    ++ filter_map (moved_page server.top) names
 
 -- the text is that of the URL
 abbrev pub is_result : List ℕ → Result (List ℕ) KeyError → Bool
@@ -102,13 +99,13 @@ is_result url (Err _) = false
 abbrev pub is_text_of : List ℕ → List ℕ → Bool
 is_text_of url text = is_result url (canonical text)
 
-abbrev pub response_of : Option Page → Response
-response_of None = Missing
-response_of (Some page) = page.response
+abbrev pub response_in : Option Page → Response
+response_in None = Missing
+response_in (Some one) = one.response
 
 -- the page at a URL
 abbrev pub page_at : Server → List (List ℕ) → List ℕ → Response
-page_at server names url = response_of (find (λ page. is_text_of url page.text) (pages server names))
+page_at server names url = response_in (find (λ one. is_text_of url one.text) (pages server names))
 
 -- ---- what a server returns for a URL
 
@@ -165,7 +162,7 @@ response_at server folder url =
 -- the texts of a file's URLs: those of its folder, then that of its name
 abbrev pub texts_of : Server → ℕ → List ℕ → List (List ℕ)
 texts_of server number name =
-    filter_map (λ index. option_map (λ page. page.text) (index_page server index number name)) server.host.indices
+    filter_map (λ index. option_map (λ one. one.text) (index_page server index number name)) server.host.indices
     ++ (file_page server number name).text ∷ []
 
 abbrev pub is_found : ℕ → Response → Bool

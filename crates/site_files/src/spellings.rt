@@ -2,7 +2,8 @@
 //! symbolic link to a folder, or a name without its `.html`.
 ghost use Rattle.std.specs.Prelude.{◌≡◌, IfOk, string_bytes};
 ghost use Rattle.std.specs.Option.{option_map};
-ghost use Rattle.site_files.specs.Files.{host_of, server_of};
+ghost use Rattle.site_files.specs.Files.{server_of};
+ghost use Rattle.site_files.specs.Entries.{host_of};
 ghost use Rattle.site_files.specs.Server.{is_accepted, known_query, path_at, plain_url};
 ghost use Rattle.site_files.specs.Urls.{with_html};
 
