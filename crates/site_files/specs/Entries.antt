@@ -1,12 +1,11 @@
 -- The pages that the code lists, as those of the definitions.
-use Rattle.std.specs.Prelude.{◌≡◌, ℕ, List, [], ◌∷◌, ◌++◌, map, Option, Some, MatchOption, Result, Ok, String, bytes_eq, if◌then◌else◌, slice_get, string_bytes}
-use Rattle.std.specs.Cmp.Lexicographic.{slice_cmp}
+use Rattle.std.specs.Prelude.{◌≡◌, ℕ, List, ◌++◌, map, Option, Some, MatchOption, Result, Ok, String, slice_get, string_bytes}
 use Rattle.std.specs.List.Sorted.{IsSorted, IsStrictlySortedBy}
-use Rattle.std.specs.Ordering.{nat_cmp}
 use Rattle.std.specs.declared.cmp.Ordering.{Ordering}
 use Rattle.std.specs.declared.alloc.Global.{Global}
 use Rattle.crawl_keys.specs.CanonicalText.{canonical}
 use Rattle.crawl_keys.specs.declared.error.KeyError.{KeyError}
+use Rattle.site_files.specs.Firsts.{cmp_keys, first_with}
 use Rattle.site_files.specs.Pages.{Page, Response, Missing, Moved, Found, page_at}
 use Rattle.site_files.specs.Server.{Host, Server}
 use Rattle.site_files.specs.declared.site.Entry.{Entry}
@@ -60,14 +59,16 @@ Adds old new pages = map listed new ≡ map listed old ++ map expected pages
 
 -- ---- in order
 
+abbrev pub url_in : Entry → List ℕ
+url_in entry = entry.url
+
 -- by the bytes of the URLs
 abbrev pub cmp_urls : Entry → Entry → Ordering
-cmp_urls a b = slice_cmp nat_cmp a.url b.url
+cmp_urls = cmp_keys url_in
 
--- the first with a URL
+-- what is returned by the first with a URL
 abbrev pub entry_at : List Entry → List ℕ → Response
-entry_at [] url = Missing
-entry_at (entry ∷ entries) url = if bytes_eq entry.url url then response_of entry.source else entry_at entries url
+entry_at entries url = first_with url_in (λ entry. response_of entry.source) Missing entries url
 
 -- the first with each URL stays the first
 abbrev pub KeepsFirst : List Entry → List Entry → Type 0
@@ -98,3 +99,13 @@ pub record IsEntryAt (entries : List Entry) (url : List ℕ) (number : ℕ) : Ty
 -- the number of the entry with a URL, or that there is none
 abbrev pub Finds : List Entry → List ℕ → Option ℕ → Type 0
 Finds entries url found = MatchOption found (entry_at entries url ≡ Missing) (IsEntryAt entries url)
+
+-- the response of the entry with this number
+pub record HasResponse (entries : List Entry) (response : Response) (number : ℕ) : Type 0 where
+  pub entry : Entry
+  pub there : slice_get entries number ≡ Some entry
+  pub returns : response_of entry.source ≡ response
+
+-- the number of an entry with a response, and none if nothing is returned
+abbrev pub LeadsTo : List Entry → Response → Option ℕ → Type 0
+LeadsTo entries response found = MatchOption found (response ≡ Missing) (HasResponse entries response)

@@ -1,6 +1,8 @@
 pub mod Below
 pub mod Entries
 pub mod Files
+pub mod Firsts
+pub mod Links
 pub mod Names
 pub mod Pages
 pub mod Server

@@ -1,10 +1,11 @@
 -- The pages that the names in a folder make, and what a plain static server returns for a URL.
-use Rattle.std.specs.Prelude.{ℕ, ◌-◌, Bool, false, not, ◌&&◌, ◌||◌, ◌==◌, List, [], ◌∷◌, ◌++◌, length, take, drop, find, filter_map, slice_get, slice_index, bytes_eq, Option, Some, None, option_and_then, Result, Ok, Err, if◌then◌else◌}
+use Rattle.std.specs.Prelude.{ℕ, ◌-◌, Bool, false, not, ◌&&◌, ◌||◌, ◌==◌, List, [], ◌∷◌, ◌++◌, length, take, drop, find, filter_map, map, slice_get, slice_index, bytes_eq, Option, Some, None, option_and_then, Result, Ok, Err, if◌then◌else◌}
 use Rattle.std.specs.List.{enumerate_from, flat_map}
 use Rattle.std.specs.Option.{option_map}
 use Rattle.crawl_keys.specs.CanonicalText.{canonical}
 use Rattle.crawl_keys.specs.declared.error.KeyError.{KeyError}
-use Rattle.site_files.specs.Server.{Server, before_query, key_with, names_of, plain_url, query_of, url_of}
+use Rattle.site_files.specs.Firsts.{first_with}
+use Rattle.site_files.specs.Server.{Host, Server, before_query, key_with, names_of, plain_url, query_of, url_of}
 use Rattle.site_files.specs.Urls.{with_html}
 
 -- a folder that is listed by another name. Both names end in a slash, and the top has none
@@ -114,34 +115,43 @@ abbrev pub or_else : Response → Response → Response
 or_else Missing other = other
 or_else response other = response
 
+-- the URLs of the two names of a folder
+pub record LinkUrls : Type 0 where
+  pub name : List ℕ
+  pub own : List ℕ
+
+abbrev pub link_urls : List ℕ → LinkedFolder → LinkUrls
+link_urls top link = record {
+  name = url_of top (key_with None link.name);
+  own = url_of top (key_with None link.own);
+}
+
 -- the URL of a folder by the name by which it is listed
-abbrev pub own_folder : Server → List LinkedFolder → List ℕ → List ℕ
-own_folder server [] url = url
-own_folder server (link ∷ links) url =
-    if bytes_eq (url_of server.top (key_with None link.name)) url then url_of server.top (key_with None link.own)
-    else own_folder server links url
+abbrev pub own_folder : List LinkUrls → List ℕ → List ℕ
+own_folder links url = first_with (λ link. link.name) (λ link. link.own) url links url
 
--- a URL whose folders have those names, the first of them first
-abbrev pub own_spelling : Server → List LinkedFolder → List ℕ → List (List ℕ) → List ℕ
-own_spelling server links front [] = front
-own_spelling server links front (name ∷ []) = front ++ name
-own_spelling server links front (name ∷ other ∷ names) =
-    own_spelling server links (own_folder server links (front ++ name ++ 47 ∷ [])) (other ∷ names)
+-- a URL with the own URL of each of its folders, the first of them first
+abbrev pub own_spelling : (List ℕ → List ℕ) → List ℕ → List (List ℕ) → List ℕ
+own_spelling own front [] = front
+own_spelling own front (name ∷ []) = front ++ name
+own_spelling own front (name ∷ other ∷ names) = own_spelling own (own (front ++ name ++ 47 ∷ [])) (other ∷ names)
 
--- the page `x.html` in place of `x`, which is not a folder
-abbrev pub fallback_at : Server → List (List ℕ) → List ℕ → Response
-fallback_at server names url =
-    if server.host.fallback && not (ends_in_slash (before_query url)) then page_at server names (with_html url) else Missing
+-- the page `x.html` in place of `x`, which is not a folder. `at` has the page at each URL
+abbrev pub fallback_at : (List ℕ → Response) → Host → List ℕ → Response
+fallback_at at host url = if host.fallback && not (ends_in_slash (before_query url)) then at (with_html url) else Missing
 
 -- the page at a URL whose path and query are looked up
-abbrev pub plain_at : Server → Folder → List ℕ → Response
-plain_at server folder plain =
-    let url = own_spelling server folder.links [] (names_of plain) in
-    or_else (page_at server folder.names url) (fallback_at server folder.names url)
+abbrev pub plain_at : (List ℕ → Response) → Host → List ℕ → Response
+plain_at at host url = or_else (at url) (fallback_at at host url)
 
-abbrev pub spelled_at : Server → Folder → Option (List ℕ) → Response
-spelled_at server folder None = Missing
-spelled_at server folder (Some plain) = plain_at server folder plain
+-- the page that is looked up for the URL of a key, if there is a key
+abbrev pub found_at : (List ℕ → Response) → (List ℕ → List ℕ) → Host → Option (List ℕ) → Response
+found_at at own host None = Missing
+found_at at own host (Some plain) = plain_at at host (own_spelling own [] (names_of plain))
+
+-- the page that is looked up for a URL
+abbrev pub spelled_at : (List ℕ → Response) → (List ℕ → List ℕ) → Server → List ℕ → Response
+spelled_at at own server url = found_at at own server.host (plain_url server url)
 
 -- the URL with the query of a request
 abbrev pub with_query : Option (List ℕ) → List ℕ → List ℕ
@@ -155,7 +165,9 @@ with_query_of url response = response
 -- the page with this URL, or else the one that is looked up for it. A redirect keeps the query
 abbrev pub response_at : Server → Folder → List ℕ → Response
 response_at server folder url =
-    with_query_of url (or_else (page_at server folder.names url) (spelled_at server folder (plain_url server url)))
+    with_query_of url
+    (or_else (page_at server folder.names url)
+    (spelled_at (page_at server folder.names) (own_folder (map (link_urls server.top) folder.links)) server url))
 
 -- ---- the own URL of a file
 

@@ -5,7 +5,7 @@ ghost use Rattle.std.specs.Option.{option_map};
 ghost use Rattle.site_files.specs.Below.{IsTop};
 ghost use Rattle.site_files.specs.Files.{IsOfFiles};
 ghost use Rattle.site_files.specs.Entries.{Finds, IsTable, cmp_urls, texts};
-ghost use Rattle.site_files.specs.Files.{name_at, page_file, page_of, pages_of, server_of};
+ghost use Rattle.site_files.specs.Files.{IsOrdered, name_at, page_file, page_of, pages_of, server_of};
 
 use crate::alias::FolderLink;
 use crate::error::SiteError;
@@ -54,6 +54,7 @@ impl<'a> SiteFiles<'a> {
         ensures error { IfErr result IsOfFiles }
         ensures top { IfOk result (λ files. IsTop input.entry.base.now (string_bytes files.site.top)) }
         ensures table { IfOk result (λ files. IsTable (server_of files) (texts input.entry.names.now) files.site.entries.items) }
+        ensures ordered { IfOk result IsOrdered }
     {
         let SiteNames {
             names,

@@ -1,13 +1,14 @@
 //! The pages of a site, by the names of its files.
 ghost use Rattle.std.specs.Prelude.{◌≡◌, ◌++◌, ◌∷◌, ◌<◌, ℕ, List, [], IfErr, IfOk, None, Ok, OnOk, false, filter_map, if◌then◌else◌, length, option_to_list, string_bytes, true};
 ghost use Rattle.std.specs.List.{flat_map, list_any};
-ghost use Rattle.std.specs.List.Sorted.{IsSorted};
+ghost use Rattle.std.specs.List.Sorted.{IsSorted, IsStrictlySortedBy};
 ghost use Rattle.std.specs.Option.{option_map};
 ghost use Rattle.crawl_keys.specs.CanonicalText.{canonical};
 ghost use Rattle.percent_encoding.specs.Percent.{percent_decode};
 ghost use Rattle.site_files.specs.Below.{IsTop, is_mark, without_slashes};
 ghost use Rattle.site_files.specs.Entries.{Adds, IsInOrder, IsOnce, IsTable, Lists, cmp_urls, response_of, server_at, texts};
 ghost use Rattle.site_files.specs.Files.{IsOfFiles};
+ghost use Rattle.site_files.specs.Links.{cmp_names};
 ghost use Rattle.site_files.specs.Pages.{Found, ends_in_slash, folder_of, index_page, index_pages, moved_page, named_page, named_pages, page, pages};
 ghost use Rattle.site_files.specs.Server.{before_query, key_with, query_of, url_of};
 
@@ -102,6 +103,7 @@ impl Site {
         ensures error { IfErr result IsOfFiles }
         ensures top { IfOk result (λ site. IsTop base.now (string_bytes site.top)) }
         ensures table { IfOk result (λ site. IsTable (server_at rules.now site) (texts names.now) site.entries.items) }
+        ensures links { IfOk result (λ site. IsStrictlySortedBy cmp_names site.linked.links.items) }
     {
         if !names.iter().any(|name| !name.as_str().ends_with('/')) {
             return Err(SiteError::NoFiles);
@@ -152,7 +154,9 @@ impl Site {
     }
 
     /// The URLs of folders that are listed by another name.
-    fn linked_folders(&self, links: &[FolderLink]) -> Result<LinkedFolders, AllocError> {
+    fn linked_folders(&self, links: &[FolderLink]) -> Result<LinkedFolders, AllocError>
+        ensures { IfOk result (λ linked. IsStrictlySortedBy cmp_names linked.links.items) }
+    {
         let mut linked = Vec::new(*self.top.allocator());
         for link in links {
             let name = self.url_of(link.name.as_bytes(), None)?;
@@ -427,7 +431,7 @@ fn folder_of<'a>(path: &'a [u8], name: &[u8]) -> Option<&'a [u8]>
 }
 
 /// Whether a name is that of a folder.
-fn ends_in_slash(name: &[u8]) -> bool
+pub(crate) fn ends_in_slash(name: &[u8]) -> bool
     ensures value { result ≡ ends_in_slash name.now }
     ensures some { result ≡ true → 0 < length name.now }
 {

@@ -1,16 +1,18 @@
 //! The URLs for which a server returns a page of the site, although they are not its URL: another spelling, a query, a path through a
 //! symbolic link to a folder, or a name without its `.html`.
-ghost use Rattle.std.specs.Prelude.{◌≡◌, IfOk, string_bytes};
+ghost use Rattle.std.specs.Prelude.{◌≡◌, ◌&&◌, [], IfOk, not, string_bytes};
 ghost use Rattle.std.specs.Option.{option_map};
-ghost use Rattle.site_files.specs.Files.{server_of};
-ghost use Rattle.site_files.specs.Entries.{host_of};
-ghost use Rattle.site_files.specs.Server.{is_accepted, known_query, path_at, plain_url};
+ghost use Rattle.site_files.specs.Entries.{LeadsTo, entry_at, host_of};
+ghost use Rattle.site_files.specs.Files.{IsOrdered, server_of};
+ghost use Rattle.site_files.specs.Links.{own_in};
+ghost use Rattle.site_files.specs.Pages.{Missing, ends_in_slash, fallback_at, own_spelling, plain_at, spelled_at};
+ghost use Rattle.site_files.specs.Server.{before_query, is_accepted, known_query, names_of, path_at, plain_url};
 ghost use Rattle.site_files.specs.Urls.{with_html};
 
 use crate::below::unescaped;
 use crate::escapes::{looked_up, push_respelled};
 use crate::files::SiteFiles;
-use crate::site::split_name;
+use crate::site::{ends_in_slash, split_name};
 use crawl_keys::CanonUrl;
 use memchr::{memchr_iter, memchr3};
 use std::alloc::{AllocError, Global};
@@ -30,14 +32,23 @@ impl SiteFiles<'_> {
     ///
     /// # Errors
     /// Out of memory.
-    pub fn look_up(&self, alloc: Global, url: &CanonUrl) -> Result<Option<usize>, AllocError> {
+    pub fn look_up(&self, alloc: Global, url: &CanonUrl) -> Result<Option<usize>, AllocError>
+        ensures { IsOrdered self.now → entry_at self.now.site.entries.items url.now ≡ Missing → IfOk result (λ found. LeadsTo self.now.site.entries.items (spelled_at (entry_at self.now.site.entries.items) (own_in self.now.site.linked.links.items) (server_of self.now) url.now) found) }
+    {
         if self.find(url.as_str()).is_some() {
             return Ok(None);
         }
-        let Some(plain) = self.plain_of(alloc, url.as_str())? else {
-            return Ok(None);
-        };
-        let own = self.site.linked.own_url(alloc, plain.as_str())?;
+        match self.plain_of(alloc, url.as_str())? {
+            Some(plain) => self.look_up_plain(alloc, plain.as_str()),
+            None => Ok(None),
+        }
+    }
+
+    /// The number of the page that is looked up by this URL of a path and a query.
+    fn look_up_plain(&self, alloc: Global, plain: &str) -> Result<Option<usize>, AllocError>
+        ensures { IsOrdered self.now → IfOk result (λ found. LeadsTo self.now.site.entries.items (plain_at (entry_at self.now.site.entries.items) (host_of self.now.rules.now) (own_spelling (own_in self.now.site.linked.links.items) [] (names_of plain.now))) found) }
+    {
+        let own = self.site.linked.own_url(alloc, plain)?;
         match self.find(own.as_str()) {
             Some(page) => Ok(Some(page)),
             None => self.look_up_html(alloc, own.as_str()),
@@ -46,12 +57,21 @@ impl SiteFiles<'_> {
 
     /// The number of the page at this URL with `.html` added to its path, if the rules have this fallback and the path does not end with a
     /// slash.
-    fn look_up_html(&self, alloc: Global, url: &str) -> Result<Option<usize>, AllocError> {
-        if !self.rules.html_fallback || path_of(url).ends_with('/') {
+    fn look_up_html(&self, alloc: Global, url: &str) -> Result<Option<usize>, AllocError>
+        ensures { IsOrdered self.now → IfOk result (λ found. LeadsTo self.now.site.entries.items (fallback_at (entry_at self.now.site.entries.items) (host_of self.now.rules.now) url.now) found) }
+    {
+        if !self.is_tried(url) {
             return Ok(None);
         }
         let html = with_html(alloc, url)?;
         Ok(self.find(html.as_str()))
+    }
+
+    /// Whether a URL without a page is looked up again with `.html` added to its path.
+    fn is_tried(&self, url: &str) -> bool
+        ensures { result ≡ (self.now.rules.now.html_fallback && not (ends_in_slash (before_query url.now))) }
+    {
+        self.rules.html_fallback && !ends_in_slash(path_of(url).as_bytes())
     }
 
     /// The URL of the file or folder that a server looks up for a URL, or `None` if it looks up none.
@@ -115,7 +135,9 @@ fn has_empty_name(text: &[u8]) -> bool {
 }
 
 /// The URL without its query.
-fn path_of(url: &str) -> &str {
+fn path_of(url: &str) -> &str
+    ensures { result.now ≡ before_query url.now }
+{
     match url.split_once('?') {
         Some((path, _)) => path,
         None => url,
