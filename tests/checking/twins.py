@@ -5,7 +5,8 @@
 
 from __future__ import annotations
 
-from typing import Dict, List, NamedTuple, Optional, Tuple, Union
+from functools import partial
+from typing import Callable, Dict, List, NamedTuple, Optional, Tuple, Union
 from urllib.parse import quote_from_bytes, unquote_to_bytes
 
 import drawn
@@ -265,19 +266,32 @@ def table_of(server: Server, names: Names) -> Table:
     return table
 
 
-def own_folder(server: Server, links: Tuple[Tuple[Name, Name], ...], url: bytes) -> bytes:
+class LinkUrls(NamedTuple):
+    """The URLs of the two names of a folder."""
+
+    name: bytes
+    own: bytes
+
+
+def link_urls(top: bytes, link: Tuple[Name, Name]) -> LinkUrls:
+    """The URLs of the names of a folder: the other one, and the one by which it is listed."""
+    return LinkUrls(url_of(top, key_with(None, link[0])), url_of(top, key_with(None, link[1])))
+
+
+def own_folder(links: List[LinkUrls], url: bytes) -> bytes:
     """The URL of a folder by the name by which it is listed."""
-    for name, own in links:
-        if url_of(server.top, key_with(None, name)) == url:
-            return url_of(server.top, key_with(None, own))
-    return url
+    return next((link.own for link in links if link.name == url), url)
 
 
-def own_spelling(server: Server, links: Tuple[Tuple[Name, Name], ...], front: bytes, names: Names) -> bytes:
-    """A URL whose folders have the names by which they are listed."""
+Own = Callable[[bytes], bytes]
+At = Callable[[bytes], Response]
+
+
+def own_spelling(own: Own, front: bytes, names: Names) -> bytes:
+    """A URL with the own URL of each of its folders, the first of them first."""
     if len(names) == 1:
         return front + names[0]
-    return own_spelling(server, links, own_folder(server, links, front + names[0] + b"/"), names[1:])
+    return own_spelling(own, own(front + names[0] + b"/"), names[1:])
 
 
 def with_html(url: bytes) -> bytes:
@@ -286,21 +300,24 @@ def with_html(url: bytes) -> bytes:
     return path + b".html" + mark + query
 
 
-def fallback_at(server: Server, table: Table, url: bytes) -> Response:
-    """The page `x.html` in place of `x`, which is not a folder."""
-    is_tried = server.host.fallback and not ends_in_slash(before_query(url))
-    return table.get(with_html(url)) if is_tried else None
+def fallback_at(at: At, host: Host, url: bytes) -> Response:
+    """The page `x.html` in place of `x`, which is not a folder. `at` has the page at each URL."""
+    return at(with_html(url)) if host.fallback and not ends_in_slash(before_query(url)) else None
 
 
-def plain_at(server: Server, table: Table, folder: Folder, plain: bytes) -> Response:
+def plain_at(at: At, host: Host, url: bytes) -> Response:
     """The page at a URL whose path and query are looked up."""
-    url = own_spelling(server, folder.links, b"", names_of(plain))
-    return table.get(url) or fallback_at(server, table, url)
+    return at(url) or fallback_at(at, host, url)
 
 
-def spelled_at(server: Server, table: Table, folder: Folder, plain: Optional[bytes]) -> Response:
-    """The page that is looked up, if there is a URL for it."""
-    return None if plain is None else plain_at(server, table, folder, plain)
+def found_at(at: At, own: Own, host: Host, plain: Optional[bytes]) -> Response:
+    """The page that is looked up for the URL of a key, if there is a key."""
+    return None if plain is None else plain_at(at, host, own_spelling(own, b"", names_of(plain)))
+
+
+def spelled_at(at: At, own: Own, server: Server, url: bytes) -> Response:
+    """The page that is looked up for a URL."""
+    return found_at(at, own, server.host, plain_url(server, url))
 
 
 def with_query(query: Optional[bytes], url: bytes) -> bytes:
@@ -310,7 +327,8 @@ def with_query(query: Optional[bytes], url: bytes) -> bytes:
 
 def response_at(server: Server, table: Table, folder: Folder, url: bytes) -> Response:
     """The page with this URL, or else the one that is looked up for it. A redirect keeps the query."""
-    response = table.get(url) or spelled_at(server, table, folder, plain_url(server, url))
+    own = partial(own_folder, [link_urls(server.top, link) for link in folder.links])
+    response = table.get(url) or spelled_at(table.get, own, server, url)
     return Moved(with_query(query_of(url), response.url)) if isinstance(response, Moved) else response
 
 
