@@ -1,4 +1,4 @@
-"""The definitions of `specs/Server.antt` and `specs/Pages.antt` in crates/site_files: the same functions with the same cases in the same order.
+"""The definitions of a server in crates/site_files/specs (Server.antt, Pages.antt): the same functions, with the same cases in their order.
 
 `server_fault` compares them with the model, which is written from other rules.
 """
@@ -199,19 +199,19 @@ def ends_in_slash(name: Name) -> bool:
     return name[-1:] == b"/"
 
 
-def path_in(host: Host, name: Name) -> bytes:
+def path_in(queries: bool, name: Name) -> bytes:
     """The path of a file's name."""
-    return before_query(name) if host.queries else name
+    return before_query(name) if queries else name
 
 
-def query_in(host: Host, name: Name) -> Optional[bytes]:
+def query_in(queries: bool, name: Name) -> Optional[bytes]:
     """The query of a file's name."""
-    return query_of(name) if host.queries else None
+    return query_of(name) if queries else None
 
 
 def file_page(server: Server, number: int, name: Name) -> Page:
     """A file at the URL of its name."""
-    key = key_with(query_in(server.host, name), path_in(server.host, name))
+    key = key_with(query_in(server.host.queries, name), path_in(server.host.queries, name))
     return Page(url_of(server.top, key), Found(number))
 
 
@@ -228,17 +228,17 @@ def folder_of(index: Name, path: bytes) -> Optional[bytes]:
 
 def index_page(server: Server, index: Name, number: int, name: Name) -> Optional[Page]:
     """A file at the URL of its folder."""
-    folder = None if ends_in_slash(name) else folder_of(index, path_in(server.host, name))
+    folder = None if ends_in_slash(name) else folder_of(index, path_in(server.host.queries, name))
     if folder is None:
         return None
-    return Page(url_of(server.top, key_with(query_in(server.host, name), folder)), Found(number))
+    return Page(url_of(server.top, key_with(query_in(server.host.queries, name), folder)), Found(number))
 
 
-def moved_page(server: Server, name: Name) -> Optional[Page]:
+def moved_page(top: bytes, name: Name) -> Optional[Page]:
     """A folder without its slash."""
     if not ends_in_slash(name):
         return None
-    return Page(url_of(server.top, key_with(None, name[:-1])), Moved(url_of(server.top, key_with(None, name))))
+    return Page(url_of(top, key_with(None, name[:-1])), Moved(url_of(top, key_with(None, name))))
 
 
 def pages(server: Server, names: Names) -> List[Page]:
@@ -246,7 +246,7 @@ def pages(server: Server, names: Names) -> List[Page]:
     files = list(enumerate(names))
     found = [named_page(server, number, name) for number, name in files]
     found += [index_page(server, index, number, name) for index in server.host.indices for number, name in files]
-    found += [moved_page(server, name) for name in names]
+    found += [moved_page(server.top, name) for name in names]
     return [page for page in found if page is not None]
 
 
