@@ -1,5 +1,6 @@
 -- The other names of folders in a URL.
-use Rattle.std.proofs.Common.{not, ◌≡◌, ℕ, ◌+◌, ◌<◌, inl, inr, List, [], ◌∷◌, ◌++◌, Result, Ok, Err, get_or, length, string_bytes, refl, sym, ap, ◌∙◌, subst, arith}
+use Rattle.std.proofs.Common.{not, ◌≡◌, ℕ, ◌+◌, ◌<◌, suc, inl, inr, List, [], ◌∷◌, ◌++◌, Result, Ok, Err, None, add-one, append_assoc, drop, drop-cons, get_or, length, map, string_bytes, refl, sym, ap, ◌∙◌, subst, arith}
+use Rattle.std.specs.Prelude.{IfOk, if◌then◌else◌}
 use Rattle.std.specs.declared.cmp.Ordering.TheVariants.{Less, Equal, Greater}
 use Rattle.std.specs.Cmp.{IsStrictWeakOrder}
 use Rattle.std.specs.Cmp.Lexicographic.{slice_cmp}
@@ -13,10 +14,11 @@ use Rattle.std.proofs.lemmas.Option.{slice_get_cases}
 use Rattle.std.proofs.lemmas.List.Splits.{length-slice_split, slice_split-cons_no, slice_split_first}
 use Rattle.site_files.specs.Below.{is_slash}
 use Rattle.site_files.specs.Firsts.{first_with}
-use Rattle.site_files.specs.Links.{FindsLink, IsLinkAt, IsLinkTable, cmp_names, name_in, own_in}
-use Rattle.site_files.specs.Pages.{own_spelling}
-use Rattle.site_files.specs.Server.{names_of}
+use Rattle.site_files.specs.Links.{FindsLink, IsLinkAt, IsLinkTable, IsLinked, cmp_names, name_in, names_in, own_in, urls_in}
+use Rattle.site_files.specs.Pages.{LinkUrls, link_urls, own_folder, own_spelling}
+use Rattle.site_files.specs.Server.{key_with, names_of, url_of}
 use Rattle.site_files.specs.declared.alias.FolderLink.{FolderLink}
+use Rattle.site_files.specs.declared.alias.LinkedFolders.{LinkedFolders}
 use Rattle.site_files.proofs.FirstOnes.{ascends-dedup, first-dedup, first-found, first-missing, first-sort, key_found, keys_rank}
 
 pub names_rank : IsStrictWeakOrder (λ a b. is_lt (cmp_names a b))
@@ -78,3 +80,42 @@ own_missing url links index ascends point = first-missing name_in (λ (link : Fo
 pub finds_link : (url : List ℕ) (links : List FolderLink) (result : Result ℕ ℕ) → IsStrictlySortedBy cmp_names links → IsSearchInRange result (length links) → IsBinarySearchResult (λ (link : FolderLink). slice_cmp nat_cmp (name_in link) url) links result → FindsLink links url (result_ok result)
 finds_link url links (Ok index) ascends range search = own_found url links index ascends range search
 finds_link url links (Err index) ascends range search = own_missing url links index ascends search
+
+-- ---- the folders of a table
+
+first-map : {X Y V : Type 0} (f : X → Y) (key : Y → List ℕ) (value : Y → V) (none : V) (text : List ℕ) (xs : List X) → first_with key value none (map f xs) text ≡ first_with (λ x. key (f x)) (λ x. value (f x)) none xs text
+first-map f key value none text [] = refl
+first-map f key value none text (x ∷ xs) = ap (λ rest. if bytes_eq (key (f x)) text then value (f x) else rest) (first-map f key value none text xs)
+
+pub linked : (top : List ℕ) (links given kept : List FolderLink) → urls_in given ≡ map (link_urls top) (names_in links) → IsLinkTable given kept → IsLinked top links kept
+linked top links given kept urls table = record {
+  ascends = table.ascends;
+  own = λ url.
+      table.keeps url
+      ∙ sym (first-map (λ (link : FolderLink). record { name = string_bytes link.name; own = string_bytes link.own }) (λ (link : LinkUrls). link.name) (λ (link : LinkUrls). link.own) url url given)
+      ∙ ap (λ all. own_folder all url) urls;
+}
+
+urls_back : (urls : List FolderLink) (url : FolderLink) → urls_in (urls ++ url ∷ []) ≡ urls_in urls ++ record { name = string_bytes url.name; own = string_bytes url.own } ∷ []
+urls_back [] url = refl
+urls_back (first ∷ urls) url = ap (λ rest. record { name = string_bytes first.name; own = string_bytes first.own } ∷ rest) (urls_back urls url)
+
+-- one link further
+pub links_more : (top : List ℕ) (links : List FolderLink) (i : ℕ) (link : FolderLink) → i < length links → get_or links i link ≡ link → map (link_urls top) (names_in (drop i links)) ≡ link_urls top (record { name = string_bytes link.name; own = string_bytes link.own }) ∷ map (link_urls top) (names_in (drop (i + 1) links))
+links_more top links i link below is =
+    let one = ap (λ rest. map (link_urls top) (names_in rest)) (drop-cons links i link below) in
+    rw (add-one i) (one ∙ ap (λ (l : FolderLink). link_urls top (record { name = string_bytes l.name; own = string_bytes l.own }) ∷ map (link_urls top) (names_in (drop (suc i) links))) is)
+
+pub urls_more : (top : List ℕ) (links urls : List FolderLink) (i : ℕ) (link url : FolderLink) (all : List LinkUrls) → i < length links → get_or links i link ≡ link → string_bytes url.name ≡ url_of top (key_with None (string_bytes link.name)) → string_bytes url.own ≡ url_of top (key_with None (string_bytes link.own))
+    → urls_in urls ++ map (link_urls top) (names_in (drop i links)) ≡ all → urls_in (urls ++ url ∷ []) ++ map (link_urls top) (names_in (drop (i + 1) links)) ≡ all
+urls_more top links urls i link url all below is name own so_far =
+    let whole : urls_in urls ++ (link_urls top (record { name = string_bytes link.name; own = string_bytes link.own }) ∷ map (link_urls top) (names_in (drop (i + 1) links))) ≡ all = rw (links_more top links i link below is) at so_far in
+    let pair : LinkUrls = record { name = string_bytes url.name; own = string_bytes url.own } in
+    let same : pair ≡ link_urls top (record { name = string_bytes link.name; own = string_bytes link.own }) = λ k. record { name = name k; own = own k } in
+    ap (λ front. front ++ map (link_urls top) (names_in (drop (i + 1) links))) (urls_back urls url)
+    ∙ append_assoc (urls_in urls) (pair ∷ []) (map (link_urls top) (names_in (drop (i + 1) links)))
+    ∙ ap (λ first. urls_in urls ++ (first ∷ map (link_urls top) (names_in (drop (i + 1) links)))) same ∙ whole
+
+pub linked_result : {E : Type 0} (top : List ℕ) (links given : List FolderLink) → urls_in given ≡ map (link_urls top) (names_in links) → (made : Result LinkedFolders E) → IfOk made (λ table. IsLinkTable given table.links.items) → IfOk made (λ table. IsLinked top links table.links.items)
+linked_result top links given urls (Ok table) is = linked top links given table.links.items urls is
+linked_result top links given urls (Err error) is = tt

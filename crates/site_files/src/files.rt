@@ -5,6 +5,7 @@ ghost use Rattle.std.specs.Option.{option_map};
 ghost use Rattle.site_files.specs.Below.{IsTop};
 ghost use Rattle.site_files.specs.Files.{IsOfFiles};
 ghost use Rattle.site_files.specs.Entries.{Finds, IsTable, cmp_urls, texts};
+ghost use Rattle.site_files.specs.Links.{IsLinked};
 ghost use Rattle.site_files.specs.Files.{IsOrdered, name_at, page_file, page_of, pages_of, server_of};
 
 use crate::alias::FolderLink;
@@ -54,6 +55,7 @@ impl<'a> SiteFiles<'a> {
         ensures error { IfErr result IsOfFiles }
         ensures top { IfOk result (λ files. IsTop input.entry.base.now (string_bytes files.site.top)) }
         ensures table { IfOk result (λ files. IsTable (server_of files) (texts input.entry.names.now) files.site.entries.items) }
+        ensures links { IfOk result (λ files. IsLinked (string_bytes files.site.top) input.entry.links.now files.site.linked.links.items) }
         ensures ordered { IfOk result IsOrdered }
     {
         let SiteNames {

@@ -1,15 +1,15 @@
 //! The pages of a site, by the names of its files.
-ghost use Rattle.std.specs.Prelude.{◌≡◌, ◌++◌, ◌∷◌, ◌<◌, ℕ, List, [], IfErr, IfOk, None, Ok, OnOk, false, filter_map, if◌then◌else◌, length, option_to_list, string_bytes, true};
+ghost use Rattle.std.specs.Prelude.{◌≡◌, ◌++◌, ◌∷◌, ◌<◌, ℕ, List, [], IfErr, IfOk, None, Ok, OnOk, false, filter_map, if◌then◌else◌, length, map, option_to_list, string_bytes, true};
 ghost use Rattle.std.specs.List.{flat_map, list_any};
-ghost use Rattle.std.specs.List.Sorted.{IsSorted, IsStrictlySortedBy};
+ghost use Rattle.std.specs.List.Sorted.{IsSorted};
 ghost use Rattle.std.specs.Option.{option_map};
 ghost use Rattle.crawl_keys.specs.CanonicalText.{canonical};
 ghost use Rattle.percent_encoding.specs.Percent.{percent_decode};
 ghost use Rattle.site_files.specs.Below.{IsTop, is_mark, without_slashes};
 ghost use Rattle.site_files.specs.Entries.{Adds, IsInOrder, IsOnce, IsTable, Lists, cmp_urls, response_of, server_at, texts};
 ghost use Rattle.site_files.specs.Files.{IsOfFiles};
-ghost use Rattle.site_files.specs.Links.{cmp_names};
-ghost use Rattle.site_files.specs.Pages.{Found, ends_in_slash, folder_of, index_page, index_pages, moved_page, named_page, named_pages, page, pages};
+ghost use Rattle.site_files.specs.Links.{IsLinked, names_in, urls_in};
+ghost use Rattle.site_files.specs.Pages.{Found, ends_in_slash, folder_of, index_page, index_pages, link_urls, moved_page, named_page, named_pages, page, pages};
 ghost use Rattle.site_files.specs.Server.{before_query, key_with, query_of, url_of};
 
 use crate::alias::{FolderLink, LinkedFolders};
@@ -103,7 +103,7 @@ impl Site {
         ensures error { IfErr result IsOfFiles }
         ensures top { IfOk result (λ site. IsTop base.now (string_bytes site.top)) }
         ensures table { IfOk result (λ site. IsTable (server_at rules.now site) (texts names.now) site.entries.items) }
-        ensures links { IfOk result (λ site. IsStrictlySortedBy cmp_names site.linked.links.items) }
+        ensures links { IfOk result (λ site. IsLinked (string_bytes site.top) links.now site.linked.links.items) }
     {
         if !names.iter().any(|name| !name.as_str().ends_with('/')) {
             return Err(SiteError::NoFiles);
@@ -153,17 +153,24 @@ impl Site {
         })
     }
 
-    /// The URLs of folders that are listed by another name.
+    /// The table of folders that are listed by another name, by their URLs.
     fn linked_folders(&self, links: &[FolderLink]) -> Result<LinkedFolders, AllocError>
-        ensures { IfOk result (λ linked. IsStrictlySortedBy cmp_names linked.links.items) }
+        ensures { IfOk result (λ linked. IsLinked (string_bytes self.now.top) links.now linked.links.items) }
     {
-        let mut linked = Vec::new(*self.top.allocator());
-        for link in links {
+        LinkedFolders::new(self.link_urls(links)?)
+    }
+
+    /// The URLs of folders that are listed by another name.
+    fn link_urls(&self, links: &[FolderLink]) -> Result<Vec<FolderLink>, AllocError>
+        ensures { IfOk result (λ urls. urls_in urls.items ≡ map (link_urls (string_bytes self.now.top)) (names_in links.now)) }
+    {
+        let mut urls = Vec::new(*self.top.allocator());
+        'links: for link in links {
             let name = self.url_of(link.name.as_bytes(), None)?;
             let own = self.url_of(link.own.as_bytes(), None)?;
-            linked.push(FolderLink { name, own })?;
+            urls.push(FolderLink { name, own })?;
         }
-        LinkedFolders::new(linked)
+        Ok(urls)
     }
 
     /// The pages of files with these names: at their names, at those of their folders, and those of folders without their slashes.
