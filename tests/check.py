@@ -6,7 +6,8 @@ small folders with known results, the shipped site, each FOLDER, and random fold
 elements, encodings, redirects, and symbolic links. Without a FOLDER it takes the documentation folders that are installed
 (DOCUMENTATION in tests/checking/loading.py). The saved webs of random folders are compared with those of tools/site_to_web.py
 with the model's tokenizer. In every eighth random folder, the other forms of the report are compared, too. With --model, only the
-model is tested: with the known results, the pages that the converter finds, and the answers of Python's static server.
+model is tested: with the known results, the pages that the converter finds, the answers of Python's static server, and the
+definitions of a server that the proofs cite (tests/checking/twins.py).
 
 A random folder depends only on the seed and its number. The first folders that differ are kept, and their paths are printed.
 With at least 1,000 random folders, each kind of row must occur at least 5 times; otherwise the test fails. The environment
@@ -32,7 +33,7 @@ from typing import Any, Dict, List, NamedTuple, Optional, Tuple
 from urllib.parse import quote, unquote_to_bytes
 
 import drawn
-from checking import drawing, forms, loading, samples
+from checking import drawing, forms, loading, samples, twins
 from checking.documents import TOOL
 from checking.known import KNOWN, Known, To, Zeros
 from checking.model import FLAGS, INDEX_FILES, Model, Moved, Row, Settings, Site, is_short
@@ -302,7 +303,11 @@ def compare_models(seed: int, number: int) -> Outcome:
             served = Model(folder, SERVER)
         except drawn.NotPlain:
             return Outcome(number, [], Counter(), True)
-        faults: Faults = [("model", model_fault(model, converter().web(folder, site_options(settings), BASE))), ("server", server_fault(served, folder))]
+        faults: Faults = [
+            ("model", model_fault(model, converter().web(folder, site_options(settings), BASE))),
+            ("server", server_fault(served, folder)),
+            ("definitions", twins.server_fault(model)),
+        ]
         return Outcome(number, faults, Counter(), False)
 
 

@@ -14,3 +14,4 @@ pub mod Indices
 pub mod Certificates
 pub mod Together
 pub mod Walks
+pub mod SameCrawl

@@ -24,3 +24,7 @@ pub record WalkOf (page : List ℕ → Page) (allowed : List ℕ → Bool) (seed
   pub walk : List (List ℕ)
   pub leads : IsWalk page allowed seeds walk url
   pub long : length walk ≡ hops + 1
+
+-- another source has the same page for each URL that can be reached
+abbrev pub AgreeOnReached : (List ℕ → Page) → (List ℕ → Page) → (List ℕ → Bool) → List (List ℕ) → Type 0
+AgreeOnReached page other allowed seeds = (url : List ℕ) → Reachable page allowed seeds url → other url ≡ page url

@@ -16,7 +16,7 @@ ghost use Rattle.crawl_certificate.specs.declared.error.CertError.{CertError};
 ghost use Rattle.crawl_pages.specs.declared.page.Page.TheVariants.{Found, Missing, Moved};
 ghost use Rattle.crawl_certificate.specs.declared.error.CertError.TheVariants as fault;
 ghost use Rattle.crawl_certificate.specs.SmallRuns.{url_a, url_b, url_c, url_d, every, all_but_d, entry, result_of, ring_entries, ring_found, gone};
-ghost use Rattle.crawl_certificate.specs.Reachable.{WalkOf};
+ghost use Rattle.crawl_certificate.specs.Reachable.{AgreeOnReached, WalkOf};
 
 /// If a run has no error, the URLs of the results are exactly those that can be reached, and a walk to an entry's URL has the
 /// entry's number of hops.
@@ -66,6 +66,11 @@ pub fn nothing_lost()
 /// The pages of a whole crawl are one list, whatever run found them.
 pub fn one_crawl()
     ensures { (meaning : List ℕ → Page) (allowed : List ℕ → Bool) (seeds : List (List ℕ)) (pages others : List PageResult) → IsCrawl meaning allowed seeds pages → IsCrawl meaning allowed seeds others → pages ≡ others }
+{}
+
+/// A whole crawl of one source is one of another, if they have the same page for each URL that can be reached.
+pub fn same_crawl()
+    ensures { (page other : List ℕ → Page) (allowed : List ℕ → Bool) (seeds : List (List ℕ)) (pages : List PageResult) → AgreeOnReached page other allowed seeds → IsCrawl page allowed seeds pages → IsCrawl other allowed seeds pages }
 {}
 
 /// An error of a run has one culprit. If a run does not have an error, no URL has it, so none has a cause before a

@@ -1,1 +1,7 @@
+pub mod FirstOnes
+pub mod Listing
+pub mod Lookups
+pub mod OtherNames
 pub mod Slashes
+pub mod Table
+pub mod Ways

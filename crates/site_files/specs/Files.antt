@@ -1,6 +1,6 @@
 -- The pages of a site, and the files that they are made of.
-use Rattle.std.specs.Prelude.{ℕ, ◌==◌, List, ◌++◌, codes, take, drop, map, Option, Some, None, slice_get, string_bytes}
-use Rattle.std.specs.List.{position_or_len}
+use Rattle.std.specs.Prelude.{ℕ, List, map, Option, Some, None, slice_get, string_bytes}
+use Rattle.std.specs.List.Sorted.{IsStrictlySortedBy}
 use Rattle.std.specs.Option.{option_map}
 use Rattle.site_files.specs.declared.error.SiteError.{SiteError}
 use Rattle.site_files.specs.declared.error.SiteError.TheVariants as wrong
@@ -8,6 +8,9 @@ use Rattle.site_files.specs.declared.files.SiteFiles.{SiteFiles}
 use Rattle.site_files.specs.declared.site.Entry.{Entry}
 use Rattle.site_files.specs.declared.site.Source.{Source}
 use Rattle.site_files.specs.declared.site.Source.TheVariants.{File, Index, Moved}
+use Rattle.site_files.specs.Entries.{cmp_urls, server_at}
+use Rattle.site_files.specs.Links.{cmp_names}
+use Rattle.site_files.specs.Server.{Server}
 
 -- a page's URL, and the index of its file among the names; a redirect has no file
 pub record PageFile : Type 0 where
@@ -38,12 +41,11 @@ abbrev pub IsOfFiles : SiteError → Type 0
 IsOfFiles (wrong.Io error) = ⊥
 IsOfFiles error = Unit {0}
 
--- ---- the URLs that a server looks up
+-- the host and the place of the folder
+abbrev pub server_of : SiteFiles → Server
+server_of files = server_at files.rules.now files.site
 
--- the number of bytes of a URL before its query
-abbrev pub path_length : List ℕ → ℕ
-path_length url = position_or_len (λ b. b == 63) url
-
--- the URL with `.html` after its path
-abbrev pub with_html : List ℕ → List ℕ
-with_html url = take (path_length url) url ++ codes ".html" ++ drop (path_length url) url
+-- the pages and the other names of folders are in order, each once
+pub record IsOrdered (files : SiteFiles) : Type 0 where
+  pub pages : IsStrictlySortedBy cmp_urls files.site.entries.items
+  pub links : IsStrictlySortedBy cmp_names files.site.linked.links.items

@@ -1,2 +1,10 @@
 pub mod Below
+pub mod Entries
 pub mod Files
+pub mod Firsts
+pub mod Links
+pub mod Names
+pub mod Pages
+pub mod Server
+pub mod Urls
+pub mod Vectors

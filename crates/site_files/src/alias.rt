@@ -1,4 +1,11 @@
 //! Other URLs of files, and other names of folders.
+ghost use Rattle.std.specs.Prelude.{◌≡◌, [], IfOk, string_bytes, unwrap_or};
+ghost use Rattle.std.specs.List.Sorted.{IsStrictlySortedBy};
+ghost use Rattle.std.specs.Option.{option_map};
+ghost use Rattle.site_files.specs.Links.{FindsLink, IsLinkTable, cmp_names, own_in};
+ghost use Rattle.site_files.specs.Pages.{own_spelling};
+ghost use Rattle.site_files.specs.Server.{names_of};
+
 use crawl_keys::CanonUrl;
 use std::alloc::{AllocError, Global};
 
@@ -27,10 +34,13 @@ pub(crate) struct LinkedFolders {
 }
 
 impl LinkedFolders {
-    /// The folders with these URLs in place of their names.
-    pub(crate) fn new(links: Vec<FolderLink>) -> Result<LinkedFolders, AllocError> {
+    /// The folders with these URLs in place of their names. Of those with one URL, the first counts.
+    pub(crate) fn new(links: Vec<FolderLink>) -> Result<LinkedFolders, AllocError>
+        ensures { IfOk result (λ linked. IsLinkTable links.items linked.links.items) }
+    {
         let mut links = links;
         links.sort_by(|a: &FolderLink, b: &FolderLink| a.name.as_str().cmp(b.name.as_str()))?;
+        links.dedup_by(|link, last| link.name.as_str() == last.name.as_str());
         Ok(LinkedFolders { links })
     }
 
@@ -40,24 +50,50 @@ impl LinkedFolders {
     }
 
     /// A URL with the own URL of each folder in place of its other ones.
-    pub(crate) fn own_url(&self, alloc: Global, url: &str) -> Result<String, AllocError> {
+    #[tactic(auto, using(crate::proofs::OtherNames::spelled_cut, crate::proofs::OtherNames::spelled_last))]
+    pub(crate) fn own_url(&self, alloc: Global, url: &str) -> Result<String, AllocError>
+        ensures { IsStrictlySortedBy cmp_names self.now.links.items → IfOk result (λ own. string_bytes own ≡ own_spelling (own_in self.now.links.items) [] (names_of url.now)) }
+    {
         let mut own = String::new(alloc);
-        for part in url.split_inclusive('/') {
-            own.push_str(part)?;
-            if let Some(folder) = self.own_folder(own.as_str()) {
-                own = String::from_str(alloc, folder)?;
-            }
+        let mut rest = url;
+        'names: while let Some((name, more)) = rest.split_once('/') {
+            own.push_str(name)?;
+            own.push('/')?;
+            own = self.own_folder(alloc, own)?;
+            rest = more;
         }
+        own.push_str(rest)?;
         Ok(own)
     }
 
-    /// The own URL of the folder with this other URL.
-    fn own_folder(&self, url: &str) -> Option<&str> {
-        let index = self
-            .links
+    /// The own URL of the folder with this URL.
+    fn own_folder(&self, alloc: Global, url: String) -> Result<String, AllocError>
+        ensures { IsStrictlySortedBy cmp_names self.now.links.items → IfOk result (λ own. string_bytes own ≡ own_in self.now.links.items (string_bytes url)) }
+    {
+        match self.other_own(url.as_str()) {
+            Some(own) => String::from_str(alloc, own),
+            None => Ok(url),
+        }
+    }
+
+    /// The own URL of the folder with this URL, if that is another one.
+    fn other_own(&self, url: &str) -> Option<&str>
+        ensures { IsStrictlySortedBy cmp_names self.now.links.items → own_in self.now.links.items url.now ≡ unwrap_or (option_map (λ own. own.now) result) url.now }
+    {
+        let number = self.find(url)?;
+        match self.links.get(number) {
+            Some(link) => Some(link.own.as_str()),
+            None => None,
+        }
+    }
+
+    /// The number of the link with this URL.
+    fn find(&self, url: &str) -> Option<usize>
+        ensures { IsStrictlySortedBy cmp_names self.now.links.items → FindsLink self.now.links.items url.now result }
+    {
+        self.links
             .as_slice()
             .binary_search_by(|link| link.name.as_str().cmp(url))
-            .ok()?;
-        Some(self.links.get(index)?.own.as_str())
+            .ok()
     }
 }

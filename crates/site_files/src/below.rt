@@ -38,7 +38,7 @@ fn begins(front: &[u8], text: &[u8]) -> bool
 }
 
 /// The text with its escapes read.
-fn unescaped(alloc: Global, text: &[u8]) -> Result<Vec<u8>, AllocError>
+pub(crate) fn unescaped(alloc: Global, text: &[u8]) -> Result<Vec<u8>, AllocError>
     ensures { IfOk result (λ read. read.items ≡ percent_decode text.now) }
 {
     let mut read = Vec::new(alloc);
@@ -63,7 +63,7 @@ fn without_slashes(text: &[u8]) -> &[u8]
 }
 
 /// Whether the byte is a slash, which ends the name of a folder in a URL.
-fn is_slash(byte: u8) -> bool
+pub(crate) fn is_slash(byte: u8) -> bool
     ensures { result ≡ is_slash byte }
 {
     byte == b'/'

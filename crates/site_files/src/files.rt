@@ -1,9 +1,12 @@
 //! The file of each page of a site.
 ghost use Rattle.std.specs.Prelude.{◌≡◌, IfErr, IfOk, length, slice_get, string_bytes};
+ghost use Rattle.std.specs.List.Sorted.{IsStrictlySortedBy};
 ghost use Rattle.std.specs.Option.{option_map};
 ghost use Rattle.site_files.specs.Below.{IsTop};
 ghost use Rattle.site_files.specs.Files.{IsOfFiles};
-ghost use Rattle.site_files.specs.Files.{name_at, page_file, page_of, pages_of};
+ghost use Rattle.site_files.specs.Entries.{Finds, IsTable, cmp_urls, texts};
+ghost use Rattle.site_files.specs.Links.{IsLinked};
+ghost use Rattle.site_files.specs.Files.{IsOrdered, name_at, page_file, page_of, pages_of, server_of};
 
 use crate::alias::FolderLink;
 use crate::error::SiteError;
@@ -51,6 +54,9 @@ impl<'a> SiteFiles<'a> {
     pub fn new(alloc: Global, input: SiteNames<'a>) -> Result<SiteFiles<'a>, SiteError>
         ensures error { IfErr result IsOfFiles }
         ensures top { IfOk result (λ files. IsTop input.entry.base.now (string_bytes files.site.top)) }
+        ensures table { IfOk result (λ files. IsTable (server_of files) (texts input.entry.names.now) files.site.entries.items) }
+        ensures links { IfOk result (λ files. IsLinked (string_bytes files.site.top) input.entry.links.now files.site.linked.links.items) }
+        ensures ordered { IfOk result IsOrdered }
     {
         let SiteNames {
             names,
@@ -89,7 +95,9 @@ impl<'a> SiteFiles<'a> {
     }
 
     /// The scheme and the authority of all URLs.
-    pub fn origin(&self) -> &str {
+    pub fn origin(&self) -> &str
+        ensures { result.now ≡ string_bytes self.now.site.origin }
+    {
         self.site.origin.as_str()
     }
 
@@ -155,7 +163,9 @@ impl<'a> SiteFiles<'a> {
     }
 
     /// The page with this URL, by its number.
-    pub fn find(&self, url: &str) -> Option<usize> {
+    pub fn find(&self, url: &str) -> Option<usize>
+        ensures { IsStrictlySortedBy cmp_urls self.now.site.entries.items → Finds self.now.site.entries.items url.now result }
+    {
         self.site
             .entries
             .as_slice()

@@ -9,6 +9,7 @@ mod escapes;
 mod files;
 mod folder;
 mod kinds;
+pub mod laws;
 mod notes;
 mod site;
 mod spellings;

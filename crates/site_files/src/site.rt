@@ -1,13 +1,19 @@
 //! The pages of a site, by the names of its files.
-ghost use Rattle.std.specs.Prelude.{◌≡◌, ◌++◌, ◌∷◌, ℕ, List, [], IfErr, IfOk, IfSome, Ok, false, string_bytes, true};
-ghost use Rattle.std.specs.List.{list_any};
+ghost use Rattle.std.specs.Prelude.{◌≡◌, ◌++◌, ◌∷◌, ◌<◌, ℕ, List, [], IfErr, IfOk, None, Ok, OnOk, false, filter_map, if◌then◌else◌, length, map, option_to_list, string_bytes, true};
+ghost use Rattle.std.specs.List.{flat_map, list_any};
+ghost use Rattle.std.specs.List.Sorted.{IsSorted};
+ghost use Rattle.std.specs.Option.{option_map};
 ghost use Rattle.crawl_keys.specs.CanonicalText.{canonical};
 ghost use Rattle.percent_encoding.specs.Percent.{percent_decode};
 ghost use Rattle.site_files.specs.Below.{IsTop, is_mark, without_slashes};
+ghost use Rattle.site_files.specs.Entries.{Adds, IsInOrder, IsOnce, IsTable, Lists, cmp_urls, response_of, server_at, texts};
 ghost use Rattle.site_files.specs.Files.{IsOfFiles};
+ghost use Rattle.site_files.specs.Links.{IsLinked, names_in, urls_in};
+ghost use Rattle.site_files.specs.Pages.{Found, ends_in_slash, folder_of, index_page, index_pages, link_urls, moved_page, named_page, named_pages, page, pages};
+ghost use Rattle.site_files.specs.Server.{before_query, key_with, query_of, url_of};
 
 use crate::alias::{FolderLink, LinkedFolders};
-use crate::below::is_slashed;
+use crate::below::{is_slash, is_slashed};
 use crate::error::SiteError;
 use crate::escapes::{push_name, push_query, push_respelled};
 use crate::notes::{Left, Note};
@@ -35,8 +41,11 @@ pub struct Rules {
     pub threads: usize,
 }
 
-/// The path of a name, and its query after a `?`.
-pub(crate) fn split_name(name: &str, queries: bool) -> (&str, Option<&str>) {
+/// What is before the first `?` of a text, and what is after it, if there is one and a query is read there.
+pub(crate) fn split_name(name: &str, queries: bool) -> (&str, Option<&str>)
+    ensures path { result.0.now ≡ (if queries then before_query name.now else name.now) }
+    ensures query { option_map (λ q. q.now) result.1 ≡ (if queries then query_of name.now else None) }
+{
     if !queries {
         return (name, None);
     }
@@ -51,7 +60,7 @@ pub(crate) fn split_name(name: &str, queries: bool) -> (&str, Option<&str>) {
 pub(crate) enum Source {
     /// The file with this index among the names. The URL is the file's own, at which its links are followed.
     File(usize),
-    /// The index file with this index among the names, if the URL is that of its name. Its own URL is that of its folder.
+    /// The index file with this index among the names, if the URL is that of its name. Its own URL is that of its folder, if it has that.
     Index(usize),
     /// A redirect to this URL.
     Moved(String),
@@ -93,14 +102,17 @@ impl Site {
     ) -> Result<Site, SiteError>
         ensures error { IfErr result IsOfFiles }
         ensures top { IfOk result (λ site. IsTop base.now (string_bytes site.top)) }
+        ensures table { IfOk result (λ site. IsTable (server_at rules.now site) (texts names.now) site.entries.items) }
+        ensures links { IfOk result (λ site. IsLinked (string_bytes site.top) links.now site.linked.links.items) }
     {
         if !names.iter().any(|name| !name.as_str().ends_with('/')) {
             return Err(SiteError::NoFiles);
         }
         let site = Site::at(alloc, base)?;
-        let entries = site.entries_of(names, rules)?;
-        let mut entries = without_doubles(entries, names, rules, notes)?;
-        let own = own_numbers(alloc, entries.as_mut_slice(), names.len())?;
+        let entries = in_order(site.pages(names, rules)?)?;
+        note_doubles(entries.as_slice(), names, rules, notes)?;
+        let entries = without_doubles(entries);
+        let own = own_numbers(alloc, entries.as_slice(), names.len())?;
         let linked = site.linked_folders(links)?;
         let Site {
             origin,
@@ -128,7 +140,7 @@ impl Site {
             return Err(SiteError::BadBase);
         };
         let mut top = String::from_str(alloc, origin)?;
-        push_respelled(alloc, path.trim_end_matches('/'), &mut top)?;
+        push_respelled(alloc, path.trim_end_matches('/').as_bytes(), &mut top)?;
         top.push('/')?;
         let top_url = top_at(alloc, &page, top.as_str())?;
         Ok(Site {
@@ -141,30 +153,36 @@ impl Site {
         })
     }
 
-    /// The URLs of folders that are listed by another name.
-    fn linked_folders(&self, links: &[FolderLink]) -> Result<LinkedFolders, AllocError> {
-        let mut linked = Vec::new(*self.top.allocator());
-        for link in links {
-            let name = self.url_of(link.name.as_str(), None)?;
-            let own = self.url_of(link.own.as_str(), None)?;
-            linked.push(FolderLink { name, own })?;
-        }
-        LinkedFolders::new(linked)
+    /// The table of folders that are listed by another name, by their URLs.
+    fn linked_folders(&self, links: &[FolderLink]) -> Result<LinkedFolders, AllocError>
+        ensures { IfOk result (λ linked. IsLinked (string_bytes self.now.top) links.now linked.links.items) }
+    {
+        LinkedFolders::new(self.link_urls(links)?)
     }
 
-    /// The pages of files with these names, in the order of their URLs.
-    fn entries_of(&self, names: &[String], rules: &Rules) -> Result<Vec<Entry>, SiteError>
-        ensures { IfErr result IsOfFiles }
+    /// The URLs of folders that are listed by another name.
+    fn link_urls(&self, links: &[FolderLink]) -> Result<Vec<FolderLink>, AllocError>
+        ensures { IfOk result (λ urls. urls_in urls.items ≡ map (link_urls (string_bytes self.now.top)) (names_in links.now)) }
     {
-        // Lists in the order of names, which is nearly that of URLs, so little is left to sort. Of pages with one URL, the first stays the
-        // first.
+        let mut urls = Vec::new(*self.top.allocator());
+        'links: for link in links {
+            let name = self.url_of(link.name.as_bytes(), None)?;
+            let own = self.url_of(link.own.as_bytes(), None)?;
+            urls.push(FolderLink { name, own })?;
+        }
+        Ok(urls)
+    }
+
+    /// The pages of files with these names: at their names, at those of their folders, and those of folders without their slashes.
+    fn pages(&self, names: &[String], rules: &Rules) -> Result<Vec<Entry>, SiteError>
+        ensures error { IfErr result IsOfFiles }
+        ensures pages { IfOk result (λ entries. Lists entries.items (pages (server_at rules.now self.now) (texts names.now))) }
+    {
+        // Lists in the order of names, which is nearly that of URLs, so little is left to sort.
         let mut entries = Vec::new(*self.top.allocator());
         self.push_files(names, rules, &mut entries)?;
-        for index_file in &rules.index_files {
-            self.push_indices(names, index_file.as_str(), rules.queries, &mut entries)?;
-        }
+        self.push_indices(names, rules, &mut entries)?;
         self.push_folders(names, &mut entries)?;
-        entries.sort_by(|a: &Entry, b: &Entry| a.url.as_str().cmp(b.url.as_str()))?;
         Ok(entries)
     }
 
@@ -175,86 +193,146 @@ impl Site {
         rules: &Rules,
         entries: &mut Vec<Entry>,
     ) -> Result<(), SiteError>
-        ensures { IfErr result IsOfFiles }
+        ensures error { IfErr result IsOfFiles }
+        ensures pages { OnOk result (Adds entries.old.items entries.new.items (named_pages (server_at rules.now self.now) (texts names.now))) }
     {
-        for (index, name) in names.iter().enumerate() {
-            if let Some((path, query)) = file_path(name.as_str(), rules.queries) {
-                self.push(path, query, name_source(path, index, rules), entries)?;
-            }
+        'names: for (index, name) in names.iter().enumerate() {
+            self.push_file(index, name.as_str(), rules, entries)?;
+        }
+        Ok(())
+    }
+
+    /// Adds the page at the URL of a name, if that is the name of a file.
+    fn push_file(
+        &self,
+        index: usize,
+        name: &str,
+        rules: &Rules,
+        entries: &mut Vec<Entry>,
+    ) -> Result<(), SiteError>
+        ensures error { IfErr result IsOfFiles }
+        ensures page { OnOk result (Adds entries.old.items entries.new.items (option_to_list (named_page (server_at rules.now self.now) index name.now))) }
+    {
+        if ends_in_slash(name.as_bytes()) {
+            return Ok(());
+        }
+        let (path, query) = split_name(name, rules.queries);
+        let source = name_source(path.as_bytes(), index, rules);
+        self.push(path.as_bytes(), query, source, entries)
+    }
+
+    /// Adds the page at the URL of the folder of each index file.
+    fn push_indices(
+        &self,
+        names: &[String],
+        rules: &Rules,
+        entries: &mut Vec<Entry>,
+    ) -> Result<(), SiteError>
+        ensures error { IfErr result IsOfFiles }
+        ensures pages { OnOk result (Adds entries.old.items entries.new.items (flat_map (index_pages (server_at rules.now self.now) (texts names.now)) (texts rules.now.index_files.items))) }
+    {
+        'indices: for index_file in &rules.index_files {
+            self.push_index_files(names, index_file.as_str(), rules, entries)?;
         }
         Ok(())
     }
 
     /// Adds the page at the URL of the folder of each file with this name.
-    fn push_indices(
+    fn push_index_files(
         &self,
         names: &[String],
         index_file: &str,
-        queries: bool,
+        rules: &Rules,
         entries: &mut Vec<Entry>,
     ) -> Result<(), SiteError>
-        ensures { IfErr result IsOfFiles }
+        ensures error { IfErr result IsOfFiles }
+        ensures pages { OnOk result (Adds entries.old.items entries.new.items (index_pages (server_at rules.now self.now) (texts names.now) index_file.now)) }
     {
-        for (index, name) in names.iter().enumerate() {
-            if let Some((path, query)) = file_path(name.as_str(), queries)
-                && let Some(folder) = folder_of(path, index_file)
-            {
-                self.push(folder, query, Source::File(index), entries)?;
-            }
+        'names: for (index, name) in names.iter().enumerate() {
+            self.push_index(index, name.as_str(), index_file, rules, entries)?;
         }
         Ok(())
     }
 
+    /// Adds the page at the URL of the folder of a file, if the file has this name.
+    fn push_index(
+        &self,
+        index: usize,
+        name: &str,
+        index_file: &str,
+        rules: &Rules,
+        entries: &mut Vec<Entry>,
+    ) -> Result<(), SiteError>
+        ensures error { IfErr result IsOfFiles }
+        ensures page { OnOk result (Adds entries.old.items entries.new.items (option_to_list (index_page (server_at rules.now self.now) index_file.now index name.now))) }
+    {
+        if ends_in_slash(name.as_bytes()) {
+            return Ok(());
+        }
+        let (path, query) = split_name(name, rules.queries);
+        match folder_of(path.as_bytes(), index_file.as_bytes()) {
+            Some(folder) => self.push(folder, query, Source::File(index), entries),
+            None => Ok(()),
+        }
+    }
+
     /// Adds the pages of folders without their slashes.
     fn push_folders(&self, names: &[String], entries: &mut Vec<Entry>) -> Result<(), SiteError>
-        ensures { IfErr result IsOfFiles }
+        ensures error { IfErr result IsOfFiles }
+        ensures pages { OnOk result (Adds entries.old.items entries.new.items (filter_map (moved_page (string_bytes self.now.top)) (texts names.now))) }
     {
-        for name in names {
-            self.push_folder(name.as_str(), entries)?;
+        'names: for name in names {
+            self.push_folder(name.as_bytes(), entries)?;
         }
         Ok(())
+    }
+
+    /// Adds the page of a folder without its slash, which is moved to the folder with it.
+    fn push_folder(&self, name: &[u8], entries: &mut Vec<Entry>) -> Result<(), SiteError>
+        ensures error { IfErr result IsOfFiles }
+        ensures page { OnOk result (Adds entries.old.items entries.new.items (option_to_list (moved_page (string_bytes self.now.top) name.now))) }
+    {
+        if !ends_in_slash(name) {
+            return Ok(());
+        }
+        let target = self.url_of(name, None)?;
+        let folder = &name[..name.len() - 1];
+        self.push(folder, None, Source::Moved(target), entries)
     }
 
     /// Adds the page at a path.
     fn push(
         &self,
-        path: &str,
+        path: &[u8],
         query: Option<&str>,
         source: Source,
         entries: &mut Vec<Entry>,
     ) -> Result<(), SiteError>
-        ensures { IfErr result IsOfFiles }
+        ensures error { IfErr result IsOfFiles }
+        ensures page { OnOk result (Adds entries.old.items entries.new.items (page (url_of (string_bytes self.now.top) (key_with (option_map (λ q. q.now) query.entry) path.now)) (response_of source) ∷ [])) }
     {
         let url = self.url_of(path, query)?;
         add(url.as_str(), source, entries)
     }
 
-    /// Adds the page of a folder without its slash, which is moved to the folder with it.
-    fn push_folder(&self, name: &str, entries: &mut Vec<Entry>) -> Result<(), SiteError>
-        ensures { IfErr result IsOfFiles }
-    {
-        let Some(folder) = name.strip_suffix("/") else {
-            return Ok(());
-        };
-        let url = self.url_of(folder, None)?;
-        let target = self.url_of(name, None)?;
-        add(url.as_str(), Source::Moved(target), entries)
-    }
-
     /// The URL of a path below the top, with a query.
-    fn url_of(&self, path: &str, query: Option<&str>) -> Result<String, AllocError> {
+    pub(crate) fn url_of(&self, path: &[u8], query: Option<&str>) -> Result<String, AllocError>
+        ensures { IfOk result (λ url. string_bytes url ≡ url_of (string_bytes self.now.top) (key_with (option_map (λ q. q.now) query.entry) path.now)) }
+    {
         let alloc = *self.top.allocator();
         let mut url = self.top.clone()?;
         push_name(path, &mut url)?;
         if let Some(query) = query {
-            push_query(alloc, query, &mut url)?;
+            push_query(alloc, query.as_bytes(), &mut url)?;
         }
         Ok(url)
     }
 }
 
 /// What a server returns for the URL of a file's name, if the file has this index and path.
-fn name_source(path: &str, index: usize, rules: &Rules) -> Source {
+fn name_source(path: &[u8], index: usize, rules: &Rules) -> Source
+    ensures { response_of result ≡ Found index }
+{
     if is_index(path, rules) {
         Source::Index(index)
     } else {
@@ -263,18 +341,18 @@ fn name_source(path: &str, index: usize, rules: &Rules) -> Source {
 }
 
 /// Whether the file with this path is an index file.
-fn is_index(path: &str, rules: &Rules) -> bool {
+fn is_index(path: &[u8], rules: &Rules) -> bool {
     rules
         .index_files
         .iter()
-        .any(|name| folder_of(path, name.as_str()).is_some())
+        .any(|name| folder_of(path, name.as_bytes()).is_some())
 }
 
 /// The number of the page at the own URL of each of `count` files. If another file has the URL of its folder, as an index file with an
 /// earlier name has, the own URL of an index file is that of its name.
 fn own_numbers(
     alloc: Global,
-    entries: &mut [Entry],
+    entries: &[Entry],
     count: usize,
 ) -> Result<Vec<Option<usize>>, AllocError> {
     let mut own = vec![in alloc; None; count]?;
@@ -288,71 +366,86 @@ fn own_numbers(
 }
 
 /// Gives each index file without an own URL that of its name.
-fn set_own_names(entries: &mut [Entry], own: &mut [Option<usize>]) {
-    for (number, entry) in entries.iter_mut().enumerate() {
+fn set_own_names(entries: &[Entry], own: &mut [Option<usize>]) {
+    for (number, entry) in entries.iter().enumerate() {
         if let Source::Index(index) = &entry.source {
-            let index = *index;
-            if set_own(own, index, number) {
-                entry.source = Source::File(index);
-            }
+            set_own(own, *index, number);
         }
     }
 }
 
-/// Keeps the number of the page at a file's own URL, if none is known, and returns whether it did.
-fn set_own(own: &mut [Option<usize>], index: usize, number: usize) -> bool {
-    match own.get_mut(index) {
-        Some(known) if known.is_none() => {
-            *known = Some(number);
-            true
-        }
-        _ => false,
+/// Keeps the number of the page at a file's own URL, if none is known.
+fn set_own(own: &mut [Option<usize>], index: usize, number: usize) {
+    if let Some(known) = own.get_mut(index)
+        && known.is_none()
+    {
+        *known = Some(number);
     }
 }
 
 /// Appends a page at the canonical URL of this text.
 fn add(url: &str, source: Source, entries: &mut Vec<Entry>) -> Result<(), SiteError>
-    ensures { IfErr result IsOfFiles }
+    ensures error { IfErr result IsOfFiles }
+    ensures page { OnOk result (Adds entries.old.items entries.new.items (page url.now (response_of source) ∷ [])) }
 {
     let url = url_at(*entries.allocator(), url)?;
     entries.push(Entry { url, source })?;
     Ok(())
 }
 
-/// The first page of each URL. Adds a note about each file that has no page because of this.
-fn without_doubles(
-    entries: Vec<Entry>,
+/// The pages in the order of their URLs. Of those with one URL, the first stays the first.
+fn in_order(entries: Vec<Entry>) -> Result<Vec<Entry>, AllocError>
+    ensures { IfOk result (λ ordered. IsInOrder entries.items ordered.items) }
+{
+    let mut ordered = entries;
+    ordered.sort_by(|a: &Entry, b: &Entry| a.url.as_str().cmp(b.url.as_str()))?;
+    Ok(ordered)
+}
+
+/// The first page of each URL, of pages in the order of their URLs.
+fn without_doubles(entries: Vec<Entry>) -> Vec<Entry>
+    requires { IsSorted cmp_urls entries.items }
+    ensures { IsOnce entries.items result.items }
+{
+    let mut kept = entries;
+    kept.dedup_by(|entry, last| entry.url.as_str() == last.url.as_str());
+    kept
+}
+
+/// Adds a note about each file that has no page because another file has its URL.
+fn note_doubles(
+    entries: &[Entry],
     names: &[String],
     rules: &Rules,
     notes: &mut Vec<Note>,
-) -> Result<Vec<Entry>, AllocError> {
-    let mut kept: Vec<Entry> = Vec::new(*entries.allocator());
-    for entry in entries {
-        if is_double(kept.as_slice(), &entry) {
-            note_double(&entry, names, rules, notes)?;
-        } else {
-            kept.push(entry)?;
+) -> Result<(), AllocError> {
+    for (last, entry) in entries.iter().zip(entries.iter().skip(1)) {
+        if last.url == entry.url {
+            note_double(entry, names, rules, notes)?;
         }
     }
-    Ok(kept)
-}
-
-/// The path and the query of a file's name; none of a folder's.
-fn file_path(name: &str, queries: bool) -> Option<(&str, Option<&str>)> {
-    if name.ends_with('/') {
-        return None;
-    }
-    Some(split_name(name, queries))
+    Ok(())
 }
 
 /// The folder of the file with this path, if the file has this name.
-fn folder_of<'a>(path: &'a str, name: &str) -> Option<&'a str>
-    ensures { IfSome result (λ folder. path.now ≡ folder.now ++ name.now) }
+fn folder_of<'a>(path: &'a [u8], name: &[u8]) -> Option<&'a [u8]>
+    ensures { option_map (λ folder. folder.now) result ≡ folder_of name.now path.entry.now }
 {
     match path.strip_suffix(name) {
-        Some(folder) if folder.is_empty() || folder.ends_with('/') => Some(folder),
+        Some(folder) if folder.is_empty() || ends_in_slash(folder) => Some(folder),
         _ => None,
     }
+}
+
+/// Whether a name is that of a folder.
+pub(crate) fn ends_in_slash(name: &[u8]) -> bool
+    ensures value { result ≡ ends_in_slash name.now }
+    ensures some { result ≡ true → 0 < length name.now }
+{
+    if name.is_empty() {
+        return false;
+    }
+    is_slash(name[name.len() - 1])
 }
 
 /// The canonical URL of a text.
@@ -408,14 +501,6 @@ fn is_same(url: &CanonUrl, text: &str) -> bool
     url.as_str() == text
 }
 
-/// Whether the last of the pages has the URL of this one.
-fn is_double(kept: &[Entry], entry: &Entry) -> bool {
-    match kept.last() {
-        Some(last) => last.url == entry.url,
-        None => false,
-    }
-}
-
 /// Adds a note about the file of a page that is left out, unless the page is that of a folder. Its file also has one at its name.
 fn note_double(
     entry: &Entry,
@@ -438,7 +523,7 @@ fn note_double(
 /// Whether the page of the file with this name is that of a folder.
 fn is_of_folder(source: &Source, name: &str, rules: &Rules) -> bool {
     let (path, _) = split_name(name, rules.queries);
-    matches!(source, Source::File(_)) && is_index(path, rules)
+    matches!(source, Source::File(_)) && is_index(path.as_bytes(), rules)
 }
 
 /// The scheme and authority of a canonical URL, and what follows them.

@@ -1,10 +1,18 @@
 //! The URLs for which a server returns a page of the site, although they are not its URL: another spelling, a query, a path through a
 //! symbolic link to a folder, or a name without its `.html`.
-ghost use Rattle.std.specs.Prelude.{◌≡◌, IfOk, string_bytes};
-ghost use Rattle.site_files.specs.Files.{with_html};
+ghost use Rattle.std.specs.Prelude.{◌≡◌, ◌&&◌, [], IfOk, not, string_bytes};
+ghost use Rattle.std.specs.Option.{option_map};
+ghost use Rattle.site_files.specs.Entries.{LeadsTo, entry_at, host_of};
+ghost use Rattle.site_files.specs.Files.{IsOrdered, server_of};
+ghost use Rattle.site_files.specs.Links.{own_in};
+ghost use Rattle.site_files.specs.Pages.{Missing, ends_in_slash, fallback_at, own_spelling, plain_at, spelled_at};
+ghost use Rattle.site_files.specs.Server.{before_query, is_accepted, known_query, names_of, path_at, plain_url};
+ghost use Rattle.site_files.specs.Urls.{with_html};
 
-use crate::escapes::{push_looked_up, push_query, push_respelled};
+use crate::below::unescaped;
+use crate::escapes::{looked_up, push_respelled};
 use crate::files::SiteFiles;
+use crate::site::{ends_in_slash, split_name};
 use crawl_keys::CanonUrl;
 use memchr::{memchr_iter, memchr3};
 use std::alloc::{AllocError, Global};
@@ -24,57 +32,92 @@ impl SiteFiles<'_> {
     ///
     /// # Errors
     /// Out of memory.
-    pub fn look_up(&self, alloc: Global, url: &CanonUrl) -> Result<Option<usize>, AllocError> {
-        let Some(plain) = self.plain_of(alloc, url.as_str())? else {
+    pub fn look_up(&self, alloc: Global, url: &CanonUrl) -> Result<Option<usize>, AllocError>
+        ensures { IsOrdered self.now → entry_at self.now.site.entries.items url.now ≡ Missing → IfOk result (λ found. LeadsTo self.now.site.entries.items (spelled_at (entry_at self.now.site.entries.items) (own_in self.now.site.linked.links.items) (server_of self.now) url.now) found) }
+    {
+        if self.find(url.as_str()).is_some() {
             return Ok(None);
-        };
-        match self.find(plain.as_str()) {
+        }
+        match self.plain_of(alloc, url.as_str())? {
+            Some(plain) => self.look_up_plain(alloc, plain.as_str()),
+            None => Ok(None),
+        }
+    }
+
+    /// The number of the page that is looked up by this URL of a path and a query.
+    fn look_up_plain(&self, alloc: Global, plain: &str) -> Result<Option<usize>, AllocError>
+        ensures { IsOrdered self.now → IfOk result (λ found. LeadsTo self.now.site.entries.items (plain_at (entry_at self.now.site.entries.items) (host_of self.now.rules.now) (own_spelling (own_in self.now.site.linked.links.items) [] (names_of plain.now))) found) }
+    {
+        let own = self.site.linked.own_url(alloc, plain)?;
+        match self.find(own.as_str()) {
             Some(page) => Ok(Some(page)),
-            None => self.look_up_html(alloc, plain.as_str()),
+            None => self.look_up_html(alloc, own.as_str()),
         }
     }
 
     /// The number of the page at this URL with `.html` added to its path, if the rules have this fallback and the path does not end with a
     /// slash.
-    fn look_up_html(&self, alloc: Global, url: &str) -> Result<Option<usize>, AllocError> {
-        if !self.rules.html_fallback || path_of(url).ends_with('/') {
+    fn look_up_html(&self, alloc: Global, url: &str) -> Result<Option<usize>, AllocError>
+        ensures { IsOrdered self.now → IfOk result (λ found. LeadsTo self.now.site.entries.items (fallback_at (entry_at self.now.site.entries.items) (host_of self.now.rules.now) url.now) found) }
+    {
+        if !self.is_tried(url) {
             return Ok(None);
         }
         let html = with_html(alloc, url)?;
         Ok(self.find(html.as_str()))
     }
 
-    /// The URL of a file or folder that a server looks up for a canonical URL of the site, by the own names of folders. `None` if the URL
-    /// is that of a page, or is not below the top.
-    fn plain_of(&self, alloc: Global, url: &str) -> Result<Option<String>, AllocError> {
-        let Some(rest) = url.strip_prefix(self.origin()) else {
+    /// Whether a URL without a page is looked up again with `.html` added to its path.
+    fn is_tried(&self, url: &str) -> bool
+        ensures { result ≡ (self.now.rules.now.html_fallback && not (ends_in_slash (before_query url.now))) }
+    {
+        self.rules.html_fallback && !ends_in_slash(path_of(url).as_bytes())
+    }
+
+    /// The URL of the file or folder that a server looks up for a URL, or `None` if it looks up none.
+    fn plain_of(&self, alloc: Global, url: &str) -> Result<Option<String>, AllocError>
+        ensures { IfOk result (λ plain. option_map string_bytes plain ≡ plain_url (server_of self.now) url.now) }
+    {
+        let (path, query) = split_name(url, true);
+        let Some(path) = self.path_at(alloc, path.as_bytes())? else {
             return Ok(None);
         };
-        if !rest.starts_with('/') || self.find(url).is_some() {
+        let query = self.known_query(query);
+        let plain = self.site.url_of(path.as_slice(), query)?;
+        if !self.is_accepted(plain.as_str(), url) {
             return Ok(None);
         }
-        let (path, query) = match rest.split_once('?') {
-            Some((path, query)) => (path, Some(query)),
-            None => (rest, None),
+        Ok(Some(plain))
+    }
+
+    /// The path that a server looks up for the path of a URL, or `None` if that is not below the top.
+    fn path_at(&self, alloc: Global, path: &[u8]) -> Result<Option<Vec<u8>>, AllocError>
+        ensures { IfOk result (λ found. option_map (λ p. p.items) found ≡ path_at (server_of self.now) path.now) }
+    {
+        let Some(rest) = path.strip_prefix(self.origin().as_bytes()) else {
+            return Ok(None);
         };
         let mut spelled = String::from_str(alloc, self.origin())?;
-        push_respelled(alloc, path, &mut spelled)?;
-        let Some(below) = spelled.as_str().strip_prefix(self.top()) else {
+        push_respelled(alloc, rest, &mut spelled)?;
+        let Some(below) = spelled.as_bytes().strip_prefix(self.top().as_bytes()) else {
             return Ok(None);
         };
-        let mut plain = String::from_str(alloc, self.top())?;
-        if !push_looked_up(alloc, below, &mut plain)? {
-            return Ok(None);
-        }
-        if self.rules.queries
-            && let Some(query) = query
-        {
-            push_query(alloc, query, &mut plain)?;
-        }
-        if self.rules.exact && plain.as_str() != url {
-            return Ok(None);
-        }
-        Ok(Some(self.site.linked.own_url(alloc, plain.as_str())?))
+        let below = unescaped(alloc, below)?;
+        looked_up(alloc, below.as_slice())
+    }
+
+    /// The query of a URL, if it counts.
+    fn known_query<'q>(&self, query: Option<&'q str>) -> Option<&'q str>
+        ensures { option_map (λ q. q.now) result ≡ known_query (host_of self.now.rules.now) (option_map (λ q. q.now) query.entry) }
+    {
+        if self.rules.queries { query } else { None }
+    }
+
+    /// Whether a server accepts the spelling of a URL for which this one is looked up.
+    fn is_accepted(&self, plain: &str, url: &str) -> bool
+        ensures { result ≡ is_accepted (host_of self.now.rules.now) plain.now url.now }
+    {
+        !self.rules.exact || plain == url
     }
 }
 
@@ -92,7 +135,9 @@ fn has_empty_name(text: &[u8]) -> bool {
 }
 
 /// The URL without its query.
-fn path_of(url: &str) -> &str {
+fn path_of(url: &str) -> &str
+    ensures { result.now ≡ before_query url.now }
+{
     match url.split_once('?') {
         Some((path, _)) => path,
         None => url,

@@ -1,0 +1,130 @@
+-- Requests, and what a server returns by the definitions. Most of those in `Requests` and `Responses` were made to nginx and to Python's
+-- `http.server`, which looked up and returned the same.
+use Rattle.std.specs.Prelude.{◌≡◌, ℕ, false, true, List, [], ◌∷◌, codes, Option, Some, None}
+use Rattle.percent_encoding.specs.Percent.{percent_decode}
+use Rattle.site_files.specs.Pages.{Folder, Response, Missing, Moved, Found, own_text, response_at}
+use Rattle.site_files.specs.Server.{Host, Server, looked_up}
+
+-- the path that is looked up for the path of a request, which comes without its first slash
+abbrev pub requested : List ℕ → Option (List ℕ)
+requested path = looked_up (percent_decode path)
+
+-- what is looked up. nginx refuses those that lead above the top
+pub record Requests : Type 0 where
+  pub top : requested [] ≡ Some []
+  pub slashes : requested (codes "/") ≡ Some []
+  pub file : requested (codes "about.html") ≡ Some (codes "about.html")
+  pub empty_first : requested (codes "/about.html") ≡ Some (codes "about.html")
+  pub file_and_slash : requested (codes "about.html/") ≡ Some (codes "about.html/")
+  pub folder_alone : requested (codes "dir") ≡ Some (codes "dir")
+  pub folder : requested (codes "dir/") ≡ Some (codes "dir/")
+  pub folder_twice : requested (codes "dir//") ≡ Some (codes "dir/")
+  pub empty_names : requested (codes "dir///sub//index.html") ≡ Some (codes "dir/sub/index.html")
+  pub dot : requested (codes "dir/./page.html") ≡ Some (codes "dir/page.html")
+  pub dot_last : requested (codes "dir/.") ≡ Some (codes "dir/")
+  pub dots : requested (codes "dir//../about.html") ≡ Some (codes "about.html")
+  pub dots_twice : requested (codes "dir/sub//../../about.html") ≡ Some (codes "about.html")
+  pub dots_last : requested (codes "dir/sub/..") ≡ Some (codes "dir/")
+  pub slash_escaped : requested (codes "dir%2Findex.html") ≡ Some (codes "dir/index.html")
+  pub slash_last : requested (codes "dir%2f") ≡ Some (codes "dir/")
+  pub slash_first : requested (codes "%2Fabout.html") ≡ Some (codes "about.html")
+  pub slashes_escaped : requested (codes "dir%2F%2Fpage.html") ≡ Some (codes "dir/page.html")
+  pub dots_escaped : requested (codes "dir%2F..%2Fabout.html") ≡ Some (codes "about.html")
+  pub above : requested (codes "..%2Fnginx.conf") ≡ None
+  pub above_escaped : requested (codes "%2e%2e/about.html") ≡ None
+  pub space : requested (codes "a%20b.html") ≡ Some (codes "a b.html")
+  pub percent : requested (codes "%2541.html") ≡ Some (codes "%41.html")
+  pub letter : requested (codes "%41.html") ≡ Some (codes "A.html")
+  pub no_escape : requested (codes "100%.html") ≡ Some (codes "100%.html")
+  pub number_sign : requested (codes "about.html%23x") ≡ Some (codes "about.html#x")
+  pub mark : requested (codes "about.html%3Fx") ≡ Some (codes "about.html?x")
+
+abbrev pub host : Host
+host = record { indices = codes "index.html" ∷ codes "index.htm" ∷ []; queries = false; exact = false; fallback = false }
+
+-- a host with a folder at its top
+abbrev pub server : Host → Server
+server host = record { host = host; origin = codes "http://h"; top = codes "http://h/" }
+
+abbrev pub names : List (List ℕ)
+names = codes "%41.html" ∷ codes "a b.html" ∷ codes "about.html" ∷ codes "d2/" ∷ codes "d2/index.htm" ∷ codes "d4/" ∷ codes "d4/index.htm" ∷ codes "d4/index.html" ∷ codes "d5/" ∷ codes "d5/file.html" ∷ codes "dir/" ∷ codes "dir/index.html" ∷ codes "dir/page.html" ∷ codes "dir/sub/" ∷ codes "dir/sub/index.html" ∷ codes "index.html" ∷ []
+
+abbrev pub folder : Folder
+folder = record { names = names; links = [] }
+
+abbrev pub response : List ℕ → Response
+response url = response_at (server host) folder url
+
+-- what is returned, with the index files `index.html` and `index.htm`
+pub record Responses : Type 0 where
+  pub top : response (codes "http://h/") ≡ Found 15
+  pub file : response (codes "http://h/about.html") ≡ Found 2
+  pub empty_first : response (codes "http://h//about.html") ≡ Found 2
+  pub file_and_slash : response (codes "http://h/about.html/") ≡ Missing
+  pub no_suffix : response (codes "http://h/about") ≡ Missing
+  pub folder_alone : response (codes "http://h/dir") ≡ Moved (codes "http://h/dir/")
+  pub folder : response (codes "http://h/dir/") ≡ Found 11
+  pub folder_twice : response (codes "http://h/dir//") ≡ Found 11
+  pub empty_and_folder : response (codes "http://h//dir") ≡ Moved (codes "http://h/dir/")
+  pub empty_names : response (codes "http://h/dir///sub//index.html") ≡ Found 14
+  pub slash_escaped : response (codes "http://h/dir%2Findex.html") ≡ Found 11
+  pub folder_escaped : response (codes "http://h/dir%2Fsub") ≡ Moved (codes "http://h/dir/sub/")
+  pub dots_escaped : response (codes "http://h/dir%2F..%2Fabout.html") ≡ Found 2
+  pub above : response (codes "http://h/..%2Fnginx.conf") ≡ Missing
+  pub second_index : response (codes "http://h/d2/") ≡ Found 4
+  pub first_index : response (codes "http://h/d4/") ≡ Found 7
+  pub no_index : response (codes "http://h/d5/") ≡ Missing
+  pub space : response (codes "http://h/a%20b.html") ≡ Found 1
+  pub percent : response (codes "http://h/%2541.html") ≡ Found 0
+  pub letter : response (codes "http://h/%41.html") ≡ Missing
+  pub case : response (codes "http://h/ABOUT.html") ≡ Missing
+  pub query : response (codes "http://h/about.html?x") ≡ Found 2
+  pub folder_and_query : response (codes "http://h/dir?x") ≡ Moved (codes "http://h/dir/?x")
+  pub query_of_folder : response (codes "http://h/dir/?x") ≡ Found 11
+  pub mark : response (codes "http://h/about.html%3Fx") ≡ Missing
+  pub index_name : response (codes "http://h/index.html") ≡ Found 15
+  pub index_name_below : response (codes "http://h/dir/index.html") ≡ Found 11
+  pub other : response (codes "http://h/nothing") ≡ Missing
+
+-- ---- the rules of a host
+
+abbrev pub exact : Server
+exact = server (record host { exact = true })
+
+abbrev pub fallback : Server
+fallback = server (record host { fallback = true })
+
+abbrev pub queries : Server
+queries = server (record host { queries = true })
+
+-- files whose names have queries, as `wget` writes them
+abbrev pub saved : Folder
+saved = record { names = codes "a?x=1" ∷ codes "index.html?q" ∷ codes "index.html" ∷ []; links = [] }
+
+-- a folder with another name
+abbrev pub linked : Folder
+linked = record {
+  names = codes "all/" ∷ codes "all/a.html" ∷ codes "latest/" ∷ [];
+  links = record { name = codes "latest/"; own = codes "all/" } ∷ [];
+}
+
+-- what is returned by the rules, and the texts of files' own URLs
+pub record Rules : Type 0 where
+  pub exact_own : response_at exact folder (codes "http://h/a%20b.html") ≡ Found 1
+  pub exact_query : response_at exact folder (codes "http://h/about.html?x") ≡ Missing
+  pub exact_spelling : response_at exact folder (codes "http://h/%61bout.html") ≡ Missing
+  pub fallback_name : response_at fallback folder (codes "http://h/about") ≡ Found 2
+  pub fallback_folder : response_at fallback folder (codes "http://h/about/") ≡ Missing
+  pub fallback_query : response_at fallback folder (codes "http://h/about?x") ≡ Found 2
+  pub fallback_moved : response_at fallback folder (codes "http://h/dir") ≡ Moved (codes "http://h/dir/")
+  pub query : response_at queries saved (codes "http://h/a?x=1") ≡ Found 0
+  pub query_spelling : response_at queries saved (codes "http://h/%61?x%3D1") ≡ Found 0
+  pub query_other : response_at queries saved (codes "http://h/a?x=2") ≡ Missing
+  pub query_of_index : response_at queries saved (codes "http://h/?q") ≡ Found 1
+  pub query_in_path : response_at (server host) saved (codes "http://h/a%3Fx=1") ≡ Found 0
+  pub link : response_at (server host) linked (codes "http://h/latest/a.html") ≡ Found 1
+  pub link_alone : response_at (server host) linked (codes "http://h/latest") ≡ Moved (codes "http://h/latest/")
+  pub own_top : own_text (server host) names 15 ≡ Some (codes "http://h/")
+  pub own_folder : own_text (server host) names 11 ≡ Some (codes "http://h/dir/")
+  pub own_name : own_text (server host) names 6 ≡ Some (codes "http://h/d4/index.htm")
+  pub own_none : own_text (server host) names 3 ≡ None

@@ -1,0 +1,17 @@
+//! What the definitions in `specs/` say of some requests.
+ghost use Rattle.site_files.specs.Vectors.{Requests, Responses, Rules};
+
+/// The paths that are looked up for requests.
+pub fn requests()
+    ensures { Requests }
+{}
+
+/// What is returned for the URLs of a folder.
+pub fn responses()
+    ensures { Responses }
+{}
+
+/// What is returned by the rules of a host, and the own URLs of files.
+pub fn rules()
+    ensures { Rules }
+{}
