@@ -121,30 +121,43 @@ def target_of(text: str) -> List[str]:
     return [target] if target else []
 
 
-def texts_of(tag: str, found: Dict[str, Attribute]) -> List[Link]:
+def link_names(tag: Tag) -> Tuple[str, ...]:
+    """The names of the attributes of a start tag that may be links."""
+    kind = tag.context.kind
+    if kind == "html":
+        return tuple(TOOL.LINKS.get(tag.name, ()))
+    if kind == "xml":
+        no_links = ("base", "template", "svg", "math")
+        return tuple(TOOL.LINKS.get(tag.name, () if tag.name in no_links else ("href", "xlink:href")))
+    return () if tag.name == "font" else ("href", "xlink:href")
+
+
+def texts_of(tag: Tag, found: Dict[str, Attribute]) -> List[Link]:
     """The links of a start tag."""
     values = {name: attribute.value for name, attribute in found.items()}
-    if tag == "meta" and values.get("http-equiv", "").lower() == "refresh":
+    is_foreign = tag.context.kind in ("svg", "math")
+    if tag.name == "meta" and values.get("http-equiv", "").lower() == "refresh":
         return [Link(text, found["content"].at) for text in target_of(values.get("content", ""))]
     links = []
-    for name in TOOL.LINKS.get(tag, ()):
-        if name in found and TOOL.is_link(tag, name, values):
+    for name in link_names(tag):
+        if name in found and (is_foreign or TOOL.is_link(tag.name, name, values)):
             value = found[name]
             texts = TOOL.candidates(value.value) if name.endswith("srcset") else [value.value]
             links += [Link(text, value.at) for text in texts]
     return links
 
 
-def read_tags(text: str) -> Tuple[List[Link], Optional[str], Set[str]]:
+def read_tags(text: str, xml: bool = False) -> Tuple[List[Link], Optional[str], Set[str]]:
     """The links, the base and the ids of a document with this text."""
     links: List[Link] = []
     ids: Set[str] = set()
     base = None
-    for tag in page_tags(text):
+    for tag in page_tags(text, xml):
         found = firsts(tag)
-        if tag.name == "base" and base is None and "href" in found:
+        is_base = tag.name == "base" and tag.context.kind in ("html", "xml")
+        if is_base and base is None and "href" in found:
             base = found["href"].value
-        links += texts_of(tag.name, found)
+        links += texts_of(tag, found)
         if "id" in found:
             ids.add(found["id"].value)
         if tag.name == "a" and "name" in found:

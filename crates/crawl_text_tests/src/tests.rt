@@ -1,4 +1,5 @@
 //! Tests of what no contract says and no command shows: that calls succeed, and results as values.
+mod documents;
 mod findings;
 mod indices;
 mod keys;

@@ -1,5 +1,6 @@
 -- The links of a document without those of its styles, its base, and its ids.
 use Rattle.std.specs.Prelude.{ℕ, ◌||◌, not, Bool, true, false, if◌then◌else◌, List, [], ◌∷◌, ◌++◌, codes, Option, None, Some}
+use Rattle.html_links.specs.declared.context.Syntax.{Syntax}
 use Rattle.html_links.specs.declared.element.Element.{Element}
 use Rattle.html_links.specs.declared.element.Element.TheVariants as element
 use Rattle.html_links.specs.declared.reader.Form.{Form}
@@ -89,6 +90,7 @@ meta_form v = if is_keyword (codes "refresh") v.second then form.Refresh else if
 -- how the first value that is read of an element names documents
 abbrev pub first_form : Element → Values → Form
 first_form element.Base v = form.Nothing
+first_form element.Font v = form.Nothing
 first_form element.Meta v = meta_form v
 first_form element.Link v = form_if (is_related v.third) form.Link
 first_form element.Input v = form_if (is_keyword (codes "image") v.third) form.Link
@@ -99,6 +101,7 @@ first_form _ v = form.Link
 -- and how the second does
 abbrev pub second_form : Element → Values → Form
 second_form element.Base v = form.Nothing
+second_form element.Font v = form.Nothing
 second_form element.Meta v = form.Nothing
 second_form element.Link v = form_if (is_related v.third) form.List
 second_form element.Image v = form.List
@@ -124,8 +127,8 @@ abbrev pub links_in : List Seen → List (List ℕ)
 links_in [] = []
 links_in (seen ∷ rest) = links_with seen.element seen.values ++ links_in rest
 
-abbrev pub links_of : List ℕ → List (List ℕ)
-links_of document = links_in (seen_in document)
+abbrev pub links_of : Syntax → List ℕ → List (List ℕ)
+links_of syntax document = links_in (seen_in syntax document)
 
 abbrev pub base_text : Option (List ℕ) → Option (List ℕ)
 base_text None = None
@@ -144,8 +147,8 @@ abbrev pub base_in : List Seen → Option (List ℕ)
 base_in [] = None
 base_in (seen ∷ rest) = or_later (base_with seen.element seen.values) (base_in rest)
 
-abbrev pub base_of : List ℕ → Option (List ℕ)
-base_of document = base_in (seen_in document)
+abbrev pub base_of : Syntax → List ℕ → Option (List ℕ)
+base_of syntax document = base_in (seen_in syntax document)
 
 abbrev pub anchors_with : List ℕ → Values → List (List ℕ)
 anchors_with name v = if bytes_eq name (codes "a") then value_links form.Link v.name else []
@@ -158,5 +161,5 @@ abbrev pub ids_in : List Seen → List (List ℕ)
 ids_in [] = []
 ids_in (seen ∷ rest) = ids_with seen.name seen.values ++ ids_in rest
 
-abbrev pub ids_of : List ℕ → List (List ℕ)
-ids_of document = ids_in (seen_in document)
+abbrev pub ids_of : Syntax → List ℕ → List (List ℕ)
+ids_of syntax document = ids_in (seen_in syntax document)

@@ -5,6 +5,7 @@ ghost use Rattle.html_links.specs.Links.{links_of, links_with, base_of};
 ghost use Rattle.html_links.specs.Reads.{base_at};
 
 use crate::bytes::is_space;
+use crate::context::{Syntax, context_of};
 use crate::found::Values;
 use crate::links::{Links, PlacedLinks};
 use crate::next_tag::{NextTag, next_tag};
@@ -18,19 +19,22 @@ use std::alloc::{AllocError, Global};
 /// If an allocation fails.
 pub fn read_places<L: PlacedLinks>(
     alloc: Global,
+    syntax: Syntax,
     document: &[u8],
     links: &mut L,
 ) -> Result<Base, AllocError>
-    ensures links { OnOk result (L.texts links.new ≡ L.texts links.old ++ links_of document.now) }
-    ensures base { IfOk result (λ base. base_at base ≡ base_of document.now) }
+    ensures links { OnOk result (L.texts links.new ≡ L.texts links.old ++ links_of syntax document.now) }
+    ensures base { IfOk result (λ base. base_at base ≡ base_of syntax document.now) }
 {
     let mut decoded = Vec::new(alloc);
     let mut base = None;
     let mut values = Values::none();
+    let mut context = context_of(syntax);
     let mut rest = document;
-    'tags: while let Some(tag) = next_tag(rest, &mut values) {
+    'tags: while let Some(tag) = next_tag(context, rest, &mut values) {
         push_placed(document.len(), tag, &values, &mut decoded, links)?;
         take_base(alloc, &mut base, tag.element, &values)?;
+        context = tag.context;
         rest = tag.rest;
     }
     Ok(base)

@@ -8,7 +8,8 @@ ghost use Rattle.html_links.specs.Values.{values_at};
 ghost use Rattle.html_links.specs.Links.{value_links, text_links, is_link_type, types_behind, is_related, is_keyword, submits, submits_nothing, is_open_graph, is_card, names_url, is_data, names_data, form_if, meta_form, first_form, second_form, first_links, second_links, third_links, links_with, links_of, ids_with, anchors_with, ids_of, base_of, base_with, or_later};
 ghost use Rattle.html_links.specs.Reads.{base_at};
 
-use crate::bytes::parts;
+use crate::bytes::{parts, split_quoted};
+use crate::context::{Syntax, context_of, is_foreign};
 use crate::element::Element;
 use crate::found::Values;
 use crate::links::PlacedLinks;
@@ -39,23 +40,26 @@ pub(crate) enum Form {
 /// If an allocation fails.
 pub fn read_links<L: Links>(
     alloc: Global,
+    syntax: Syntax,
     document: &[u8],
     styles: bool,
     links: &mut L,
 ) -> Result<Base, AllocError>
-    ensures links { OnOk result (styles ≡ false → L.texts links.new ≡ L.texts links.old ++ links_of document.now) }
-    ensures base { IfOk result (λ base. base_at base ≡ base_of document.now) }
+    ensures links { OnOk result (styles ≡ false → L.texts links.new ≡ L.texts links.old ++ links_of syntax document.now) }
+    ensures base { IfOk result (λ base. base_at base ≡ base_of syntax document.now) }
 {
     let mut decoded = Vec::new(alloc);
     let mut base = None;
     let mut values = Values::none();
+    let mut context = context_of(syntax);
     let mut rest = document;
-    'tags: while let Some(tag) = next_tag(rest, &mut values) {
+    'tags: while let Some(tag) = next_tag(context, rest, &mut values) {
         if styles {
             push_styles(tag, &values, &mut decoded, links)?;
         }
         push_values(tag.element, &values, &mut decoded, links)?;
         take_base(alloc, &mut base, tag.element, &values)?;
+        context = tag.context;
         rest = tag.rest;
     }
     Ok(base)
@@ -67,22 +71,25 @@ pub fn read_links<L: Links>(
 /// If an allocation fails.
 pub fn read_page<L: PlacedLinks, I: Links>(
     alloc: Global,
+    syntax: Syntax,
     document: &[u8],
     links: &mut L,
     ids: &mut I,
 ) -> Result<Base, AllocError>
-    ensures links { OnOk result (L.texts links.new ≡ L.texts links.old ++ links_of document.now) }
-    ensures ids { OnOk result (I.texts ids.new ≡ I.texts ids.old ++ ids_of document.now) }
-    ensures base { IfOk result (λ base. base_at base ≡ base_of document.now) }
+    ensures links { OnOk result (L.texts links.new ≡ L.texts links.old ++ links_of syntax document.now) }
+    ensures ids { OnOk result (I.texts ids.new ≡ I.texts ids.old ++ ids_of syntax document.now) }
+    ensures base { IfOk result (λ base. base_at base ≡ base_of syntax document.now) }
 {
     let mut decoded = Vec::new(alloc);
     let mut base = None;
     let mut values = Values::none();
+    let mut context = context_of(syntax);
     let mut rest = document;
-    'tags: while let Some(tag) = next_tag(rest, &mut values) {
+    'tags: while let Some(tag) = next_tag(context, rest, &mut values) {
         push_placed(document.len(), tag, &values, &mut decoded, links)?;
         push_ids(tag.name, &values, &mut decoded, ids)?;
         take_base(alloc, &mut base, tag.element, &values)?;
+        context = tag.context;
         rest = tag.rest;
     }
     Ok(base)
@@ -132,9 +139,23 @@ fn push_styles<L: Links>(
         style_links(decoded.as_slice(), links)?;
     }
     if same_name(tag.name, b"style") {
-        style_links(raw_text(b"style", tag.text), links)?;
+        style_links(style_sheet(tag, values.self_closing), links)?;
     }
     Ok(())
+}
+
+/// The text of a `style` element. In foreign content it ends at the first `<`, and there is none if the tag closes itself.
+fn style_sheet<'a>(tag: NextTag<'a>, self_closing: bool) -> &'a [u8] {
+    if !is_foreign(tag.context) {
+        return raw_text(b"style", tag.text);
+    }
+    if self_closing {
+        return &[];
+    }
+    match split_quoted(b'<', tag.text) {
+        Some((text, _)) => text,
+        None => tag.text,
+    }
 }
 
 /// Takes the base of a tag if there is none yet.
@@ -238,7 +259,7 @@ fn first_form(
     ensures { IfOk result (λ form. form ≡ first_form element (values_at values.now)) }
 {
     match element {
-        Element::Base => Ok(Form::Nothing),
+        Element::Base | Element::Font => Ok(Form::Nothing),
         Element::Meta => meta_form(values, decoded),
         Element::Link => Ok(form_if(is_related(values.third, decoded)?, Form::Link)),
         Element::Input => Ok(form_if(is_keyword(b"image", values.third, decoded)?, Form::Link)),
@@ -258,7 +279,7 @@ fn second_form(
     ensures { IfOk result (λ form. form ≡ second_form element (values_at values.now)) }
 {
     match element {
-        Element::Base | Element::Meta => Ok(Form::Nothing),
+        Element::Base | Element::Font | Element::Meta => Ok(Form::Nothing),
         Element::Link => Ok(form_if(is_related(values.third, decoded)?, Form::List)),
         Element::Image | Element::Source => Ok(Form::List),
         Element::Input => Ok(form_if(submits(values.third, decoded)?, Form::Link)),

@@ -1,7 +1,7 @@
 //! The links of documents and of their styles, which no command reads. Each is followed by a bar.
 ghost use Rattle.std.specs.Prelude.{map};
 
-use html_links::{Links, read_links};
+use html_links::{Links, Syntax, read_links};
 use std::alloc::{AllocError, Global};
 
 #[derive(Drop)]
@@ -54,7 +54,7 @@ fn has_links(alloc: Global, html: &str, text: &str) -> bool {
         alloc,
         texts: Vec::new(alloc),
     };
-    match read_links(alloc, html.as_bytes(), true, &mut links) {
+    match read_links(alloc, Syntax::Html, html.as_bytes(), true, &mut links) {
         Ok(_) => are_told(links.texts.as_slice(), text.as_bytes()),
         Err(_) => false,
     }
