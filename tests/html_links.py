@@ -79,7 +79,7 @@ PROGRAM = """//! Prints the links of the documents in a file.
 
 ghost use Rattle.std.specs.Prelude.{map};
 
-use html_links::{Links, Syntax, read_links};
+use html_links::{Links, PlacedLinks, Syntax, read_places};
 use std::alloc::{AllocError, Global};
 use std::io::Write;
 use std::{fs, io};
@@ -96,12 +96,16 @@ impl Links for Texts {
     }
 }
 
+impl PlacedLinks for Texts {
+    fn begin_at(&mut self, _: usize) {}
+}
+
 fn main(rt: HostRuntime) -> io::Result<()> {
     let documents = fs::read(&rt, "documents")?;
     let mut all = Vec::new(rt.alloc());
     for document in documents.as_slice().split(|byte| *byte == 0x1d) {
         let mut texts = Texts(rt.alloc(), Vec::new(rt.alloc()));
-        read_links(rt.alloc(), Syntax::Html, document, true, &mut texts)?;
+        read_places(rt.alloc(), Syntax::Html, document, true, &mut texts)?;
         for text in &texts.1 {
             all.extend_from_slice(text.as_slice())?;
             all.extend_from_slice(b"\\x1e")?;

@@ -6,4 +6,3 @@ mod keys;
 mod machine;
 mod sessions;
 mod start_tags;
-mod styles;

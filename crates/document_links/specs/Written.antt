@@ -63,5 +63,5 @@ pub record AreWritten (old links new : List (List ℕ)) (limit : ℕ) : Type 0 w
 -- a document with this text has these link texts, if it has no base
 abbrev pub HasTexts : Charset → List ℕ → ℕ → List (List ℕ) → Type 0
 HasTexts charset text limit links =
-    is_unicode charset ≡ true → base_of Html text ≡ None → list_all can_write (links_of Html text) ≡ true → byte_count links ≤ limit
-    → links ≡ map written (links_of Html text)
+    is_unicode charset ≡ true → base_of Html text ≡ None → list_all can_write (links_of false Html text) ≡ true → byte_count links ≤ limit
+    → links ≡ map written (links_of false Html text)

@@ -1,5 +1,5 @@
 //! Reads a document.
-ghost use Rattle.std.specs.Prelude.{◌≡◌, ◌++◌, [], true, IfOk, OnOk, IfSome, IsAscii, MatchOption, None};
+ghost use Rattle.std.specs.Prelude.{◌≡◌, ◌++◌, [], true, false, IfOk, OnOk, IfSome, IsAscii, MatchOption, None};
 ghost use Rattle.std.specs.Str.Lossy.{utf8_lossy};
 ghost use Rattle.html_links.specs.Links.{base_of, links_of};
 ghost use Rattle.html_links.specs.declared.context.Syntax.TheVariants.{Html};
@@ -169,7 +169,7 @@ fn read_known(
     raw: &mut RawLinks,
     ids: &mut RawIds,
 ) -> Result<Base, AllocError>
-    ensures links { is_unicode charset ≡ true → OnOk result (raw.new.texts ≡ raw.old.texts ++ links_of Html text.now) }
+    ensures links { is_unicode charset ≡ true → OnOk result (raw.new.texts ≡ raw.old.texts ++ links_of false Html text.now) }
     ensures base { is_unicode charset ≡ true → IfOk result (λ base. base_at base ≡ base_of Html text.now) }
 {
     let base = read_all(alloc, text, options, raw, ids)?;
@@ -190,15 +190,15 @@ fn read_all(
     raw: &mut RawLinks,
     ids: &mut RawIds,
 ) -> Result<Base, AllocError>
-    ensures links { OnOk result (raw.new.texts ≡ raw.old.texts ++ links_of Html text.now) }
+    ensures links { OnOk result (raw.new.texts ≡ raw.old.texts ++ links_of false Html text.now) }
     ensures base { IfOk result (λ base. base_at base ≡ base_of Html text.now) }
 {
     if options.anchors {
-        read_page(alloc, Syntax::Html, text, raw, ids)
+        read_page(alloc, Syntax::Html, text, false, raw, ids)
     } else if options.places {
-        read_places(alloc, Syntax::Html, text, raw)
+        read_places(alloc, Syntax::Html, text, false, raw)
     } else {
-        read_links(alloc, Syntax::Html, text, false, raw)
+        read_links(alloc, Syntax::Html, text, raw)
     }
 }
 

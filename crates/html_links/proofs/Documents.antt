@@ -72,7 +72,7 @@ name_jump_at : (at : Context) (ends b : Bool) (name : List ℕ) (c : ℕ) (rest 
     read at (TagName ends (name ++ lower c ∷ [])) rest ≡ read at (TagName ends ((name ++ lower c ∷ []) ++ map lower some)) more →
     read at (TagName ends name) (c ∷ rest) ≡ read at (TagName ends (name ++ map lower (cond b (c ∷ some) []))) (cond b more (c ∷ rest))
 name_jump_at at ends true name c rest some more stays later =
-    ap (λ n. follow at n (λ at here. read at here rest)) (stays refl) ∙ later ∙ ap (λ n. read at (TagName ends n) more) (append_assoc name (lower c ∷ []) (map lower some))
+    ap (λ n. follow at n rest (λ at here. read at here rest)) (stays refl) ∙ later ∙ ap (λ n. read at (TagName ends n) more) (append_assoc name (lower c ∷ []) (map lower some))
 name_jump_at at ends false name c rest some more stays later = ap (λ n. read at (TagName ends n) (c ∷ rest)) (sym (append-nil name))
 
 name_jump : (at : Context) (ends : Bool) (name bytes : List ℕ) → read at (TagName ends name) bytes ≡ read at (TagName ends (name ++ map lower (front in_tag_name bytes))) (behind in_tag_name bytes)
@@ -102,7 +102,7 @@ not_letter opening.Plain c other = refl
 
 to_bogus : (bytes more : List ℕ) (first : ℕ) (k : Opening) → bytes ≡ first ∷ more → k ≡ opening_of first → (k ≡ opening.Letter → ⊥) → (at : Context) → read at EndTagOpen bytes ≡ read at Bogus bytes
 to_bogus bytes more first k is opens other at =
-    ap (read at EndTagOpen) is ∙ ap (λ k. follow at (end_open_step k first) (λ at here. read at here more)) (sym opens) ∙ ap (λ n. follow at n (λ at here. read at here more)) (not_letter k first other)
+    ap (read at EndTagOpen) is ∙ ap (λ k. follow at (end_open_step k first) more (λ at here. read at here more)) (sym opens) ∙ ap (λ n. follow at n more (λ at here. read at here more)) (not_letter k first other)
     ∙ sym (ap (read at Bogus) is)
 
 ends_at : (o : Option (Bor (List ℕ))) (bytes : List ℕ) → ((at : Context) → read at EndTagOpen bytes ≡ read_rest at o) → MarkupEnds (other_markup o) bytes
@@ -121,10 +121,10 @@ bogus_leaves (Some x) bytes leaves = leaves
 
 abbrev pub tag_then : Context → Bool → List ℕ → Option Tag → List Token
 tag_then at ends name None = []
-tag_then at ends name (Some t) = emitted at ends name t.attributes t.self_closing ++ read (passed at ends name t.attributes t.self_closing) (behind_tag at ends name) t.rest
+tag_then at ends name (Some t) = emitted at ends name t.attributes t.self_closing t.rest ++ read (passed at ends name t.attributes t.self_closing) (behind_tag at ends name) t.rest
 
 in_tag_at : (at : Context) (ends : Bool) (name : List ℕ) (next : tags.Next) (rest : List ℕ) → ((s : tags.State) (all : List Attribute) → read at (InTag ends name s all) rest ≡ tag_then at ends name (tags.run s all rest)) →
-    follow at (tag_step at ends name next) (λ at here. read at here rest) ≡ tag_then at ends name (tags.follow next (λ s all. tags.run s all rest) rest)
+    follow at (tag_step at ends name next) rest (λ at here. read at here rest) ≡ tag_then at ends name (tags.follow next (λ s all. tags.run s all rest) rest)
 in_tag_at at ends name next rest later = grind arith
 
 pub in_tag : (at : Context) (ends : Bool) (name : List ℕ) (s : tags.State) (all : List Attribute) (bytes : List ℕ) → read at (InTag ends name s all) bytes ≡ tag_then at ends name (tags.run s all bytes)
@@ -138,7 +138,7 @@ comment_then at None = []
 comment_then at (Some rest) = read at Data rest
 
 in_comment_at : (at : Context) (next : comments.Next) (rest : List ℕ) → ((s : comments.State) → read at (InComment s) rest ≡ comment_then at (comments.run s rest)) →
-    follow at (comment_step next) (λ at here. read at here rest) ≡ comment_then at (comments.follow next (λ s. comments.run s rest) rest)
+    follow at (comment_step next) rest (λ at here. read at here rest) ≡ comment_then at (comments.follow next (λ s. comments.run s rest) rest)
 in_comment_at at next rest later = grind arith
 
 pub in_comment : (at : Context) (s : comments.State) (bytes : List ℕ) → read at (InComment s) bytes ≡ comment_then at (comments.run s bytes)
@@ -150,7 +150,7 @@ rest_read at None = refl
 rest_read at (Some x) = refl
 
 in_cdata_at : (at : Context) (next : section_nexts.Next) (rest : List ℕ) → ((s : sections.State) → read at (InCdata s) rest ≡ comment_then at (cdata.run s rest)) →
-    follow at (cdata_step next) (λ at here. read at here rest) ≡ comment_then at (cdata.follow next (λ s. cdata.run s rest) rest)
+    follow at (cdata_step next) rest (λ at here. read at here rest) ≡ comment_then at (cdata.follow next (λ s. cdata.run s rest) rest)
 in_cdata_at at next rest later = grind arith
 
 pub in_cdata : (at : Context) (s : sections.State) (bytes : List ℕ) → read at (InCdata s) bytes ≡ comment_then at (cdata.run s bytes)
@@ -160,7 +160,7 @@ in_cdata at s (c ∷ rest) = in_cdata_at at (cdata.step s c) rest (λ s. in_cdat
 -- a `<![` in foreign content
 pub in_marked : (at : Context) (bytes more : List ℕ) (r : Option (Bor (List ℕ))) → is_foreign at ≡ true → bytes ≡ 91 ∷ more → bytes_at r ≡ cdata.run (section.Name 0) more → read at MarkupDeclaration bytes ≡ read_rest at r
 in_marked at bytes more r foreign is ends =
-    ap (read at MarkupDeclaration) is ∙ ap (λ b. follow at (cond (b && true) (Go (InCdata (section.Name 0))) (Go Bogus)) (λ at here. read at here more)) foreign
+    ap (read at MarkupDeclaration) is ∙ ap (λ b. follow at (cond (b && true) (Go (InCdata (section.Name 0))) (Go Bogus)) more (λ at here. read at here more)) foreign
     ∙ in_cdata at (section.Name 0) more ∙ ap (comment_then at) (sym ends) ∙ rest_read at r
 
 cdata_less_at : (next : section_nexts.Next) (rest here : List ℕ) → ((s : sections.State) → cdata.run s rest ≡ Some here → length here ≤ length rest) →
@@ -188,9 +188,9 @@ tag_less s all (c ∷ rest) t e =
 pub nothing_more : (at : Context) (found whole : List StartTag) (rest : List ℕ) → found ++ start_tags (read at Data rest) ≡ whole → read at Data rest ≡ [] → found ≡ whole
 nothing_more at found whole rest inv none = sym (append-nil found) ∙ ap (λ more. found ++ start_tags more) (sym none) ∙ inv
 
-pub one_more : (at own : Context) (items new : List StartTagAt) (one : StartTagAt) (whole : List StartTag) (more : List Token) (rest : List ℕ) → map start_tag_at items ++ start_tags (read at Data rest) ≡ whole → new ≡ items ++ one ∷ [] →
-    read at Data rest ≡ Start own (start_tag_at one) ∷ more → map start_tag_at new ++ start_tags more ≡ whole
-one_more at own items new one whole more rest inv pushed same = grind (arith, common_steps, map-append)
+pub one_more : (at own : Context) (items new : List StartTagAt) (one : StartTagAt) (whole : List StartTag) (more : List Token) (rest bytes : List ℕ) → map start_tag_at items ++ start_tags (read at Data rest) ≡ whole → new ≡ items ++ one ∷ [] →
+    read at Data rest ≡ Start own (start_tag_at one) bytes ∷ more → map start_tag_at new ++ start_tags more ≡ whole
+one_more at own items new one whole more rest bytes inv pushed same = grind (arith, common_steps, map-append)
 
 pub last_one : (found whole : List StartTag) (more : List Token) → found ++ start_tags more ≡ whole → more ≡ [] → found ≡ whole
 last_one found whole more inv none = sym (append-nil found) ∙ ap (λ m. found ++ start_tags m) (sym none) ∙ inv
@@ -207,7 +207,7 @@ pub read_open_end_tag : (at : Context) (rest opened name more : List ℕ) → 60
 read_open_end_tag at rest opened name more cut reads ends = grind (arith, read_less, in_tag)
 
 pub read_start_tag : (at : Context) (rest opened name more : List ℕ) (t : Tag) → 60 ∷ opened ≡ behind (λ c. not (c == 60)) rest → read at TagOpen opened ≡ read at (InTag false name BeforeName []) more → Some t ≡ tag_of more →
-    read at Data rest ≡ Start (tag_context at name) (record { name = name; attributes = t.attributes; self_closing = t.self_closing }) ∷
+    read at Data rest ≡ Start (tag_context at name) (record { name = name; attributes = t.attributes; self_closing = t.self_closing }) t.rest ∷
     read (entered (tag_context at name) name t.attributes t.self_closing) (behind_tag at false name) t.rest
 read_start_tag at rest opened name more t cut reads ends = read_less at rest opened cut ∙ reads ∙ in_tag at false name BeforeName [] more ∙ ap (tag_then at false name) (sym ends)
 
@@ -286,7 +286,7 @@ raw_then at None = []
 raw_then at (Some here) = read at (InTag true [] BeforeName []) here
 
 in_raw_at : (at : Context) (name : List ℕ) (c : ℕ) (next : raw.Next) (rest : List ℕ) → ((s : raw.State) → read at (InRaw name s) rest ≡ raw_then at (raw.run name s rest)) →
-    follow at (raw_step at name c next) (λ at here. read at here rest) ≡ raw_then at (raw.follow next (λ s. raw.run name s rest) (c ∷ rest))
+    follow at (raw_step at name c next) rest (λ at here. read at here rest) ≡ raw_then at (raw.follow next (λ s. raw.run name s rest) (c ∷ rest))
 in_raw_at at name c next rest later = grind arith
 
 pub in_raw : (at : Context) (name : List ℕ) (s : raw.State) (bytes : List ℕ) → read at (InRaw name s) bytes ≡ raw_then at (raw.run name s bytes)
@@ -339,7 +339,7 @@ pub to_script : (k : Content) (name bytes : List ℕ) → content.Script ≡ k �
 to_script k name bytes e at = ap (λ k. read at (behind_start k name) bytes) (sym e)
 
 in_script_at : (at : Context) (c : ℕ) (n : nexts.Next) (rest : List ℕ) → ((s : code.State) → read at (InScript s) rest ≡ raw_then at (scripts.run s rest)) →
-    follow at (script_step at c n) (λ at here. read at here rest) ≡ raw_then at (scripts.follow n (λ s. scripts.run s rest) (c ∷ rest))
+    follow at (script_step at c n) rest (λ at here. read at here rest) ≡ raw_then at (scripts.follow n (λ s. scripts.run s rest) (c ∷ rest))
 in_script_at at c n rest later = grind arith
 
 pub in_script : (at : Context) (s : code.State) (bytes : List ℕ) → read at (InScript s) bytes ≡ raw_then at (scripts.run s bytes)

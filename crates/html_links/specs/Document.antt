@@ -36,10 +36,10 @@ pub record StartTag : Type 0 where
   pub attributes : List Attribute
   pub self_closing : Bool
 
--- What the tokenizer emits: start tags, with their context, and the end tags of templates. No other end tag decides whether a tag is
--- part of the page.
+-- What the tokenizer emits: start tags, with their context and the bytes after them, and the end tags of templates. No other end tag
+-- decides whether a tag is part of the page.
 pub data Token : Type 0 where
-  Start : Context → StartTag → Token
+  Start : Context → StartTag → List ℕ → Token
   TemplateEnd : Token
 
 -- what the content of an element is, by its name: text to its end tag, a script, text to the document's end, or markup
@@ -85,18 +85,18 @@ pub data State : Type 0 where
   InScript : code.State → State
   InPlain : State
 
--- Go to a state, or emit what has ended, and continue in a context and a state.
+-- Go to a state, or emit what has ended, by the bytes after it, and continue in a context and a state.
 pub data Next : Type 0 where
   Go : State → Next
-  Emit : List Token → Context → State → Next
+  Emit : (List ℕ → List Token) → Context → State → Next
 
 abbrev pub end_tag : Context → List ℕ → List Token
 end_tag at name = if ends_template at name then TemplateEnd ∷ [] else []
 
 -- the attributes of an end tag do not count
-abbrev pub emitted : Context → Bool → List ℕ → List Attribute → Bool → List Token
-emitted at true name attributes closing = end_tag at name
-emitted at false name attributes closing = Start (tag_context at name) (record { name = name; attributes = attributes; self_closing = closing }) ∷ []
+abbrev pub emitted : Context → Bool → List ℕ → List Attribute → Bool → List ℕ → List Token
+emitted at true name attributes closing rest = end_tag at name
+emitted at false name attributes closing rest = Start (tag_context at name) (record { name = name; attributes = attributes; self_closing = closing }) rest ∷ []
 
 -- the context of the content of a start tag, by its own context
 abbrev pub entered : Context → List ℕ → List Attribute → Bool → Context
@@ -189,18 +189,18 @@ step at (InRaw name state) c = raw_step at name c (raw.step name state c)
 step at (InScript state) c = script_step at c (scripts.step state c)
 step at InPlain c = Go InPlain
 
-abbrev pub follow : Context → Next → (Context → State → List Token) → List Token
-follow at (Go here) on = on at here
-follow at (Emit found after here) on = found ++ on after here
+abbrev pub follow : Context → Next → List ℕ → (Context → State → List Token) → List Token
+follow at (Go here) rest on = on at here
+follow at (Emit found after here) rest on = found rest ++ on after here
 
 -- the tags that end in these bytes, which begin in a context
 abbrev pub read : Context → State → List ℕ → List Token
 read at here [] = []
-read at here (c ∷ rest) = follow at (step at here c) (λ at here. read at here rest)
+read at here (c ∷ rest) = follow at (step at here c) rest (λ at here. read at here rest)
 
 abbrev pub start_tags : List Token → List StartTag
 start_tags [] = []
-start_tags (Start at t ∷ rest) = t ∷ start_tags rest
+start_tags (Start at t bytes ∷ rest) = t ∷ start_tags rest
 start_tags (TemplateEnd ∷ rest) = start_tags rest
 
 -- the tags of a document in HTML

@@ -1,4 +1,4 @@
--- The links of a document without those of its styles, its base, and its ids.
+-- The links of a document with or without those of its styles, its base, and its ids.
 use Rattle.std.specs.Prelude.{ℕ, ◌||◌, not, Bool, true, false, if◌then◌else◌, List, [], ◌∷◌, ◌++◌, codes, Option, None, Some}
 use Rattle.html_links.specs.declared.context.Syntax.{Syntax}
 use Rattle.html_links.specs.declared.element.Element.{Element}
@@ -13,16 +13,18 @@ use Rattle.html_links.specs.Seen.{Seen, seen_in}
 use Rattle.html_links.specs.References.{text_of}
 use Rattle.html_links.specs.Candidates.{candidates_of}
 use Rattle.html_links.specs.Refresh.{target_of}
+use Rattle.html_links.specs.Styles.{style_links_of}
 
 abbrev pub target_links : Option (List ℕ) → List (List ℕ)
 target_links None = []
 target_links (Some target) = target ∷ []
 
--- the links of a text: itself, the URLs of a `srcset`, the target of a refresh, or nothing
+-- the links of a text: itself, the URLs of a `srcset`, the target of a refresh, those of a style, or nothing
 abbrev pub text_links : Form → List ℕ → List (List ℕ)
 text_links form.Link text = text ∷ []
 text_links form.List text = candidates_of text
 text_links form.Refresh text = target_links (target_of text)
+text_links form.Style text = style_links_of text
 text_links form.Nothing text = []
 
 abbrev pub value_links : Form → Option (List ℕ) → List (List ℕ)
@@ -123,12 +125,20 @@ third_links _ v = []
 abbrev pub links_with : Element → Values → List (List ℕ)
 links_with element v = first_links element v ++ second_links element v ++ third_links element v
 
-abbrev pub links_in : List Seen → List (List ℕ)
-links_in [] = []
-links_in (seen ∷ rest) = links_with seen.element seen.values ++ links_in rest
+-- those of its `style`, and of the style sheet in it
+abbrev pub style_links_with : Values → List ℕ → List (List ℕ)
+style_links_with v sheet = value_links form.Style v.style ++ style_links_of sheet
 
-abbrev pub links_of : Syntax → List ℕ → List (List ℕ)
-links_of syntax document = links_in (seen_in syntax document)
+abbrev pub links_at : Bool → Seen → List (List ℕ)
+links_at styles seen = if styles then style_links_with seen.values seen.sheet ++ links_with seen.element seen.values else links_with seen.element seen.values
+
+abbrev pub links_in : Bool → List Seen → List (List ℕ)
+links_in styles [] = []
+links_in styles (seen ∷ rest) = links_at styles seen ++ links_in styles rest
+
+-- the links of a document, with those of its styles or without
+abbrev pub links_of : Bool → Syntax → List ℕ → List (List ℕ)
+links_of styles syntax document = links_in styles (seen_in syntax document)
 
 abbrev pub base_text : Option (List ℕ) → Option (List ℕ)
 base_text None = None

@@ -1,6 +1,5 @@
 -- What a reader of links finds in what is seen: it skips tags that name nothing.
-use Rattle.std.specs.Prelude.{◌≡◌, ◌<◌, ℕ, ◌&&◌, not, Bool, false, if◌then◌else◌, List, [], ◌∷◌, length, map, codes, Option, None, Some}
-use Rattle.std.specs.Str.{bytes_eq}
+use Rattle.std.specs.Prelude.{◌≡◌, ◌<◌, ℕ, ◌&&◌, Bool, true, false, List, [], ◌∷◌, length, map, Option, None, Some}
 use Rattle.html_links.specs.declared.next_tag.NextTag.{NextTag}
 use Rattle.html_links.specs.declared.next_tag.Step.{Step}
 use Rattle.html_links.specs.declared.next_tag.Step.TheVariants as step
@@ -15,20 +14,12 @@ use Rattle.html_links.specs.Links.{links_in, ids_in, base_in}
 abbrev pub name_nothing : Values → Bool
 name_nothing v = is_absent v.first && is_absent v.second && is_absent v.style && is_absent v.id
 
-abbrev pub is_unstyled : Seen → Bool
-is_unstyled seen = is_absent seen.values.style && not (bytes_eq seen.name (codes "style"))
-
--- the tags with a style, and the style sheets
-abbrev pub styled_in : List Seen → List Seen
-styled_in [] = []
-styled_in (seen ∷ rest) = if is_unstyled seen then styled_in rest else seen ∷ styled_in rest
-
--- some tags have the links, the ids, the base and the styles of all
+-- some tags have the links, without and with those of styles, the ids and the base of all
 pub record Has (all some : List Seen) : Type 0 where
-  pub links : links_in all ≡ links_in some
+  pub links : links_in false all ≡ links_in false some
   pub ids : ids_in all ≡ ids_in some
   pub base : base_in all ≡ base_in some
-  pub styles : styled_in all ≡ styled_in some
+  pub styled : links_in true all ≡ links_in true some
 
 -- What contracts state of the code: the tag with these values, with those after it, has what is seen.
 abbrev pub Finds : Option NextTag → Values → List Seen → Type 0

@@ -30,6 +30,8 @@ pub(crate) struct Values<'a> {
     pub(crate) second_left: usize,
     /// That number for the third value.
     pub(crate) third_left: usize,
+    /// That number for the value of `style`.
+    pub(crate) style_left: usize,
 }
 
 impl<'a> Values<'a> {
@@ -48,6 +50,7 @@ impl<'a> Values<'a> {
             first_left: 0,
             second_left: 0,
             third_left: 0,
+            style_left: 0,
         }
     }
 
@@ -188,7 +191,9 @@ fn take_wanted<'a>(
     if take_named(&mut values.third, wanted.third, attribute) {
         values.third_left = left;
     }
-    take_named(&mut values.style, b"style", attribute);
+    if take_named(&mut values.style, b"style", attribute) {
+        values.style_left = left;
+    }
     take_named(&mut values.id, b"id", attribute);
     take_named(&mut values.name, b"name", attribute);
 }

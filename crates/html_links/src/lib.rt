@@ -29,5 +29,5 @@ pub use document::{StartTagAt, tags};
 pub use links::{Links, PlacedLinks};
 pub use placed::read_places;
 pub use reader::{Base, read_links, read_page};
-pub use style::style_links;
+pub use style::read_style;
 pub use tag::AttributeAt;

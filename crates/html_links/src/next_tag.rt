@@ -21,13 +21,14 @@ use crate::raw_text::same_name;
 use crate::tag::behind_class;
 use crate::template::after_template;
 
-/// A start tag: its name, the bytes after the name, its element, the bytes after the tag, and the context and the bytes after its
+/// A start tag: its name, the bytes after the name, its element and context, the bytes after the tag, and the context and the bytes after its
 /// contents if these have no tags of the page.
 #[derive(Clone, Copy)]
 pub(crate) struct NextTag<'a> {
     pub(crate) name: &'a [u8],
     pub(crate) inside: &'a [u8],
     pub(crate) element: Element,
+    pub(crate) own: Context,
     pub(crate) text: &'a [u8],
     pub(crate) context: Context,
     pub(crate) rest: &'a [u8],
@@ -185,6 +186,7 @@ fn usual_tag<'a>(name: &'a [u8], bytes: &'a [u8], values: &mut Values<'a>) -> St
         name,
         inside: bytes,
         element: Element::Other,
+        own: Context::Html(0),
         text: last,
         context: Context::Html(0),
         rest: last,
@@ -229,6 +231,7 @@ fn anchor_tag<'a>(name: &'a [u8], bytes: &'a [u8], values: &mut Values<'a>) -> S
             name,
             inside: bytes,
             element: Element::Anchor,
+            own: Context::Html(0),
             text: last,
             context: Context::Html(0),
             rest: last,
@@ -258,6 +261,7 @@ fn wanted_tag<'a>(
             name,
             inside: bytes,
             element,
+            own,
             text,
             context: after,
             rest,
@@ -266,6 +270,7 @@ fn wanted_tag<'a>(
             name,
             inside: bytes,
             element,
+            own,
             text,
             context: own,
             rest: &[],
@@ -283,7 +288,7 @@ fn after_contents<'a>(
     values: &Values<'a>,
     text: &'a [u8],
 ) -> Option<(Context, &'a [u8])>
-    ensures reads { seen_within (opened context (seen_with (map lower name.now) element (values_at values.now)))
+    ensures reads { seen_within (opened context (seen_with (map lower name.now) element (values_at values.now) []))
         (read (inner_context context (map lower name.now) element (values_at values.now)) (behind_start (content_at context (map lower name.now)) (map lower name.now)) text.now) ≡ seen_rest result }
     ensures leaves { ContentLeaves result text.now }
 {

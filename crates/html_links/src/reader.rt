@@ -8,18 +8,19 @@ ghost use Rattle.html_links.specs.Values.{values_at};
 ghost use Rattle.html_links.specs.Links.{value_links, text_links, is_link_type, types_behind, is_related, is_keyword, submits, submits_nothing, is_open_graph, is_card, names_url, is_data, names_data, form_if, meta_form, first_form, second_form, first_links, second_links, third_links, links_with, links_of, ids_with, anchors_with, ids_of, base_of, base_with, or_later};
 ghost use Rattle.html_links.specs.Reads.{base_at};
 
-use crate::bytes::{parts, split_quoted};
-use crate::context::{Syntax, context_of, is_foreign};
+use crate::bytes::parts;
+use crate::context::context_of;
 use crate::element::Element;
 use crate::found::Values;
 use crate::links::PlacedLinks;
-use crate::next_tag::{NextTag, next_tag};
-use crate::placed::push_placed;
-use crate::raw_text::{raw_text, same_name};
+use crate::next_tag::next_tag;
+use crate::placed::push_tag;
+use crate::raw_text::same_name;
 use crate::references::{decode, is_coded};
 use crate::refresh::target_of;
 use crate::srcset::{push_candidates, split_unspaced};
-use crate::{Links, style_links};
+use crate::style::push_urls;
+use crate::{Links, Syntax};
 use std::alloc::{AllocError, Global};
 
 /// The `href` of a document's first `base` that has one, with its character references decoded.
@@ -31,10 +32,11 @@ pub(crate) enum Form {
     Link,
     List,
     Refresh,
+    Style,
     Nothing,
 }
 
-/// Passes on the links of a document in order, and returns its base. With `styles`, it passes on the links of styles too.
+/// Passes on the links of a document in order, without those of its styles, and returns its base.
 ///
 /// # Errors
 /// If an allocation fails.
@@ -42,10 +44,9 @@ pub fn read_links<L: Links>(
     alloc: Global,
     syntax: Syntax,
     document: &[u8],
-    styles: bool,
     links: &mut L,
 ) -> Result<Base, AllocError>
-    ensures links { OnOk result (styles ≡ false → L.texts links.new ≡ L.texts links.old ++ links_of syntax document.now) }
+    ensures links { OnOk result (L.texts links.new ≡ L.texts links.old ++ links_of false syntax document.now) }
     ensures base { IfOk result (λ base. base_at base ≡ base_of syntax document.now) }
 {
     let mut decoded = Vec::new(alloc);
@@ -54,9 +55,6 @@ pub fn read_links<L: Links>(
     let mut context = context_of(syntax);
     let mut rest = document;
     'tags: while let Some(tag) = next_tag(context, rest, &mut values) {
-        if styles {
-            push_styles(tag, &values, &mut decoded, links)?;
-        }
         push_values(tag.element, &values, &mut decoded, links)?;
         take_base(alloc, &mut base, tag.element, &values)?;
         context = tag.context;
@@ -73,10 +71,11 @@ pub fn read_page<L: PlacedLinks, I: Links>(
     alloc: Global,
     syntax: Syntax,
     document: &[u8],
+    styles: bool,
     links: &mut L,
     ids: &mut I,
 ) -> Result<Base, AllocError>
-    ensures links { OnOk result (L.texts links.new ≡ L.texts links.old ++ links_of syntax document.now) }
+    ensures links { OnOk result (L.texts links.new ≡ L.texts links.old ++ links_of styles syntax document.now) }
     ensures ids { OnOk result (I.texts ids.new ≡ I.texts ids.old ++ ids_of syntax document.now) }
     ensures base { IfOk result (λ base. base_at base ≡ base_of syntax document.now) }
 {
@@ -86,7 +85,7 @@ pub fn read_page<L: PlacedLinks, I: Links>(
     let mut context = context_of(syntax);
     let mut rest = document;
     'tags: while let Some(tag) = next_tag(context, rest, &mut values) {
-        push_placed(document.len(), tag, &values, &mut decoded, links)?;
+        push_tag(styles, document.len(), tag, &values, &mut decoded, links)?;
         push_ids(tag.name, &values, &mut decoded, ids)?;
         take_base(alloc, &mut base, tag.element, &values)?;
         context = tag.context;
@@ -123,38 +122,6 @@ fn push_anchor<I: Links>(
         push_value(Form::Link, values.name, decoded, ids)
     } else {
         Ok(())
-    }
-}
-
-/// Passes on the links of a tag's `style`, and those of a style sheet after the tag.
-fn push_styles<L: Links>(
-    tag: NextTag<'_>,
-    values: &Values<'_>,
-    decoded: &mut Vec<u8>,
-    links: &mut L,
-) -> Result<(), AllocError> {
-    if let Some(style) = values.style {
-        decoded.clear();
-        decode(style, decoded)?;
-        style_links(decoded.as_slice(), links)?;
-    }
-    if same_name(tag.name, b"style") {
-        style_links(style_sheet(tag, values.self_closing), links)?;
-    }
-    Ok(())
-}
-
-/// The text of a `style` element. In foreign content it ends at the first `<`, and there is none if the tag closes itself.
-fn style_sheet<'a>(tag: NextTag<'a>, self_closing: bool) -> &'a [u8] {
-    if !is_foreign(tag.context) {
-        return raw_text(b"style", tag.text);
-    }
-    if self_closing {
-        return &[];
-    }
-    match split_quoted(b'<', tag.text) {
-        Some((text, _)) => text,
-        None => tag.text,
     }
 }
 
@@ -464,6 +431,7 @@ fn push_text<L: Links>(form: Form, text: &[u8], links: &mut L) -> Result<(), All
             Some(target) => links.push(target),
             None => Ok(()),
         },
+        Form::Style => push_urls(text, links),
         Form::Nothing => Ok(()),
     }
 }

@@ -1,7 +1,8 @@
-//! The links of documents in HTML and in XHTML, with the positions of their values, and the ids. No command shows all of them.
+//! The links of documents in HTML and in XHTML, of their styles and of style sheets, with their positions, and the ids. No command
+//! shows all of them.
 ghost use Rattle.std.specs.Prelude.{map};
 
-use html_links::{Links, PlacedLinks, Syntax, read_page};
+use html_links::{Links, PlacedLinks, Syntax, read_page, read_style};
 use std::alloc::{AllocError, Global};
 
 /// Texts, each with the position at which its value begins.
@@ -105,9 +106,53 @@ const XHTML: &[Row] = &[
     ),
 ];
 
-fn are_links(found: &Texts, links: &[(usize, &str)]) -> bool {
+const STYLED: &[Row] = &[
+    (
+        "<p style='a:url(b)'><style>@import 'c';url( \"d\" )/* url(e) */</style>",
+        &[(16, "b"), (36, "c"), (45, "d")],
+        &[],
+    ),
+    (
+        "<style>url(a</style><a href=b>",
+        &[(11, "a"), (28, "b")],
+        &[],
+    ),
+    (
+        "<style>@import\"a\";@import/*'n'*/'b';@imports 'n';c:url(d/*e);f:'/*';g:url(h) \"url(n)\"</style>",
+        &[(15, "a"), (33, "b"), (55, "d/*e"), (74, "h")],
+        &[],
+    ),
+    // A value with character references has one position. The links of styles are before the others of the tag.
+    (
+        "<a href=a style=\"b:url('&amp;');c:url(d)\">",
+        &[(17, "&"), (17, "d"), (8, "a")],
+        &[],
+    ),
+    (
+        "<a href=a style = b:url(\"c\")>",
+        &[(25, "c"), (8, "a")],
+        &[],
+    ),
+    // In SVG a style sheet ends at the first `<`.
+    (
+        "<svg><style>url(a)<a href=b></style><style/>url(c)",
+        &[(16, "a"), (26, "b")],
+        &[],
+    ),
+    ("<style>url(a)</styles>url(b", &[(11, "a"), (26, "b")], &[]),
+];
+
+const SHEETS: &[(&str, &[(usize, &str)])] = &[
+    (
+        "@import \"a.css\"; p { background: url(b.png) url( 'c' ) }",
+        &[(9, "a.css"), (37, "b.png"), (50, "c")],
+    ),
+    ("url('')url()@import''", &[(5, ""), (20, "")]),
+];
+
+fn are_links(found: &Texts, begin: usize, links: &[(usize, &str)]) -> bool {
     found.texts.len() == links.len()
-        && found.texts.iter().zip(links).all(|(one, (index, text))| one.0 == *index
+        && found.texts.iter().zip(links).all(|(one, (index, text))| one.0 == begin + *index
             && one.1.as_slice() == text.as_bytes())
 }
 
@@ -120,18 +165,20 @@ fn are_ids(found: &Texts, ids: &[&str]) -> bool {
             .all(|(one, id)| one.1.as_slice() == id.as_bytes())
 }
 
-fn has_row(alloc: Global, syntax: Syntax, row: &Row) -> bool {
+fn has_row(alloc: Global, syntax: Syntax, styles: bool, row: &Row) -> bool {
     let (document, links, ids) = row;
     let mut found = Texts::new(alloc);
     let mut found_ids = Texts::new(alloc);
-    match read_page(
+    let read = read_page(
         alloc,
         syntax,
         document.as_bytes(),
+        styles,
         &mut found,
         &mut found_ids,
-    ) {
-        Ok(_) => are_links(&found, links) && are_ids(&found_ids, ids),
+    );
+    match read {
+        Ok(_) => are_links(&found, 0, links) && are_ids(&found_ids, ids),
         Err(_) => false,
     }
 }
@@ -139,13 +186,36 @@ fn has_row(alloc: Global, syntax: Syntax, row: &Row) -> bool {
 #[test]
 fn documents_in_html(rt: HostRuntime) {
     for row in HTML {
-        assert!(rt; has_row(rt.alloc(), Syntax::Html, row), "{}", row.0);
+        assert!(rt; has_row(rt.alloc(), Syntax::Html, false, row), "{}", row.0);
     }
 }
 
 #[test]
 fn documents_in_xhtml(rt: HostRuntime) {
     for row in XHTML {
-        assert!(rt; has_row(rt.alloc(), Syntax::Xhtml, row), "{}", row.0);
+        assert!(rt; has_row(rt.alloc(), Syntax::Xhtml, false, row), "{}", row.0);
+    }
+}
+
+#[test]
+fn links_of_styles(rt: HostRuntime) {
+    for row in STYLED {
+        assert!(rt; has_row(rt.alloc(), Syntax::Html, true, row), "{}", row.0);
+    }
+}
+
+fn has_sheet(alloc: Global, sheet: &str, begin: usize, links: &[(usize, &str)]) -> bool {
+    let mut found = Texts::new(alloc);
+    match read_style(sheet.as_bytes(), begin, &mut found) {
+        Ok(()) => are_links(&found, begin, links),
+        Err(_) => false,
+    }
+}
+
+#[test]
+fn links_of_style_sheets(rt: HostRuntime) {
+    for (sheet, links) in SHEETS {
+        assert!(rt; has_sheet(rt.alloc(), sheet, 0, links), "{sheet}");
+        assert!(rt; has_sheet(rt.alloc(), sheet, 9, links), "{sheet}");
     }
 }

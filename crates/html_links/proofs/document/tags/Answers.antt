@@ -36,16 +36,16 @@ returns-in_default-values_in c =
 
 pub markup-preserved-in-Start : goal.markup-preserved-in-Start
 markup-preserved-in-Start c =
-    one_more c.markup.context _ c.markup.tags.items c.push.new.self.items _ (tags_of c.args.bytes.now) _ c.markup.rest.now c.markup.invariant c.in_ok-push-in-Start.ensures.items
+    one_more c.markup.context _ c.markup.tags.items c.push.new.self.items _ (tags_of c.args.bytes.now) _ c.markup.rest.now _ c.markup.invariant c.in_ok-push-in-Start.ensures.items
     (read_start_tag c.markup.context c.markup.rest.now c.in-Some.opened.now (map lower c.in-Start.name.now) c.in-Start.more.now _ c.in-Some.ensures.1 c.in-Start.ensures.reads (ap tag_at (sym c.in-Some-2.is) ∙ c.in_ok-found-in-Start.ensures)
-    ∙ ap (λ more. Start (tag_context c.markup.context (map lower c.in-Start.name.now)) (start_tag_at (record { name = c.in-Start.name; attributes = c.in-Some-2.found.attributes; self_closing = c.in-Some-2.found.self_closing })) ∷ more)
+    ∙ ap (λ more. Start (tag_context c.markup.context (map lower c.in-Start.name.now)) (start_tag_at (record { name = c.in-Start.name; attributes = c.in-Some-2.found.attributes; self_closing = c.in-Some-2.found.self_closing })) c.in-Some-2.found.rest.now ∷ more)
     (start_content c.markup.context c.tag_context-own.result c.inner_context-context.result (map lower c.in-Start.name.now) c.in-Start.more.now c.element_at-element.result (values_at c.values_in.new.values) c.in-Some-values_in.field-0.now _ c.tag_context-own.ensures c.element_at-element.ensures c.inner_context-context.ensures (ap tag_at (sym c.in-Some-2.is) ∙ c.in_ok-found-in-Start.ensures) c.in-Some-values_in.ensures
     ∙ c.in-Some-after_element.ensures.reads c.inner_context-context.result))
 
 pub returns-in_default-after_element : goal.returns-in_default-after_element
 returns-in_default-after_element c =
     last_one (map start_tag_at c.push.new.self.items) (tags_of c.args.bytes.now) _
-    (one_more c.markup.context _ c.markup.tags.items c.push.new.self.items _ (tags_of c.args.bytes.now) _ c.markup.rest.now c.markup.invariant c.in_ok-push-in-Start.ensures.items
+    (one_more c.markup.context _ c.markup.tags.items c.push.new.self.items _ (tags_of c.args.bytes.now) _ c.markup.rest.now _ c.markup.invariant c.in_ok-push-in-Start.ensures.items
     (read_start_tag c.markup.context c.markup.rest.now c.in-Some.opened.now (map lower c.in-Start.name.now) c.in-Start.more.now _ c.in-Some.ensures.1 c.in-Start.ensures.reads (ap tag_at (sym c.in-Some-2.is) ∙ c.in_ok-found-in-Start.ensures)))
     (start_content c.markup.context c.tag_context-own.result (inner_context c.tag_context-own.result (map lower c.in-Start.name.now) c.element_at-element.result (values_at c.values_in.new.values)) (map lower c.in-Start.name.now) c.in-Start.more.now c.element_at-element.result (values_at c.values_in.new.values) c.in-Some-values_in.field-0.now _ c.tag_context-own.ensures c.element_at-element.ensures refl (ap tag_at (sym c.in-Some-2.is) ∙ c.in_ok-found-in-Start.ensures) c.in-Some-values_in.ensures
     ∙ c.in_default-after_element.ensures.reads _)

@@ -3,7 +3,7 @@ use Rattle.html_links.proofs.reader.read_page.Given as goal
 
 -- the links and ids so far and those of what is left are the whole, and so is the base
 abbrev pub invariant-tags : goal.invariant-tags
-invariant-tags g l = (g.L.Links.texts l.links ++ links_in (seen_from l.context l.rest) ≡ g.L.Links.texts l.initial.links ++ links_of l.fn.syntax l.fn.document) ×
+invariant-tags g l = (g.L.Links.texts l.links ++ links_in l.styles (seen_from l.context l.rest) ≡ g.L.Links.texts l.initial.links ++ links_of l.fn.styles l.fn.syntax l.fn.document) ×
     (g.I.Links.texts l.ids ++ ids_in (seen_from l.context l.rest) ≡ g.I.Links.texts l.initial.ids ++ ids_of l.fn.syntax l.fn.document) ×
     (or_later (base_at l.base) (base_in (seen_from l.context l.rest)) ≡ base_of l.fn.syntax l.fn.document)
 
