@@ -8,7 +8,7 @@ from typing import Any, Dict, FrozenSet, List, NamedTuple, Optional, Set, Tuple
 from urllib.parse import quote
 
 from checking import loading
-from checking.tags import Attribute, Tag, page_tags
+from checking.tags import Attribute, Tag, page_tags, sheet_of
 
 TOOL: Any = loading.script("site_to_web", "tools/site_to_web.py")
 REFRESH = re.compile(r"[\t\n\f\r ]*[0-9.]+(?=[;,\t\n\f\r ])[\t\n\f\r ]*[;,]?[\t\n\f\r ]*(.*)", re.DOTALL)
@@ -147,8 +147,25 @@ def texts_of(tag: Tag, found: Dict[str, Attribute]) -> List[Link]:
     return links
 
 
-def read_tags(text: str, xml: bool = False) -> Tuple[List[Link], Optional[str], Set[str]]:
-    """The links, the base and the ids of a document with this text."""
+def style_links(sheet: str, at: int) -> List[Link]:
+    """The links of a style sheet that begins at a position."""
+    found = [one for one in TOOL.STYLE_TEXT.finditer(sheet) if one[0][0] in "@uU"]
+    return [Link(one[one.lastindex], at + one.start(one.lastindex)) for one in found]
+
+
+def styles_of(tag: Tag, found: Dict[str, Attribute], text: str) -> List[Link]:
+    """The links of a tag's `style`, and of the style sheet in its element."""
+    links = style_links(sheet_of(tag, text), tag.end)
+    if "style" not in found:
+        return links
+    style = found["style"]
+    own = style_links(style.value, style.at)
+    # With character references all links have the position of the value
+    return (own if style.value == style.raw else [Link(link.text, style.at) for link in own]) + links
+
+
+def read_tags(text: str, xml: bool = False, styles: bool = False) -> Tuple[List[Link], Optional[str], Set[str]]:
+    """The links, the base and the ids of a document with this text, and with `styles` the links of its styles."""
     links: List[Link] = []
     ids: Set[str] = set()
     base = None
@@ -157,7 +174,7 @@ def read_tags(text: str, xml: bool = False) -> Tuple[List[Link], Optional[str], 
         is_base = tag.name == "base" and tag.context.kind in ("html", "xml")
         if is_base and base is None and "href" in found:
             base = found["href"].value
-        links += texts_of(tag, found)
+        links += (styles_of(tag, found, text) if styles else []) + texts_of(tag, found)
         if "id" in found:
             ids.add(found["id"].value)
         if tag.name == "a" and "name" in found:

@@ -87,6 +87,7 @@ class Tag(NamedTuple):
     attributes: Tuple[Attribute, ...]
     context: Context = Context()
     self_closing: bool = False
+    end: int = 0  # the position after the tag
     is_end: bool = False
 
     def closes_itself(self) -> bool:
@@ -219,6 +220,15 @@ def after_text(name: str, text: str, at: int) -> int:
     return attributes_from(text, end + 2 + len(name))[2]
 
 
+def sheet_of(tag: Tag, text: str) -> str:
+    """The style sheet in the element of a start tag of this text, which only a `style` has."""
+    if tag.name != "style" or tag.closes_itself():
+        return ""
+    if tag.context.kind == "html":
+        return text[tag.end:content_end(tag.name, text, tag.end)]
+    return text[tag.end:].split("<")[0]
+
+
 def page_tags(text: str, xml: bool = False) -> Iterator[Tag]:
     """The start tags of the page, in order: those that are not in the contents of a template."""
     inside = 0  # the number of templates that are open, from the first that is no shadow root
@@ -264,7 +274,7 @@ def document_tags(text: str, xml: bool = False) -> Iterator[Tag]:
                 context = context.after(name)
                 continue
             context = context.of_tag(name)
-            tag = Tag(name, found, context, self_closing)
+            tag = Tag(name, found, context, self_closing, at)
             yield tag
             if context.kind == "html":
                 at = after_text(name, text, at)
