@@ -25,7 +25,7 @@ import shutil
 import subprocess
 import sys
 import tempfile
-from typing import Any, Optional
+from typing import Any, Iterator, Optional
 
 import html5lib
 from html5lib import _tokenizer
@@ -151,6 +151,25 @@ class Parser:
         self.openElements[0].namespace = namespaces["svg" if is_foreign else "html"]
 
 
+def tokens_of(text: str) -> Iterator[tuple[dict[str, Any], Context]]:
+    """Yield the tokens of html5lib's tokenizer, each with its context."""
+    parser, context = Parser(), Context()
+    tokens = _tokenizer.HTMLTokenizer(text, parser)
+    has_text = False  # whether the content of the last start tag's element is text
+    for token in tokens:
+        name = token.get("name", "")
+        if token["type"] == tokenTypes["StartTag"]:
+            context = context.of_tag(name)
+        yield token, context
+        if token["type"] == tokenTypes["StartTag"]:
+            has_text = context.kind == "html" and set_state(name, tokens)
+            context = context.inside(tag_of(token))
+        elif token["type"] == tokenTypes["EndTag"]:
+            context = context if has_text else context.after(name)
+            has_text = False
+        parser.set_foreign(context.kind != "html")
+
+
 class Reader(TOOL.LinkReader):  # type: ignore[misc, name-defined]
     """The link reader of site_to_web.py, with html5lib's tokens."""
 
@@ -159,33 +178,23 @@ class Reader(TOOL.LinkReader):  # type: ignore[misc, name-defined]
 
     def read(self, text: str) -> list[str]:
         """Return the links of a document."""
-        parser = Parser()
-        tokens = _tokenizer.HTMLTokenizer(text, parser)
         self.in_style = None
         context = Context()
         inside = 0  # the number of open templates, from the first that is no shadow root
-        has_text = False  # whether the content of the last start tag's element is text
-        for token in tokens:
+        for token, context in tokens_of(text):
             name = token.get("name", "")
             if token["type"] in (tokenTypes["StartTag"], tokenTypes["EndTag"], tokenTypes["Comment"]):
                 self.end_style(context)
             if token["type"] == tokenTypes["StartTag"]:
-                context = context.of_tag(name)
                 found = dict(reversed(token["data"].items()))
                 if not inside:
                     self.read_in(context, token, found)
                 if name == "template" and context.kind == "html" and (inside or not is_shadow(found)):
                     inside += 1
-                has_text = context.kind == "html" and set_state(name, tokens)
-                context = context.inside(tag_of(token))
-            elif token["type"] == tokenTypes["EndTag"] and has_text:
-                has_text = False
             elif token["type"] == tokenTypes["EndTag"]:
                 inside = max(0, inside - (name == "template" and context.kind == "html"))
-                context = context.after(name)
             elif token["type"] in (tokenTypes["Characters"], tokenTypes["SpaceCharacters"]) and self.in_style is not None:
                 self.in_style += token["data"]
-            parser.set_foreign(context.kind != "html")
         self.end_style(context)
         return self.links
 
