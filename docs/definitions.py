@@ -64,7 +64,7 @@ THEOREMS = (
     )),
     ("An HTML document", (
         Calls("html_links", "document.rt", ("tags",)), Calls("html_links", "reader.rt", ("read_links", "read_page")),
-        Calls("html_links", "style.rt", ("style_links",)), Calls("document_links", "document.rt", ("read_document",)),
+        Calls("html_links", "style.rt", ("read_style",)), Calls("document_links", "document.rt", ("read_document",)),
         Calls("document_links", "laws.rt"),
     )),
     ("The program", (

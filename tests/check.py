@@ -413,21 +413,11 @@ def compare_forms(program: str, folder: str) -> None:
 def compare_tags(count: int, seed: int) -> None:
     """Compares the tags that the model reads in random documents with those of html5lib."""
     links = loading.script("html_links", "tests/html_links.py")
-    from html5lib import _tokenizer
     from html5lib.constants import tokenTypes
 
-    states = {"title": "rcdata", "textarea": "rcdata", "script": "scriptData", "plaintext": "plaintext"}
-    states.update({name: "rawtext" for name in ("style", "xmp", "iframe", "noembed", "noframes")})
-
     def theirs(text: str) -> List[Tuple[str, Dict[str, str]]]:
-        tokens = _tokenizer.HTMLTokenizer(text)
-        found = []
-        for token in tokens:
-            if token["type"] == tokenTypes["StartTag"]:
-                found.append((token["name"], dict(token["data"])))
-                if token["name"] in states:
-                    tokens.state = getattr(tokens, states[token["name"]] + "State")
-        return found
+        starts = (token for token, _ in links.tokens_of(text) if token["type"] == tokenTypes["StartTag"])
+        return [(token["name"], dict(token["data"])) for token in starts]
 
     series, draw = Series("tags of documents"), Random(seed)
     for number in range(count):

@@ -4,6 +4,8 @@
 Usage: html_links.py [COUNT [SEED]]
 COUNT is the number of documents [default: 2000], SEED the seed of the random choices [default: 1].
 
+Documents with balanced SVG and MathML are compared with the elements of html5lib's tree, too.
+
 The script makes a small program with a copy of `crates/html_links` in a temporary folder, and runs it by `rt try`. The
 model reads a document with html5lib's tokenizer (Debian's python3-html5lib), a refresh by the steps of the HTML
 Standard, and other values with the patterns of tools/site_to_web.py. All names of character references are compared
@@ -23,24 +25,35 @@ import shutil
 import subprocess
 import sys
 import tempfile
-from typing import Any, Optional
+from typing import Any, Iterator, Optional
 
+import html5lib
 from html5lib import _tokenizer
-from html5lib.constants import tokenTypes
+from html5lib.constants import namespaces, tokenTypes
+
+from checking.tags import Attribute, Context, Tag
 
 TOP = pathlib.Path(__file__).resolve().parents[1]
 BETWEEN = "\x1d"  # ends a document, and the links of a document
 BEHIND = "\x1e"  # ends a link
 
 TAGS = """a area audio body embed frame image img input link object source table td th track use video base meta p div
-svg option br a img link meta a img source template template input button iframe param param meta tr thead tbody tfoot""".split()
+svg math option br a img link meta a img source template template input button iframe param param meta tr thead tbody tfoot""".split()
 TEXT_TAGS = "script style title textarea xmp iframe noembed noframes plaintext".split()
 OWN = {
     "a": "href xlink:href", "img": "src srcset longdesc", "source": "src srcset", "link": "href imagesrcset rel",
     "input": "type src formaction", "button": "type formaction", "iframe": "src longdesc", "param": "name value",
     "meta": "http-equiv content property name", "video": "src poster", "object": "data", "area": "href", "use": "href",
     **dict.fromkeys("td tr thead tbody tfoot".split(), "background"),
-    "template": "shadowrootmode",
+    "template": "shadowrootmode", "font": "color size id", "annotation-xml": "encoding href",
+    **dict.fromkeys("svg math g desc foreignObject mi".split(), "href xlink:href"),
+}
+# Elements of SVG and MathML, and of HTML in them: names, and names of what they may have
+CHILDREN = {
+    "svg": "g desc title foreignObject style script a textarea use font", "g": "g title a use", "a": "use", "font": "",
+    "math": "mi mtext annotation-xml mrow style", "mrow": "mi mtext textarea", "mi": "a i title", "mtext": "svg p",
+    "annotation-xml": "textarea a", "desc": "p title a b", "title": "a b", "foreignObject": "div p textarea svg math iframe",
+    "div": "p svg", "p": "a b svg math", "style": "a", "script": "a", "textarea": "a", "use": "", "b": "a", "i": "a", "iframe": "a",
 }
 VALUES = [
     "x", "a b", "../y?q=1&r=2", "", " \t pad \n", "&amp;", "&amp", "&ampx", "&amp=1", "&copy=1", "&copy;", "&copyx", "&notit;",
@@ -50,11 +63,12 @@ VALUES = [
     "0; url=n.html", "5;URL='q.html'", " 3 r.html", '1,"s.html', "0;url = t.html", " 5x", ".;v", "refresh", "REFRESH",
     "preconnect", "DNS-Prefetch icon", " DNS-Prefetch \n preconnect", "open", "Closed",
     "image", "IMAGE", "submit", "reset", "&#98;utton", "text", "movie", "Data", "og:image", "og:image:url", "OG:image",
-    "twitter:player", "og:&#117;rl", "\u00fc?\u00fc", "\u20ac", "\0",
+    "twitter:player", "og:&#117;rl", "text/html", "Application/XHTML+xml", "\u00fc?\u00fc", "\u20ac", "\0",
 ]
 PIECES = [
     "<", "<<", ">", "</", "</>", "</ >", "</3>", "<?", "<!", "<!>", "<!DOCTYPE html>", "<!doctype html PUBLIC \">\" '>'>",
-    "<![CDATA[ <a href=cdata> ]]>", "<!-- c -->", "<!-- a <!-- b --> c -->", "<!-->", "<!--->", "<!-- x --!>", "<!-- x -- >", "<!--",
+    "<![CDATA[ <a href=cdata> ]]>", "<![CDATA[]]]>", "<![cdata[ <a href=bogus> ]]>", "]]>", "<svg>", "</svg>", "<math>", "</math>",
+    "<desc>", "</desc>", "<mi>", "</mi>", "<annotation-xml>", "</annotation-xml>", "</foreignObject>", "<svg><title>", "<br/>", "<b>", "</b>", "<!-- c -->", "<!-- a <!-- b --> c -->", "<!-->", "<!--->", "<!-- x --!>", "<!-- x -- >", "<!--",
     "<!---->", "<!-----x-->", "<!--!>", "--!>", "-->", "--", "-", "!", "&", "\n", "\f", "\0", "'", '"', "=", "/", "</p>",
     "</a href='>'>", "</script>", "</style>", "</title>", "</script >", "</ script>", "</SCRIPT\n>", "</scripty>", "</script",
     "<!--<script>", "<script>", "<script ", "<script/>", "<style/>", "<title/>", "script", "a", "href=", "src=x",
@@ -65,7 +79,7 @@ PROGRAM = """//! Prints the links of the documents in a file.
 
 ghost use Rattle.std.specs.Prelude.{map};
 
-use html_links::{Links, read_links};
+use html_links::{Links, PlacedLinks, Syntax, read_places};
 use std::alloc::{AllocError, Global};
 use std::io::Write;
 use std::{fs, io};
@@ -82,12 +96,16 @@ impl Links for Texts {
     }
 }
 
+impl PlacedLinks for Texts {
+    fn begin_at(&mut self, _: usize) {}
+}
+
 fn main(rt: HostRuntime) -> io::Result<()> {
     let documents = fs::read(&rt, "documents")?;
     let mut all = Vec::new(rt.alloc());
     for document in documents.as_slice().split(|byte| *byte == 0x1d) {
         let mut texts = Texts(rt.alloc(), Vec::new(rt.alloc()));
-        read_links(rt.alloc(), document, true, &mut texts)?;
+        read_places(rt.alloc(), Syntax::Html, document, true, &mut texts)?;
         for text in &texts.1 {
             all.extend_from_slice(text.as_slice())?;
             all.extend_from_slice(b"\\x1e")?;
@@ -114,6 +132,44 @@ def load_tool() -> Any:
 TOOL = load_tool()
 
 
+class Node:
+    """The one element that html5lib's tokenizer sees as open: it decides whether there are CDATA sections."""
+
+    namespace = namespaces["html"]
+
+
+class Parser:
+    """What html5lib's tokenizer reads of its parser."""
+
+    def __init__(self) -> None:
+        self.tree = self
+        self.defaultNamespace = namespaces["html"]
+        self.openElements = [Node()]
+
+    def set_foreign(self, is_foreign: bool) -> None:
+        """Make the element one of HTML or of SVG."""
+        self.openElements[0].namespace = namespaces["svg" if is_foreign else "html"]
+
+
+def tokens_of(text: str) -> Iterator[tuple[dict[str, Any], Context]]:
+    """Yield the tokens of html5lib's tokenizer, each with its context."""
+    parser, context = Parser(), Context()
+    tokens = _tokenizer.HTMLTokenizer(text, parser)
+    has_text = False  # whether the content of the last start tag's element is text
+    for token in tokens:
+        name = token.get("name", "")
+        if token["type"] == tokenTypes["StartTag"]:
+            context = context.of_tag(name)
+        yield token, context
+        if token["type"] == tokenTypes["StartTag"]:
+            has_text = context.kind == "html" and set_state(name, tokens)
+            context = context.inside(tag_of(token))
+        elif token["type"] == tokenTypes["EndTag"]:
+            context = context if has_text else context.after(name)
+            has_text = False
+        parser.set_foreign(context.kind != "html")
+
+
 class Reader(TOOL.LinkReader):  # type: ignore[misc, name-defined]
     """The link reader of site_to_web.py, with html5lib's tokens."""
 
@@ -122,25 +178,42 @@ class Reader(TOOL.LinkReader):  # type: ignore[misc, name-defined]
 
     def read(self, text: str) -> list[str]:
         """Return the links of a document."""
-        tokens = _tokenizer.HTMLTokenizer(text)
         self.in_style = None
+        context = Context()
         inside = 0  # the number of open templates, from the first that is no shadow root
-        for token in tokens:
+        for token, context in tokens_of(text):
+            name = token.get("name", "")
+            if token["type"] in (tokenTypes["StartTag"], tokenTypes["EndTag"], tokenTypes["Comment"]):
+                self.end_style(context)
             if token["type"] == tokenTypes["StartTag"]:
                 found = dict(reversed(token["data"].items()))
                 if not inside:
-                    self.read_tag(token["name"], found)
-                if token["name"] == "template" and (inside or not is_shadow(found)):
+                    self.read_in(context, token, found)
+                if name == "template" and context.kind == "html" and (inside or not is_shadow(found)):
                     inside += 1
-                set_state(token["name"], tokens)
             elif token["type"] == tokenTypes["EndTag"]:
-                self.flush(self.in_style)
-                self.in_style = None
-                inside = max(0, inside - (token["name"] == "template"))
+                inside = max(0, inside - (name == "template" and context.kind == "html"))
             elif token["type"] in (tokenTypes["Characters"], tokenTypes["SpaceCharacters"]) and self.in_style is not None:
                 self.in_style += token["data"]
-        self.flush(self.in_style)
+        self.end_style(context)
         return self.links
+
+    def read_in(self, context: Context, token: dict[str, Any], found: dict[str, str]) -> None:
+        """Add the links of a start tag in a context."""
+        if context.kind == "html":
+            self.read_tag(token["name"], found)
+            return
+        if "style" in found:
+            self.links += TOOL.links_of_style(found["style"])
+        if token["name"] != "font":
+            self.read_links(("href", "xlink:href"), found)
+        self.in_style = "" if token["name"] == "style" and not token["selfClosing"] else None
+
+    def end_style(self, context: Context) -> None:
+        """Add the links of a style element that ends; one of SVG ends at its first `<`."""
+        if self.in_style is not None:
+            self.flush(self.in_style.split("<")[0] if context.kind != "html" else self.in_style)
+        self.in_style = None
 
     def flush(self, style: Optional[str]) -> None:
         """Add the links of a style element."""
@@ -156,7 +229,7 @@ class Reader(TOOL.LinkReader):  # type: ignore[misc, name-defined]
                 target = target[1:].split(target[0])[0]
             self.links += [target] if target else []
 
-    def read_tag(self, tag: str, found: dict[str, str]) -> None:
+    def read_tag(self, tag: str, found: dict[str, str], is_foreign: bool = False) -> None:
         """Add the links of a start tag."""
         if "style" in found:
             self.links += TOOL.links_of_style(found["style"])
@@ -172,8 +245,14 @@ def is_shadow(found: dict[str, str]) -> bool:
     return found.get("shadowrootmode", "").lower() in ("open", "closed")
 
 
-def set_state(tag: str, tokens: Any) -> None:
-    """Set the state of the tokenizer after a start tag."""
+def tag_of(token: dict[str, Any]) -> Tag:
+    """Return a start tag of html5lib's tokenizer. Its character references are decoded."""
+    values = reversed(token["data"].items())
+    return Tag(token["name"], tuple(Attribute(name, value, value, 0) for name, value in values), self_closing=token["selfClosing"])
+
+
+def set_state(tag: str, tokens: Any) -> bool:
+    """Set the state of the tokenizer after a start tag, and return whether text follows."""
     if tag in ("title", "textarea"):
         tokens.state = tokens.rcdataState
     elif tag in ("style", "xmp", "iframe", "noembed", "noframes"):
@@ -182,6 +261,9 @@ def set_state(tag: str, tokens: Any) -> None:
         tokens.state = tokens.scriptDataState
     elif tag == "plaintext":
         tokens.state = tokens.plaintextState
+    else:
+        return False
+    return True
 
 
 def drawn_tag(draw: random.Random) -> str:
@@ -201,6 +283,43 @@ def drawn_tag(draw: random.Random) -> str:
         text += draw.choice(["x", "<a href=in>", "<!-- y", "<!--<script>", "<!--<script></script>-->"])
         text += draw.choice(["", f"</{name}x>", "<"]) + f"</{name}>"
     return text
+
+
+def drawn_element(draw: random.Random, name: str, depth: int) -> str:
+    """Return a random element with its content and its end tag."""
+    text = f"<{name}"
+    if name not in ("svg", "math", "script", "style"):
+        text += draw.choice(["", "", ' href="x"', " xlink:href='y'", " href=z xlink:href=w"])
+    if name == "annotation-xml":
+        text += draw.choice(["", " encoding='text/html'", " encoding=TEXT/HTML", " encoding=text/xml"])
+    if draw.random() < 0.1 and name in ("svg", "math"):
+        return text + " />"
+    inner = CHILDREN[name].split() if depth else []
+    names = [draw.choice(inner) for _ in range(draw.choice([0, 1, 1, 2, 3]))] if inner else []
+    return text + ">" + draw.choice(["", "t", "<!-- c -->"]) + "".join(drawn_element(draw, one, depth - 1) for one in names) + f"</{name}>"
+
+
+def drawn_foreign(draw: random.Random) -> str:
+    """Return a random document with balanced SVG and MathML, between elements whose content is text."""
+    parts = []
+    for _ in range(draw.randint(1, 4)):
+        parts.append(drawn_element(draw, draw.choice(["svg", "math", "svg", "p", "div"]), draw.randint(1, 6)))
+        parts.append(draw.choice(["", "<textarea><a href=no></textarea>", "<svg><p><title><a href=no></title></svg>", "<svg><style><a href=s></style></svg>"]))
+        parts.append(draw.choice(["", "<svg><![CDATA[<a href=no>]]></svg>", "<p><![CDATA[<a href=bogus>]]>", "<svg><font color=x><title><a href=no></title></svg>"]))
+    return "<!DOCTYPE html><body>" + "".join(parts)
+
+
+def tree_links(text: str) -> list[str]:
+    """Return the links of `href` and `xlink:href` in a document, by html5lib's tree."""
+    links = []
+    for node in html5lib.parse(text).iter():
+        if not isinstance(node.tag, str):
+            continue
+        namespace, name = node.tag[1:].split("}")
+        if namespace != namespaces["html"] and name != "font" or name in ("a", "use"):
+            values = (node.get("href"), node.get("xlink:href") or node.get("{http://www.w3.org/1999/xlink}href"))
+            links += [value for value in values if value is not None]
+    return links
 
 
 def drawn_style(draw: random.Random) -> str:
@@ -262,11 +381,13 @@ def main() -> int:
     count, seed = int(arguments[0]) if arguments else 2000, int(arguments[1]) if len(arguments) > 1 else 1
     draw = random.Random(seed)
     documents = [drawn_document(draw, number % 2 == 1) for number in range(count)]
+    foreign = [drawn_foreign(draw) for _ in range(count)]
     rows = named_values()
-    given = crate_links(documents + [f'<a href="{value}">' for value, _ in rows])
     wants = ["".join(link + BEHIND for link in Reader(True).read(document)) for document in documents]
-    documents += [f'<a href="{value}">' for value, _ in rows]
+    wants += ["".join(link + BEHIND for link in tree_links(document)) for document in foreign]
     wants += [text + BEHIND for _, text in rows]
+    documents += foreign + [f'<a href="{value}">' for value, _ in rows]
+    given = crate_links(documents)
     count = len(documents)
     passed, failed = 0, []
     for document, wanted, links in zip(documents, wants, given):

@@ -115,6 +115,14 @@ FAULT, BAD_WORDS = 1, 3  # exit statuses, the same as those of mercator: an erro
 
 INDEX_FILES = ("index.html", "index.htm", "index.xhtml")
 HTML_KINDS = ("text/html", "application/xhtml+xml")
+# The start tags of HTML that end SVG and MathML, but for `font`
+BREAKOUTS = frozenset(
+    """b big blockquote body br center code dd div dl dt em embed h1 h2 h3 h4 h5 h6 head hr i img li listing menu meta nobr
+    ol p pre ruby s small span strong strike sub sup table tt u ul var""".split()
+)
+# The elements of SVG, and those of MathML, whose content is HTML
+SVG_POINTS = ("foreignobject", "desc", "title")
+TEXT_POINTS = ("mi", "mo", "mn", "ms", "mtext")
 STYLE_KIND = "text/css"
 # Python's own table of suffixes without that of the machine, so that it is the same everywhere
 KINDS = mimetypes.MimeTypes()
@@ -479,6 +487,58 @@ def is_link(tag: str, name: str, found: dict[str, str]) -> bool:
     return True
 
 
+class Foreign:
+    """Whether a tag is in an element of SVG or MathML.
+
+    These elements have other content than those of HTML with the same name. The context is not a tree: an integration
+    point ends at the first end tag with its name, and only the `svg` and `math` elements in it are counted.
+    """
+
+    def __init__(self) -> None:
+        self.kind = ""  # "svg" or "math", or "" in HTML content
+        self.points = 0  # the number of integration points around it
+        self.nested = 0  # the number of other `svg` and `math` elements that are open in it
+
+    def enter(self, kind: str, points: int) -> None:
+        """Set the context."""
+        self.kind, self.points, self.nested = kind, points, 0
+
+    def begin(self, tag: str) -> bool:
+        """Return whether a start tag is that of an element of SVG or MathML; some of HTML end them."""
+        if self.kind and tag in BREAKOUTS:
+            self.enter("", self.points)
+        return self.kind != ""
+
+    def open(self, tag: str, found: dict[str, str]) -> None:
+        """Read a start tag with these attributes that does not close itself."""
+        root = tag in ("svg", "math")
+        if self.kind == "":
+            self.enter(tag if root else "", self.points)
+        elif tag == "font" and not {"color", "face", "size"}.isdisjoint(found):
+            self.enter("", self.points)
+        elif self.is_point(tag, found):
+            self.enter("", self.points + 1)
+        else:
+            self.nested += root
+
+    def is_point(self, tag: str, found: dict[str, str]) -> bool:
+        """Return whether the content of an element of SVG or MathML is HTML."""
+        if self.kind == "svg":
+            return tag in SVG_POINTS
+        return tag in TEXT_POINTS or tag == "annotation-xml" and found.get("encoding", "").lower() in HTML_KINDS
+
+    def close(self, tag: str) -> None:
+        """Read an end tag."""
+        if self.kind == "" and self.points and tag in SVG_POINTS:
+            self.enter("svg", self.points - 1)
+        elif self.kind == "" and self.points and tag in (*TEXT_POINTS, "annotation-xml"):
+            self.enter("math", self.points - 1)
+        elif self.kind and tag in ("svg", "math") and self.nested:
+            self.nested -= 1
+        elif self.kind and (tag in ("svg", "math") or tag in BREAKOUTS):
+            self.enter("", self.points)
+
+
 class LinkReader(html.parser.HTMLParser):
     """Collects the link texts of a document in order, and the text of its base."""
 
@@ -491,17 +551,24 @@ class LinkReader(html.parser.HTMLParser):
         self.base: Optional[str] = None
         self.styles, self.in_style = styles, False
         self.templates = 0  # the number of open templates, from the first that is no shadow root
+        self.foreign = Foreign()
+        self.has_text = False  # whether the content of the last start tag's element may be text
 
     def parse_comment(self, begin: int, report: int = True) -> int:
         """Return the end of a comment by the HTML Standard; Python's own rules depend on its version."""
         return end_of(COMMENT, self.rawdata, begin)
 
     def parse_marked_section(self, begin: int, report: int = True) -> int:
-        """Return the end of `<![..`, the next `>`, since HTML has no such sections. Python's own method may fail."""
+        """Return the end of `<![..`, the next `>`, but for a CDATA section in SVG or MathML. Python's own method may fail."""
+        if self.foreign.kind and self.rawdata.startswith("<![CDATA[", begin):
+            end = self.rawdata.find("]]>", begin + 9)
+            return end + 3 if end >= 0 else len(self.rawdata)
         return self.parse_bogus_comment(begin)
 
     def set_cdata_mode(self, elem: str, **_: bool) -> None:
         """Read what follows as text, up to the end tag of the element; nothing ends a `plaintext`."""
+        if not self.has_text:
+            return
         self.cdata_elem = elem
         self.interesting = re.compile("(?!)" if elem == "plaintext" else rf"(?i)</{elem}(?=[\t\n\f\r />])")
 
@@ -509,46 +576,57 @@ class LinkReader(html.parser.HTMLParser):
         """Return the end of an end tag. Python's own method reads an end tag with an attribute as text."""
         if self.cdata_elem is None:
             return super().parse_endtag(begin)
-        self.handle_endtag(self.cdata_elem)
+        self.in_style = False
         self.clear_cdata_mode()
         return end_of(END_TAG, self.rawdata, begin)
 
     def handle_startendtag(self, tag: str, attrs: list[tuple[str, Optional[str]]]) -> None:
         """Read a tag such as `<br/>` as a start tag, since the slash closes no element in HTML."""
-        self.handle_starttag(tag, attrs)
+        self.read_start(tag, attrs, True)
         if tag in self.CDATA_CONTENT_ELEMENTS:
             self.set_cdata_mode(tag)
 
     def handle_endtag(self, tag: str) -> None:
         self.in_style = False
-        if tag == "template" and self.templates:
+        if tag == "template" and self.templates and not self.foreign.kind:
             self.templates -= 1
+        self.foreign.close(tag)
 
     def handle_data(self, data: str) -> None:
         if self.in_style:
             self.links += links_of_style(data)
 
     def handle_starttag(self, tag: str, attrs: list[tuple[str, Optional[str]]]) -> None:
+        self.read_start(tag, attrs, False)
+
+    def read_start(self, tag: str, attrs: list[tuple[str, Optional[str]]], closed: bool) -> None:
+        """Read a start tag, which may have a slash before its end."""
+        is_foreign = self.foreign.begin(tag)
+        self.has_text = not is_foreign
         if not self.templates:
-            self.read_tag(tag, attrs)
-        if tag == "template" and (self.templates or not self.is_shadow_root()):
+            self.read_tag(tag, attrs, is_foreign)
+        if tag == "template" and not is_foreign and (self.templates or not self.is_shadow_root()):
             self.templates += 1
+        if not closed and (is_foreign or tag in ("svg", "math")):
+            self.foreign.open(tag, attributes(self.get_starttag_text() or ""))
 
     def is_shadow_root(self) -> bool:
         """Return whether the last start tag, of a template, makes a shadow root of it."""
         return attributes(self.get_starttag_text() or "").get("shadowrootmode", "").lower() in ("open", "closed")
 
-    def read_tag(self, tag: str, attrs: list[tuple[str, Optional[str]]]) -> None:
+    def read_tag(self, tag: str, attrs: list[tuple[str, Optional[str]]], is_foreign: bool) -> None:
         """Add the links of a start tag that is not in a template."""
         if self.styles:
             self.in_style = tag == "style"
             for name, value in attrs:
                 if name == "style" and value:
                     self.links += links_of_style(value)
-        if tag not in LINKS and tag != "base":
+        if not is_foreign and tag not in LINKS and tag != "base":
             return
         found = attributes(self.get_starttag_text() or "")
-        if tag == "base":
+        if is_foreign:
+            self.read_links(() if tag == "font" else ("href", "xlink:href"), found)
+        elif tag == "base":
             if self.base is None:
                 self.base = found.get("href")
         elif tag == "meta" and found.get("http-equiv", "").lower() == "refresh":

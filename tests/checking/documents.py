@@ -8,7 +8,7 @@ from typing import Any, Dict, FrozenSet, List, NamedTuple, Optional, Set, Tuple
 from urllib.parse import quote
 
 from checking import loading
-from checking.tags import Attribute, Tag, page_tags
+from checking.tags import Attribute, Tag, page_tags, sheet_of
 
 TOOL: Any = loading.script("site_to_web", "tools/site_to_web.py")
 REFRESH = re.compile(r"[\t\n\f\r ]*[0-9.]+(?=[;,\t\n\f\r ])[\t\n\f\r ]*[;,]?[\t\n\f\r ]*(.*)", re.DOTALL)
@@ -121,30 +121,60 @@ def target_of(text: str) -> List[str]:
     return [target] if target else []
 
 
-def texts_of(tag: str, found: Dict[str, Attribute]) -> List[Link]:
+def link_names(tag: Tag) -> Tuple[str, ...]:
+    """The names of the attributes of a start tag that may be links."""
+    kind = tag.context.kind
+    if kind == "html":
+        return tuple(TOOL.LINKS.get(tag.name, ()))
+    if kind == "xml":
+        no_links = ("base", "template", "svg", "math")
+        return tuple(TOOL.LINKS.get(tag.name, () if tag.name in no_links else ("href", "xlink:href")))
+    return () if tag.name == "font" else ("href", "xlink:href")
+
+
+def texts_of(tag: Tag, found: Dict[str, Attribute]) -> List[Link]:
     """The links of a start tag."""
     values = {name: attribute.value for name, attribute in found.items()}
-    if tag == "meta" and values.get("http-equiv", "").lower() == "refresh":
+    is_foreign = tag.context.kind in ("svg", "math")
+    if tag.name == "meta" and values.get("http-equiv", "").lower() == "refresh":
         return [Link(text, found["content"].at) for text in target_of(values.get("content", ""))]
     links = []
-    for name in TOOL.LINKS.get(tag, ()):
-        if name in found and TOOL.is_link(tag, name, values):
+    for name in link_names(tag):
+        if name in found and (is_foreign or TOOL.is_link(tag.name, name, values)):
             value = found[name]
             texts = TOOL.candidates(value.value) if name.endswith("srcset") else [value.value]
             links += [Link(text, value.at) for text in texts]
     return links
 
 
-def read_tags(text: str) -> Tuple[List[Link], Optional[str], Set[str]]:
-    """The links, the base and the ids of a document with this text."""
+def style_links(sheet: str, at: int) -> List[Link]:
+    """The links of a style sheet that begins at a position."""
+    found = [one for one in TOOL.STYLE_TEXT.finditer(sheet) if one[0][0] in "@uU"]
+    return [Link(one[one.lastindex], at + one.start(one.lastindex)) for one in found]
+
+
+def styles_of(tag: Tag, found: Dict[str, Attribute], text: str) -> List[Link]:
+    """The links of a tag's `style`, and of the style sheet in its element."""
+    links = style_links(sheet_of(tag, text), tag.end)
+    if "style" not in found:
+        return links
+    style = found["style"]
+    own = style_links(style.value, style.at)
+    # With character references all links have the position of the value
+    return (own if style.value == style.raw else [Link(link.text, style.at) for link in own]) + links
+
+
+def read_tags(text: str, xml: bool = False, styles: bool = False) -> Tuple[List[Link], Optional[str], Set[str]]:
+    """The links, the base and the ids of a document with this text, and with `styles` the links of its styles."""
     links: List[Link] = []
     ids: Set[str] = set()
     base = None
-    for tag in page_tags(text):
+    for tag in page_tags(text, xml):
         found = firsts(tag)
-        if tag.name == "base" and base is None and "href" in found:
+        is_base = tag.name == "base" and tag.context.kind in ("html", "xml")
+        if is_base and base is None and "href" in found:
             base = found["href"].value
-        links += texts_of(tag.name, found)
+        links += (styles_of(tag, found, text) if styles else []) + texts_of(tag, found)
         if "id" in found:
             ids.add(found["id"].value)
         if tag.name == "a" and "name" in found:

@@ -1,4 +1,4 @@
-"""The start tags of an HTML page by the HTML Standard's tokenizer, each value with its position."""
+"""The start tags of a page in HTML or XHTML by the HTML Standard's tokenizer, each value with its position."""
 
 from __future__ import annotations
 
@@ -16,6 +16,14 @@ PLAIN_END = re.compile(r"/(?!template>)[A-Za-z][^\t\n\f\r />]*>", re.I)
 LETTERS = frozenset("abcdefghijklmnopqrstuvwxyzABCDEFGHIJKLMNOPQRSTUVWXYZ")
 COMMENT_END = re.compile(r"-?>|[\s\S]*?--!?>")
 SCRIPT_MARK = re.compile(r"<!--|-->|<(/?)script(?=[\t\n\f\r />])", re.I)
+# The start tags that end foreign content, but for `font`
+BREAKOUTS = frozenset(
+    """b big blockquote body br center code dd div dl dt em embed h1 h2 h3 h4 h5 h6 head hr i img li listing menu meta nobr ol p
+    pre ruby s small span strong strike sub sup table tt u ul var""".split()
+)
+SVG_POINTS = ("foreignobject", "desc", "title")
+TEXT_POINTS = ("mi", "mo", "mn", "ms", "mtext")
+HTML_ENCODINGS = ("text/html", "application/xhtml+xml")
 RAW = ("title", "textarea", "style", "xmp", "iframe", "noembed", "noframes")
 REFERENCE = re.compile(r"&(?:#([0-9]+);?|#[xX]([0-9A-Fa-f]+);?|([0-9A-Za-z]+;?))")
 NAMED = html.entities.html5
@@ -30,13 +38,65 @@ C1 = dict(zip(range(0x80, 0xA0), (
 class Attribute(NamedTuple):
     name: str
     value: str  # with character references replaced
+    raw: str  # as written
     at: int  # the position of the value
+
+
+class Context(NamedTuple):
+    """Where a tag is: in HTML content, in an element of SVG or MathML, or in XML."""
+
+    kind: str = "html"  # or "svg", "math", "xml"
+    points: int = 0  # the integration points around it
+    nested: int = 0  # the other `svg` and `math` elements that are open in the element of SVG or MathML
+
+    def of_tag(self, name: str) -> "Context":
+        """The context of a start tag with this name."""
+        is_graphic = self.kind in ("svg", "math")
+        return Context("html", self.points) if is_graphic and name in BREAKOUTS else self
+
+    def inside(self, tag: "Tag") -> "Context":
+        """The context after a start tag whose own context is this one."""
+        values = {attribute.name: attribute.raw.lower() for attribute in reversed(tag.attributes)}
+        if tag.self_closing or self.kind == "xml":
+            return self
+        if self.kind == "html":
+            return Context(tag.name, self.points) if tag.name in ("svg", "math") else self
+        if tag.name == "font" and not values.keys().isdisjoint(("color", "face", "size")):
+            return Context("html", self.points)
+        is_point = tag.name in (SVG_POINTS if self.kind == "svg" else TEXT_POINTS)
+        if self.kind == "math" and tag.name == "annotation-xml" and values.get("encoding") in HTML_ENCODINGS:
+            is_point = True
+        if is_point:
+            return Context("html", min(self.points + 1, 255))
+        return self._replace(nested=min(self.nested + 1, 255)) if tag.name in ("svg", "math") else self
+
+    def after(self, name: str) -> "Context":
+        """The context after an end tag with this name."""
+        if self.kind == "html" and self.points:
+            if name in SVG_POINTS:
+                return Context("svg", self.points - 1)
+            if name in TEXT_POINTS or name == "annotation-xml":
+                return Context("math", self.points - 1)
+        if self.kind in ("svg", "math") and name in ("svg", "math"):
+            return self._replace(nested=self.nested - 1) if self.nested else Context("html", self.points)
+        return self.of_tag(name)
 
 
 class Tag(NamedTuple):
     name: str
     attributes: Tuple[Attribute, ...]
+    context: Context = Context()
+    self_closing: bool = False
+    end: int = 0  # the position after the tag
     is_end: bool = False
+
+    def closes_itself(self) -> bool:
+        """Whether the tag closes its element."""
+        return self.self_closing and self.context.kind != "html"
+
+    def is_template(self) -> bool:
+        """Whether the tag begins or ends template contents."""
+        return self.name == "template" and self.context.kind in ("html", "xml") and not self.closes_itself()
 
     def is_shadow(self) -> bool:
         """Whether a template with these attributes becomes a shadow root. Character references are not read."""
@@ -83,21 +143,26 @@ def decoded(value: str) -> str:
     return REFERENCE.sub(one, value) if "&" in value else value
 
 
-def attributes_from(text: str, at: int) -> Tuple[Tuple[Attribute, ...], int]:
-    """The attributes after a tag's name, and the position after the tag, which is after the text if the tag is cut off."""
+def attributes_from(text: str, at: int) -> Tuple[Tuple[Attribute, ...], bool, int]:
+    """The attributes after a tag's name, whether the tag has a slash before its end, and the position after the tag.
+
+    The position is after the text if the tag is cut off.
+    """
     found: list[Attribute] = []
     cut = len(text) + 1
     while True:
-        at = BETWEEN.match(text, at).end()  # type: ignore[union-attr]
+        between = BETWEEN.match(text, at)
+        assert between is not None
+        at = between.end()
         if at >= len(text):
-            return (), cut
+            return (), False, cut
         if text[at] == ">":
-            return tuple(found), at + 1
+            return tuple(found), between[0].endswith("/"), at + 1
         name = ATTRIBUTE_NAME.match(text, at)
         assert name is not None
         end = SPACES.match(text, name.end()).end()  # type: ignore[union-attr]
         if text[end:end + 1] != "=":
-            found.append(Attribute(lower(name[0]), "", name.end()))
+            found.append(Attribute(lower(name[0]), "", "", name.end()))
             at = name.end()
             continue
         begin = SPACES.match(text, end + 1).end()  # type: ignore[union-attr]
@@ -109,7 +174,7 @@ def attributes_from(text: str, at: int) -> Tuple[Tuple[Attribute, ...], int]:
         else:
             at = UNQUOTED.match(text, begin).end()  # type: ignore[union-attr]
             value = text[begin:at]
-        found.append(Attribute(lower(name[0]), decoded(value), begin))
+        found.append(Attribute(lower(name[0]), decoded(value), value, begin))
 
 
 def script_end(text: str, at: int) -> int:
@@ -136,7 +201,7 @@ def script_end(text: str, at: int) -> int:
 
 
 def content_end(name: str, text: str, at: int) -> int:
-    """The position at which markup resumes after a start tag with this name."""
+    """The position at which markup resumes after a start tag with this name in HTML."""
     if name == "plaintext":
         return len(text) + 1
     if name == "script":
@@ -147,28 +212,46 @@ def content_end(name: str, text: str, at: int) -> int:
     return at
 
 
-def page_tags(text: str) -> Iterator[Tag]:
+def after_text(name: str, text: str, at: int) -> int:
+    """The position after an element in HTML whose content is text, or otherwise after its start tag."""
+    end = content_end(name, text, at)
+    if end == at and (name not in RAW and name != "script") or end > len(text):
+        return end
+    return attributes_from(text, end + 2 + len(name))[2]
+
+
+def sheet_of(tag: Tag, text: str) -> str:
+    """The style sheet in the element of a start tag of this text, which only a `style` has."""
+    if tag.name != "style" or tag.closes_itself():
+        return ""
+    if tag.context.kind == "html":
+        return text[tag.end:content_end(tag.name, text, tag.end)]
+    return text[tag.end:].split("<")[0]
+
+
+def page_tags(text: str, xml: bool = False) -> Iterator[Tag]:
     """The start tags of the page, in order: those that are not in the contents of a template."""
     inside = 0  # the number of templates that are open, from the first that is no shadow root
-    for tag in document_tags(text):
+    for tag in document_tags(text, xml):
         if not inside and not tag.is_end:
             yield tag
-        if tag.name == "template":
+        if tag.is_template():
             if tag.is_end:
                 inside = max(inside - 1, 0)
             elif inside or not tag.is_shadow():
                 inside += 1
 
 
-def document_tags(text: str) -> Iterator[Tag]:
+def document_tags(text: str, xml: bool = False) -> Iterator[Tag]:
     """The start tags of a document and the end tags of templates, in order."""
     at = 0
+    context = Context("xml") if xml else Context()
     while True:
         at = text.find("<", at) + 1
         if not at:
             return
         begins = text[at:at + 1]
-        if begins == "/":
+        if begins == "/" and context == Context():
             plain = PLAIN_END.match(text, at)
             if plain:
                 at = plain.end()
@@ -179,15 +262,28 @@ def document_tags(text: str) -> Iterator[Tag]:
                 return
             at = end.end()
         elif begins in LETTERS or text[at + 1:at + 2] in LETTERS and begins == "/":
-            name = NAME.match(text, at + (begins == "/"))
-            assert name is not None
-            found, at = attributes_from(text, name.end())
-            if at <= len(text) and begins == "/" and lower(name[0]) == "template":
-                yield Tag("template", (), is_end=True)
-            elif at <= len(text) and begins != "/":
-                yield Tag(lower(name[0]), found)
-                at = content_end(lower(name[0]), text, at)
+            written = NAME.match(text, at + (begins == "/"))
+            assert written is not None
+            name = lower(written[0])
+            found, self_closing, at = attributes_from(text, written.end())
             if at > len(text):
+                return
+            if begins == "/":
+                if name == "template":
+                    yield Tag(name, (), context, is_end=True)
+                context = context.after(name)
+                continue
+            context = context.of_tag(name)
+            tag = Tag(name, found, context, self_closing, at)
+            yield tag
+            if context.kind == "html":
+                at = after_text(name, text, at)
+                if at > len(text):
+                    return
+            context = context.inside(tag)
+        elif context.kind != "html" and text.startswith("![CDATA[", at):
+            at = text.find("]]>", at + 8) + 3
+            if at < 3:
                 return
         elif begins in ("!", "?") or begins == "/" and at + 1 < len(text):
             # A comment without dashes, or a DOCTYPE; `</>` is nothing

@@ -4,6 +4,7 @@ use Rattle.std.specs.List.{before_first, flat_map, list_all}
 use Rattle.url.specs.Input.{strip_tabs_and_new_lines, trim_c0_control_and_space}
 use Rattle.crawl_keys.specs.Fragments.{is_number_sign}
 use Rattle.html_links.specs.Links.{base_of, links_of}
+use Rattle.html_links.specs.declared.context.Syntax.TheVariants.{Html}
 use Rattle.document_links.specs.declared.charset.Charset.{Charset}
 use Rattle.document_links.specs.declared.charset.Charset.TheVariants.{Utf8, Utf16Le, Utf16Be, Windows1252, Other}
 use Rattle.document_links.specs.declared.page_base.PageBase.{PageBase}
@@ -62,5 +63,5 @@ pub record AreWritten (old links new : List (List ℕ)) (limit : ℕ) : Type 0 w
 -- a document with this text has these link texts, if it has no base
 abbrev pub HasTexts : Charset → List ℕ → ℕ → List (List ℕ) → Type 0
 HasTexts charset text limit links =
-    is_unicode charset ≡ true → base_of text ≡ None → list_all can_write (links_of text) ≡ true → byte_count links ≤ limit
-    → links ≡ map written (links_of text)
+    is_unicode charset ≡ true → base_of Html text ≡ None → list_all can_write (links_of false Html text) ≡ true → byte_count links ≤ limit
+    → links ≡ map written (links_of false Html text)

@@ -1,7 +1,8 @@
 //! Reads a document.
-ghost use Rattle.std.specs.Prelude.{◌≡◌, ◌++◌, [], true, IfOk, OnOk, IfSome, IsAscii, MatchOption, None};
+ghost use Rattle.std.specs.Prelude.{◌≡◌, ◌++◌, [], true, false, IfOk, OnOk, IfSome, IsAscii, MatchOption, None};
 ghost use Rattle.std.specs.Str.Lossy.{utf8_lossy};
 ghost use Rattle.html_links.specs.Links.{base_of, links_of};
+ghost use Rattle.html_links.specs.declared.context.Syntax.TheVariants.{Html};
 ghost use Rattle.html_links.specs.Reads.{base_at};
 ghost use Rattle.document_links.specs.Encoding.{HasLinks, HasLinkTexts, IsTextIn, text_in};
 ghost use Rattle.document_links.specs.Places.{keeps_ascii};
@@ -15,7 +16,7 @@ use crate::link_writer::LinkWriter;
 use crate::raw_links::{RawIds, RawLinks};
 use crate::unknown::{ascii_text, has_unknown, keep_known};
 use crawl_keys::CanonUrl;
-use html_links::{Base, read_links, read_page, read_places};
+use html_links::{Base, Syntax, read_links, read_page, read_places};
 use std::alloc::{AllocError, Global};
 
 /// What is read of a document.
@@ -168,8 +169,8 @@ fn read_known(
     raw: &mut RawLinks,
     ids: &mut RawIds,
 ) -> Result<Base, AllocError>
-    ensures links { is_unicode charset ≡ true → OnOk result (raw.new.texts ≡ raw.old.texts ++ links_of text.now) }
-    ensures base { is_unicode charset ≡ true → IfOk result (λ base. base_at base ≡ base_of text.now) }
+    ensures links { is_unicode charset ≡ true → OnOk result (raw.new.texts ≡ raw.old.texts ++ links_of false Html text.now) }
+    ensures base { is_unicode charset ≡ true → IfOk result (λ base. base_at base ≡ base_of Html text.now) }
 {
     let base = read_all(alloc, text, options, raw, ids)?;
     match charset {
@@ -189,15 +190,15 @@ fn read_all(
     raw: &mut RawLinks,
     ids: &mut RawIds,
 ) -> Result<Base, AllocError>
-    ensures links { OnOk result (raw.new.texts ≡ raw.old.texts ++ links_of text.now) }
-    ensures base { IfOk result (λ base. base_at base ≡ base_of text.now) }
+    ensures links { OnOk result (raw.new.texts ≡ raw.old.texts ++ links_of false Html text.now) }
+    ensures base { IfOk result (λ base. base_at base ≡ base_of Html text.now) }
 {
     if options.anchors {
-        read_page(alloc, text, raw, ids)
+        read_page(alloc, Syntax::Html, text, false, raw, ids)
     } else if options.places {
-        read_places(alloc, text, raw)
+        read_places(alloc, Syntax::Html, text, false, raw)
     } else {
-        read_links(alloc, text, false, raw)
+        read_links(alloc, Syntax::Html, text, raw)
     }
 }
 

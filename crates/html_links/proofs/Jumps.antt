@@ -2,7 +2,6 @@
 use Rattle.html_links.proofs.Prelude.{◌≡◌, ℕ, ◌+◌, ◌<◌, ◌≤◌, ◌==◌, Bool, true, false, not, List, [], ◌∷◌, ◌++◌, length, map, reverse, None, Some, refl, ap, sym, ◌∙◌, arith, append_assoc, append-nil, subst, codes, Class, Space, Slash, Greater, Equals, Quote, Apostrophe, front, behind, is_space, in_name, in_unquoted, begins, BeginsName, name_front, name_behind, Stopped, Leaves}
 use Rattle.html_links.specs.Tags.{Attribute, State, BeforeName, Name, AfterName, BeforeValue, DoubleQuoted, SingleQuoted, Unquoted, AfterQuoted, SelfClosing, Go, step, start, to_name, to_value, lower, class_of, run, follow}
 use Rattle.html_links.specs.declared.tag.Piece.{Piece}
-use Rattle.html_links.specs.declared.tag.Piece.TheVariants as piece
 
 -- what each byte of a run does, one after another
 abbrev written : (ℕ → List Attribute → List Attribute) → List Attribute → List ℕ → List Attribute

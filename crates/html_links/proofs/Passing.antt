@@ -1,27 +1,45 @@
 -- What a reader of links sees, tag by tag, and the tags that it passes because they have no links.
-use Rattle.html_links.proofs.Prelude.{◌≡◌, ◌∙◌, ◌<◌, ◌≤◌, sym, ap, refl, arith, ℕ, Bool, true, false, cond, List, [], ◌∷◌, ◌++◌, length, map, Some, None, not-true, or_from, codes, bytes_eq, bytes_eq-Decides, lower, tag_of, BeforeName, may_be, element_of, wanted_of, is_usual, Wanted, Data, InTag, Token, TemplateEnd, is_template, end_tag, content_of, read, behind_tag, Values, tag_with, values_in, Seen, seen_with, seen_within, seen_in, opened, links_in, ids_in, base_in, Element}
+use Rattle.html_links.proofs.Prelude.{◌≡◌, ◌∙◌, ◌<◌, ◌≤◌, sym, ap, subst, refl, arith, ℕ, Bool, true, false, cond, List, Option, None, [], ◌∷◌, ◌++◌, length, map, Some, not-true, or_from, codes, bytes_eq, bytes_eq-Decides, lower, tag_of, Tag, BeforeName, may_be, element_of, element_at, wanted_of, is_usual, Wanted, Data, InTag, Token, TemplateEnd, ends_template, end_tag, content_of, content_at, read, behind_start, tag_context, inner_context, Context, Html, Values, tag_with, values_in, Seen, seen_with, seen_within, seen_from, opened, links_in, ids_in, base_in, or_later, append_assoc, Element}
 use Rattle.html_links.specs.declared.element.Element.TheVariants as element
 use Rattle.html_links.specs.declared.element.TheConstants.{LENGTHS}
 use Rattle.html_links.specs.declared.document.Content.TheVariants as content
-use Rattle.html_links.specs.declared.next_tag.Step.TheVariants as step
-use Rattle.html_links.specs.declared.reader.Form.TheVariants as form
-use Rattle.html_links.specs.Passed.{name_nothing, styled_in, Has}
-use Rattle.html_links.proofs.Documents.{to_markup, in_tag, tag_less}
+use Rattle.html_links.specs.declared.document.TheConstants.{TEXTS}
+use Rattle.html_links.specs.Contexts.{html_content}
+use Rattle.html_links.specs.Values.{TagValues}
+use Rattle.html_links.specs.Links.{links_at, ids_with, base_with}
+use Rattle.html_links.specs.Passed.{name_nothing, Has}
+use Rattle.html_links.specs.Seen.{raw_sheet, sheet_of}
+use Rattle.html_links.proofs.Documents.{to_markup, in_tag, tag_less, tag_then}
 use Rattle.html_links.proofs.Telling.{other_name, otherwise}
 
 -- a tag, and what is seen of the tags after it
-abbrev pub with_contents : Seen → List Token → List Seen
-with_contents seen more = seen ∷ seen_within (opened seen) more
+abbrev pub with_contents : Context → Seen → List Token → List Seen
+with_contents own seen more = seen ∷ seen_within (opened own seen) more
 
--- a start tag whose values were found
-pub seen_start : (name bytes : List ℕ) (element : Element) (w : Wanted) (v : Values) (text : List ℕ) (more : List Token) → element ≡ element_of name → w ≡ wanted_of element →
-    Some (tag_with v text) ≡ values_in w (tag_of bytes) → read (behind_tag false name) text ≡ more →
-    seen_within 0 (read (InTag false name BeforeName []) bytes) ≡ with_contents (seen_with name element v) more
-seen_start name bytes element w v text more is wants found behind = grind (arith, in_tag)
+-- a start tag, by its values
+
+abbrev seen_values : Context → Element → List ℕ → Option TagValues → List Seen
+seen_values own element name None = []
+seen_values own element name (Some x) = with_contents own (seen_with name element x.values (sheet_of own name x.values.self_closing x.rest)) (read (inner_context own name element x.values) (behind_start (content_at own name) name) x.rest)
+
+tag_seen : (at : Context) (name : List ℕ) (o : Option Tag) →
+    seen_within 0 (tag_then at false name o) ≡ seen_values (tag_context at name) (element_at (tag_context at name) name) name (values_in (wanted_of (element_at (tag_context at name) name)) o)
+tag_seen at name None = refl
+tag_seen at name (Some t) = refl
+
+-- one whose values were found
+pub seen_start : (at own : Context) (name bytes : List ℕ) (element : Element) (v : Values) (text : List ℕ) (more : List Token) → own ≡ tag_context at name → element ≡ element_at own name →
+    Some (tag_with v text) ≡ values_in (wanted_of element) (tag_of bytes) → read (inner_context own name element v) (behind_start (content_at own name) name) text ≡ more →
+    seen_within 0 (read at (InTag false name BeforeName []) bytes) ≡ with_contents own (seen_with name element v (sheet_of own name v.self_closing text)) more
+seen_start at own name bytes element v text more here is found behind =
+    ap (seen_within 0) (in_tag at false name BeforeName [] bytes) ∙ tag_seen at name (tag_of bytes)
+    ∙ ap (λ own. seen_values own (element_at own name) name (values_in (wanted_of (element_at own name)) (tag_of bytes))) (sym here)
+    ∙ ap (λ element. seen_values own element name (values_in (wanted_of element) (tag_of bytes))) (sym is)
+    ∙ ap (seen_values own element name) (sym found) ∙ ap (with_contents own (seen_with name element v (sheet_of own name v.self_closing text))) behind
 
 -- one that does not end
-pub open_start : (name bytes : List ℕ) (w : Wanted) → None ≡ values_in w (tag_of bytes) → seen_within 0 (read (InTag false name BeforeName []) bytes) ≡ []
-open_start name bytes w found = grind (arith, in_tag)
+pub open_start : (at : Context) (name bytes : List ℕ) (w : Wanted) → None ≡ values_in w (tag_of bytes) → seen_within 0 (read at (InTag false name BeforeName []) bytes) ≡ []
+open_start at name bytes w found = grind (arith, in_tag)
 
 pub text_less : (w : Wanted) (v : Values) (text bytes : List ℕ) → Some (tag_with v text) ≡ values_in w (tag_of bytes) → length text < length bytes
 text_less w v text bytes found = grind (arith, tag_less)
@@ -37,48 +55,95 @@ usual_element name usual = grind (arith, usual_not, otherwise, or_from)
 pub usual_content : (name : List ℕ) → is_usual name ≡ true → content_of (map lower name) ≡ content.Markup
 usual_content name usual = grind (arith, not-true, other_name, otherwise, or_from)
 
+-- and of no element that has text
+pub text_content : (name : List ℕ) → may_be TEXTS name ≡ false → content_of (map lower name) ≡ content.Markup
+text_content name other = grind (arith, other_name, otherwise, or_from)
+
+-- the content of another element than `svg` and `math` is HTML
+
+stays : (element : Element) (name text : List ℕ) (v : Values) → ((points : ℕ) → html_content points element ≡ Html points) →
+    read (inner_context (Html 0) name element v) (behind_start (content_of name) name) text ≡ read (Html 0) (behind_start (content_of name) name) text
+stays element name text v html = ap (λ at. read at (behind_start (content_of name) name) text) (same v.self_closing)
+  where
+    same : (b : Bool) → cond b (Html 0) (html_content 0 element) ≡ Html 0
+    same true = refl
+    same false = html 0
+
 -- such a tag as it is seen
 
 pub usual_seen : (name more last : List ℕ) (v : Values) → is_usual name ≡ true → Some (tag_with v last) ≡ values_in (wanted_of element.Other) (tag_of more) →
-    seen_within 0 (read (InTag false (map lower name) BeforeName []) more) ≡ seen_with (map lower name) element.Other v ∷ seen_in last
+    seen_within 0 (read (Html 0) (InTag false (map lower name) BeforeName []) more) ≡ seen_with (map lower name) element.Other v (sheet_of (Html 0) (map lower name) v.self_closing last) ∷ seen_from (Html 0) last
 usual_seen name more last v usual found =
-    seen_start (map lower name) more element.Other (wanted_of element.Other) v last (read Data last) (sym (usual_element name usual)) refl found
-    (to_markup (map lower name) last (sym (usual_content name usual)))
+    seen_start (Html 0) (Html 0) (map lower name) more element.Other v last (read (Html 0) Data last) refl (sym (usual_element name usual)) found
+    (stays element.Other (map lower name) last v (λ points. refl) ∙ to_markup (content_of (map lower name)) (map lower name) last (sym (usual_content name usual)) (Html 0))
 
 -- an `a` as it is seen
 pub anchor_seen : (name more last : List ℕ) (v : Values) → bytes_eq (map lower name) (codes "a") ≡ true → Some (tag_with v last) ≡ values_in (wanted_of element.Anchor) (tag_of more) →
-    seen_within 0 (read (InTag false (map lower name) BeforeName []) more) ≡ seen_with (map lower name) element.Anchor v ∷ seen_in last
+    seen_within 0 (read (Html 0) (InTag false (map lower name) BeforeName []) more) ≡ seen_with (map lower name) element.Anchor v (sheet_of (Html 0) (map lower name) v.self_closing last) ∷ seen_from (Html 0) last
 anchor_seen name more last v is found =
     let same : map lower name ≡ codes "a" = (bytes_eq-Decides (map lower name) (codes "a")).0 is in
     let an_anchor : element_of (map lower name) ≡ element.Anchor = ap element_of same in
     let markup : content_of (map lower name) ≡ content.Markup = ap content_of same in
-    seen_start (map lower name) more element.Anchor (wanted_of element.Anchor) v last (read Data last) (sym an_anchor) refl found (to_markup (map lower name) last (sym markup))
+    seen_start (Html 0) (Html 0) (map lower name) more element.Anchor v last (read (Html 0) Data last) refl (sym an_anchor) found
+    (stays element.Anchor (map lower name) last v (λ points. refl) ∙ to_markup (content_of (map lower name)) (map lower name) last (sym markup) (Html 0))
 
 -- tags that have what some others have
 
 pub has_same : (all some : List Seen) → all ≡ some → Has all some
-has_same all some same = record { links = ap links_in same; ids = ap ids_in same; base = ap base_in same; styles = ap styled_in same }
+has_same all some same = record { links = ap (links_in false) same; styled = ap (links_in true) same; ids = ap ids_in same; base = ap base_in same }
+
+pub has_links : (styles : Bool) (all some : List Seen) → Has all some → links_in styles all ≡ links_in styles some
+has_links true all some has = has.styled
+has_links false all some has = has.links
 
 pub has_then : (all some less : List Seen) → Has all some → Has some less → Has all less
 has_then all some less first then = grind arith
 
-pub passed : (name : List ℕ) (v : Values) (rest : List Seen) → is_usual name ≡ true → name_nothing v ≡ true → Has (seen_with (map lower name) element.Other v ∷ rest) rest
-passed name v rest usual nothing = grind (arith, other_name, not-true)
+no_sheet : (name bytes : List ℕ) (closing : Bool) → is_usual name ≡ true → sheet_of (Html 0) (map lower name) closing bytes ≡ []
+no_sheet name bytes closing usual = ap (λ is. cond is (raw_sheet bytes) []) (usual_not name usual (codes "style") refl)
+
+passed_at : (name : List ℕ) (v : Values) (rest : List Seen) → is_usual name ≡ true → name_nothing v ≡ true → Has (seen_with (map lower name) element.Other v [] ∷ rest) rest
+passed_at name v rest usual nothing = grind (arith, other_name, not-true)
+
+pub passed : (name bytes : List ℕ) (v : Values) (rest : List Seen) → is_usual name ≡ true → name_nothing v ≡ true →
+    Has (seen_with (map lower name) element.Other v (sheet_of (Html 0) (map lower name) v.self_closing bytes) ∷ rest) rest
+passed name bytes v rest usual nothing = subst (λ sheet. Has (seen_with (map lower name) element.Other v sheet ∷ rest) rest) (sym (no_sheet name bytes v.self_closing usual)) (passed_at name v rest usual nothing)
 
 -- what is sought in the bytes is in the rest of them
-pub record Sought (bytes rest : List ℕ) : Type 0 where
-  pub has : Has (seen_in bytes) (seen_in rest)
+pub record Sought (at : Context) (bytes : List ℕ) (left_at : Context) (rest : List ℕ) : Type 0 where
+  pub has : Has (seen_from at bytes) (seen_from left_at rest)
   pub left : length rest ≤ length bytes
 
 end_seen : (b : Bool) (more : List Token) → seen_within 0 (cond b (TemplateEnd ∷ []) [] ++ more) ≡ seen_within 0 more
 end_seen b more = grind arith
 
 -- an end tag
-pub passes_end : (rest more name : List ℕ) → read Data rest ≡ end_tag name ++ read Data more → Has (seen_in rest) (seen_in more)
-passes_end rest more name reads = has_same (seen_in rest) (seen_in more) (ap (seen_within 0) reads ∙ end_seen (is_template name) (read Data more))
+pub passes_end : (at after : Context) (rest more name : List ℕ) → read at Data rest ≡ end_tag at name ++ read after Data more → Has (seen_from at rest) (seen_from after more)
+passes_end at after rest more name reads = has_same (seen_from at rest) (seen_from after more) (ap (seen_within 0) reads ∙ end_seen (ends_template at name) (read after Data more))
 
 -- a tag that names nothing
 pub passes_tag : (name more last : List ℕ) (v : Values) → is_usual name ≡ true → name_nothing v ≡ true → Some (tag_with v last) ≡ values_in (wanted_of element.Other) (tag_of more) →
-    Has (seen_within 0 (read (InTag false (map lower name) BeforeName []) more)) (seen_in last)
+    Has (seen_within 0 (read (Html 0) (InTag false (map lower name) BeforeName []) more)) (seen_from (Html 0) last)
 passes_tag name more last v usual nothing found =
-    has_then _ (seen_with (map lower name) element.Other v ∷ seen_in last) (seen_in last) (has_same _ _ (usual_seen name more last v usual found)) (passed name v (seen_in last) usual nothing)
+    has_then _ (seen_with (map lower name) element.Other v (sheet_of (Html 0) (map lower name) v.self_closing last) ∷ seen_from (Html 0) last) (seen_from (Html 0) last) (has_same _ _ (usual_seen name more last v usual found))
+    (passed name last v (seen_from (Html 0) last) usual nothing)
+
+-- the links, ids and base after one tag more
+
+pub more_links : (styles : Bool) (old new whole : List (List ℕ)) (all rest : List Seen) (seen : Seen) → old ++ links_in styles all ≡ whole → Has all (seen ∷ rest) → new ≡ old ++ links_at styles seen →
+    new ++ links_in styles rest ≡ whole
+more_links styles old new whole all rest seen inv has pushed =
+    ap (λ t. t ++ links_in styles rest) pushed ∙ append_assoc old (links_at styles seen) (links_in styles rest) ∙ ap (λ t. old ++ t) (sym (has_links styles all (seen ∷ rest) has)) ∙ inv
+
+pub more_ids : (old new whole : List (List ℕ)) (all rest : List Seen) (seen : Seen) → old ++ ids_in all ≡ whole → Has all (seen ∷ rest) → new ≡ old ++ ids_with seen.name seen.values → new ++ ids_in rest ≡ whole
+more_ids old new whole all rest seen inv has pushed =
+    ap (λ t. t ++ ids_in rest) pushed ∙ append_assoc old (ids_with seen.name seen.values) (ids_in rest) ∙ ap (λ t. old ++ t) (sym has.ids) ∙ inv
+
+or_last : (first second third : Option (List ℕ)) → or_later (or_later first second) third ≡ or_later first (or_later second third)
+or_last None second third = refl
+or_last (Some x) second third = refl
+
+pub more_base : (old new whole : Option (List ℕ)) (all rest : List Seen) (seen : Seen) → or_later old (base_in all) ≡ whole → Has all (seen ∷ rest) → new ≡ or_later old (base_with seen.element seen.values) →
+    or_later new (base_in rest) ≡ whole
+more_base old new whole all rest seen inv has taken =
+    ap (λ b. or_later b (base_in rest)) taken ∙ or_last old (base_with seen.element seen.values) (base_in rest) ∙ ap (or_later old) (sym has.base) ∙ inv

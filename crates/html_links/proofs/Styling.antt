@@ -3,6 +3,7 @@ use Rattle.html_links.proofs.Prelude.{◌≡◌, ℕ, zero, suc, ◌<◌, ◌≤
 use Rattle.html_links.specs.Refresh.{behind_letter, and_then, is_quote}
 use Rattle.html_links.specs.Styles.{is_wide_space, in_plain, Found, or_found, closed, quoted, some_url, plain, in_brackets, behind_url, behind_import, opened, behind_comment, found_behind, found_at, passed, pass, urls_after, urls_within, urls_of}
 use Rattle.html_links.proofs.Jumps.{shorter}
+use Rattle.html_links.proofs.Sources.{front_all}
 
 -- a comment to a `*`
 
@@ -15,6 +16,10 @@ star_slash bytes starred more cut is = grind (arith, to_star)
 
 pub star_other : (bytes starred : List ℕ) → 42 ∷ starred ≡ behind (λ c. not (c == 42)) bytes → Stopped (λ c. c == 47) starred → behind_comment false bytes ≡ behind_comment false starred
 star_other bytes starred cut other = grind (arith, to_star)
+
+-- without a byte, all bytes are at the front
+pub no_less : (bytes : List ℕ) → behind (λ c. not (c == 60)) bytes ≡ [] → front (λ c. not (c == 60)) bytes ≡ bytes
+no_less bytes none = front_all (λ c. not (c == 60)) bytes none
 
 -- the bytes after a URL are fewer
 

@@ -1,8 +1,6 @@
 -- A name's first letter and its length in any case.
-use Rattle.html_links.proofs.Prelude.{◌≡◌, ℕ, Bool, true, false, cond, List, map, arith, Option, None, bytes_eq, false_from_ne_true, false≢true, length-map, bytes_eq-Decides, lower, may_be, Element, wanted_of, Values, with_attribute, option_or}
+use Rattle.html_links.proofs.Prelude.{◌≡◌, ℕ, Bool, true, false, cond, List, map, arith, Option, None, bytes_eq, false_from_ne_true, false≢true, length-map, bytes_eq-Decides, lower, may_be, Element, has_rare_names, wanted_of, Values, with_attribute, option_or}
 use Rattle.std.proofs.Math.Nat.{add-mod_right}
-use Rattle.html_links.specs.declared.document.Content.TheVariants as content
-use Rattle.html_links.specs.declared.element.Element.TheVariants as element
 use Rattle.html_links.specs.declared.found.TheConstants.{LENGTHS}
 
 pub lower_may : (lengths name : List ℕ) → may_be lengths (map lower name) ≡ may_be lengths name
@@ -21,5 +19,5 @@ otherwise b x y z isnt later = grind arith
 pub or_none : (value : Option (List ℕ)) → option_or value None ≡ value
 or_none value = grind arith
 
-pub not_wanted : (v : Values) (e : Element) (name found : List ℕ) → may_be LENGTHS name ≡ false → with_attribute v (wanted_of e) (record { name = map lower name; value = found }) ≡ v
-not_wanted v e name found other = grind (arith, other_name, lower_may, or_none)
+pub not_wanted : (v : Values) (e : Element) (name found : List ℕ) → has_rare_names e ≡ false → may_be LENGTHS name ≡ false → with_attribute v (wanted_of e) (record { name = map lower name; value = found }) ≡ v
+not_wanted v e name found common other = grind (arith, other_name, lower_may, or_none)

@@ -1,7 +1,7 @@
--- The tags of a document, as the tokenizer of the HTML Standard reads them in HTML content, in its states from the data state
--- to the DOCTYPE state. Only the name of an element decides what its content is.
+-- The tags of a document, as the tokenizer of the HTML Standard reads them, in its states from the data state to the DOCTYPE state.
+-- The name of an element and its context decide what its content is.
 -- A doctype ends at the first `>` in each of its states, as a bogus comment does.
-use Rattle.std.specs.Prelude.{ℕ, ◌==◌, ◌||◌, Bool, true, false, if◌then◌else◌, List, [], ◌∷◌, ◌++◌, reverse, codes}
+use Rattle.std.specs.Prelude.{ℕ, ◌==◌, ◌||◌, ◌&&◌, Bool, true, false, if◌then◌else◌, List, [], ◌∷◌, ◌++◌, reverse, codes}
 use Rattle.std.specs.Str.{bytes_eq}
 use Rattle.html_links.specs.declared.bytes.Class.{Class}
 use Rattle.html_links.specs.declared.bytes.Class.TheVariants.{Space, Slash, Greater}
@@ -12,6 +12,17 @@ use Rattle.html_links.specs.Tags as tags
 use Rattle.html_links.specs.Comments.{mark_of}
 use Rattle.html_links.specs.Comments as comments
 use Rattle.html_links.specs.RawText as raw
+use Rattle.html_links.specs.Cdata as cdata
+use Rattle.html_links.specs.declared.cdata.State as sections
+use Rattle.html_links.specs.declared.cdata.State.TheVariants as section
+use Rattle.html_links.specs.declared.cdata.Next as section_nexts
+use Rattle.html_links.specs.declared.cdata.Next.TheVariants as section_next
+use Rattle.html_links.specs.declared.context.Context.{Context}
+use Rattle.html_links.specs.declared.context.Context.TheVariants as context
+use Rattle.html_links.specs.declared.context.Syntax.TheVariants as syntax
+use Rattle.html_links.specs.Elements.{wanted_of}
+use Rattle.html_links.specs.Values.{values_of}
+use Rattle.html_links.specs.Contexts.{context_of, is_foreign, tag_context, element_at, inner_context, outer_context, ends_template}
 use Rattle.html_links.specs.declared.document.Content.{Content}
 use Rattle.html_links.specs.declared.document.Content.TheVariants as content
 use Rattle.html_links.specs.declared.script.State as code
@@ -25,13 +36,11 @@ pub record StartTag : Type 0 where
   pub attributes : List Attribute
   pub self_closing : Bool
 
--- What the tokenizer emits: start tags, and the end tags of templates. No other end tag decides whether a tag is part of the page.
+-- What the tokenizer emits: start tags, with their context and the bytes after them, and the end tags of templates. No other end tag
+-- decides whether a tag is part of the page.
 pub data Token : Type 0 where
-  Start : StartTag → Token
+  Start : Context → StartTag → List ℕ → Token
   TemplateEnd : Token
-
-abbrev pub is_template : List ℕ → Bool
-is_template name = bytes_eq name (codes "template")
 
 -- what the content of an element is, by its name: text to its end tag, a script, text to the document's end, or markup
 abbrev pub is_raw : List ℕ → Bool
@@ -45,6 +54,11 @@ content_of name =
     else if bytes_eq name (codes "script") then content.Script
     else if bytes_eq name (codes "plaintext") then content.Plain
     else content.Markup
+
+-- in a context: in foreign content each element has markup
+abbrev pub content_at : Context → List ℕ → Content
+content_at (context.Html points) name = content_of name
+content_at _ name = content.Markup
 
 -- what a byte after a `<` opens
 abbrev pub opening_of : ℕ → Opening
@@ -66,22 +80,32 @@ pub data State : Type 0 where
   MarkupDash : State
   Bogus : State
   InComment : comments.State → State
+  InCdata : sections.State → State
   InRaw : List ℕ → raw.State → State
   InScript : code.State → State
   InPlain : State
 
--- Go to a state, or emit what has ended.
+-- Go to a state, or emit what has ended, by the bytes after it, and continue in a context and a state.
 pub data Next : Type 0 where
   Go : State → Next
-  Emit : List Token → State → Next
+  Emit : (List ℕ → List Token) → Context → State → Next
 
-abbrev pub end_tag : List ℕ → List Token
-end_tag name = if is_template name then TemplateEnd ∷ [] else []
+abbrev pub end_tag : Context → List ℕ → List Token
+end_tag at name = if ends_template at name then TemplateEnd ∷ [] else []
 
 -- the attributes of an end tag do not count
-abbrev pub emitted : Bool → List ℕ → List Attribute → Bool → List Token
-emitted true name attributes closing = end_tag name
-emitted false name attributes closing = Start (record { name = name; attributes = attributes; self_closing = closing }) ∷ []
+abbrev pub emitted : Context → Bool → List ℕ → List Attribute → Bool → List ℕ → List Token
+emitted at true name attributes closing rest = end_tag at name
+emitted at false name attributes closing rest = Start (tag_context at name) (record { name = name; attributes = attributes; self_closing = closing }) rest ∷ []
+
+-- the context of the content of a start tag, by its own context
+abbrev pub entered : Context → List ℕ → List Attribute → Bool → Context
+entered at name attributes closing = inner_context at name (element_at at name) (values_of (wanted_of (element_at at name)) attributes closing)
+
+-- the context after a tag
+abbrev pub passed : Context → Bool → List ℕ → List Attribute → Bool → Context
+passed at true name attributes closing = outer_context at name
+passed at false name attributes closing = entered (tag_context at name) name attributes closing
 
 abbrev pub raw_content : List ℕ → State
 raw_content name = InRaw name raw.Text
@@ -95,9 +119,9 @@ behind_start content.Script name = script_content
 behind_start content.Plain name = InPlain
 behind_start content.Markup name = Data
 
-abbrev pub behind_tag : Bool → List ℕ → State
-behind_tag true name = Data
-behind_tag false name = behind_start (content_of name) name
+abbrev pub behind_tag : Context → Bool → List ℕ → State
+behind_tag at true name = Data
+behind_tag at false name = behind_start (content_at (tag_context at name) name) name
 
 abbrev pub data_step : ℕ → Next
 data_step c = if c == 60 then Go TagOpen else Go Data
@@ -116,56 +140,69 @@ abbrev pub end_open_step : Opening → ℕ → Next
 end_open_step opening.Letter c = Go (TagName true (lower c ∷ []))
 end_open_step _ c = bogus_step c
 
-abbrev pub name_step : Class → Bool → List ℕ → ℕ → Next
-name_step Space ends name c = Go (InTag ends name BeforeName [])
-name_step Slash ends name c = Go (InTag ends name SelfClosing [])
-name_step Greater ends name c = Emit (emitted ends name [] false) (behind_tag ends name)
-name_step _ ends name c = Go (TagName ends (name ++ lower c ∷ []))
+abbrev pub name_step : Context → Class → Bool → List ℕ → ℕ → Next
+name_step at Space ends name c = Go (InTag ends name BeforeName [])
+name_step at Slash ends name c = Go (InTag ends name SelfClosing [])
+name_step at Greater ends name c = Emit (emitted at ends name [] false) (passed at ends name [] false) (behind_tag at ends name)
+name_step at _ ends name c = Go (TagName ends (name ++ lower c ∷ []))
 
-abbrev pub tag_step : Bool → List ℕ → tags.Next → Next
-tag_step ends name (tags.Go state all) = Go (InTag ends name state all)
-tag_step ends name (tags.Emit closing all) = Emit (emitted ends name (reverse all) closing) (behind_tag ends name)
+abbrev pub tag_step : Context → Bool → List ℕ → tags.Next → Next
+tag_step at ends name (tags.Go state all) = Go (InTag ends name state all)
+tag_step at ends name (tags.Emit closing all) = Emit (emitted at ends name (reverse all) closing) (passed at ends name (reverse all) closing) (behind_tag at ends name)
 
 abbrev pub comment_step : comments.Next → Next
 comment_step (comments.Go state) = Go (InComment state)
 comment_step comments.Emit = Go Data
 
--- after its name, the end tag continues in the state before an attribute's name
-abbrev pub raw_step : List ℕ → ℕ → raw.Next → Next
-raw_step name c (raw.Go state) = Go (InRaw name state)
-raw_step name c raw.Ends = tag_step true name (tags.step BeforeName (class_of c) c [])
+abbrev pub cdata_step : section_nexts.Next → Next
+cdata_step (section_next.Go state) = Go (InCdata state)
+cdata_step section_next.Ends = Go Data
 
-abbrev pub script_step : ℕ → nexts.Next → Next
-script_step c (next.Go state) = Go (InScript state)
-script_step c next.Ends = tag_step true (codes "script") (tags.step BeforeName (class_of c) c [])
+-- after a `<!`
+abbrev pub declaration_step : Context → ℕ → Next
+declaration_step at c =
+    if c == 45 then Go MarkupDash
+    else if is_foreign at && c == 91 then Go (InCdata (section.Name 0))
+    else bogus_step c
 
-abbrev pub step : State → ℕ → Next
-step Data c = data_step c
-step TagOpen c = open_step (opening_of c) c
-step EndTagOpen c = end_open_step (opening_of c) c
-step (TagName ends name) c = name_step (class_of c) ends name c
-step (InTag ends name state all) c = tag_step ends name (tags.step state (class_of c) c all)
-step MarkupDeclaration c = if c == 45 then Go MarkupDash else bogus_step c
-step MarkupDash c = if c == 45 then Go (InComment comments.Start) else bogus_step c
-step Bogus c = bogus_step c
-step (InComment state) c = comment_step (comments.step state (mark_of c))
-step (InRaw name state) c = raw_step name c (raw.step name state c)
-step (InScript state) c = script_step c (scripts.step state c)
-step InPlain c = Go InPlain
+-- after its name, the end tag continues in the state before an attribute's name; its name, which is left out, ends no other element
+abbrev pub raw_step : Context → List ℕ → ℕ → raw.Next → Next
+raw_step at name c (raw.Go state) = Go (InRaw name state)
+raw_step at name c raw.Ends = tag_step at true [] (tags.step BeforeName (class_of c) c [])
 
-abbrev pub follow : Next → (State → List Token) → List Token
-follow (Go here) on = on here
-follow (Emit found here) on = found ++ on here
+abbrev pub script_step : Context → ℕ → nexts.Next → Next
+script_step at c (next.Go state) = Go (InScript state)
+script_step at c next.Ends = tag_step at true [] (tags.step BeforeName (class_of c) c [])
 
--- the tags that end in these bytes
-abbrev pub read : State → List ℕ → List Token
-read here [] = []
-read here (c ∷ rest) = follow (step here c) (λ here. read here rest)
+abbrev pub step : Context → State → ℕ → Next
+step at Data c = data_step c
+step at TagOpen c = open_step (opening_of c) c
+step at EndTagOpen c = end_open_step (opening_of c) c
+step at (TagName ends name) c = name_step at (class_of c) ends name c
+step at (InTag ends name state all) c = tag_step at ends name (tags.step state (class_of c) c all)
+step at MarkupDeclaration c = declaration_step at c
+step at MarkupDash c = if c == 45 then Go (InComment comments.Start) else bogus_step c
+step at Bogus c = bogus_step c
+step at (InComment state) c = comment_step (comments.step state (mark_of c))
+step at (InCdata state) c = cdata_step (cdata.step state c)
+step at (InRaw name state) c = raw_step at name c (raw.step name state c)
+step at (InScript state) c = script_step at c (scripts.step state c)
+step at InPlain c = Go InPlain
+
+abbrev pub follow : Context → Next → List ℕ → (Context → State → List Token) → List Token
+follow at (Go here) rest on = on at here
+follow at (Emit found after here) rest on = found rest ++ on after here
+
+-- the tags that end in these bytes, which begin in a context
+abbrev pub read : Context → State → List ℕ → List Token
+read at here [] = []
+read at here (c ∷ rest) = follow at (step at here c) rest (λ at here. read at here rest)
 
 abbrev pub start_tags : List Token → List StartTag
 start_tags [] = []
-start_tags (Start t ∷ rest) = t ∷ start_tags rest
+start_tags (Start at t bytes ∷ rest) = t ∷ start_tags rest
 start_tags (TemplateEnd ∷ rest) = start_tags rest
 
+-- the tags of a document in HTML
 abbrev pub tags_of : List ℕ → List StartTag
-tags_of bytes = start_tags (read Data bytes)
+tags_of bytes = start_tags (read (context_of syntax.Html) Data bytes)

@@ -1,5 +1,5 @@
 -- The elements whose attributes name documents, and which attributes these are.
-use Rattle.std.specs.Prelude.{ℕ, ◌||◌, not, Bool, false, if◌then◌else◌, List, [], codes, Option, None, Some}
+use Rattle.std.specs.Prelude.{ℕ, ◌||◌, not, Bool, true, false, if◌then◌else◌, List, [], codes, Option, None, Some}
 use Rattle.std.specs.Str.{bytes_eq}
 use Rattle.html_links.specs.declared.element.Element.{Element}
 use Rattle.html_links.specs.declared.element.Element.TheVariants as element
@@ -7,7 +7,9 @@ use Rattle.html_links.specs.declared.element.Wanted as code
 use Rattle.html_links.specs.declared.element.TheConstants.{LENGTHS}
 use Rattle.html_links.specs.Lengths.{may_be}
 use Rattle.html_links.specs.RawText.{same_name}
-use Rattle.html_links.specs.Document.{is_template}
+
+abbrev pub is_template : List ℕ → Bool
+is_template name = bytes_eq name (codes "template")
 
 abbrev pub is_anchor : List ℕ → Bool
 is_anchor name = bytes_eq name (codes "a") || bytes_eq name (codes "image") || bytes_eq name (codes "use")
@@ -43,6 +45,8 @@ element_of name =
     else if bytes_eq name (codes "input") then element.Input
     else if bytes_eq name (codes "button") then element.Button
     else if bytes_eq name (codes "param") then element.Param
+    else if bytes_eq name (codes "svg") then element.Svg
+    else if bytes_eq name (codes "math") then element.Math
     else element.Other
 
 -- the first letter and the length of the name are those of no element that names documents or has text
@@ -60,22 +64,32 @@ wants first second third = record { first = first; second = second; third = thir
 
 abbrev pub wanted_of : Element → Wanted
 wanted_of element.Anchor = wants (codes "href") (codes "xlink:href") []
+wanted_of element.Annotation = wants (codes "href") (codes "xlink:href") (codes "encoding")
 wanted_of element.Area = wants (codes "href") [] []
 wanted_of element.Base = wants (codes "href") [] []
 wanted_of element.Background = wants (codes "background") [] []
 wanted_of element.Embedded = wants (codes "src") [] []
 wanted_of element.Button = wants (codes "formaction") [] (codes "type")
+wanted_of element.Font = wants (codes "color") (codes "face") (codes "size")
 wanted_of element.Frame = wants (codes "src") (codes "longdesc") []
 wanted_of element.Image = wants (codes "src") (codes "srcset") (codes "longdesc")
 wanted_of element.Source = wants (codes "src") (codes "srcset") []
 wanted_of element.Input = wants (codes "src") (codes "formaction") (codes "type")
 wanted_of element.Link = wants (codes "href") (codes "imagesrcset") (codes "rel")
+wanted_of element.Math = wants [] [] []
 wanted_of element.Meta = wants (codes "content") (codes "http-equiv") (codes "property")
 wanted_of element.Object = wants (codes "data") [] []
 wanted_of element.Param = wants (codes "value") [] []
+wanted_of element.Svg = wants [] [] []
 wanted_of element.Video = wants (codes "src") (codes "poster") []
 wanted_of element.Template = wants [] [] (codes "shadowrootmode")
 wanted_of element.Other = wants [] [] []
+
+-- attributes of the element are read that are read of no other
+abbrev pub has_rare_names : Element → Bool
+has_rare_names element.Annotation = true
+has_rare_names element.Font = true
+has_rare_names _ = false
 
 abbrev pub wanted_at : code.Wanted → Wanted
 wanted_at w = record { first = w.first.now; second = w.second.now; third = w.third.now }

@@ -2,6 +2,8 @@ pub mod Tags
 pub mod Shown
 pub mod Comments
 pub mod Dashes
+pub mod Cdata
+pub mod Contexts
 pub mod Document
 pub mod Markup
 pub mod RawText

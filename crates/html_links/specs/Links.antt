@@ -1,5 +1,6 @@
--- The links of a document without those of its styles, its base, and its ids.
+-- The links of a document with or without those of its styles, its base, and its ids.
 use Rattle.std.specs.Prelude.{ℕ, ◌||◌, not, Bool, true, false, if◌then◌else◌, List, [], ◌∷◌, ◌++◌, codes, Option, None, Some}
+use Rattle.html_links.specs.declared.context.Syntax.{Syntax}
 use Rattle.html_links.specs.declared.element.Element.{Element}
 use Rattle.html_links.specs.declared.element.Element.TheVariants as element
 use Rattle.html_links.specs.declared.reader.Form.{Form}
@@ -12,16 +13,18 @@ use Rattle.html_links.specs.Seen.{Seen, seen_in}
 use Rattle.html_links.specs.References.{text_of}
 use Rattle.html_links.specs.Candidates.{candidates_of}
 use Rattle.html_links.specs.Refresh.{target_of}
+use Rattle.html_links.specs.Styles.{style_links_of}
 
 abbrev pub target_links : Option (List ℕ) → List (List ℕ)
 target_links None = []
 target_links (Some target) = target ∷ []
 
--- the links of a text: itself, the URLs of a `srcset`, the target of a refresh, or nothing
+-- the links of a text: itself, the URLs of a `srcset`, the target of a refresh, those of a style, or nothing
 abbrev pub text_links : Form → List ℕ → List (List ℕ)
 text_links form.Link text = text ∷ []
 text_links form.List text = candidates_of text
 text_links form.Refresh text = target_links (target_of text)
+text_links form.Style text = style_links_of text
 text_links form.Nothing text = []
 
 abbrev pub value_links : Form → Option (List ℕ) → List (List ℕ)
@@ -89,6 +92,7 @@ meta_form v = if is_keyword (codes "refresh") v.second then form.Refresh else if
 -- how the first value that is read of an element names documents
 abbrev pub first_form : Element → Values → Form
 first_form element.Base v = form.Nothing
+first_form element.Font v = form.Nothing
 first_form element.Meta v = meta_form v
 first_form element.Link v = form_if (is_related v.third) form.Link
 first_form element.Input v = form_if (is_keyword (codes "image") v.third) form.Link
@@ -99,6 +103,7 @@ first_form _ v = form.Link
 -- and how the second does
 abbrev pub second_form : Element → Values → Form
 second_form element.Base v = form.Nothing
+second_form element.Font v = form.Nothing
 second_form element.Meta v = form.Nothing
 second_form element.Link v = form_if (is_related v.third) form.List
 second_form element.Image v = form.List
@@ -120,12 +125,20 @@ third_links _ v = []
 abbrev pub links_with : Element → Values → List (List ℕ)
 links_with element v = first_links element v ++ second_links element v ++ third_links element v
 
-abbrev pub links_in : List Seen → List (List ℕ)
-links_in [] = []
-links_in (seen ∷ rest) = links_with seen.element seen.values ++ links_in rest
+-- those of its `style`, and of the style sheet in it
+abbrev pub style_links_with : Values → List ℕ → List (List ℕ)
+style_links_with v sheet = value_links form.Style v.style ++ style_links_of sheet
 
-abbrev pub links_of : List ℕ → List (List ℕ)
-links_of document = links_in (seen_in document)
+abbrev pub links_at : Bool → Seen → List (List ℕ)
+links_at styles seen = if styles then style_links_with seen.values seen.sheet ++ links_with seen.element seen.values else links_with seen.element seen.values
+
+abbrev pub links_in : Bool → List Seen → List (List ℕ)
+links_in styles [] = []
+links_in styles (seen ∷ rest) = links_at styles seen ++ links_in styles rest
+
+-- the links of a document, with those of its styles or without
+abbrev pub links_of : Bool → Syntax → List ℕ → List (List ℕ)
+links_of styles syntax document = links_in styles (seen_in syntax document)
 
 abbrev pub base_text : Option (List ℕ) → Option (List ℕ)
 base_text None = None
@@ -144,8 +157,8 @@ abbrev pub base_in : List Seen → Option (List ℕ)
 base_in [] = None
 base_in (seen ∷ rest) = or_later (base_with seen.element seen.values) (base_in rest)
 
-abbrev pub base_of : List ℕ → Option (List ℕ)
-base_of document = base_in (seen_in document)
+abbrev pub base_of : Syntax → List ℕ → Option (List ℕ)
+base_of syntax document = base_in (seen_in syntax document)
 
 abbrev pub anchors_with : List ℕ → Values → List (List ℕ)
 anchors_with name v = if bytes_eq name (codes "a") then value_links form.Link v.name else []
@@ -158,5 +171,5 @@ abbrev pub ids_in : List Seen → List (List ℕ)
 ids_in [] = []
 ids_in (seen ∷ rest) = ids_with seen.name seen.values ++ ids_in rest
 
-abbrev pub ids_of : List ℕ → List (List ℕ)
-ids_of document = ids_in (seen_in document)
+abbrev pub ids_of : Syntax → List ℕ → List (List ℕ)
+ids_of syntax document = ids_in (seen_in syntax document)

@@ -1,13 +1,14 @@
 -- What contracts state of the code that reads a document.
-use Rattle.std.specs.Prelude.{◌≡◌, ◌≤◌, ℕ, Bool, true, false, List, [], ◌∷◌, ◌++◌, length, map, Option, None, Some}
+use Rattle.std.specs.Prelude.{◌≡◌, ◌≤◌, ℕ, Bool, true, false, List, [], ◌∷◌, length, map, Option, None, Some}
 use Rattle.std.specs.Borrow.{Bor}
 use Rattle.html_links.specs.declared.bytes.Class.TheVariants.{Space, Slash, Greater}
 use Rattle.html_links.specs.declared.document.Markup.{Markup}
 use Rattle.html_links.specs.declared.document.Markup.TheVariants as markup
 use Rattle.html_links.specs.declared.document.StartTagAt.{StartTagAt}
+use Rattle.html_links.specs.declared.context.Context.{Context}
 use Rattle.html_links.specs.Tags.{class_of, lower, BeforeName, Tag}
 use Rattle.html_links.specs.Shown.{front, behind, attribute_at}
-use Rattle.html_links.specs.Document.{StartTag, Token, Data, InTag, TagOpen, EndTagOpen, end_tag, read}
+use Rattle.html_links.specs.Document.{StartTag, Token, Data, InTag, TagOpen, EndTagOpen, read}
 
 abbrev pub in_tag_name : ℕ → Bool
 in_tag_name c = elim (class_of c) [ Space ↦ false | Slash ↦ false | Greater ↦ false | _ ↦ true ]
@@ -25,25 +26,20 @@ abbrev pub start_tag_at : StartTagAt → StartTag
 start_tag_at t = record { name = map lower t.name.now; attributes = map attribute_at t.attributes.items; self_closing = t.self_closing }
 
 -- the tags after something, which may not end
-abbrev pub read_rest : Option (Bor (List ℕ)) → List Token
-read_rest None = []
-read_rest (Some rest) = read Data rest.now
-
--- the end tag of an element with this name, which may be missing, and the tags after it
-abbrev pub ended_rest : List ℕ → Option (Bor (List ℕ)) → List Token
-ended_rest name None = []
-ended_rest name (Some rest) = end_tag name ++ read Data rest.now
+abbrev pub read_rest : Context → Option (Bor (List ℕ)) → List Token
+read_rest at None = []
+read_rest at (Some rest) = read at Data rest.now
 
 abbrev pub rest_of : Option Tag → Option (List ℕ)
 rest_of None = None
 rest_of (Some t) = Some t.rest
 
 -- from the bytes after a `<`
-abbrev pub MarkupReads : Markup → List ℕ → Type 0
-MarkupReads (markup.Start name more) bytes = read TagOpen bytes ≡ read (InTag false (map lower name.now) BeforeName []) more.now
-MarkupReads (markup.End name more) bytes = read TagOpen bytes ≡ read (InTag true (map lower name.now) BeforeName []) more.now
-MarkupReads (markup.Other more) bytes = read TagOpen bytes ≡ read Data more.now
-MarkupReads markup.Unfinished bytes = read TagOpen bytes ≡ []
+abbrev pub MarkupReads : Markup → Context → List ℕ → Type 0
+MarkupReads (markup.Start name more) at bytes = read at TagOpen bytes ≡ read at (InTag false (map lower name.now) BeforeName []) more.now
+MarkupReads (markup.End name more) at bytes = read at TagOpen bytes ≡ read at (InTag true (map lower name.now) BeforeName []) more.now
+MarkupReads (markup.Other more) at bytes = read at TagOpen bytes ≡ read at Data more.now
+MarkupReads markup.Unfinished at bytes = read at TagOpen bytes ≡ []
 
 abbrev pub MarkupLeaves : Markup → List ℕ → Type 0
 MarkupLeaves (markup.Start name more) bytes = length more.now ≤ length bytes
@@ -62,6 +58,6 @@ other_markup (Some rest) = markup.Other rest
 -- from the bytes after a `</`
 abbrev pub MarkupEnds : Markup → List ℕ → Type 0
 MarkupEnds (markup.Start name more) bytes = ⊥
-MarkupEnds (markup.End name more) bytes = read EndTagOpen bytes ≡ read (InTag true (map lower name.now) BeforeName []) more.now
-MarkupEnds (markup.Other more) bytes = read EndTagOpen bytes ≡ read Data more.now
-MarkupEnds markup.Unfinished bytes = read EndTagOpen bytes ≡ []
+MarkupEnds (markup.End name more) bytes = (at : Context) → read at EndTagOpen bytes ≡ read at (InTag true (map lower name.now) BeforeName []) more.now
+MarkupEnds (markup.Other more) bytes = (at : Context) → read at EndTagOpen bytes ≡ read at Data more.now
+MarkupEnds markup.Unfinished bytes = (at : Context) → read at EndTagOpen bytes ≡ []

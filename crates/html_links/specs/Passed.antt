@@ -1,49 +1,37 @@
 -- What a reader of links finds in what is seen: it skips tags that name nothing.
-use Rattle.std.specs.Prelude.{◌≡◌, ◌<◌, ℕ, ◌&&◌, not, Bool, true, false, if◌then◌else◌, List, [], ◌∷◌, length, map, codes, Option, None, Some}
-use Rattle.std.specs.Str.{bytes_eq}
+use Rattle.std.specs.Prelude.{◌≡◌, ◌<◌, ℕ, ◌&&◌, Bool, true, false, List, [], ◌∷◌, length, map, Option, None, Some}
 use Rattle.html_links.specs.declared.next_tag.NextTag.{NextTag}
 use Rattle.html_links.specs.declared.next_tag.Step.{Step}
 use Rattle.html_links.specs.declared.next_tag.Step.TheVariants as step
 use Rattle.html_links.specs.Tags.{lower, BeforeName}
 use Rattle.html_links.specs.Document.{InTag, read}
-use Rattle.html_links.specs.Values.{Values}
-use Rattle.html_links.specs.Seen.{Seen, seen_within, seen_in, seen_at}
+use Rattle.html_links.specs.declared.context.Context.{Context}
+use Rattle.html_links.specs.Values.{Values, is_absent}
+use Rattle.html_links.specs.Seen.{Seen, seen_within, seen_from, seen_at}
 use Rattle.html_links.specs.Links.{links_in, ids_in, base_in}
-
-abbrev pub is_absent : Option (List ℕ) → Bool
-is_absent None = true
-is_absent (Some value) = false
 
 -- none names a document or an anchor, or is a style
 abbrev pub name_nothing : Values → Bool
 name_nothing v = is_absent v.first && is_absent v.second && is_absent v.style && is_absent v.id
 
-abbrev pub is_unstyled : Seen → Bool
-is_unstyled seen = is_absent seen.values.style && not (bytes_eq seen.name (codes "style"))
-
--- the tags with a style, and the style sheets
-abbrev pub styled_in : List Seen → List Seen
-styled_in [] = []
-styled_in (seen ∷ rest) = if is_unstyled seen then styled_in rest else seen ∷ styled_in rest
-
--- some tags have the links, the ids, the base and the styles of all
+-- some tags have the links, without and with those of styles, the ids and the base of all
 pub record Has (all some : List Seen) : Type 0 where
-  pub links : links_in all ≡ links_in some
+  pub links : links_in false all ≡ links_in false some
   pub ids : ids_in all ≡ ids_in some
   pub base : base_in all ≡ base_in some
-  pub styles : styled_in all ≡ styled_in some
+  pub styled : links_in true all ≡ links_in true some
 
 -- What contracts state of the code: the tag with these values, with those after it, has what is seen.
 abbrev pub Finds : Option NextTag → Values → List Seen → Type 0
 Finds None values seen = Has seen []
-Finds (Some t) values seen = Has seen (seen_at t values ∷ seen_in t.rest.now)
+Finds (Some t) values seen = Has seen (seen_at t values ∷ seen_from t.context t.rest.now)
 
--- The same for the next `<` in some bytes, which has fewer bytes after it.
-abbrev pub Steps : Step → Values → List ℕ → List Seen → Type 0
-Steps (step.Pass more) values bytes seen = Has seen (seen_in more.now) × (length more.now < length bytes)
-Steps (step.Take t) values bytes seen = Has seen (seen_at t values ∷ seen_in t.rest.now) × (length t.rest.now < length bytes)
-Steps step.End values bytes seen = Has seen []
+-- The same for the next `<` in some bytes, which has fewer bytes after it. What names nothing is followed by this context.
+abbrev pub Steps : Step → Context → Values → List ℕ → List Seen → Type 0
+Steps (step.Pass more) after values bytes seen = Has seen (seen_from after more.now) × (length more.now < length bytes)
+Steps (step.Take t) after values bytes seen = Has seen (seen_at t values ∷ seen_from t.context t.rest.now) × (length t.rest.now < length bytes)
+Steps step.End after values bytes seen = Has seen []
 
 -- the same from the bytes after the name of a start tag
-abbrev pub StepsTag : Step → Values → List ℕ → List ℕ → Type 0
-StepsTag s values name bytes = Steps s values bytes (seen_within 0 (read (InTag false (map lower name) BeforeName []) bytes))
+abbrev pub StepsTag : Step → Context → Values → List ℕ → List ℕ → Type 0
+StepsTag s at values name bytes = Steps s at values bytes (seen_within 0 (read at (InTag false (map lower name) BeforeName []) bytes))

@@ -4,24 +4,25 @@ use Rattle.html_links.specs.declared.template.Inner.{Inner}
 use Rattle.html_links.specs.declared.template.Inner.TheVariants as inner
 use Rattle.html_links.specs.Tags.{lower, BeforeName}
 use Rattle.html_links.specs.Document.{Token, Data, InTag, read}
+use Rattle.html_links.specs.declared.context.Context.{Context}
 use Rattle.html_links.specs.Seen.{seen_within}
 
 -- Tokens in a template, with any number of templates open in it.
 abbrev pub Reads : Inner → List Token → Type 0
-Reads (inner.Opens more) tokens = (n : ℕ) → seen_within (suc n) tokens ≡ seen_within (suc (suc n)) (read Data more.now)
-Reads (inner.Closes more) tokens = (n : ℕ) → seen_within (suc n) tokens ≡ seen_within n (read Data more.now)
-Reads (inner.Other more) tokens = (n : ℕ) → seen_within (suc n) tokens ≡ seen_within (suc n) (read Data more.now)
+Reads (inner.Opens after more) tokens = (n : ℕ) → seen_within (suc n) tokens ≡ seen_within (suc (suc n)) (read after Data more.now)
+Reads (inner.Closes after more) tokens = (n : ℕ) → seen_within (suc n) tokens ≡ seen_within n (read after Data more.now)
+Reads (inner.Other after more) tokens = (n : ℕ) → seen_within (suc n) tokens ≡ seen_within (suc n) (read after Data more.now)
 Reads inner.Unfinished tokens = (n : ℕ) → seen_within (suc n) tokens ≡ []
 
-abbrev pub InnerReads : Inner → List ℕ → Type 0
-InnerReads found bytes = Reads found (read Data bytes)
+abbrev pub InnerReads : Inner → Context → List ℕ → Type 0
+InnerReads found at bytes = Reads found (read at Data bytes)
 
 -- from the bytes after the name of a start tag or an end tag
-abbrev pub TagReads : Inner → Bool → List ℕ → List ℕ → Type 0
-TagReads found ends name bytes = Reads found (read (InTag ends (map lower name) BeforeName []) bytes)
+abbrev pub TagReads : Inner → Context → Bool → List ℕ → List ℕ → Type 0
+TagReads found at ends name bytes = Reads found (read at (InTag ends (map lower name) BeforeName []) bytes)
 
 abbrev pub InnerLeaves : Inner → List ℕ → Type 0
-InnerLeaves (inner.Opens more) bytes = length more.now < length bytes
-InnerLeaves (inner.Closes more) bytes = length more.now < length bytes
-InnerLeaves (inner.Other more) bytes = length more.now < length bytes
+InnerLeaves (inner.Opens after more) bytes = length more.now < length bytes
+InnerLeaves (inner.Closes after more) bytes = length more.now < length bytes
+InnerLeaves (inner.Other after more) bytes = length more.now < length bytes
 InnerLeaves inner.Unfinished bytes = Unit {0}

@@ -1,5 +1,5 @@
 -- The values of a tag's attributes that are read, and of those that each tag may have. Of attributes with one name, the first counts.
-use Rattle.std.specs.Prelude.{ℕ, if◌then◌else◌, List, [], ◌∷◌, map, codes, Option, None, Some}
+use Rattle.std.specs.Prelude.{ℕ, Bool, true, false, if◌then◌else◌, List, [], ◌∷◌, map, codes, Option, None, Some}
 use Rattle.std.specs.Option.{option_or}
 use Rattle.std.specs.Str.{bytes_eq}
 use Rattle.std.specs.Borrow.{Bor}
@@ -20,15 +20,22 @@ pub record Values : Type 0 where
   pub style : Option (List ℕ)
   pub id : Option (List ℕ)
   pub name : Option (List ℕ)
+  pub self_closing : Bool
 
-abbrev pub values_of : Wanted → List Attribute → Values
-values_of w all = record {
+abbrev pub is_absent : Option (List ℕ) → Bool
+is_absent None = true
+is_absent (Some value) = false
+
+-- the values of a tag with these attributes and this self-closing flag
+abbrev pub values_of : Wanted → List Attribute → Bool → Values
+values_of w all self_closing = record {
   first = first_named w.first all;
   second = first_named w.second all;
   third = first_named w.third all;
   style = first_named (codes "style") all;
   id = first_named (codes "id") all;
   name = first_named (codes "name") all;
+  self_closing = self_closing;
 }
 
 -- What contracts state of the code: values with the bytes after the tag, and one attribute more.
@@ -41,7 +48,7 @@ tag_with values rest = record { values = values; rest = rest }
 
 abbrev pub values_in : Wanted → Option Tag → Option TagValues
 values_in w None = None
-values_in w (Some t) = Some (tag_with (values_of w t.attributes) t.rest)
+values_in w (Some t) = Some (tag_with (values_of w t.attributes t.self_closing) t.rest)
 
 abbrev pub values_at : code.Values → Values
 values_at v = record {
@@ -51,6 +58,7 @@ values_at v = record {
   style = bytes_at v.style;
   id = bytes_at v.id;
   name = bytes_at v.name;
+  self_closing = v.self_closing;
 }
 
 abbrev pub tag_values : Values → Option (Bor (List ℕ)) → Option TagValues
@@ -58,7 +66,7 @@ tag_values values None = None
 tag_values values (Some rest) = Some (tag_with values rest.now)
 
 abbrev pub no_values : Values
-no_values = record { first = None; second = None; third = None; style = None; id = None; name = None }
+no_values = record { first = None; second = None; third = None; style = None; id = None; name = None; self_closing = false }
 
 abbrev pub or_named : Option (List ℕ) → List ℕ → Attribute → Option (List ℕ)
 or_named value name a = option_or value (if bytes_eq a.name (map lower name) then Some a.value else None)
@@ -71,4 +79,5 @@ with_attribute v w a = record {
   style = or_named v.style (codes "style") a;
   id = or_named v.id (codes "id") a;
   name = or_named v.name (codes "name") a;
+  self_closing = v.self_closing;
 }

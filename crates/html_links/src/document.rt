@@ -1,13 +1,20 @@
 //! The start tags of a document.
-ghost use Rattle.std.specs.Prelude.{◌≡◌, ◌<◌, length, map, IfOk, false};
+ghost use Rattle.std.specs.Prelude.{◌≡◌, ◌<◌, ◌==◌, length, map, IfOk};
 ghost use Rattle.std.specs.List.{take_while};
 ghost use Rattle.html_links.specs.Tags.{tag_of, lower};
 ghost use Rattle.html_links.specs.Comments.{bytes_at};
-ghost use Rattle.html_links.specs.Document.{opening_of, read, tags_of, behind_tag, content_of, is_raw, Bogus, MarkupDeclaration, raw_content, script_content};
-ghost use Rattle.html_links.specs.Markup.{in_tag_name, led_front, led_behind, start_tag_at, read_rest, ended_rest, rest_of, MarkupReads, MarkupEnds, other_markup, MarkupLeaves, RestLeaves};
+ghost use Rattle.html_links.specs.Shown.{Stopped};
+ghost use Rattle.html_links.specs.declared.context.Context.{Context};
+ghost use Rattle.html_links.specs.Document.{opening_of, read, tags_of, behind_start, content_at, content_of, is_raw, Bogus, MarkupDeclaration, raw_content, script_content};
+ghost use Rattle.html_links.specs.Markup.{in_tag_name, led_front, led_behind, start_tag_at, read_rest, rest_of, MarkupReads, MarkupEnds, other_markup, MarkupLeaves, RestLeaves};
 
 use crate::bytes::{Class, LAST_MARK, behind_byte, behind_first, class_of, parts, split_quoted};
+use crate::cdata::after_cdata;
 use crate::comments::after_comment;
+use crate::context::{
+    Context, Syntax, context_of, element_at, inner_context, is_foreign, outer_context, tag_context,
+};
+use crate::found::{Values, values_in};
 use crate::lengths::may_be;
 use crate::raw_text::{after_raw_text, same_name};
 use crate::script::after_script;
@@ -95,7 +102,7 @@ fn split_tag_name(bytes: &[u8]) -> (&[u8], &[u8])
 #[inline(always)]
 #[tactic(auto, using(crate::proofs::Documents::to_greater, crate::proofs::Documents::cut_shorter))]
 fn after_bogus(bytes: &[u8]) -> Option<&[u8]>
-    ensures reads { read Bogus bytes.now ≡ read_rest result }
+    ensures reads { (at : Context) → read at Bogus bytes.now ≡ read_rest at result }
     ensures leaves { RestLeaves result bytes.now }
 {
     match behind_first(b'>', bytes) {
@@ -106,16 +113,32 @@ fn after_bogus(bytes: &[u8]) -> Option<&[u8]>
 
 /// The bytes after what begins with `<!`.
 #[inline(always)]
-fn after_declaration(bytes: &[u8]) -> Option<&[u8]>
-    ensures reads { read MarkupDeclaration bytes.now ≡ read_rest result }
+fn after_declaration(context: Context, bytes: &[u8]) -> Option<&[u8]>
+    ensures reads { read context MarkupDeclaration bytes.now ≡ read_rest context result }
     ensures leaves { RestLeaves result bytes.now }
 {
     let Some(dashed) = behind_byte(b'-', bytes) else {
-        return after_bogus(bytes);
+        return after_marked(context, bytes);
     };
     match behind_byte(b'-', dashed) {
         Some(text) => after_comment(text),
         None => after_bogus(dashed),
+    }
+}
+
+/// The bytes after what begins with `<!` and is no comment: a CDATA section in foreign content, or a bogus comment.
+#[inline(always)]
+fn after_marked(context: Context, bytes: &[u8]) -> Option<&[u8]>
+    requires { Stopped (λ c. c == 45) bytes.now }
+    ensures reads { read context MarkupDeclaration bytes.now ≡ read_rest context result }
+    ensures leaves { RestLeaves result bytes.now }
+{
+    if !is_foreign(context) {
+        return after_bogus(bytes);
+    }
+    match behind_byte(b'[', bytes) {
+        Some(more) => after_cdata(more),
+        None => after_bogus(bytes),
     }
 }
 
@@ -152,15 +175,15 @@ fn other(rest: Option<&[u8]>) -> Markup<'_>
 /// What follows a `<`. It is inlined, so its result stays in registers.
 #[inline(always)]
 #[tactic(auto, using(crate::proofs::Documents::led_shorter))]
-pub(crate) fn next_markup(bytes: &[u8]) -> Markup<'_>
-    ensures reads { MarkupReads result bytes.now }
+pub(crate) fn next_markup(context: Context, bytes: &[u8]) -> Markup<'_>
+    ensures reads { MarkupReads result context bytes.now }
     ensures leaves { MarkupLeaves result bytes.now }
 {
     let Some((first, more)) = parts(bytes) else {
         return Markup::Unfinished;
     };
     match opening_of(first) {
-        Opening::Bang => other(after_declaration(more)),
+        Opening::Bang => other(after_declaration(context, more)),
         Opening::Solidus => after_end_open(more),
         Opening::Question => other(after_bogus(more)),
         Opening::Letter => {
@@ -217,7 +240,7 @@ fn is_raw(name: &[u8]) -> bool
         || same_name(name, b"noframes")
 }
 
-/// What the content of an element is, by its name in any case. Its parents are not examined, not even `svg` and `math`.
+/// What the content of an element in HTML is, by its name in any case.
 fn content_of(name: &[u8]) -> Content
     ensures { result ≡ content_of (map lower name.now) }
 {
@@ -233,10 +256,10 @@ fn content_of(name: &[u8]) -> Content
 }
 
 /// The bytes after an element whose text is raw, from those after its start tag.
-#[tactic(auto, using(crate::proofs::Documents::in_raw, crate::proofs::Documents::in_tag, crate::proofs::Documents::end_then, crate::proofs::Documents::raw_left, crate::proofs::Documents::rest_less, crate::proofs::Documents::tag_less))]
+#[tactic(auto, using(crate::proofs::Documents::raw_left, crate::proofs::Documents::rest_less, crate::proofs::Documents::tag_less))]
 fn after_raw<'a>(name: &[u8], bytes: &'a [u8]) -> Option<&'a [u8]>
     requires { 0 < length name.now }
-    ensures reads { read (raw_content (map lower name.now)) bytes.now ≡ ended_rest (map lower name.now) result }
+    ensures reads { (at : Context) → read at (raw_content (map lower name.now)) bytes.now ≡ read_rest at result }
     ensures leaves { RestLeaves result bytes.now }
 {
     match after_raw_text(name, bytes) {
@@ -246,9 +269,9 @@ fn after_raw<'a>(name: &[u8], bytes: &'a [u8]) -> Option<&'a [u8]>
 }
 
 /// The bytes after a script, from those after its start tag.
-#[tactic(auto, using(crate::proofs::Scripts::left, crate::proofs::Documents::rest_less, crate::proofs::Documents::tag_less, crate::proofs::Documents::in_script))]
+#[tactic(auto, using(crate::proofs::Scripts::left, crate::proofs::Documents::rest_less, crate::proofs::Documents::tag_less))]
 fn after_whole_script(bytes: &[u8]) -> Option<&[u8]>
-    ensures reads { read script_content bytes.now ≡ read_rest result }
+    ensures reads { (at : Context) → read at script_content bytes.now ≡ read_rest at result }
     ensures leaves { RestLeaves result bytes.now }
 {
     match after_script(bytes) {
@@ -257,11 +280,14 @@ fn after_whole_script(bytes: &[u8]) -> Option<&[u8]>
     }
 }
 
-/// The bytes after a start tag, or after the end tag of its element if the content is text.
-pub(crate) fn after_element<'a>(name: &[u8], bytes: &'a [u8]) -> Option<&'a [u8]>
-    ensures reads { read (behind_tag false (map lower name.now)) bytes.now ≡ read_rest result }
+/// The bytes after a start tag in this context, or after the end tag of its element if the content is text.
+pub(crate) fn after_element<'a>(context: Context, name: &[u8], bytes: &'a [u8]) -> Option<&'a [u8]>
+    ensures reads { (at : Context) → read at (behind_start (content_at context (map lower name.now)) (map lower name.now)) bytes.now ≡ read_rest at result }
     ensures leaves { RestLeaves result bytes.now }
 {
+    if is_foreign(context) {
+        return Some(bytes);
+    }
     if !may_be(&TEXTS, name) {
         return Some(bytes);
     }
@@ -273,18 +299,25 @@ pub(crate) fn after_element<'a>(name: &[u8], bytes: &'a [u8]) -> Option<&'a [u8]
     }
 }
 
-/// The start tags of a document, in order.
+/// The start tags of a document in HTML, in order.
 pub fn tags<'a>(alloc: Global, bytes: &'a [u8]) -> Result<Vec<StartTagAt<'a>>, AllocError>
     ensures { IfOk result (λ tags. map start_tag_at tags.items ≡ tags_of bytes.now) }
 {
     let mut tags = Vec::new(alloc);
+    let mut context = context_of(Syntax::Html);
+    let mut values = Values::none();
     let mut rest = bytes;
     'markup: loop {
         let Some((_, opened)) = split_quoted(b'<', rest) else {
             return Ok(tags);
         };
-        match next_markup(opened) {
+        match next_markup(context, opened) {
             Markup::Start(name, more) => {
+                let own = tag_context(context, name);
+                let element = element_at(own, name);
+                let Some(_) = values_in(element, more, &mut values) else {
+                    return Ok(tags);
+                };
                 let Some(found) = read_tag(alloc, more)? else {
                     return Ok(tags);
                 };
@@ -298,15 +331,17 @@ pub fn tags<'a>(alloc: Global, bytes: &'a [u8]) -> Result<Vec<StartTagAt<'a>>, A
                     attributes,
                     self_closing,
                 })?;
-                let Some(left) = after_element(name, last) else {
+                let Some(left) = after_element(own, name, last) else {
                     return Ok(tags);
                 };
+                context = inner_context(own, name, element, &values);
                 rest = left;
             }
-            Markup::End(_, more) => {
+            Markup::End(name, more) => {
                 let Some(last) = after_tag(more) else {
                     return Ok(tags);
                 };
+                context = outer_context(context, name);
                 rest = last;
             }
             Markup::Other(more) => rest = more,

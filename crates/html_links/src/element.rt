@@ -2,7 +2,7 @@
 ghost use Rattle.std.specs.Prelude.{◌≡◌, map};
 ghost use Rattle.html_links.specs.Tags.{lower};
 ghost use Rattle.html_links.specs.Comments.{bytes_at};
-ghost use Rattle.html_links.specs.Elements.{is_anchor, is_background, is_embedded, is_frame, is_inert, is_shadow, is_usual, element_of, wanted_at, wanted_of, wants};
+ghost use Rattle.html_links.specs.Elements.{is_anchor, is_background, is_embedded, is_frame, is_inert, is_shadow, is_usual, element_of, has_rare_names, wanted_at, wanted_of, wants};
 
 use crate::lengths::may_be;
 use crate::raw_text::same_name;
@@ -11,19 +11,23 @@ use crate::raw_text::same_name;
 #[derive(Clone, Copy)]
 pub(crate) enum Element {
     Anchor,
+    Annotation,
     Area,
     Background,
     Base,
     Button,
     Embedded,
+    Font,
     Frame,
     Image,
     Input,
     Link,
+    Math,
     Meta,
     Object,
     Param,
     Source,
+    Svg,
     Template,
     Video,
     Other,
@@ -37,10 +41,10 @@ pub(crate) struct Wanted {
     pub(crate) third: &'static [u8],
 }
 
-/// The lengths of the names of elements that name documents or whose content is text.
+/// The lengths of the names of elements that name documents, whose content is text, or that begin SVG or MathML.
 static LENGTHS: [u16; 32] = [
     0x0, 0x19, 0x28, 0x0, 0x0, 0x10, 0x10, 0x0, 0x0, 0x34, 0x0, 0x0, 0x8, 0x8, 0xc0, 0x20, 0x110,
-    0x0, 0x0, 0x30, 0x92, 0x4, 0x10, 0x0, 0x4, 0x0, 0x0, 0x0, 0x0, 0x0, 0x0, 0x0,
+    0x0, 0x0, 0x34, 0x92, 0x4, 0x10, 0x0, 0x4, 0x0, 0x0, 0x0, 0x0, 0x0, 0x0, 0x0,
 ];
 
 /// Whether the element with this name, in any case, has links in `href` and `xlink:href`: `a`, and `image` and `use` of SVG.
@@ -126,6 +130,10 @@ pub(crate) fn element_of(name: &[u8]) -> Element
         Element::Button
     } else if same_name(name, b"param") {
         Element::Param
+    } else if same_name(name, b"svg") {
+        Element::Svg
+    } else if same_name(name, b"math") {
+        Element::Math
     } else {
         Element::Other
     }
@@ -137,10 +145,12 @@ pub(crate) fn wanted_of(element: Element) -> Wanted
 {
     match element {
         Element::Anchor => names(b"href", b"xlink:href", b""),
+        Element::Annotation => names(b"href", b"xlink:href", b"encoding"),
         Element::Area | Element::Base => names(b"href", b"", b""),
         Element::Background => names(b"background", b"", b""),
         Element::Embedded => names(b"src", b"", b""),
         Element::Button => names(b"formaction", b"", b"type"),
+        Element::Font => names(b"color", b"face", b"size"),
         Element::Frame => names(b"src", b"longdesc", b""),
         Element::Image => names(b"src", b"srcset", b"longdesc"),
         Element::Source => names(b"src", b"srcset", b""),
@@ -151,8 +161,16 @@ pub(crate) fn wanted_of(element: Element) -> Wanted
         Element::Param => names(b"value", b"", b""),
         Element::Video => names(b"src", b"poster", b""),
         Element::Template => names(b"", b"", b"shadowrootmode"),
-        Element::Other => names(b"", b"", b""),
+        Element::Math | Element::Svg | Element::Other => names(b"", b"", b""),
     }
+}
+
+/// Whether attributes of the element are read that are read of no other.
+#[inline(always)]
+pub(crate) fn has_rare_names(element: Element) -> bool
+    ensures { result ≡ has_rare_names element }
+{
+    matches!(element, Element::Annotation | Element::Font)
 }
 
 /// The names of the first, second and third attribute that are read. An empty name is that of no attribute.

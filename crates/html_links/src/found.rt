@@ -5,10 +5,10 @@ ghost use Rattle.html_links.specs.Tags.{tag_of};
 ghost use Rattle.html_links.specs.Comments.{bytes_at};
 ghost use Rattle.html_links.specs.Shown.{attribute_at};
 ghost use Rattle.html_links.specs.Elements.{wanted_at, wanted_of};
-ghost use Rattle.html_links.specs.Passed.{is_absent, name_nothing};
-ghost use Rattle.html_links.specs.Values.{or_named, values_at, no_values, with_attribute, values_in, tag_values};
+ghost use Rattle.html_links.specs.Passed.{name_nothing};
+ghost use Rattle.html_links.specs.Values.{is_absent, or_named, values_at, no_values, with_attribute, values_in, tag_values};
 
-use crate::element::{Element, Wanted, wanted_of};
+use crate::element::{Element, Wanted, has_rare_names, wanted_of};
 use crate::lengths::may_be;
 use crate::raw_text::same_name;
 use crate::tag::{AttributeAt, Piece, next_piece};
@@ -22,12 +22,16 @@ pub(crate) struct Values<'a> {
     pub(crate) style: Option<&'a [u8]>,
     pub(crate) id: Option<&'a [u8]>,
     pub(crate) name: Option<&'a [u8]>,
+    /// Whether the tag has a slash before its `>`.
+    pub(crate) self_closing: bool,
     /// The number of bytes after the first value and its quote.
     pub(crate) first_left: usize,
     /// That number for the second value.
     pub(crate) second_left: usize,
     /// That number for the third value.
     pub(crate) third_left: usize,
+    /// That number for the value of `style`.
+    pub(crate) style_left: usize,
 }
 
 impl<'a> Values<'a> {
@@ -42,9 +46,11 @@ impl<'a> Values<'a> {
             style: None,
             id: None,
             name: None,
+            self_closing: false,
             first_left: 0,
             second_left: 0,
             third_left: 0,
+            style_left: 0,
         }
     }
 
@@ -59,7 +65,7 @@ impl<'a> Values<'a> {
             && is_absent(self.id)
     }
 
-    /// Makes all values absent before a tag is read. The numbers of bytes after them stay, since they count only with a value.
+    /// Makes all values absent, and the tag one that does not close itself, before a tag is read. The numbers of bytes after them stay, since they count only with a value.
     #[inline(always)]
     pub(crate) fn clear(&mut self)
         ensures { values_at self.new ≡ no_values }
@@ -70,10 +76,11 @@ impl<'a> Values<'a> {
         self.style = None;
         self.id = None;
         self.name = None;
+        self.self_closing = false;
     }
 }
 
-/// The lengths of the names of attributes that are read of an element, or of each.
+/// The lengths of the names of attributes that are read of an element that has no rare names, or of each.
 static LENGTHS: [u16; 32] = [
     0x0, 0x0, 0x200, 0x40, 0x8, 0x0, 0x200, 0x0, 0x208, 0x402, 0x0, 0x0, 0x80, 0x0, 0x8, 0x0, 0xa0,
     0x0, 0x4, 0x2034, 0x8, 0x0, 0x10, 0x0, 0x200, 0x0, 0x0, 0x0, 0x0, 0x0, 0x0, 0x0,
@@ -81,7 +88,7 @@ static LENGTHS: [u16; 32] = [
 
 /// Whether no attribute with the name was found. An attribute without a value is present, and its value is empty.
 #[inline(always)]
-fn is_absent(value: Option<&[u8]>) -> bool
+pub(crate) fn is_absent(value: Option<&[u8]>) -> bool
     ensures { result ≡ is_absent (bytes_at value.entry) }
 {
     match value {
@@ -159,7 +166,7 @@ fn take_attribute<'a>(
         take_link(values, attribute, left);
         return;
     }
-    if !may_be(&LENGTHS, attribute.name) {
+    if !has_rare_names(element) && !may_be(&LENGTHS, attribute.name) {
         return;
     }
     take_wanted(values, &wanted_of(element), attribute, left);
@@ -184,7 +191,9 @@ fn take_wanted<'a>(
     if take_named(&mut values.third, wanted.third, attribute) {
         values.third_left = left;
     }
-    take_named(&mut values.style, b"style", attribute);
+    if take_named(&mut values.style, b"style", attribute) {
+        values.style_left = left;
+    }
     take_named(&mut values.id, b"id", attribute);
     take_named(&mut values.name, b"name", attribute);
 }
@@ -208,7 +217,10 @@ pub(crate) fn values_in<'a>(
                 rest = more;
             }
             Piece::Slash(more) => rest = more,
-            Piece::End(_, last) => return Some(last),
+            Piece::End(self_closing, last) => {
+                values.self_closing = self_closing;
+                return Some(last);
+            }
             Piece::Unfinished => return None,
         }
     }

@@ -2,7 +2,9 @@
 #![tactic(auto)]
 
 mod bytes;
+mod cdata;
 mod comments;
+mod context;
 mod document;
 mod element;
 mod found;
@@ -22,9 +24,10 @@ mod style;
 mod tag;
 mod template;
 
+pub use context::Syntax;
 pub use document::{StartTagAt, tags};
 pub use links::{Links, PlacedLinks};
 pub use placed::read_places;
 pub use reader::{Base, read_links, read_page};
-pub use style::style_links;
+pub use style::read_style;
 pub use tag::AttributeAt;

@@ -4,27 +4,33 @@ ghost use Rattle.html_links.specs.Tags.{lower, tag_of};
 ghost use Rattle.html_links.specs.Shown.{behind};
 ghost use Rattle.html_links.specs.Elements.{wanted_of, is_usual};
 ghost use Rattle.html_links.specs.Values.{values_at, values_in, tag_values, tag_with, no_values};
-ghost use Rattle.html_links.specs.Document.{behind_tag, read};
-ghost use Rattle.html_links.specs.Markup.{RestLeaves};
-ghost use Rattle.html_links.specs.Seen.{LeavesTag, opened, seen_in, seen_rest, seen_with, seen_within};
+ghost use Rattle.html_links.specs.declared.context.Context.TheVariants.{Html};
+ghost use Rattle.html_links.specs.Contexts.{inner_context};
+ghost use Rattle.html_links.specs.Document.{behind_start, content_at, read};
+ghost use Rattle.html_links.specs.Seen.{ContentLeaves, LeavesTag, opened, seen_from, seen_rest, seen_with, seen_within};
 ghost use Rattle.html_links.specs.Passed.{Finds, Steps, StepsTag};
 
 use crate::bytes::{behind_byte, split_quoted};
+use crate::context::{
+    Context, closes_itself, element_at, inner_context, outer_context, tag_context,
+};
 use crate::document::{Markup, after_element, after_tag, next_markup};
-use crate::element::{Element, element_of, is_inert, is_usual};
+use crate::element::{Element, is_inert, is_usual};
 use crate::found::{Values, values_in};
 use crate::raw_text::same_name;
 use crate::tag::behind_class;
 use crate::template::after_template;
 
-/// A start tag: its name, the bytes after the name, its element, the bytes after the tag, and the bytes after its contents if
-/// these have no tags of the page.
+/// A start tag: its name, the bytes after the name, its element and context, the bytes after the tag, and the context and the bytes after its
+/// contents if these have no tags of the page.
 #[derive(Clone, Copy)]
 pub(crate) struct NextTag<'a> {
     pub(crate) name: &'a [u8],
     pub(crate) inside: &'a [u8],
     pub(crate) element: Element,
+    pub(crate) own: Context,
     pub(crate) text: &'a [u8],
+    pub(crate) context: Context,
     pub(crate) rest: &'a [u8],
 }
 
@@ -39,9 +45,25 @@ enum Step<'a> {
 
 /// The first start tag that begins in these bytes, ends, and may name something, and its values that are read.
 #[inline(always)]
+pub(crate) fn next_tag<'a>(
+    context: Context,
+    bytes: &'a [u8],
+    values: &mut Values<'a>,
+) -> Option<NextTag<'a>>
+    ensures finds { Finds result (values_at values.new) (seen_from context bytes.now) }
+    ensures leaves { LeavesTag result bytes.now }
+{
+    match context {
+        Context::Html(0) => next_page_tag(bytes, values),
+        _ => next_inner_tag(context, bytes, values),
+    }
+}
+
+/// The first such tag in HTML content that is in no integration point, as most tags are.
+#[inline(always)]
 #[tactic(auto, using(crate::proofs::Passing::has_same, crate::proofs::Passing::has_then))]
-pub(crate) fn next_tag<'a>(bytes: &'a [u8], values: &mut Values<'a>) -> Option<NextTag<'a>>
-    ensures finds { Finds result (values_at values.new) (seen_in bytes.now) }
+fn next_page_tag<'a>(bytes: &'a [u8], values: &mut Values<'a>) -> Option<NextTag<'a>>
+    ensures finds { Finds result (values_at values.new) (seen_from (Html 0) bytes.now) }
     ensures leaves { LeavesTag result bytes.now }
 {
     let mut rest = bytes;
@@ -54,18 +76,61 @@ pub(crate) fn next_tag<'a>(bytes: &'a [u8], values: &mut Values<'a>) -> Option<N
     }
 }
 
-/// What the first `<` in these bytes begins.
+/// The first such tag in another context. Each start tag is taken.
+#[inline(never)]
+#[tactic(auto, using(crate::proofs::Passing::has_same, crate::proofs::Passing::has_then))]
+fn next_inner_tag<'a>(
+    context: Context,
+    bytes: &'a [u8],
+    values: &mut Values<'a>,
+) -> Option<NextTag<'a>>
+    ensures finds { Finds result (values_at values.new) (seen_from context bytes.now) }
+    ensures leaves { LeavesTag result bytes.now }
+{
+    let mut at = context;
+    let mut rest = bytes;
+    'markup: loop {
+        match inner_step(&mut at, rest, values) {
+            Step::Pass(more) => rest = more,
+            Step::Take(tag) => return Some(tag),
+            Step::End => return None,
+        }
+    }
+}
+
+/// What the first `<` in these bytes begins, in HTML content that is in no integration point.
 #[inline(always)]
 fn next_step<'a>(bytes: &'a [u8], values: &mut Values<'a>) -> Step<'a>
-    ensures { Steps result (values_at values.new) bytes.now (seen_in bytes.now) }
+    ensures { Steps result (Html 0) (values_at values.new) bytes.now (seen_from (Html 0) bytes.now) }
 {
     let Some(opened) = behind_less(bytes) else {
         return Step::End;
     };
-    match next_markup(opened) {
+    match next_markup(Context::Html(0), opened) {
         Markup::Start(name, more) => start_tag(name, more, values),
         Markup::End(_, more) => match after_tag(more) {
             Some(last) => Step::Pass(last),
+            None => Step::End,
+        },
+        Markup::Other(more) => Step::Pass(more),
+        Markup::Unfinished => Step::End,
+    }
+}
+
+/// What the first `<` in these bytes begins, in this context. An end tag changes the context.
+fn inner_step<'a>(context: &mut Context, bytes: &'a [u8], values: &mut Values<'a>) -> Step<'a>
+    ensures { Steps result context.new (values_at values.new) bytes.now (seen_from context.old bytes.now) }
+{
+    let Some(opened) = behind_less(bytes) else {
+        return Step::End;
+    };
+    match next_markup(*context, opened) {
+        Markup::Start(name, more) => wanted_tag(*context, name, more, values),
+        Markup::End(name, more) => match after_tag(more) {
+            Some(last) => {
+                *context = outer_context(*context, name);
+                Step::Pass(last)
+            }
             None => Step::End,
         },
         Markup::Other(more) => Step::Pass(more),
@@ -91,14 +156,14 @@ fn behind_less(bytes: &[u8]) -> Option<&[u8]>
 /// A start tag, from the bytes after its name.
 #[inline(always)]
 fn start_tag<'a>(name: &'a [u8], bytes: &'a [u8], values: &mut Values<'a>) -> Step<'a>
-    ensures { StepsTag result (values_at values.new) name.now bytes.now }
+    ensures { StepsTag result (Html 0) (values_at values.new) name.now bytes.now }
 {
     if is_usual(name) {
         usual_tag(name, bytes, values)
     } else if same_name(name, b"a") {
         anchor_tag(name, bytes, values)
     } else {
-        wanted_tag(name, bytes, values)
+        wanted_tag(Context::Html(0), name, bytes, values)
     }
 }
 
@@ -106,7 +171,7 @@ fn start_tag<'a>(name: &'a [u8], bytes: &'a [u8], values: &mut Values<'a>) -> St
 #[inline(always)]
 fn usual_tag<'a>(name: &'a [u8], bytes: &'a [u8], values: &mut Values<'a>) -> Step<'a>
     requires { is_usual name.now ≡ true }
-    ensures { StepsTag result (values_at values.new) name.now bytes.now }
+    ensures { StepsTag result (Html 0) (values_at values.new) name.now bytes.now }
 {
     if let Some(last) = after_plain(bytes) {
         return Step::Pass(last);
@@ -121,7 +186,9 @@ fn usual_tag<'a>(name: &'a [u8], bytes: &'a [u8], values: &mut Values<'a>) -> St
         name,
         inside: bytes,
         element: Element::Other,
+        own: Context::Html(0),
         text: last,
+        context: Context::Html(0),
         rest: last,
     })
 }
@@ -157,65 +224,81 @@ fn usual_values<'a>(bytes: &'a [u8], values: &mut Values<'a>) -> Option<&'a [u8]
 #[tactic(auto, using(crate::proofs::Passing::has_same, crate::proofs::Passing::open_start))]
 fn anchor_tag<'a>(name: &'a [u8], bytes: &'a [u8], values: &mut Values<'a>) -> Step<'a>
     requires { bytes_eq (map lower name.now) (codes "a") ≡ true }
-    ensures { StepsTag result (values_at values.new) name.now bytes.now }
+    ensures { StepsTag result (Html 0) (values_at values.new) name.now bytes.now }
 {
     match values_in(Element::Anchor, bytes, values) {
         Some(last) => Step::Take(NextTag {
             name,
             inside: bytes,
             element: Element::Anchor,
+            own: Context::Html(0),
             text: last,
+            context: Context::Html(0),
             rest: last,
         }),
         None => Step::End,
     }
 }
 
-/// The start tag of an element that may name documents or have text.
+/// The start tag of an element that may name documents or have text, in this context.
 #[inline(never)]
 #[tactic(auto, using(crate::proofs::Passing::has_same, crate::proofs::Passing::open_start))]
-fn wanted_tag<'a>(name: &'a [u8], bytes: &'a [u8], values: &mut Values<'a>) -> Step<'a>
-    ensures { StepsTag result (values_at values.new) name.now bytes.now }
+fn wanted_tag<'a>(
+    context: Context,
+    name: &'a [u8],
+    bytes: &'a [u8],
+    values: &mut Values<'a>,
+) -> Step<'a>
+    ensures { StepsTag result context (values_at values.new) name.now bytes.now }
 {
-    let element = element_of(name);
+    let own = tag_context(context, name);
+    let element = element_at(own, name);
     let Some(text) = values_in(element, bytes, values) else {
         return Step::End;
     };
-    match after_contents(name, element, values, text) {
-        Some(rest) => Step::Take(NextTag {
+    match after_contents(own, name, element, values, text) {
+        Some((after, rest)) => Step::Take(NextTag {
             name,
             inside: bytes,
             element,
+            own,
             text,
+            context: after,
             rest,
         }),
         None => Step::Take(NextTag {
             name,
             inside: bytes,
             element,
+            own,
             text,
+            context: own,
             rest: &[],
         }),
     }
 }
 
-/// The bytes after the contents of an element if these have no tags of the page, and otherwise the bytes after its start tag.
+/// The context and the bytes after the contents of an element if these have no tags of the page, and otherwise those after its
+/// start tag, which is in the given context.
 #[tactic(auto, using(crate::proofs::Templates::none_within))]
 fn after_contents<'a>(
+    context: Context,
     name: &[u8],
     element: Element,
     values: &Values<'a>,
     text: &'a [u8],
-) -> Option<&'a [u8]>
-    ensures reads { seen_within (opened (seen_with (map lower name.now) element (values_at values.now))) (read (behind_tag false (map lower name.now)) text.now) ≡ seen_rest result }
-    ensures leaves { RestLeaves result text.now }
+) -> Option<(Context, &'a [u8])>
+    ensures reads { seen_within (opened context (seen_with (map lower name.now) element (values_at values.now) []))
+        (read (inner_context context (map lower name.now) element (values_at values.now)) (behind_start (content_at context (map lower name.now)) (map lower name.now)) text.now) ≡ seen_rest result }
+    ensures leaves { ContentLeaves result text.now }
 {
-    let Some(rest) = after_element(name, text) else {
+    let Some(rest) = after_element(context, name, text) else {
         return None;
     };
-    if is_inert(element, values.third) {
-        after_template(rest)
+    let after = inner_context(context, name, element, values);
+    if is_inert(element, values.third) && !closes_itself(context, values.self_closing) {
+        after_template(after, rest)
     } else {
-        Some(rest)
+        Some((after, rest))
     }
 }

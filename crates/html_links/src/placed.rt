@@ -1,44 +1,73 @@
 //! The links of a document, and the positions of their values in it.
-ghost use Rattle.std.specs.Prelude.{◌≡◌, ◌++◌, IfOk, OnOk};
+ghost use Rattle.std.specs.Prelude.{◌≡◌, ◌++◌, map, IfOk, OnOk};
+ghost use Rattle.html_links.specs.Tags.{lower};
+ghost use Rattle.html_links.specs.Comments.{bytes_at};
+ghost use Rattle.html_links.specs.Seen.{seen_at, sheet_of};
 ghost use Rattle.html_links.specs.Values.{values_at};
-ghost use Rattle.html_links.specs.Links.{links_of, links_with, base_of};
+ghost use Rattle.html_links.specs.Links.{links_at, links_of, links_with, style_links_with, value_links, base_of};
 ghost use Rattle.html_links.specs.Reads.{base_at};
 
 use crate::bytes::is_space;
+use crate::context::{Syntax, context_of};
 use crate::found::Values;
 use crate::links::{Links, PlacedLinks};
 use crate::next_tag::{NextTag, next_tag};
-use crate::reader::{Base, push_first, push_second, push_third, take_base};
+use crate::reader::{Base, Form, push_first, push_second, push_third, push_value, take_base};
+use crate::references::is_coded;
+use crate::style::{read_style, sheet_of};
 use std::alloc::{AllocError, Global};
 
-/// Passes on the links of a document as `read_links` does without `styles`, and before those of each value the index at which
-/// the value begins. Returns the base.
+/// Passes on the links of a document as `read_links` does, and with `styles` those of its styles, and before those of each value the
+/// index at which the value begins. Returns the base.
 ///
 /// # Errors
 /// If an allocation fails.
 pub fn read_places<L: PlacedLinks>(
     alloc: Global,
+    syntax: Syntax,
     document: &[u8],
+    styles: bool,
     links: &mut L,
 ) -> Result<Base, AllocError>
-    ensures links { OnOk result (L.texts links.new ≡ L.texts links.old ++ links_of document.now) }
-    ensures base { IfOk result (λ base. base_at base ≡ base_of document.now) }
+    ensures links { OnOk result (L.texts links.new ≡ L.texts links.old ++ links_of styles syntax document.now) }
+    ensures base { IfOk result (λ base. base_at base ≡ base_of syntax document.now) }
 {
     let mut decoded = Vec::new(alloc);
     let mut base = None;
     let mut values = Values::none();
+    let mut context = context_of(syntax);
     let mut rest = document;
-    'tags: while let Some(tag) = next_tag(rest, &mut values) {
-        push_placed(document.len(), tag, &values, &mut decoded, links)?;
+    'tags: while let Some(tag) = next_tag(context, rest, &mut values) {
+        push_tag(styles, document.len(), tag, &values, &mut decoded, links)?;
         take_base(alloc, &mut base, tag.element, &values)?;
+        context = tag.context;
         rest = tag.rest;
     }
     Ok(base)
 }
 
+/// Passes on the links of a tag in a document of this length, and with `styles` those of its styles before them.
+#[inline(always)]
+pub(crate) fn push_tag<L: PlacedLinks>(
+    styles: bool,
+    length: usize,
+    tag: NextTag<'_>,
+    values: &Values<'_>,
+    decoded: &mut Vec<u8>,
+    links: &mut L,
+) -> Result<(), AllocError>
+    ensures { OnOk result (L.texts links.new ≡ L.texts links.old ++ links_at styles (seen_at tag.entry (values_at values.now))) }
+{
+    if !styles {
+        return push_placed(length, tag, values, decoded, links);
+    }
+    push_styles(length, tag, values, decoded, links)?;
+    push_placed(length, tag, values, decoded, links)
+}
+
 /// Passes on the links of a tag in a document of this length.
 #[inline(always)]
-pub(crate) fn push_placed<L: PlacedLinks>(
+fn push_placed<L: PlacedLinks>(
     length: usize,
     tag: NextTag<'_>,
     values: &Values<'_>,
@@ -53,6 +82,44 @@ pub(crate) fn push_placed<L: PlacedLinks>(
     push_second(tag.element, values, decoded, links)?;
     begin(length, tag.inside, values.third, values.third_left, links);
     push_third(tag.element, values, decoded, links)
+}
+
+/// Passes on the links of a tag's `style`, and those of the style sheet in the element, in a document of this length. Before each is
+/// the index at which it begins, or, if its value has character references, the index at which the value begins.
+fn push_styles<L: PlacedLinks>(
+    length: usize,
+    tag: NextTag<'_>,
+    values: &Values<'_>,
+    decoded: &mut Vec<u8>,
+    links: &mut L,
+) -> Result<(), AllocError>
+    ensures { OnOk result (L.texts links.new ≡ L.texts links.old ++ style_links_with (values_at values.now) (sheet_of tag.entry.own (map lower tag.entry.name.now) values.now.self_closing tag.entry.text.now)) }
+{
+    push_style(length, tag.inside, values, decoded, links)?;
+    let sheet = sheet_of(tag.own, tag.name, values.self_closing, tag.text);
+    read_style(sheet, length.saturating_sub(tag.text.len()), links)
+}
+
+/// Passes on the links of a tag's `style`.
+fn push_style<L: PlacedLinks>(
+    length: usize,
+    inside: &[u8],
+    values: &Values<'_>,
+    decoded: &mut Vec<u8>,
+    links: &mut L,
+) -> Result<(), AllocError>
+    ensures { OnOk result (L.texts links.new ≡ L.texts links.old ++ value_links Form.Style (bytes_at values.now.style)) }
+{
+    let Some(style) = values.style else {
+        return Ok(());
+    };
+    let begin = length.saturating_sub(value_left(inside, style, values.style_left));
+    if is_coded(style) {
+        links.begin_at(begin);
+        push_value(Form::Style, values.style, decoded, links)
+    } else {
+        read_style(style, begin, links)
+    }
 }
 
 /// Passes on the index at which a value of a tag begins, if there is one. `left` bytes are after its attribute.

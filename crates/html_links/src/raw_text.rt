@@ -83,16 +83,3 @@ pub fn after_raw_text<'a>(name: &[u8], bytes: &'a [u8]) -> Option<&'a [u8]>
         }
     }
 }
-
-/// The text of this element before its end tag, if there is one.
-pub(crate) fn raw_text<'a>(name: &[u8], bytes: &'a [u8]) -> &'a [u8]
-    requires { 0 < length name.now }
-{
-    let behind = match after_raw_text(name, bytes) {
-        Some(more) => more.len().saturating_add(name.len()).saturating_add(2),
-        None => 0,
-    };
-    bytes
-        .get(..bytes.len().saturating_sub(behind))
-        .unwrap_or(&[])
-}

@@ -9,16 +9,18 @@ ghost use Rattle.html_links.specs.Links.{value_links, text_links, is_link_type, 
 ghost use Rattle.html_links.specs.Reads.{base_at};
 
 use crate::bytes::parts;
+use crate::context::context_of;
 use crate::element::Element;
 use crate::found::Values;
 use crate::links::PlacedLinks;
-use crate::next_tag::{NextTag, next_tag};
-use crate::placed::push_placed;
-use crate::raw_text::{raw_text, same_name};
+use crate::next_tag::next_tag;
+use crate::placed::push_tag;
+use crate::raw_text::same_name;
 use crate::references::{decode, is_coded};
 use crate::refresh::target_of;
 use crate::srcset::{push_candidates, split_unspaced};
-use crate::{Links, style_links};
+use crate::style::push_urls;
+use crate::{Links, Syntax};
 use std::alloc::{AllocError, Global};
 
 /// The `href` of a document's first `base` that has one, with its character references decoded.
@@ -30,32 +32,32 @@ pub(crate) enum Form {
     Link,
     List,
     Refresh,
+    Style,
     Nothing,
 }
 
-/// Passes on the links of a document in order, and returns its base. With `styles`, it passes on the links of styles too.
+/// Passes on the links of a document in order, without those of its styles, and returns its base.
 ///
 /// # Errors
 /// If an allocation fails.
 pub fn read_links<L: Links>(
     alloc: Global,
+    syntax: Syntax,
     document: &[u8],
-    styles: bool,
     links: &mut L,
 ) -> Result<Base, AllocError>
-    ensures links { OnOk result (styles ≡ false → L.texts links.new ≡ L.texts links.old ++ links_of document.now) }
-    ensures base { IfOk result (λ base. base_at base ≡ base_of document.now) }
+    ensures links { OnOk result (L.texts links.new ≡ L.texts links.old ++ links_of false syntax document.now) }
+    ensures base { IfOk result (λ base. base_at base ≡ base_of syntax document.now) }
 {
     let mut decoded = Vec::new(alloc);
     let mut base = None;
     let mut values = Values::none();
+    let mut context = context_of(syntax);
     let mut rest = document;
-    'tags: while let Some(tag) = next_tag(rest, &mut values) {
-        if styles {
-            push_styles(tag, &values, &mut decoded, links)?;
-        }
+    'tags: while let Some(tag) = next_tag(context, rest, &mut values) {
         push_values(tag.element, &values, &mut decoded, links)?;
         take_base(alloc, &mut base, tag.element, &values)?;
+        context = tag.context;
         rest = tag.rest;
     }
     Ok(base)
@@ -67,22 +69,26 @@ pub fn read_links<L: Links>(
 /// If an allocation fails.
 pub fn read_page<L: PlacedLinks, I: Links>(
     alloc: Global,
+    syntax: Syntax,
     document: &[u8],
+    styles: bool,
     links: &mut L,
     ids: &mut I,
 ) -> Result<Base, AllocError>
-    ensures links { OnOk result (L.texts links.new ≡ L.texts links.old ++ links_of document.now) }
-    ensures ids { OnOk result (I.texts ids.new ≡ I.texts ids.old ++ ids_of document.now) }
-    ensures base { IfOk result (λ base. base_at base ≡ base_of document.now) }
+    ensures links { OnOk result (L.texts links.new ≡ L.texts links.old ++ links_of styles syntax document.now) }
+    ensures ids { OnOk result (I.texts ids.new ≡ I.texts ids.old ++ ids_of syntax document.now) }
+    ensures base { IfOk result (λ base. base_at base ≡ base_of syntax document.now) }
 {
     let mut decoded = Vec::new(alloc);
     let mut base = None;
     let mut values = Values::none();
+    let mut context = context_of(syntax);
     let mut rest = document;
-    'tags: while let Some(tag) = next_tag(rest, &mut values) {
-        push_placed(document.len(), tag, &values, &mut decoded, links)?;
+    'tags: while let Some(tag) = next_tag(context, rest, &mut values) {
+        push_tag(styles, document.len(), tag, &values, &mut decoded, links)?;
         push_ids(tag.name, &values, &mut decoded, ids)?;
         take_base(alloc, &mut base, tag.element, &values)?;
+        context = tag.context;
         rest = tag.rest;
     }
     Ok(base)
@@ -117,24 +123,6 @@ fn push_anchor<I: Links>(
     } else {
         Ok(())
     }
-}
-
-/// Passes on the links of a tag's `style`, and those of a style sheet after the tag.
-fn push_styles<L: Links>(
-    tag: NextTag<'_>,
-    values: &Values<'_>,
-    decoded: &mut Vec<u8>,
-    links: &mut L,
-) -> Result<(), AllocError> {
-    if let Some(style) = values.style {
-        decoded.clear();
-        decode(style, decoded)?;
-        style_links(decoded.as_slice(), links)?;
-    }
-    if same_name(tag.name, b"style") {
-        style_links(raw_text(b"style", tag.text), links)?;
-    }
-    Ok(())
 }
 
 /// Takes the base of a tag if there is none yet.
@@ -238,7 +226,7 @@ fn first_form(
     ensures { IfOk result (λ form. form ≡ first_form element (values_at values.now)) }
 {
     match element {
-        Element::Base => Ok(Form::Nothing),
+        Element::Base | Element::Font => Ok(Form::Nothing),
         Element::Meta => meta_form(values, decoded),
         Element::Link => Ok(form_if(is_related(values.third, decoded)?, Form::Link)),
         Element::Input => Ok(form_if(is_keyword(b"image", values.third, decoded)?, Form::Link)),
@@ -258,7 +246,7 @@ fn second_form(
     ensures { IfOk result (λ form. form ≡ second_form element (values_at values.now)) }
 {
     match element {
-        Element::Base | Element::Meta => Ok(Form::Nothing),
+        Element::Base | Element::Font | Element::Meta => Ok(Form::Nothing),
         Element::Link => Ok(form_if(is_related(values.third, decoded)?, Form::List)),
         Element::Image | Element::Source => Ok(Form::List),
         Element::Input => Ok(form_if(submits(values.third, decoded)?, Form::Link)),
@@ -443,6 +431,7 @@ fn push_text<L: Links>(form: Form, text: &[u8], links: &mut L) -> Result<(), All
             Some(target) => links.push(target),
             None => Ok(()),
         },
+        Form::Style => push_urls(text, links),
         Form::Nothing => Ok(()),
     }
 }

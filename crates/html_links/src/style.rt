@@ -1,13 +1,17 @@
-//! The documents that a style sheet names.
-ghost use Rattle.std.specs.Prelude.{◌≡◌, ◌<◌, ◌∷◌, ◌++◌, [], length, false, OnOk, MatchOption};
+//! The documents that a style sheet names, and the style sheets in documents.
+ghost use Rattle.std.specs.Prelude.{◌≡◌, ◌<◌, ◌∷◌, ◌++◌, [], length, map, false, OnOk, MatchOption};
 ghost use Rattle.std.specs.List.{take_while};
 ghost use Rattle.html_links.specs.Comments.{bytes_at};
 ghost use Rattle.html_links.specs.Shown.{front, behind};
 ghost use Rattle.html_links.specs.Styles.{is_wide_space, in_plain, quoted, plain, in_brackets, behind_url, behind_import, opened, behind_comment, found_at, pass_byte, pass, urls_of, style_links_of};
+ghost use Rattle.html_links.specs.Tags.{lower};
+ghost use Rattle.html_links.specs.Seen.{foreign_sheet, raw_sheet, sheet_of};
 ghost use Rattle.html_links.specs.Styled.{found_bytes, FoundLeaves};
 
-use crate::Links;
 use crate::bytes::{behind_byte, parts, split_quoted};
+use crate::context::{Context, is_foreign};
+use crate::links::{Links, PlacedLinks};
+use crate::raw_text::{after_raw_text, same_name};
 use crate::refresh::{behind_letter, is_quote};
 use std::alloc::AllocError;
 
@@ -15,7 +19,7 @@ use std::alloc::AllocError;
 ///
 /// # Errors
 /// If an allocation fails.
-pub fn style_links<L: Links>(text: &[u8], links: &mut L) -> Result<(), AllocError>
+pub(crate) fn push_urls<L: Links>(text: &[u8], links: &mut L) -> Result<(), AllocError>
     ensures { OnOk result (L.texts links.new ≡ L.texts links.old ++ style_links_of text.now) }
 {
     let mut rest = text;
@@ -24,6 +28,82 @@ pub fn style_links<L: Links>(text: &[u8], links: &mut L) -> Result<(), AllocErro
         rest = more;
     }
     Ok(())
+}
+
+/// Passes on the texts of `url()` and `@import` in a style sheet, in order, and before each the index at which it begins. `begin` is
+/// the index at which the sheet begins.
+///
+/// # Errors
+/// If an allocation fails.
+pub fn read_style<L: PlacedLinks>(
+    sheet: &[u8],
+    begin: usize,
+    links: &mut L,
+) -> Result<(), AllocError>
+    ensures { OnOk result (L.texts links.new ≡ L.texts links.old ++ style_links_of sheet.now) }
+{
+    let mut rest = sheet;
+    'urls: while let Some((url, more)) = next_url(rest) {
+        links.begin_at(begin.saturating_add(url_index(sheet, url, more.len())));
+        links.push(url)?;
+        rest = more;
+    }
+    Ok(())
+}
+
+/// The index of a URL in a style sheet, if `left` bytes are after it and its quote.
+fn url_index(sheet: &[u8], url: &[u8], left: usize) -> usize {
+    let end = sheet.len().saturating_sub(left);
+    let quoted = matches!(sheet.get(end.saturating_sub(1)), Some(b'"' | b'\''));
+    end.saturating_sub(url.len())
+        .saturating_sub(usize::from(quoted))
+}
+
+/// The style sheet in an element with this name and context, from the bytes after its start tag. Only a `style` has one.
+pub(crate) fn sheet_of<'a>(
+    context: Context,
+    name: &[u8],
+    self_closing: bool,
+    bytes: &'a [u8],
+) -> &'a [u8]
+    ensures { result.now ≡ sheet_of context (map lower name.now) self_closing bytes.now }
+{
+    if !same_name(name, b"style") {
+        return &[];
+    }
+    if is_foreign(context) {
+        foreign_sheet(self_closing, bytes)
+    } else {
+        raw_sheet(bytes)
+    }
+}
+
+/// The style sheet in a `style` in foreign content, from the bytes after its start tag, which may close it. It ends at the first
+/// `<`.
+#[tactic(auto, using(crate::proofs::Styling::no_less))]
+fn foreign_sheet(self_closing: bool, bytes: &[u8]) -> &[u8]
+    ensures { result.now ≡ foreign_sheet self_closing bytes.now }
+{
+    if self_closing {
+        return &[];
+    }
+    match split_quoted(b'<', bytes) {
+        Some((sheet, _)) => sheet,
+        None => bytes,
+    }
+}
+
+/// The style sheet in a `style` of HTML, from the bytes after its start tag.
+fn raw_sheet(bytes: &[u8]) -> &[u8]
+    ensures { result.now ≡ raw_sheet bytes.now }
+{
+    match after_raw_text(b"style", bytes) {
+        Some(rest) => {
+            let end = bytes.len().saturating_sub(rest.len()).saturating_sub(7);
+            &bytes[..end]
+        }
+        None => bytes,
+    }
 }
 
 /// The next URL, and the bytes after it.

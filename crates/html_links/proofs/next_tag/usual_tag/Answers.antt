@@ -1,4 +1,4 @@
-use Rattle.html_links.proofs.Prelude.{◌∙◌, [], map, refl, sym, Other, lower, wanted_of, values_at, no_values}
+use Rattle.html_links.proofs.Prelude.{◌∙◌, [], map, refl, sym, Other, lower, wanted_of, values_at, no_values, Html}
 use Rattle.html_links.proofs.Passing.{open_start, text_less, has_same, passes_tag, usual_seen}
 use Rattle.html_links.proofs.next_tag.usual_tag.Goals as goal
 
@@ -9,7 +9,7 @@ returns-in-Some c = (
 )
 
 pub returns-in_default-usual_values : goal.returns-in_default-usual_values
-returns-in_default-usual_values c = has_same _ [] (open_start (map lower c.args.name.now) c.args.bytes.now (wanted_of Other) c.in_default-usual_values.ensures)
+returns-in_default-usual_values c = has_same _ [] (open_start (Html 0) (map lower c.args.name.now) c.args.bytes.now (wanted_of Other) c.in_default-usual_values.ensures)
 
 pub returns-then-name_nothing : goal.returns-then-name_nothing
 returns-then-name_nothing c = (

@@ -1,10 +1,10 @@
-use Rattle.html_links.proofs.Prelude.{◌≡◌, ◌++◌, false, length, seen_in, links_in, links_of, base_in, base_of, or_later, base_at}
+use Rattle.html_links.proofs.Prelude.{◌≡◌, ◌++◌, false, length, seen_from, links_in, links_of, base_in, base_of, or_later, base_at}
 use Rattle.html_links.proofs.reader.read_links.Given as goal
 
 -- the links so far and those of what is left are the whole, and so is the base
 abbrev pub invariant-tags : goal.invariant-tags
-invariant-tags g l = (l.styles ≡ false → g.L.Links.texts l.links ++ links_in (seen_in l.rest) ≡ g.L.Links.texts l.initial.links ++ links_of l.fn.document) ×
-    (or_later (base_at l.base) (base_in (seen_in l.rest)) ≡ base_of l.fn.document)
+invariant-tags g l = (g.L.Links.texts l.links ++ links_in false (seen_from l.context l.rest) ≡ g.L.Links.texts l.initial.links ++ links_of false l.fn.syntax l.fn.document) ×
+    (or_later (base_at l.base) (base_in (seen_from l.context l.rest)) ≡ base_of l.fn.syntax l.fn.document)
 
 abbrev pub decreases-tags : goal.decreases-tags
 decreases-tags g l = length l.rest

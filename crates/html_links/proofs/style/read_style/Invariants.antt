@@ -1,9 +1,9 @@
 use Rattle.html_links.proofs.Prelude.{◌≡◌, ◌++◌, length, style_links_of}
-use Rattle.html_links.proofs.style.style_links.Given as goal
+use Rattle.html_links.proofs.style.read_style.Given as goal
 
 -- the texts so far and those of what is left are the whole
 abbrev pub invariant-urls : goal.invariant-urls
-invariant-urls g l = g.L.Links.texts l.links ++ style_links_of l.rest ≡ g.L.Links.texts l.initial.links ++ style_links_of l.fn.text
+invariant-urls g l = g.L.Links.texts l.links ++ style_links_of l.rest ≡ g.L.Links.texts l.initial.links ++ style_links_of l.fn.sheet
 
 abbrev pub decreases-urls : goal.decreases-urls
 decreases-urls g l = length l.rest

@@ -1,0 +1,9 @@
+use Rattle.html_links.proofs.Prelude.{◌≡◌, ◌++◌, length, style_links_of}
+use Rattle.html_links.proofs.style.push_urls.Given as goal
+
+-- the texts so far and those of what is left are the whole
+abbrev pub invariant-urls : goal.invariant-urls
+invariant-urls g l = g.L.Links.texts l.links ++ style_links_of l.rest ≡ g.L.Links.texts l.initial.links ++ style_links_of l.fn.text
+
+abbrev pub decreases-urls : goal.decreases-urls
+decreases-urls g l = length l.rest
