@@ -98,7 +98,7 @@ pub record IsReport (checked : Checked) (others : Option (List Row)) (name : Lis
   pub written : text ≡ printed_check asks.report.form contents found
 
 -- the text reports the missing pages and the redirects of such a crawl below the top, each with the number of pages that link
--- to it, the invalid links, unless they are not asked for, and the entries that match nothing. Its totals count the pages at the own
+-- to it, the invalid links, if they are reported, and the entries that match nothing. Its totals count the pages at the own
 -- URLs of files, their links, the pages at these aliases, and the rows. Something is broken if there is a row of a missing page or
 -- anchor, or of an invalid link
 pub record IsCheck (top web : List ℕ) (aliases : List Alias) (asks : Asks) (broken : Bool) (text : List ℕ) : Type 0 where
