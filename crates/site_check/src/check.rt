@@ -196,6 +196,7 @@ fn page_leads<'p, R: Threads + Sync>(
 }
 
 /// The results of a check, with the locations of the links.
+#[tactic(auto, using(crate::proofs::TextsOnce::are_unused))]
 fn told(
     alloc: Global,
     input: CheckInput<'_>,
@@ -325,7 +326,8 @@ fn unused_entries(
     let mut texts = texts_of(alloc, others.parts)?;
     push_texts(others.invalid, &mut texts)?;
     let pages = missing_texts(alloc, input.front, linked)?;
-    unused(alloc, input.ignores, texts.as_slice(), pages.as_slice())
+    let all = unused(alloc, input.ignores, texts.as_slice(), pages.as_slice())?;
+    Ok(all)
 }
 
 /// Returns the text of each anchor, as it is printed.

@@ -76,8 +76,9 @@ impl<'a> InvalidText<'a> {
 /// The invalid links of the documents that have any, by the documents' URLs.
 type InvalidLinks<'a> = BTreeMap<HashedText<'a>, &'a [InvalidLink]>;
 
-/// The texts of the invalid links in found pages, in ascending order, if the check lists invalid links. Appends the links to `leads`;
+/// The texts of the invalid links in found pages, each once and in ascending order, if the check lists invalid links. Appends the links to `leads`;
 /// the first text has the number `before`.
+#[tactic(auto, using(crate::proofs::TextsOnce::no_texts))]
 pub(crate) fn invalid_texts<'a>(
     alloc: Global,
     input: CheckInput<'a>,
@@ -91,7 +92,8 @@ pub(crate) fn invalid_texts<'a>(
         return Ok(Vec::new(alloc));
     }
     let links = sorted_links(alloc, input.places, results)?;
-    distinct_texts(alloc, links.as_slice(), before, leads)
+    let texts = distinct_texts(alloc, links.as_slice(), before, leads)?;
+    Ok(texts)
 }
 
 /// The invalid links in found pages, in the order of their texts, and those with the same text in the order of the results.
@@ -177,7 +179,7 @@ fn push_links<'a>(
 }
 
 /// The texts of these links, which are sorted by them, each once. Appends the links to `leads`; the first text has the number `before`.
-#[tactic(auto, using(crate::proofs::TextsOnce::once_step))]
+#[tactic(auto, using(crate::proofs::TextsOnce::link_end))]
 fn distinct_texts<'a>(
     alloc: Global,
     links: &[PageLink<'a>],
@@ -188,58 +190,50 @@ fn distinct_texts<'a>(
 {
     let mut texts = Vec::new(alloc);
     let mut last = None;
-    let mut rest = links;
-    'links: while let Some((link, more)) = split_link(rest) {
-        add_link(link, last, &mut texts)?;
+    for (index, link) in links.iter().enumerate() {
+        let behind = links.get(index..).unwrap_or(&[]);
+        add_text(*link, last, behind, &mut texts)?;
         let number = before.saturating_add(texts.len().saturating_sub(1));
         leads.push(link.lead_to(number))?;
-        last = Some(link);
-        rest = more;
+        last = Some(*link);
     }
     Ok(texts)
 }
 
-/// Splits off the first link. `None` if there are no links.
-fn split_link<'l, 'a>(links: &'l [PageLink<'a>]) -> Option<(PageLink<'a>, &'l [PageLink<'a>])>
-    ensures { MatchOption result (links.now ≡ []) (λ x. links.now ≡ x.0 ∷ x.1.now) }
-{
-    match links.split_first() {
-        Some((first, more)) => Some((*first, more)),
-        None => None,
-    }
-}
-
-/// Appends the text of a link if the last link has another one. Otherwise counts the result that has the link, if the last link is in
-/// another one.
-fn add_link<'a>(
+/// Appends the text of a link, unless the last link has the same one. `links` begins with the link, and has all with its text.
+fn add_text<'a>(
     link: PageLink<'a>,
     last: Option<PageLink<'a>>,
+    links: &[PageLink<'a>],
     texts: &mut Vec<InvalidText<'a>>,
 ) -> Result<(), NoMemory>
-    ensures { OnOk result (map text_of texts.new.items ≡ map text_of texts.old.items ++ next_text (option_map link_text last) (link_text link)) }
+    ensures { OnOk result (map text_of texts.new.items ≡ map text_of texts.old.items ++ next_text (option_map link_text last.entry) (link_text link.entry)) }
 {
     if let Some(last) = last
         && last.text() == link.text()
     {
-        if last.source != link.source {
-            count_page(texts);
-        }
         return Ok(());
     }
     texts.push(InvalidText {
         link: link.link,
-        pages: 1,
+        pages: page_count(links),
     })?;
     Ok(())
 }
 
-/// Counts one more result at the last text.
-fn count_page(texts: &mut Vec<InvalidText<'_>>)
-    ensures { map text_of texts.new.items ≡ map text_of texts.old.items }
-{
-    if let Some(last) = texts.last_mut() {
-        last.pages = last.pages.saturating_add(1);
+/// The number of results that have one of the first links with the same text.
+fn page_count(links: &[PageLink<'_>]) -> u64 {
+    let mut count: u64 = 0;
+    let mut last: Option<PageLink<'_>> = None;
+    for link in links {
+        match last {
+            Some(last) if last.text() != link.text() => return count,
+            Some(last) if last.source == link.source => (),
+            _ => count = count.saturating_add(1),
+        }
+        last = Some(*link);
     }
+    count
 }
 
 /// The rows of these texts, in order, without those that an entry matches. `found` has the locations of the links with each, after
@@ -274,7 +268,7 @@ fn push_row(
     ensures rows { OnOk result (rows_in all.new.items ≡ rows_in all.old.items) }
     ensures names { OnOk result ((front : List ℕ) (files : SiteFiles) → AreNamed front files all.old.items → AreNamed front files all.new.items) }
     ensures parts { OnOk result (parts_in all.new.items ≡ parts_in all.old.items) }
-    ensures invalid { OnOk result (invalid_rows_in all.new.items ≡ invalid_rows_in all.old.items ++ map row_of (not_ignored (map string_bytes ignores.now) (text_of text ∷ []))) }
+    ensures invalid { OnOk result (invalid_rows_in all.new.items ≡ invalid_rows_in all.old.items ++ map row_of (not_ignored (map string_bytes ignores.now) (text_of text.entry ∷ []))) }
 {
     let link = text.link;
     if is_ignored(ignores, link.text.as_str()) {
