@@ -1,4 +1,5 @@
 use Rattle.mercator_site.proofs.Prelude.{ℕ, List, map, Ok, Vec, Global, refl, sym, ap, subst, ◌∙◌, ◌≡◌, ◌==◌, not, length, string_bytes, err_from_is_err_and, External, canonical, PageResult, AreOthersListed, IsTopCrawl, row_of, own_of}
+use Rattle.std.proofs.Common.{true≢false}
 use Rattle.std.specs.Option.{option_map}
 use Rattle.site_check.specs.Broken.{broken_of, redirects_of}
 use Rattle.site_check.specs.Ignored.{AreUnused, parts_in}
@@ -80,3 +81,9 @@ returns-in_err-crawls-clause-incomplete g c =
     let same = err_from_is_err_and r.result r.ensures.1 in
     rw (same.1, same.2) (λ web source two.
     c.in_err-crawls.ensures.incomplete (string_bytes c.args.files.now.site.top) web (ap canonical (sym c.top.ensures) ∙ c.in_ok-top.ensures.canon) source two)
+
+pub returns-in_err-report-clause-incomplete : goal.returns-in_err-report-clause-incomplete
+returns-in_err-report-clause-incomplete g c =
+    let r = c.from_residual-in_err-report in
+    let same = err_from_is_err_and r.result r.ensures.1 in
+    rw (same.1, same.2) (λ web source two. absurd (true≢false (sym two)))
