@@ -46,6 +46,7 @@ SHOWN, LONGEST = 5, 4000  # the number of differences that a series prints, and 
 EVERY = 8  # one of this number of random folders has its other forms compared
 # What 1,000 random folders must have at least LEAST times
 KINDS = "brokenpage brokenanchor placepage placeanchor worst redirect unreached external unused with_aliases error".split()
+KINDS += [kind + reason for kind in ("invalid", "invalid_place") for reason in ("not_url", "unknown_scheme", "local_file")]
 LEAST = 5
 
 
@@ -83,13 +84,13 @@ def run(program: str, words: List[str]) -> "subprocess.CompletedProcess[bytes]":
 
 
 def printed_rows(program: str, settings: Settings, folder: str) -> List[Row]:
-    """The rows that the program prints, or its error. Its exit status must be 4 if there are broken links, and 0 if not."""
+    """The rows that the program prints, or its error. Its exit status must be 4 if there are broken or invalid links, and 0 if not."""
     with tempfile.TemporaryDirectory() as scratch:
         done = run(program, arguments(settings, folder, scratch))
     if done.returncode == 1 and not done.stdout:
         return [{"kind": "error", "message": done.stderr.decode(errors="replace").splitlines()[-1]}]
     rows = [json.loads(line) for line in done.stdout.splitlines()]
-    status = 4 if any(row["kind"] == "broken" for row in rows) else 0
+    status = 4 if any(row["kind"] in ("broken", "invalid") for row in rows) else 0
     if done.returncode != status or not rows:
         return [{"kind": "status", "actual": done.returncode, "expected": status, "message": done.stderr.decode(errors="replace")}]
     for row in rows:
@@ -136,9 +137,10 @@ class Series:
 
 
 def broken_links(rows: List[Row]) -> List[str]:
-    """The broken links, in the form of known.py."""
-    found = [f"{row['target']} {row['file']}:{row['line']}:{row['column']}" for row in rows if row["kind"] == "place"]
-    placed = {row["target"] for row in rows if row["kind"] == "place"}
+    """The broken and invalid links, in the form of known.py."""
+    places = [row for row in rows if row["kind"] in ("place", "invalid_place")]
+    found = [f"{row['target']} {row['file']}:{row['line']}:{row['column']}" for row in places]
+    placed = {row["target"] for row in places}
     return sorted(found + [row["target"] for row in rows if row["kind"] == "broken" and row["target"] not in placed])
 
 
@@ -195,7 +197,7 @@ def compare_known(program: Optional[str], jobs: int) -> None:
 
 def kind_of(row: Row) -> str:
     """The kind of a row, as it is counted."""
-    return str(row["kind"] + row.get("missing", ""))
+    return str(row["kind"] + row.get("missing", "") + row.get("reason", ""))
 
 
 def compare_folder(series: Series, program: str, folder: str, settings: Settings) -> Counter[str]:

@@ -44,6 +44,14 @@ class Lines:
         return line, at - self.begins[line - 1] + 1
 
 
+def known_schemes() -> List[str]:
+    """The known schemes, which the manual lists in a block after their heading."""
+    listed = re.search(r"^### Known schemes\n.*?^```\n(.*?)^```\n", (loading.ROOT / "docs/MANUAL.md").read_text("utf-8"), re.M | re.S)
+    if listed is None:
+        raise ValueError("the manual lists no known schemes")
+    return listed[1].split()
+
+
 def character(byte: int) -> str:
     """The character of a byte in windows-1252, by the Encoding Standard."""
     try:

@@ -39,7 +39,8 @@ OWN = ["", "", "?", "?x", "?x#y", "#", "#x", "?#x", ".", "./", "./?", "index.htm
 FOREIGN = [
     " ", "\n x \t", "javascript:x", "data:," + "y" * 5000, "x#" + "z" * 5000, "mailto:\u00e9" + "\u00fc" * 3000, "%", "%f", "a\tb\nc", "http://[::1]/",
     "http:x", "&#128;", "//docs.test/sub", "http://docs.test/sub", "/sub?x", "e%20f?a%20b", "http://docs.test", "https://docs.test/", "/m%61nual/",
-    "/manual", "/manual/a.html", "//",
+    "/manual", "/manual/a.html", "//", "http://[x/", "//x:70000/", "https://a b/?\u00fc", "http://[x#" + "z" * 5000, "http://[" + "z" * 5000, "htp://x", "Htp:x",
+    "file:///x", "c:\\x", "x:" + "\u00fc" * 3000, "xy:" + "z" * 5000 + "#x", "xy:#" + "z" * 5000, "ftp:x", "TEL:1",
 ]
 FRAGMENTS = [
     "", "x", "x", "y", "X", "\u00fc", "%C3%BC", "%c3%bc", "a b", "a%20b", "a+b", "top", "TOP", "%74op", "top%20", ":~:text=x",

@@ -4,6 +4,8 @@ from __future__ import annotations
 
 from typing import Any, Dict, List, NamedTuple, Tuple, Union
 
+from checking.documents import known_schemes
+
 
 class To(NamedTuple):
     """A symbolic link to a path."""
@@ -22,7 +24,7 @@ class Known(NamedTuple):
 
     name: str
     files: Dict[str, Union[str, bytes, To, Zeros]]
-    # The broken links: TARGET FILE:LINE:COLUMN, or only TARGET if no link leads to it; an anchor has a `#`
+    # The broken and invalid links: TARGET FILE:LINE:COLUMN, or only TARGET if no link leads to it; an anchor has a `#`
     broken: List[str]
     rows: Tuple[Dict[str, Any], ...] = ()  # some members of some rows
     settings: Tuple[Tuple[str, Any], ...] = ()  # some settings of the check
@@ -324,5 +326,71 @@ KNOWN = [
         settings=(("unreached", True), ("seeds", ("d/b.html",))),
     ),
     Known("no index, and nothing to start at", {"a.html": ""}, [], error("./: no such page to start at"), settings=(("reachable", True),)),
+    Known(
+        "links that are not URLs",
+        {
+            "index.html": "<a href=' http://[bad/ '><a href='https://'><img src=//x:99999/y><a href=HTTP:/\\><a href='http://a b/'><a href=//[bad/#x>"
+            "<a href=gone>",
+        },
+        [
+            "//[bad/#x index.html:1:112", "//x:99999/y index.html:1:54", "HTTP:/\\ index.html:1:74", "gone index.html:1:130",
+            "http://[bad/ index.html:1:10", "http://a b/ index.html:1:91", "https:// index.html:1:35",
+        ],
+        (
+            {"kind": "total", "links": 7, "broken": 1, "missing_pages": 1, "missing_anchors": 0, "invalid": 6},
+            {"kind": "invalid", "target": "HTTP:/\\", "reason": "not_url", "pages": 1},
+            {"kind": "worst", "file": "index.html", "links": 7},
+        ),
+    ),
+    Known(
+        "unknown schemes and local files",
+        {
+            "index.html": "<a href=htp://a.test/><a href='C:\\x y\\z.html'><a href=FILE:///x><a href=localhost:8080/><a href=a.html:b>"
+            "<a href=d/><a href='htp://a.\ntest/'>",
+            "d/index.html": "<a href=htp://a.test/><a href=file:x><a href=d:x>",
+        },
+        [
+            "C:\\x y\\z.html index.html:1:32", "FILE:///x index.html:1:55", "a.html:b index.html:1:97", "d:x d/index.html:1:46",
+            "file:x d/index.html:1:31", "htp://a.test/ d/index.html:1:9", "htp://a.test/ index.html:1:126", "htp://a.test/ index.html:1:9",
+            "localhost:8080/ index.html:1:73",
+        ],
+        (
+            {"kind": "total", "pages": 2, "links": 10, "broken": 0, "invalid": 9},
+            {"kind": "invalid", "target": "htp://a.test/", "reason": "unknown_scheme", "pages": 2},
+            {"kind": "invalid", "target": "C:\\x y\\z.html", "reason": "local_file", "pages": 1},
+            {"kind": "invalid", "target": "d:x", "reason": "local_file", "pages": 1},
+            {"kind": "invalid", "target": "a.html:b", "reason": "unknown_scheme", "pages": 1},
+        ),
+    ),
+    Known(
+        "known schemes",
+        {"index.html": "".join(f"<a href='{scheme}:x'><a href='{scheme.upper()}://x'>" for scheme in known_schemes()) + "<a href=s+x.y-z:>"},
+        [f"s+x.y-z: index.html:1:{1 + sum(28 + 2 * len(scheme) for scheme in known_schemes()) + len('<a href=')}"],
+    ),
+    Known(
+        "a base of another scheme",
+        {"index.html": "<base href=htp:x><a href=y><a href=htp:y><a href=//[z><a href=''>"},
+        ["htp:y index.html:1:36"],
+        ({"kind": "total", "links": 4, "broken": 0, "invalid": 1},),
+    ),
+    Known(
+        "no URL by a base",
+        {"index.html": "<base href=f/><a href=//[z><a href=x>"},
+        ["//[z index.html:1:23", "f/x index.html:1:36"],
+    ),
+    Known(
+        "invalid links that are ignored",
+        {"index.html": "<a href=htp:x><a href=htp:y><a href=file:z>"},
+        ["htp:y index.html:1:23"],
+        ({"kind": "total", "invalid": 1}, {"kind": "unused", "name": "index"}),
+        settings=(("ignores", ("htp:x", "file:", "index")),),
+    ),
+    Known(
+        "no invalid links",
+        {"index.html": "<a href=htp:x><a href=//[y><a href=gone>"},
+        ["gone index.html:1:36"],
+        ({"kind": "total", "links": 3, "broken": 1, "invalid": 0}, {"kind": "unused", "name": "htp:"}),
+        settings=(("invalid", False), ("ignores", ("htp:",))),
+    ),
     Known("a seed without a page", {"index.html": ""}, [], error("x.html: no such page to start at"), settings=(("seeds", ("./", "x.html")),)),
 ]

@@ -13,7 +13,7 @@ from typing import AbstractSet, Any, Dict, Iterator, List, NamedTuple, Optional,
 from urllib.parse import quote, unquote_to_bytes
 
 import drawn
-from checking.documents import TOOL, Document, document_of, with_query_in
+from checking.documents import TOOL, Document, document_of, known_schemes, with_query_in
 
 Row = Dict[str, Any]
 FRAGMENT = "\"<>`"  # percent-encoded in a fragment, in addition to controls, spaces and everything beyond ASCII
@@ -62,6 +62,8 @@ class Link(NamedTuple):
 
 INDEX_FILES = ("index.html", "index.htm", "index.xhtml")
 
+SCHEMES = frozenset(known_schemes())
+
 
 class Settings(NamedTuple):
     """The settings of a check."""
@@ -77,6 +79,7 @@ class Settings(NamedTuple):
     queries: bool = False
     seeds: Tuple[str, ...] = ()  # links on the top at which the search starts
     reachable: bool = False  # whether only what the search reaches is checked
+    invalid: bool = True  # whether links are reported that are no URL, have an unknown scheme or name a local file
     workers: int = 1  # which makes no difference
     indices: Tuple[str, ...] = INDEX_FILES  # the names of index files; in each folder the first one counts
     fallback: bool = False  # a file is also found without its suffix .html
@@ -102,6 +105,7 @@ FLAGS = (
     Flag("follow", "--follow", 0.3),
     Flag("queries", "--queries", 0.15),
     Flag("reachable", "--reachable", 0.3),
+    Flag("invalid", "--no-invalid", 0.2),
 )
 
 
@@ -133,6 +137,24 @@ def is_short(word: str, text: str) -> bool:
     return len(f"{word} {text}".encode("utf-8", "replace")) <= LINE_LIMIT
 
 
+def written(text: str) -> Optional[str]:
+    """The text of a link in a line of a saved web: the whole, or without its fragment. If it is too long, that of another scheme is cut."""
+    fitting = [one for one in (text, text.partition("#")[0]) if is_short("link", one)]
+    if fitting or TOOL.is_web(TOOL.scheme_of(text)):
+        return fitting[0] if fitting else None
+    return text.encode("utf-8", "replace")[:LINE_LIMIT - len("link ")].decode("utf-8", "ignore")
+
+
+def invalid_reason(text: str) -> Optional[str]:
+    """Why a link without an http or https URL is invalid, or None if its scheme is a known one."""
+    scheme = TOOL.scheme_of(text)
+    if TOOL.is_web(scheme):
+        return "not_url"
+    if scheme == "file" or len(scheme) == 1:
+        return "local_file"
+    return None if scheme in SCHEMES else "unknown_scheme"
+
+
 def fragment_of(text: str) -> Optional[str]:
     """The text after the `#` of a link, or None if it has none."""
     _, mark, fragment = TOOL.cleaned(text).partition("#")
@@ -152,8 +174,13 @@ def last_of(url: str) -> str:
 
 
 def in_bytes(row: Tuple[Tuple[str, str], object]) -> Tuple[bytes, bytes]:
-    """A sort key: the bytes of a page's URL and of a fragment."""
-    return row[0][0].encode(), row[0][1].encode("utf-8", "replace")
+    """A sort key: the bytes of a pair of texts, such as a page's URL and a fragment."""
+    return row[0][0].encode("utf-8", "replace"), row[0][1].encode("utf-8", "replace")
+
+
+def in_order(places: Set[Place]) -> List[Place]:
+    """The locations by file, line and column."""
+    return sorted(places, key=lambda place: (place.file.encode(), place.line, place.column))
 
 
 class Names(NamedTuple):
@@ -325,6 +352,7 @@ class Model:
         self.responses: Dict[str, Response] = {}
         self.links: Dict[str, List[Link]] = {}  # by the own URL of each file
         self.skipped: Counter[str] = Counter()  # by the own URL of each file, the links that are not http or https
+        self.invalid: Dict[Tuple[str, str], Tuple[Set[str], Set[Place]]] = {}  # by text and reason: the pages with the link, and the locations
         starts = [str(drawn.url_of(seed, self.site.base)) for seed in settings.seeds or [""]]
         documents = [] if settings.reachable else self.site.own_documents()
         self.fault = self.start_fault(starts, documents)
@@ -390,7 +418,13 @@ class Model:
             text = with_query_in(TOOL.cleaned(link.text), document.charset)
             target = url_of(text if TOOL.scheme_of(text) else front + text, base)
             if target is None:
-                self.skipped[url] += TOOL.scheme_of(front + text) not in (None, "http", "https") or is_short("link", text)
+                line = written(text if TOOL.scheme_of(text) else front + text)
+                self.skipped[url] += line is not None
+                reason = invalid_reason(text) if line and (TOOL.scheme_of(text) or not front) else None
+                if line and reason:
+                    pages, places = self.invalid.setdefault((line, reason), (set(), set()))
+                    pages.add(url)
+                    places.add(Place(name, *document.lines.place(link.at)))
             elif is_short("link", target if has_base else text.partition("#")[0]):
                 fragment = None if document.ids is None else fragment_of(link.text)
                 yield Link(target, fragment, Place(name, *document.lines.place(link.at)))
@@ -401,7 +435,8 @@ class Model:
             return [{"kind": "error", "message": f"mercator: {self.fault}"}]
         linking = self.linking()
         broken = [*self.missing_pages(linking), *(self.missing_anchors() if self.settings.anchors else ())]
-        places = [row for row in broken if row["kind"] == "place"]
+        invalid = list(self.invalid_links()) if self.settings.invalid else []
+        places = [row for row in [*broken, *invalid] if "file" in row]
         redirects = [
             {"kind": "redirect", "page": self.shown(url), "to": self.shown(response.url), "pages": len(linking[url])}
             for url, response in sorted(self.responses.items()) if isinstance(response, Moved) and linking.get(url)
@@ -414,13 +449,14 @@ class Model:
         total = {
             "kind": "total", "pages": len(self.links), "redirects": len(redirects), **counts,
             "aliases": sum(isinstance(response, Alias) for response in self.responses.values()),
-            "links": sum(self.skipped.values()) + sum(map(len, self.links.values())), "broken": len(places),
+            "links": sum(self.skipped.values()) + sum(map(len, self.links.values())),
+            "broken": sum(row["kind"] == "place" for row in broken), "invalid": sum(row["kind"] == "invalid_place" for row in invalid),
             "missing_pages": sum(row["kind"] == "broken" and row["missing"] == "page" for row in broken),
             "missing_anchors": sum(row["kind"] == "broken" and row["missing"] == "anchor" for row in broken),
         }
         worst = [{"kind": "worst", "file": file, "links": count} for file, count in files[:MOST_FILES]]
         names = [{"kind": "unreached", "name": name} for name in unreached]
-        return [total, *broken, *worst, *redirects, *names, *external, *self.unused()]
+        return [total, *broken, *invalid, *worst, *redirects, *names, *external, *self.unused()]
 
     def linking(self) -> Dict[str, Set[str]]:
         """The pages that link to each URL. A redirect or an alias counts as a link to its target."""
@@ -463,8 +499,17 @@ class Model:
         shown = {"target": target, "missing": missing}
         same = None if same_name is None else self.shown(same_name)
         yield {"kind": "broken", **shown, "pages": pages, "same_name": same}
-        for place in sorted(places, key=lambda place: (place.file.encode(), place.line, place.column)):
+        for place in in_order(places):
             yield {"kind": "place", **shown, **place._asdict()}
+
+    def invalid_links(self) -> Iterator[Row]:
+        """The rows of invalid links and of their locations."""
+        for (text, reason), (pages, places) in sorted(self.invalid.items(), key=in_bytes):
+            if not self.is_ignored(text):
+                shown = {"target": text, "reason": reason}
+                yield {"kind": "invalid", **shown, "pages": len(pages)}
+                for place in in_order(places):
+                    yield {"kind": "invalid_place", **shown, **place._asdict()}
 
     def missing_anchors(self) -> Iterator[Row]:
         """The rows of missing anchors in existing pages."""
@@ -517,6 +562,8 @@ class Model:
     def unused(self) -> Iterator[Row]:
         """The rows of ignore entries that match nothing."""
         texts = [self.shown(url) for url, response in self.responses.items() if response is None]
+        if self.settings.invalid:
+            texts += [text for text, _ in self.invalid]
         if self.settings.anchors:
             texts += [f"{self.shown(url)}#{fragment}" for url, fragment in self.anchors_missing()]
         for entry in self.settings.ignores:

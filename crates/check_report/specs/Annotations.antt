@@ -10,7 +10,7 @@ use Rattle.check_report.specs.declared.escape.Escape.TheVariants as escape
 use Rattle.check_report.specs.declared.value.Broken.{Broken}
 use Rattle.check_report.specs.declared.value.Place.{Place}
 
--- a target and what is missing
+-- a target and what is wrong
 abbrev pub message_line : Broken → List ℕ
 message_line b = escaped escape.Data (string_bytes b.target) ++ codes ": " ++ wrong_of escape.Data b ++ codes "\n"
 

@@ -12,7 +12,7 @@ use Rattle.check_report.specs.declared.row.Part.{Part}
 use Rattle.check_report.specs.declared.row.Part.TheVariants as part
 use Rattle.check_report.specs.declared.value.Broken.{Broken}
 use Rattle.check_report.specs.declared.value.Kind.{Kind}
-use Rattle.check_report.specs.declared.value.Kind.TheVariants.{NoPage, NoAnchor}
+use Rattle.check_report.specs.declared.value.Kind.TheVariants.{NoPage, NoAnchor, NotUrl, UnknownScheme, LocalFile}
 use Rattle.check_report.specs.declared.value.Totals.{Totals}
 
 -- ---- members
@@ -43,14 +43,45 @@ kind word rest = text_at (codes "kind") word rest
 
 -- ---- rows
 
--- what is missing, in a word
-abbrev pub missing : Kind → List ℕ
-missing NoPage = codes "page"
-missing NoAnchor = codes "anchor"
+-- whether a page or an anchor is missing, and not the link invalid
+abbrev pub is_missing : Kind → Bool
+is_missing NoPage = true
+is_missing NoAnchor = true
+is_missing NotUrl = false
+is_missing UnknownScheme = false
+is_missing LocalFile = false
 
--- the target and what is missing
+-- the kind of the row of a target
+abbrev pub target_kind : Kind → List ℕ
+target_kind k = if is_missing k then codes "broken" else codes "invalid"
+
+-- the kind of the row of a location of a link to such a target
+abbrev pub place_kind : Kind → List ℕ
+place_kind k = if is_missing k then codes "place" else codes "invalid_place"
+
+-- the name of the member that says what is wrong
+abbrev pub wrong_key : Kind → List ℕ
+wrong_key k = if is_missing k then codes "missing" else codes "reason"
+
+-- what is wrong, in a word
+abbrev pub wrong_word : Kind → List ℕ
+wrong_word NoPage = codes "page"
+wrong_word NoAnchor = codes "anchor"
+wrong_word NotUrl = codes "not_url"
+wrong_word UnknownScheme = codes "unknown_scheme"
+wrong_word LocalFile = codes "local_file"
+
+-- the target and what is wrong
 abbrev pub target_at : Broken → Members → Members
-target_at b rest = text_at (codes "target") (string_bytes b.target) (text_at (codes "missing") (missing b.kind) rest)
+target_at b rest = text_at (codes "target") (string_bytes b.target) (text_at (wrong_key b.kind) (wrong_word b.kind) rest)
+
+-- the page that is suggested, or `null`; nothing for an invalid link
+abbrev pub same_name_at : Broken → Members → Members
+same_name_at b rest = if is_missing b.kind then member (codes "same_name") (text_or_null (option_map string_bytes b.same_name)) rest else rest
+
+-- the tokens of the page that is suggested
+abbrev pub same_name_tokens : Broken → List Token
+same_name_tokens b = if is_missing b.kind then Token.key (codes "same_name") ∷ json_tokens (text_or_null (option_map string_bytes b.same_name)) else []
 
 -- the kind of the rows in a section
 abbrev pub row_kind : Part → List ℕ
@@ -61,11 +92,13 @@ row_kind part.Unreached = codes "unreached"
 row_kind part.External = codes "external"
 row_kind part.Unused = codes "unused"
 
--- the counts of broken links
+-- the counts of broken links and invalid links
 abbrev pub broken_counts : Totals → Members
-broken_counts t = count_at (codes "broken") t.broken_links (count_at (codes "missing_pages") t.broken_urls (count_at (codes "missing_anchors") t.broken_anchors no_members))
+broken_counts t =
+    count_at (codes "broken") t.broken_links (count_at (codes "missing_pages") t.broken_urls (count_at (codes "missing_anchors") t.broken_anchors
+    (count_at (codes "invalid") t.invalid_links no_members)))
 
--- the optional counts, and then the counts of broken links
+-- the optional counts, and then the counts of broken links and invalid links
 abbrev pub optional_counts : Totals → Counts → Members
 optional_counts t c = count_if_at (codes "unreached") c.unreached (count_if_at (codes "external") c.external (broken_counts t))
 
@@ -79,9 +112,9 @@ members_of (line.total base totals counts) = total_members base totals counts
 members_of (line.begin of_part) = no_members
 members_of (line.finish of_part) = no_members
 members_of (line.broken b) =
-    kind (codes "broken") (target_at b (count_at (codes "pages") b.pages (member (codes "same_name") (text_or_null (option_map string_bytes b.same_name)) no_members)))
+    kind (target_kind b.kind) (target_at b (count_at (codes "pages") b.pages (same_name_at b no_members)))
 members_of (line.place b p) =
-    kind (codes "place") (target_at b (text_at (codes "file") (string_bytes p.file) (count_at (codes "line") p.line (count_at (codes "column") p.column no_members))))
+    kind (place_kind b.kind) (target_at b (text_at (codes "file") (string_bytes p.file) (count_at (codes "line") p.line (count_at (codes "column") p.column no_members))))
 members_of (line.more count) = kind (codes "more") (count_at (codes "places") count no_members)
 members_of (line.worst c) = kind (codes "worst") (text_at (codes "file") (string_bytes c.file) (count_at (codes "links") c.links no_members))
 members_of (line.redirect r) =

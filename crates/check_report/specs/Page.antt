@@ -1,5 +1,5 @@
 -- A row of the HTML page. Untrusted texts are only in elements, and escaped.
-use Rattle.std.specs.Prelude.{ℕ, ◌==◌, Bool, ◌||◌, List, [], ◌++◌, codes, decimal, nat_lt, string_bytes, if◌then◌else◌, Option, None, Some}
+use Rattle.std.specs.Prelude.{ℕ, ◌==◌, Bool, ◌&&◌, ◌||◌, List, [], ◌++◌, codes, decimal, nat_lt, string_bytes, if◌then◌else◌, Option, None, Some}
 use Rattle.std.specs.Option.{option_map}
 use Rattle.check_report.specs.Escape.{escaped}
 use Rattle.check_report.specs.Rows as line
@@ -45,15 +45,18 @@ links_noun n = if n == 1 then codes " broken link" else codes " broken links"
 abbrev pub missing_noun : ℕ → List ℕ
 missing_noun n = if n == 1 then codes " missing page" else codes " missing pages"
 
--- the title counts the broken links, or the missing pages if no link leads to them
+abbrev pub invalid_noun : ℕ → List ℕ
+invalid_noun n = if n == 1 then codes " invalid link" else codes " invalid links"
+
+-- the title counts the broken links; if there are none, the missing pages, to which no link leads; if there are none, the invalid links
 abbrev pub counts_links : Totals → Bool
-counts_links t = nat_lt 0 t.broken_links || (t.broken_urls == 0)
+counts_links t = nat_lt 0 t.broken_links || ((t.broken_urls == 0) && (t.invalid_links == 0))
 
 abbrev pub title_count : Totals → ℕ
-title_count t = if counts_links t then t.broken_links else t.broken_urls
+title_count t = if counts_links t then t.broken_links else (if nat_lt 0 t.broken_urls then t.broken_urls else t.invalid_links)
 
 abbrev pub title_noun : Totals → List ℕ
-title_noun t = if counts_links t then links_noun t.broken_links else missing_noun t.broken_urls
+title_noun t = if counts_links t then links_noun t.broken_links else (if nat_lt 0 t.broken_urls then missing_noun t.broken_urls else invalid_noun t.invalid_links)
 
 -- the page up to its body, with the title
 abbrev pub page_start : List ℕ → Totals → List ℕ
@@ -73,8 +76,14 @@ abbrev pub site_items : Totals → List ℕ
 site_items t = total_item (codes "<li>pages <b>") t.pages ++ total_item (codes "<li>links <b>") t.links ++ total_item (codes "<li>redirects <b>") t.moved
     ++ total_item (codes "<li>other URLs of pages <b>") t.aliases
 
+-- an item if the count is not 0, otherwise nothing
+abbrev pub item_some : List ℕ → ℕ → List ℕ
+item_some word n = if n == 0 then [] else total_item word n
+
 abbrev pub broken_items : Totals → List ℕ
-broken_items t = total_item (codes "<li>missing pages <b>") t.broken_urls ++ total_item (codes "<li>missing anchors <b>") t.broken_anchors
+broken_items t =
+    total_item (codes "<li>missing pages <b>") t.broken_urls ++ total_item (codes "<li>missing anchors <b>") t.broken_anchors
+    ++ item_some (codes "<li>invalid links <b>") t.invalid_links
 
 -- an item if there is a count, otherwise nothing
 abbrev pub item_if : List ℕ → Option ℕ → List ℕ

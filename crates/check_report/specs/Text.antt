@@ -14,7 +14,7 @@ use Rattle.check_report.specs.declared.value.Broken.{Broken}
 use Rattle.check_report.specs.declared.value.External.{External}
 use Rattle.check_report.specs.declared.value.FileCount.{FileCount}
 use Rattle.check_report.specs.declared.value.Kind.{Kind}
-use Rattle.check_report.specs.declared.value.Kind.TheVariants.{NoPage, NoAnchor}
+use Rattle.check_report.specs.declared.value.Kind.TheVariants.{NoPage, NoAnchor, NotUrl, UnknownScheme, LocalFile}
 use Rattle.check_report.specs.declared.value.Place.{Place}
 use Rattle.check_report.specs.declared.value.Redirect.{Redirect}
 use Rattle.check_report.specs.declared.value.Totals.{Totals}
@@ -43,6 +43,9 @@ code false text = []
 abbrev pub message : Kind → List ℕ
 message NoPage = codes "no such page"
 message NoAnchor = codes "no such anchor"
+message NotUrl = codes "not a URL"
+message UnknownScheme = codes "unknown scheme"
+message LocalFile = codes "local file"
 
 abbrev pub same_name_text : Escape → Option (List ℕ) → List ℕ
 same_name_text how None = []
@@ -52,7 +55,7 @@ abbrev pub redirect_target : Escape → Option (List ℕ) → List ℕ
 redirect_target how None = codes "-"
 redirect_target how (Some page) = escaped how page
 
--- what is missing, and the page that is suggested
+-- what is wrong, and the page that is suggested
 abbrev pub wrong_of : Escape → Broken → List ℕ
 wrong_of how b = message b.kind ++ same_name_text how (option_map string_bytes b.same_name)
 
@@ -65,11 +68,15 @@ abbrev pub counted_if : List ℕ → Option ℕ → List ℕ
 counted_if word None = []
 counted_if word (Some n) = counted word n
 
--- what is missing
+-- the same if the count is not 0, otherwise nothing
+abbrev pub counted_some : List ℕ → ℕ → List ℕ
+counted_some word n = if n == 0 then [] else counted word n
+
+-- what is wrong
 abbrev pub wrong_text : Bool → Kind → List ℕ
 wrong_text colour kind = code colour red ++ message kind ++ code colour plain
 
--- a target, what is missing, and the page that is suggested
+-- a target, what is wrong with it, and the page that is suggested
 abbrev pub target_text : Bool → Broken → List ℕ
 target_text colour b = shown (string_bytes b.target) ++ codes ": " ++ wrong_text colour b.kind ++ same_name_text escape.Shown (option_map string_bytes b.same_name) ++ codes "\n"
 
@@ -84,11 +91,11 @@ place_text colour b p = code colour bold ++ place_start p ++ code colour plain +
 abbrev pub broken_text : Bool → Broken → List ℕ
 broken_text colour b = if nat_lt 0 (length b.places.items) then [] else target_text colour b
 
--- whether something is missing. A page at which the check starts can be missing though no link leads to it
+-- whether something is missing or invalid. A page at which the check starts can be missing though no link leads to it
 abbrev pub is_broken : Totals → Bool
-is_broken t = nat_lt 0 t.broken_links || nat_lt 0 t.broken_urls || nat_lt 0 t.broken_anchors
+is_broken t = nat_lt 0 t.broken_links || nat_lt 0 t.broken_urls || nat_lt 0 t.broken_anchors || nat_lt 0 t.invalid_links
 
--- red if something is missing, otherwise green
+-- red if something is missing or invalid, otherwise green
 abbrev pub verdict : Totals → List ℕ
 verdict t = if is_broken t then red else green
 
@@ -97,6 +104,7 @@ abbrev pub broken_total : Bool → Totals → List ℕ
 broken_total colour t =
     code colour (verdict t) ++ counted (codes "broken links ") t.broken_links ++ code colour plain
     ++ counted (codes ", missing pages ") t.broken_urls ++ counted (codes ", missing anchors ") t.broken_anchors
+    ++ counted_some (codes ", invalid links ") t.invalid_links
 
 -- the first line of the totals
 abbrev pub site_total : Totals → Counts → List ℕ
@@ -104,7 +112,7 @@ site_total t c =
     counted (codes "pages ") t.pages ++ counted (codes ", links ") t.links ++ counted (codes ", redirects ") t.moved
     ++ counted (codes ", aliases ") t.aliases ++ counted_if (codes ", unreached files ") c.unreached ++ counted_if (codes ", external URLs ") c.external
 
-abbrev pub total_text : Bool → Totals → Counts → List ℕ
+unfoldable pub total_text : Bool → Totals → Counts → List ℕ
 total_text colour t c = site_total t c ++ codes "\n" ++ broken_total colour t ++ codes "\n"
 
 abbrev pub title : Part → List ℕ

@@ -92,7 +92,7 @@ fn slash_after(folder: &str) -> &str
     }
 }
 
-/// Appends the target, what is missing, and the page that is suggested, and ends the line.
+/// Appends the target, what is wrong with it, and the page that is suggested, and ends the line.
 fn put_message(out: &mut Vec<u8>, broken: &Broken) -> Result<(), NoMemory>
     ensures { OnOk result (out.new.items ≡ out.old.items ++ message_line broken.now) }
 {

@@ -4,7 +4,7 @@ ghost use Rattle.std.specs.Option.{option_map};
 ghost use Rattle.json.specs.Json.{object};
 ghost use Rattle.json.specs.Token.{begin_object, end_object, key, string, number};
 ghost use Rattle.json.specs.Tree.{json_tokens, members_tokens};
-ghost use Rattle.check_report.specs.Json.{count_tokens, is_object, json_line, members_of, missing, object_line, row_kind, text_or_null, optional_counts};
+ghost use Rattle.check_report.specs.Json.{count_tokens, is_object, json_line, members_of, is_missing, object_line, place_kind, row_kind, same_name_tokens, target_kind, text_or_null, optional_counts, wrong_key, wrong_word};
 ghost use Rattle.check_report.specs.Rows as line;
 ghost use Rattle.check_report.specs.Rows.{line_of};
 
@@ -92,7 +92,7 @@ fn put_total(out: &mut Writer, base: &str, totals: Totals, counts: Counts) -> Re
     put_optional_counts(out, totals, counts)
 }
 
-/// Writes the optional counts, and then the counts of broken links.
+/// Writes the optional counts, and then the counts of broken links and invalid links.
 fn put_optional_counts(out: &mut Writer, totals: Totals, counts: Counts) -> Result<(), NoMemory>
     ensures tokens { OnOk result (out.new.tokens ++ end_object ∷ [] ≡ out.old.tokens ++ members_tokens (optional_counts totals counts)) }
     ensures before { out.new.before ≡ out.old.before }
@@ -102,34 +102,47 @@ fn put_optional_counts(out: &mut Writer, totals: Totals, counts: Counts) -> Resu
     put_broken_counts(out, totals)
 }
 
-/// Writes the numbers of broken links, missing pages and missing anchors.
+/// Writes the numbers of broken links, missing pages, missing anchors and invalid links.
 fn put_broken_counts(out: &mut Writer, totals: Totals) -> Result<(), NoMemory>
-    ensures tokens { OnOk result (out.new.tokens ≡ out.old.tokens ++ key (codes "broken") ∷ number (decimal totals.broken_links) ∷ key (codes "missing_pages") ∷ number (decimal totals.broken_urls) ∷ key (codes "missing_anchors") ∷ number (decimal totals.broken_anchors) ∷ []) }
+    ensures tokens { OnOk result (out.new.tokens ≡ out.old.tokens ++ key (codes "broken") ∷ number (decimal totals.broken_links) ∷ key (codes "missing_pages") ∷ number (decimal totals.broken_urls) ∷ key (codes "missing_anchors") ∷ number (decimal totals.broken_anchors) ∷ key (codes "invalid") ∷ number (decimal totals.invalid_links) ∷ []) }
     ensures before { out.new.before ≡ out.old.before }
 {
     put_count(out, "broken", totals.broken_links)?;
     put_count(out, "missing_pages", totals.broken_urls)?;
-    put_count(out, "missing_anchors", totals.broken_anchors)
+    put_count(out, "missing_anchors", totals.broken_anchors)?;
+    put_count(out, "invalid", totals.invalid_links)
 }
 
-/// Writes the members for a missing page or anchor. `same_name` is null if no page is suggested.
+/// Writes the members for a missing page or anchor, or for an invalid link.
 fn put_broken(out: &mut Writer, broken: &Broken) -> Result<(), NoMemory>
     requires { out.old.tokens ≡ begin_object ∷ [] }
     ensures tokens { OnOk result (out.new.tokens ++ end_object ∷ [] ≡ json_tokens (object (members_of (line.broken broken.now)))) }
     ensures before { out.new.before ≡ out.old.before }
 {
-    put_target(out, "broken", broken)?;
+    put_target(out, target_kind(broken.kind), broken)?;
     put_count(out, "pages", broken.pages)?;
-    put_text_or_null(out, "same_name", &broken.same_name)
+    put_same_name(out, broken)
 }
 
-/// Writes the members for a broken link: the target, what is missing, the file, the line and the column.
+/// Writes the page that is suggested for a missing page or anchor, null if there is none. An invalid link has no such member.
+fn put_same_name(out: &mut Writer, broken: &Broken) -> Result<(), NoMemory>
+    ensures tokens { OnOk result (out.new.tokens ≡ out.old.tokens ++ same_name_tokens broken.now) }
+    ensures before { out.new.before ≡ out.old.before }
+{
+    if is_missing(broken.kind) {
+        put_text_or_null(out, "same_name", &broken.same_name)
+    } else {
+        Ok(())
+    }
+}
+
+/// Writes the members for a broken or invalid link: the target, what is wrong, the file, the line and the column.
 fn put_place(out: &mut Writer, broken: &Broken, place: &Place) -> Result<(), NoMemory>
     requires { out.old.tokens ≡ begin_object ∷ [] }
     ensures tokens { OnOk result (out.new.tokens ++ end_object ∷ [] ≡ json_tokens (object (members_of (line.place broken.now place.now)))) }
     ensures before { out.new.before ≡ out.old.before }
 {
-    put_target(out, "place", broken)?;
+    put_target(out, place_kind(broken.kind), broken)?;
     put_text(out, "file", place.file.as_str())?;
     put_count(out, "line", place.line)?;
     put_count(out, "column", place.column)
@@ -203,23 +216,69 @@ fn row_kind(part: Part) -> &'static str
     }
 }
 
-/// Writes the kind of the row, the target, and what is missing.
+/// Writes the kind of the row, the target, and what is wrong.
 fn put_target(out: &mut Writer, kind: &str, broken: &Broken) -> Result<(), NoMemory>
-    ensures tokens { OnOk result (out.new.tokens ≡ out.old.tokens ++ key (codes "kind") ∷ string kind.now ∷ key (codes "target") ∷ string (string_bytes broken.now.target) ∷ key (codes "missing") ∷ string (missing broken.now.kind) ∷ []) }
+    ensures tokens { OnOk result (out.new.tokens ≡ out.old.tokens ++ key (codes "kind") ∷ string kind.now ∷ key (codes "target") ∷ string (string_bytes broken.now.target) ∷ key (wrong_key broken.now.kind) ∷ string (wrong_word broken.now.kind) ∷ []) }
     ensures before { out.new.before ≡ out.old.before }
 {
     put_text(out, "kind", kind)?;
     put_text(out, "target", broken.target.as_str())?;
-    put_text(out, "missing", missing(broken.kind))
+    put_text(out, wrong_key(broken.kind), wrong_word(broken.kind))
 }
 
-/// The value of `missing`.
-fn missing(kind: Kind) -> &'static str
-    ensures { result.now ≡ missing kind }
+/// Whether a page or an anchor is missing. Otherwise the link is invalid.
+fn is_missing(kind: Kind) -> bool
+    ensures { result ≡ is_missing kind }
+{
+    match kind {
+        Kind::NoPage | Kind::NoAnchor => true,
+        Kind::NotUrl | Kind::UnknownScheme | Kind::LocalFile => false,
+    }
+}
+
+/// The value of `kind` for the row of a target.
+fn target_kind(kind: Kind) -> &'static str
+    ensures { result.now ≡ target_kind kind }
+{
+    if is_missing(kind) {
+        "broken"
+    } else {
+        "invalid"
+    }
+}
+
+/// The value of `kind` for the row of a location.
+fn place_kind(kind: Kind) -> &'static str
+    ensures { result.now ≡ place_kind kind }
+{
+    if is_missing(kind) {
+        "place"
+    } else {
+        "invalid_place"
+    }
+}
+
+/// The name of the member that says what is wrong.
+fn wrong_key(kind: Kind) -> &'static str
+    ensures { result.now ≡ wrong_key kind }
+{
+    if is_missing(kind) {
+        "missing"
+    } else {
+        "reason"
+    }
+}
+
+/// What is wrong, in a word.
+fn wrong_word(kind: Kind) -> &'static str
+    ensures { result.now ≡ wrong_word kind }
 {
     match kind {
         Kind::NoPage => "page",
         Kind::NoAnchor => "anchor",
+        Kind::NotUrl => "not_url",
+        Kind::UnknownScheme => "unknown_scheme",
+        Kind::LocalFile => "local_file",
     }
 }
 

@@ -1,6 +1,6 @@
 //! Prints a row in the HTML page.
 ghost use Rattle.std.specs.Prelude.{◌≡◌, ◌++◌, OnOk, codes};
-ghost use Rattle.check_report.specs.Page.{broken_items, broken_row, count_items, external_row, head_part, html, item_if, counts_links, links_noun, missing_noun, more_row, page_heading, page_line, page_start, page_total, place_row, redirect_row, script_part, section_start, site_items, style_part, tail_part, title_count, title_noun, optional_items, tools_part, total_item, verdict_start, worst_row};
+ghost use Rattle.check_report.specs.Page.{broken_items, broken_row, count_items, external_row, head_part, html, item_if, item_some, counts_links, invalid_noun, links_noun, missing_noun, more_row, page_heading, page_line, page_start, page_total, place_row, redirect_row, script_part, section_start, site_items, style_part, tail_part, title_count, title_noun, optional_items, tools_part, total_item, verdict_start, worst_row};
 ghost use Rattle.check_report.specs.Rows.{line_of};
 
 mod parts;
@@ -135,14 +135,16 @@ fn put_heading(out: &mut Vec<u8>, base: &str, totals: Totals) -> Result<(), NoMe
     put(out, "</h1>\n<ul>\n")
 }
 
-/// The number of broken links, or of missing pages if no link leads to them.
+/// The number of broken links; if there are none, that of missing pages, to which no link leads; if there are none, that of invalid links.
 fn title_count(totals: Totals) -> u64
     ensures { result ≡ title_count totals }
 {
     if counts_links(totals) {
         totals.broken_links
-    } else {
+    } else if totals.broken_urls > 0 {
         totals.broken_urls
+    } else {
+        totals.invalid_links
     }
 }
 
@@ -152,16 +154,18 @@ fn title_noun(totals: Totals) -> &'static str
 {
     if counts_links(totals) {
         links_noun(totals.broken_links)
-    } else {
+    } else if totals.broken_urls > 0 {
         missing_noun(totals.broken_urls)
+    } else {
+        invalid_noun(totals.invalid_links)
     }
 }
 
-/// Whether the title counts broken links. Otherwise it counts missing pages, to which no link leads.
+/// Whether the title counts broken links. Otherwise there are none, and it counts missing pages or invalid links.
 fn counts_links(totals: Totals) -> bool
     ensures { result ≡ counts_links totals }
 {
-    totals.broken_links > 0 || totals.broken_urls == 0
+    totals.broken_links > 0 || totals.broken_urls == 0 && totals.invalid_links == 0
 }
 
 /// The noun after this number of broken links, with a space before it.
@@ -186,7 +190,18 @@ fn missing_noun(count: u64) -> &'static str
     }
 }
 
-/// The start tags of the heading. Its class is `bad` if something is missing, otherwise `good`.
+/// The noun after this number of invalid links, with a space before it.
+fn invalid_noun(count: u64) -> &'static str
+    ensures { result.now ≡ invalid_noun count }
+{
+    if count == 1 {
+        " invalid link"
+    } else {
+        " invalid links"
+    }
+}
+
+/// The start tags of the heading. Its class is `bad` if something is missing or invalid, otherwise `good`.
 fn verdict_start(totals: Totals) -> &'static str
     ensures { result.now ≡ verdict_start totals }
 {
@@ -216,12 +231,13 @@ fn put_site_items(out: &mut Vec<u8>, totals: Totals) -> Result<(), NoMemory>
     put_item(out, "<li>other URLs of pages <b>", totals.aliases)
 }
 
-/// Appends the numbers of missing pages and missing anchors, each as an item.
+/// Appends the numbers of missing pages and missing anchors, each as an item, and that of invalid links if it is not 0.
 fn put_broken_items(out: &mut Vec<u8>, totals: Totals) -> Result<(), NoMemory>
     ensures { OnOk result (out.new.items ≡ out.old.items ++ broken_items totals) }
 {
     put_item(out, "<li>missing pages <b>", totals.broken_urls)?;
-    put_item(out, "<li>missing anchors <b>", totals.broken_anchors)
+    put_item(out, "<li>missing anchors <b>", totals.broken_anchors)?;
+    put_item_some(out, "<li>invalid links <b>", totals.invalid_links)
 }
 
 /// Appends the numbers of unreached files and of external URLs, each as an item if the report has it.
@@ -242,6 +258,17 @@ fn put_item_if(out: &mut Vec<u8>, word: &str, count: Option<usize>) -> Result<()
     }
 }
 
+/// Appends an item if the count is not 0. `word` is the HTML before the count.
+fn put_item_some(out: &mut Vec<u8>, word: &str, count: u64) -> Result<(), NoMemory>
+    ensures { OnOk result (out.new.items ≡ out.old.items ++ item_some word.now count) }
+{
+    if count == 0 {
+        Ok(())
+    } else {
+        put_item(out, word, count)
+    }
+}
+
 /// Appends an item. `word` is the HTML before the count, with the start tags.
 fn put_item(out: &mut Vec<u8>, word: &str, count: u64) -> Result<(), NoMemory>
     ensures { OnOk result (out.new.items ≡ out.old.items ++ total_item word.now count) }
@@ -259,7 +286,7 @@ fn put_html(out: &mut Vec<u8>, text: &str) -> Result<(), NoMemory>
     put_escaped(out, Escape::Html, text)
 }
 
-/// Appends the line of a missing page or anchor: the target, a tab, what is missing, and the page that is suggested.
+/// Appends the line of a target: the target, a tab, what is wrong with it, and the page that is suggested.
 fn put_broken(out: &mut Vec<u8>, broken: &Broken) -> Result<(), NoMemory>
     ensures { OnOk result (out.new.items ≡ out.old.items ++ broken_row broken.now) }
 {

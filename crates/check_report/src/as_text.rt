@@ -5,7 +5,7 @@ ghost use Rattle.check_report.specs.Rows.{line_of};
 ghost use Rattle.check_report.specs.Text.{begin_text, broken_text, broken_total, external_text, is_broken, linked_from, message, more_text, moves_text, name_text, pages_noun, place_start, place_text, redirect_target, redirect_text, same_name_text, site_total, target_text, text_line, title, total_text, verdict, worst_text, wrong_of, wrong_text};
 
 use crate::escape::{Escape, put_escaped};
-use crate::put::{NoMemory, put, put_code, put_counted, put_counted_if};
+use crate::put::{NoMemory, put, put_code, put_counted, put_counted_if, put_counted_some};
 use crate::row::{Counts, Part, Row};
 use crate::value::{Broken, External, FileCount, Kind, Place, Redirect, Totals};
 use shown_text::put_shown;
@@ -37,6 +37,7 @@ pub fn put_text(out: &mut Vec<u8>, row: Row<'_>, colour: bool) -> Result<(), NoM
 }
 
 /// Appends the two lines of the totals: the counts of the site, and the counts of what is broken.
+#[tactic(auto, unfolding(crate::specs::Text::total_text))]
 fn put_total(
     out: &mut Vec<u8>,
     totals: Totals,
@@ -63,7 +64,8 @@ fn put_site_total(out: &mut Vec<u8>, totals: Totals, counts: Counts) -> Result<(
     put_counted_if(out, ", external URLs ", counts.external)
 }
 
-/// Appends the second line of the totals, without its LF. If the report has colour, the number of broken links is red or green.
+/// Appends the second line of the totals, without its LF. If the report has colour, the number of broken links is red or green. The
+/// number of invalid links is omitted if it is 0.
 fn put_broken_total(out: &mut Vec<u8>, totals: Totals, colour: bool) -> Result<(), NoMemory>
     ensures { OnOk result (out.new.items ≡ out.old.items ++ broken_total colour totals) }
 {
@@ -71,21 +73,25 @@ fn put_broken_total(out: &mut Vec<u8>, totals: Totals, colour: bool) -> Result<(
     put_counted(out, "broken links ", totals.broken_links)?;
     put_code(out, colour, PLAIN)?;
     put_counted(out, ", missing pages ", totals.broken_urls)?;
-    put_counted(out, ", missing anchors ", totals.broken_anchors)
+    put_counted(out, ", missing anchors ", totals.broken_anchors)?;
+    put_counted_some(out, ", invalid links ", totals.invalid_links)
 }
 
-/// Red if something is missing, otherwise green.
+/// Red if something is missing or invalid, otherwise green.
 fn verdict(totals: Totals) -> &'static str
     ensures { result.now ≡ verdict totals }
 {
     if is_broken(totals) { RED } else { GREEN }
 }
 
-/// Whether something is missing. A page at which the check starts can be missing though no link leads to it.
+/// Whether something is missing or invalid. A page at which the check starts can be missing though no link leads to it.
 pub fn is_broken(totals: Totals) -> bool
     ensures { result ≡ is_broken totals }
 {
-    totals.broken_links > 0 || totals.broken_urls > 0 || totals.broken_anchors > 0
+    totals.broken_links > 0
+        || totals.broken_urls > 0
+        || totals.broken_anchors > 0
+        || totals.invalid_links > 0
 }
 
 /// Appends an empty line and the title of the section, which is bold if the report has colour.
@@ -148,7 +154,7 @@ fn put_place_start(out: &mut Vec<u8>, place: &Place) -> Result<(), NoMemory>
     put(out, ": ")
 }
 
-/// Appends the target, what is missing, and the page that is suggested, and ends the line.
+/// Appends the target, what is wrong with it, and the page that is suggested, and ends the line.
 fn put_target(out: &mut Vec<u8>, broken: &Broken, colour: bool) -> Result<(), NoMemory>
     ensures { OnOk result (out.new.items ≡ out.old.items ++ target_text colour broken.now) }
 {
@@ -159,7 +165,7 @@ fn put_target(out: &mut Vec<u8>, broken: &Broken, colour: bool) -> Result<(), No
     put(out, "\n")
 }
 
-/// Appends what is missing, in red if the report has colour.
+/// Appends what is wrong, in red if the report has colour.
 fn put_wrong(out: &mut Vec<u8>, kind: Kind, colour: bool) -> Result<(), NoMemory>
     ensures { OnOk result (out.new.items ≡ out.old.items ++ wrong_text colour kind) }
 {
@@ -168,17 +174,20 @@ fn put_wrong(out: &mut Vec<u8>, kind: Kind, colour: bool) -> Result<(), NoMemory
     put_code(out, colour, PLAIN)
 }
 
-/// The text about what is missing.
+/// The text about what is wrong.
 fn message(kind: Kind) -> &'static str
     ensures { result.now ≡ message kind }
 {
     match kind {
         Kind::NoPage => "no such page",
         Kind::NoAnchor => "no such anchor",
+        Kind::NotUrl => "not a URL",
+        Kind::UnknownScheme => "unknown scheme",
+        Kind::LocalFile => "local file",
     }
 }
 
-/// Appends what is missing, and the page that is suggested.
+/// Appends what is wrong, and the page that is suggested.
 pub fn put_wrong_of(out: &mut Vec<u8>, how: Escape, broken: &Broken) -> Result<(), NoMemory>
     ensures { OnOk result (out.new.items ≡ out.old.items ++ wrong_of how broken.now) }
 {

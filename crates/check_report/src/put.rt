@@ -1,6 +1,6 @@
 //! Appends texts and numbers.
 ghost use Rattle.std.specs.Prelude.{◌≡◌, ◌++◌, OnOk, decimal};
-ghost use Rattle.check_report.specs.Text.{code, counted, counted_if};
+ghost use Rattle.check_report.specs.Text.{code, counted, counted_if, counted_some};
 
 use itoa::Buffer;
 use std::alloc::AllocError;
@@ -38,6 +38,17 @@ pub fn put_counted_if(out: &mut Vec<u8>, word: &str, count: Option<usize>) -> Re
     match count {
         Some(count) => put_counted(out, word, count as u64),
         None => Ok(()),
+    }
+}
+
+/// Appends a word and a count if the count is not 0.
+pub fn put_counted_some(out: &mut Vec<u8>, word: &str, count: u64) -> Result<(), NoMemory>
+    ensures { OnOk result (out.new.items ≡ out.old.items ++ counted_some word.now count) }
+{
+    if count == 0 {
+        Ok(())
+    } else {
+        put_counted(out, word, count)
     }
 }
 

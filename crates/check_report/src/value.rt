@@ -6,7 +6,7 @@ pub struct Findings<'a> {
     /// The name of the site, such as its URL or its folder.
     pub base: &'a str,
     pub totals: Totals,
-    /// The missing pages and anchors.
+    /// The missing pages and anchors, and then the invalid links.
     pub broken: &'a [Broken],
     /// The files with the most broken links, most first. All of them are printed, so a caller passes ten, say.
     pub worst: &'a [FileCount],
@@ -52,29 +52,38 @@ pub struct Totals {
     pub broken_urls: u64,
     /// The missing anchors in pages that exist.
     pub broken_anchors: u64,
+    /// The invalid links: those that are no URL, have an unknown scheme or name a local file.
+    pub invalid_links: u64,
     /// The redirects that pages link to.
     pub moved: u64,
 }
 
-/// What is missing.
+/// What is wrong with a link.
 #[derive(Clone, Copy)]
 pub enum Kind {
+    /// There is no such page.
     NoPage,
     /// The page exists and does not have the anchor.
     NoAnchor,
+    /// The link is no URL.
+    NotUrl,
+    /// The scheme of the link is not known.
+    UnknownScheme,
+    /// The link names a file of the reader's computer.
+    LocalFile,
 }
 
-/// A missing page or anchor that links lead to.
+/// The target of broken links: a missing page or anchor, or the text of an invalid link.
 #[derive(Drop)]
 pub struct Broken {
-    /// The page, or the page followed by `#` and the anchor.
+    /// The page, or the page followed by `#` and the anchor, or the invalid link.
     pub target: String,
     pub kind: Kind,
     /// The number of pages that link to it.
     pub pages: u64,
     /// The locations of the links to it; empty for a page at which the check starts and that no page links to.
     pub places: Vec<Place>,
-    /// The page of the site with the same file name, if there is exactly one.
+    /// The page of the site with the same file name, if the page is missing and there is exactly one.
     pub same_name: Option<String>,
 }
 

@@ -1,4 +1,5 @@
 pub mod Encoding
 pub mod Places
+pub mod Schemes
 pub mod Texts
 pub mod Written

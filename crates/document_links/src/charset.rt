@@ -6,6 +6,7 @@ ghost use Rattle.document_links.specs.Written.{is_unicode};
 
 use crate::cleaning::trimmed;
 use crate::document_start::{behind_first, behind_front, start_of};
+use crate::words::is_among;
 use memchr::memchr;
 use std::alloc::{AllocError, Global};
 
@@ -83,13 +84,6 @@ fn charset_named(name: &[u8], body: &[u8]) -> Charset
     } else {
         undeclared(body, Charset::Other)
     }
-}
-
-/// Whether the name is one of `names`, which are separated by spaces. Case does not matter.
-fn is_among(name: &[u8], names: &str) -> bool {
-    names
-        .split(' ')
-        .any(|known| known.as_bytes().eq_ignore_ascii_case(name))
 }
 
 /// The name of the encoding that the start of a document declares, by the HTML Standard's prescan.

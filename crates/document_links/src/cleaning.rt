@@ -81,31 +81,6 @@ pub(crate) fn push_without_breaks(text: &[u8], out: &mut Vec<u8>) -> Result<(), 
     Ok(())
 }
 
-/// The scheme that a text begins with, without its colon.
-pub(crate) fn scheme_of(text: &[u8]) -> Option<&[u8]> {
-    let end = memchr(b':', text)?;
-    let scheme = &text[..end];
-    let (first, _) = scheme.split_first()?;
-    let is_scheme = first.is_ascii_alphabetic()
-        && scheme.iter().all(|byte| byte.is_ascii_alphanumeric()
-            || matches!(*byte, b'+' | b'.' | b'-'));
-    if is_scheme { Some(scheme) } else { None }
-}
-
-/// Whether a text without a scheme begins with a host, that is, with two slashes of either kind.
-pub(crate) fn names_host(text: &[u8]) -> bool {
-    matches!(text, [b'/' | b'\\', b'/' | b'\\', ..])
-}
-
-/// Whether a link with this scheme, or with none, may lead to a page.
-pub(crate) fn is_web(scheme: Option<&[u8]>) -> bool {
-    match scheme {
-        Some(scheme) => scheme.eq_ignore_ascii_case(b"http")
-            || scheme.eq_ignore_ascii_case(b"https"),
-        None => true,
-    }
-}
-
 /// The text before its first `#`.
 #[tactic(auto, using(crate::proofs::Trimming::sign_at, crate::proofs::Trimming::no_sign, std::proofs::lemmas::List::take_all))]
 pub(crate) fn before_fragment(text: &[u8]) -> &[u8]

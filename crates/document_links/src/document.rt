@@ -13,6 +13,7 @@ use crate::charset::{Charset, charset_of, declared, from_utf16, from_windows};
 use crate::document_start::{start_of, without_mark};
 use crate::link_texts::LinkTexts;
 use crate::link_writer::LinkWriter;
+use crate::positions::InvalidLink;
 use crate::raw_links::{RawIds, RawLinks};
 use crate::unknown::{ascii_text, has_unknown, keep_known};
 use crawl_keys::CanonUrl;
@@ -24,7 +25,7 @@ use std::alloc::{AllocError, Global};
 pub struct ReadOptions {
     /// Whether anchors and links to anchors are read.
     pub anchors: bool,
-    /// Whether the positions of links are kept.
+    /// Whether the positions of links and the invalid links are kept.
     pub places: bool,
     /// The number of bytes of link texts after which no more links are read.
     pub byte_limit: usize,
@@ -38,8 +39,10 @@ pub struct Document {
     pub has_skipped: bool,
     /// Its anchors, if the options ask for them and they are known.
     pub anchors: Option<AnchorTargets>,
-    /// The positions of its links, if the options ask for them.
+    /// The positions of its links with a canonical URL, if the options ask for them.
     pub positions: Vec<u32>,
+    /// Its invalid links, if the options ask for positions.
+    pub invalid: Vec<InvalidLink>,
     /// The name of its encoding, if that is not a known one.
     pub encoding: Option<String>,
 }
@@ -52,6 +55,7 @@ impl Document {
             has_skipped: false,
             anchors: None,
             positions: Vec::new(alloc),
+            invalid: Vec::new(alloc),
             encoding: None,
         }
     }
@@ -126,7 +130,7 @@ fn text_document(
     // The base also applies to the links before it, so all were found first.
     let mut writer = written_links(alloc, charset, base, url, options, raw)?;
     let links = writer.take_links();
-    let positions = writer.take_positions();
+    let (positions, invalid) = writer.take_positions();
     let has_skipped = writer.has_skipped;
     // If an id is not known, no link to an anchor is known to be broken.
     let anchors = if options.anchors && !ids.has_unknown {
@@ -139,6 +143,7 @@ fn text_document(
         has_skipped,
         anchors,
         positions,
+        invalid,
         encoding: None,
     })
 }

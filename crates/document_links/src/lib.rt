@@ -15,8 +15,10 @@ mod places;
 mod positions;
 mod query;
 mod raw_links;
+mod scheme;
 mod targets;
 mod unknown;
+mod words;
 
 pub use anchors::{AnchorLink, AnchorTargets, Anchors, PageAnchors, Target};
 pub use document::{Document, ReadOptions, read_document};
@@ -25,5 +27,6 @@ pub use line_text::{LINK_FRONT, fits};
 pub use link_texts::LinkTexts;
 pub use page_base::{base_of, resolved};
 pub use places::{TextPlace, text_places};
-pub use positions::LinkPlaces;
+pub use positions::{InvalidLink, LinkPlaces};
 pub use raw_links::RawLinks;
+pub use scheme::InvalidKind;

@@ -5,15 +5,14 @@ ghost use Rattle.document_links.specs.Texts.{fits};
 ghost use Rattle.document_links.specs.Written.{AreWritten, can_write, has_no_base, has_room, keeps_links, shortened, written};
 
 use crate::charset::Charset;
-use crate::cleaning::{
-    before_fragment, cut, has_breaks, is_web, scheme_of, trimmed, without_breaks,
-};
+use crate::cleaning::{before_fragment, cut, has_breaks, trimmed, without_breaks};
 use crate::line_text::{LINK_FRONT, TEXT_LIMIT, fits, fits_plainly};
 use crate::link_texts::LinkTexts;
 use crate::page_base::{LinkMeaning, PageBase, meaning_of, page_base};
-use crate::positions::Positions;
+use crate::positions::{InvalidLink, Positions};
 use crate::query::push_with_query;
 use crate::raw_links::RawLinks;
+use crate::scheme::{is_web, scheme_of};
 use crawl_keys::CanonUrl;
 use html_links::Base;
 use std::alloc::{AllocError, Global};
@@ -28,7 +27,7 @@ pub(crate) struct LinkWriter {
     links: LinkTexts,
     /// Whether a link was skipped because it is too long.
     pub(crate) has_skipped: bool,
-    /// The positions of the links, if the caller asks for them.
+    /// The positions of the links and the invalid links, if the caller asks for them.
     positions: Option<Positions>,
 }
 
@@ -93,11 +92,11 @@ impl LinkWriter {
         Ok(())
     }
 
-    /// Takes the positions of the links. No more are kept after that.
-    pub(crate) fn take_positions(&mut self) -> Vec<u32> {
+    /// Takes the positions of the links, and the invalid links. No more are kept after that.
+    pub(crate) fn take_positions(&mut self) -> (Vec<u32>, Vec<InvalidLink>) {
         match self.positions.take() {
-            Some(positions) => positions.into_list(),
-            None => Vec::new(self.alloc),
+            Some(positions) => positions.into_lists(),
+            None => (Vec::new(self.alloc), Vec::new(self.alloc)),
         }
     }
 
@@ -160,8 +159,19 @@ impl LinkWriter {
         match meaning_of(self.alloc, &self.base, text)? {
             LinkMeaning::Same => self.push_short(text),
             LinkMeaning::Url(url) => self.push_short(url.as_str().as_bytes()),
-            LinkMeaning::Text(other) => self.push_short(other.as_slice()),
+            LinkMeaning::Text(other) => self.push_unplaced(other.as_slice()),
         }
+    }
+
+    /// Appends a link to which the page's `base` gives its scheme. It has no canonical URL, and is not invalid by itself.
+    fn push_unplaced(&mut self, text: &[u8]) -> Result<(), AllocError>
+        ensures base { self.new.base ≡ self.old.base }
+        ensures charset { self.new.charset ≡ self.old.charset }
+    {
+        let positions = self.positions.take();
+        let pushed = self.push_short(text);
+        self.positions = positions;
+        pushed
     }
 
     /// Appends a link. If it does not fit in a line, appends a shorter one with the same meaning.
@@ -193,7 +203,7 @@ impl LinkWriter {
         Ok(())
     }
 
-    /// Appends a text that fits in a line, and its position if positions are kept.
+    /// Appends a text that fits in a line, and keeps its position if the caller asks for positions.
     fn push_text(&mut self, text: &[u8]) -> Result<(), AllocError>
         requires { fits 5 text.now ≡ true }
         ensures base { self.new.base ≡ self.old.base }

@@ -2,7 +2,8 @@
 ghost use Rattle.std.specs.Prelude.{◌≡◌, true, IfOk};
 ghost use Rattle.document_links.specs.Written.{has_no_base};
 
-use crate::cleaning::{is_web, scheme_of, trimmed, without_breaks};
+use crate::cleaning::{trimmed, without_breaks};
+use crate::scheme::{is_web, scheme_of};
 use crawl_keys::{Base, CanonUrl, KeyError};
 use std::alloc::{AllocError, Global};
 

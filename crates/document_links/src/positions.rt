@@ -1,18 +1,34 @@
-//! The positions of a document's links.
-use crate::cleaning::{is_web, names_host, scheme_of};
+//! The positions of a document's links, and its invalid links.
+ghost use Rattle.std.specs.Prelude.{◌≡◌, Some, string_bytes};
+ghost use Rattle.document_links.specs.Schemes.{invalid_kind};
+
 use crate::page_base::{base_of, resolved};
+use crate::scheme::{InvalidKind, invalid_kind, is_web, names_host, scheme_of};
 use crawl_keys::{Base, CanonUrl};
 use std::alloc::{AllocError, Global};
 
-/// The positions of the links in the document at a URL.
+/// The positions of the links in the document at a URL, and its invalid links.
 #[derive(Drop)]
 pub struct LinkPlaces {
     pub url: CanonUrl,
     /// The positions in the document's text at which the values of its links start, in order, for links with a canonical URL.
     pub indices: Vec<u32>,
+    /// The invalid links, in order.
+    pub invalid: Vec<InvalidLink>,
 }
 
-/// The positions of the links with a canonical URL, in order.
+/// A link that has no URL, an unknown scheme, or the name of a local file.
+#[derive(Drop)]
+pub struct InvalidLink {
+    /// The position in the document's text at which its value starts.
+    pub index: usize,
+    pub kind: InvalidKind,
+    /// Its text as a crawl reads it.
+    pub text: String,
+    ghost is_its_kind: { invalid_kind (string_bytes text) ≡ Some kind },
+}
+
+/// The positions of the links with a canonical URL, and the invalid links, in order.
 #[derive(Drop)]
 pub(crate) struct Positions {
     alloc: Global,
@@ -21,6 +37,7 @@ pub(crate) struct Positions {
     /// The position of the next link.
     index: usize,
     kept: Vec<u32>,
+    invalid: Vec<InvalidLink>,
     /// Whether a position is beyond 4 GiB, so that four bytes cannot hold it.
     is_far: bool,
 }
@@ -37,6 +54,7 @@ impl Positions {
             page: base_of(alloc, url)?,
             index: 0,
             kept: Vec::with_capacity(alloc, links)?,
+            invalid: Vec::new(alloc),
             is_far: false,
         })
     }
@@ -46,13 +64,27 @@ impl Positions {
         self.index = index;
     }
 
-    /// Keeps the position of the link with this text, if it leads to a canonical URL.
+    /// Keeps the position of the link with this text if it leads to a canonical URL, and the link itself if it is invalid.
     pub(crate) fn push(&mut self, text: &[u8]) -> Result<(), AllocError> {
-        if self.has_url(text)? {
-            match u32::try_from(self.index) {
-                Ok(index) => self.kept.push(index)?,
-                Err(_) => self.is_far = true,
-            }
+        if !self.has_url(text)? {
+            return self.push_invalid(text);
+        }
+        match u32::try_from(self.index) {
+            Ok(index) => self.kept.push(index)?,
+            Err(_) => self.is_far = true,
+        }
+        Ok(())
+    }
+
+    /// Keeps the link with this text, which has no canonical URL, unless its scheme is another known one.
+    fn push_invalid(&mut self, text: &[u8]) -> Result<(), AllocError> {
+        let Ok(text) = str::from_utf8(text) else {
+            return Ok(());
+        };
+        if let Some(kind) = invalid_kind(text.as_bytes()) {
+            let index = self.index;
+            let text = String::from_str(self.alloc, text)?;
+            self.invalid.push(InvalidLink { index, kind, text })?;
         }
         Ok(())
     }
@@ -66,16 +98,17 @@ impl Positions {
         }
     }
 
-    /// The positions, or none if one is beyond 4 GiB.
-    pub(crate) fn into_list(self) -> Vec<u32> {
+    /// The positions, or none if one is beyond 4 GiB, and the invalid links.
+    pub(crate) fn into_lists(self) -> (Vec<u32>, Vec<InvalidLink>) {
         let Positions {
             mut kept,
+            invalid,
             is_far,
             ..
         } = self;
         if is_far {
             kept.clear();
         }
-        kept
+        (kept, invalid)
     }
 }

@@ -1,6 +1,7 @@
 //! The queries of links on pages that are not in UTF-8.
 use crate::charset::windows_byte;
-use crate::cleaning::{before_fragment, is_web, scheme_of};
+use crate::cleaning::before_fragment;
+use crate::scheme::{is_web, scheme_of};
 use memchr::memchr;
 use std::alloc::AllocError;
 

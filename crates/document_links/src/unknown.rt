@@ -1,8 +1,9 @@
 //! A document in an unknown encoding: only ASCII is read.
 ghost use Rattle.std.specs.Prelude.{◌≡◌, ◌<◌, ◌≤◌, IsAscii, IfOk};
 
-use crate::cleaning::{before_fragment, is_web, names_host, scheme_of, trimmed};
+use crate::cleaning::{before_fragment, trimmed};
 use crate::raw_links::RawLinks;
+use crate::scheme::{is_web, names_host, scheme_of};
 use html_links::Base;
 use memchr::{memchr, memmem};
 use page_anchors::Ids;

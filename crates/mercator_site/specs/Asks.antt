@@ -12,6 +12,8 @@ pub record Asks : Type 0 where
   pub seeds : List (List ℕ)
   -- whether only what the search reaches is checked
   pub reachable : Bool
+  -- whether invalid links are reported
+  pub invalid : Bool
   -- the prefix that is removed from each URL
   pub front : List ℕ
   -- the entries of the ignore list
@@ -24,6 +26,7 @@ asks_in s = record {
   folder = s.folder.now;
   seeds = map string_bytes s.seeds.now;
   reachable = s.reachable;
+  invalid = s.invalid;
   front = s.front.now;
   entries = map string_bytes s.ignores.now;
 }
@@ -35,6 +38,7 @@ asks_of options front entries = record {
   folder = string_bytes options.site.folder;
   seeds = map string_bytes options.seeds.items;
   reachable = options.reachable;
+  invalid = options.invalid;
   front = front;
   entries = entries;
 }

@@ -10,6 +10,7 @@ use Rattle.crawl_keys.specs.CanonicalText.{canonical, resolve}
 use Rattle.crawl_keys.specs.HostFilter.{allows}
 use Rattle.crawl_keys.specs.HostKey.{host_key}
 use Rattle.crawl_certificate.specs.Certificate.{IsCrawl}
+use Rattle.document_links.specs.declared.positions.LinkPlaces.{LinkPlaces}
 use Rattle.saved_pages.specs.SavedWeb.{page_of}
 use Rattle.saved_pages.specs.WebFaults.{IsSound}
 use Rattle.crawl_pages.specs.Pages.{is_missing}
@@ -28,6 +29,7 @@ use Rattle.site_check.specs.Broken.{broken_of, redirects_of}
 use Rattle.site_files.specs.declared.files.SiteFiles.{SiteFiles}
 use Rattle.site_files.specs.declared.alias.Alias.{Alias}
 use Rattle.site_check.specs.Ignored.{AreUnused, parts_in}
+use Rattle.site_check.specs.Invalid.{AreInvalid, invalid_rows_in, texts_if}
 use Rattle.site_check.specs.Names.{AreNamed}
 use Rattle.site_check.specs.Told.{rows_in, way_of}
 use Rattle.site_check.specs.Totals.{totals_of}
@@ -96,8 +98,9 @@ pub record IsReport (checked : Checked) (others : Option (List Row)) (name : Lis
   pub written : text ≡ printed_check asks.report.form contents found
 
 -- the text reports the missing pages and the redirects of such a crawl below the top, each with the number of pages that link
--- to it, and the entries that match nothing. Its totals count the pages at the own URLs of files, their links, the pages at these
--- aliases, and the rows. Something is broken if there is a row of a missing page or anchor
+-- to it, the invalid links, if they are reported, and the entries that match nothing. Its totals count the pages at the own
+-- URLs of files, their links, the pages at these aliases, and the rows. Something is broken if there is a row of a missing page or
+-- anchor, or of an invalid link
 pub record IsCheck (top web : List ℕ) (aliases : List Alias) (asks : Asks) (broken : Bool) (text : List ℕ) : Type 0 where
   pub pages : List PageResult
   pub crawled : IsTopCrawl top web asks.reachable asks.seeds pages
@@ -111,7 +114,10 @@ pub record IsCheck (top web : List ℕ) (aliases : List Alias) (asks : Asks) (br
   pub site : SiteFiles
   pub site_top : string_bytes site.site.top ≡ top
   pub names : AreNamed asks.front site found.broken.now
-  pub unused : AreUnused asks.front asks.entries own (parts_in found.broken.now) (map string_bytes found.unused_ignores.now)
+  -- what is known of the links of these pages
+  pub places : List LinkPlaces
+  pub invalid : AreInvalid asks.entries (texts_if asks.invalid places own) (invalid_rows_in found.broken.now)
+  pub unused : AreUnused asks.front asks.entries own (texts_if asks.invalid places own) (parts_in found.broken.now) (map string_bytes found.unused_ignores.now)
   pub is_broken : broken ≡ not (length found.broken.now == 0)
   pub contents : Contents
   pub lists : contents.lists ≡ asks.report.lists

@@ -50,6 +50,8 @@ pub struct CheckSettings<'a> {
     pub seeds: &'a [String],
     /// Whether only what the search reaches is checked, and not all documents.
     pub reachable: bool,
+    /// Whether links are reported that are no URL, have an unknown scheme or name a local file.
+    pub invalid: bool,
     pub report: ReportOptions,
     /// The folder that annotations put before the names of files; empty for files in memory.
     pub folder: &'a str,
@@ -179,6 +181,7 @@ fn input_of<'a>(
     ensures front { result.front.now ≡ settings.entry.front.now }
     ensures ignores { result.ignores.now ≡ settings.entry.ignores.now }
     ensures aliases { result.aliases.now ≡ site.now.aliases.items }
+    ensures invalid { result.invalid ≡ settings.entry.invalid }
 {
     CheckInput {
         front: settings.front,
@@ -186,6 +189,7 @@ fn input_of<'a>(
         aliases: site.aliases.as_slice(),
         anchors: site.anchors.as_slice(),
         places: site.places.as_slice(),
+        invalid: settings.invalid,
         reached: reached_in(crawls, settings.report.lists.unreached),
     }
 }

@@ -165,6 +165,7 @@ fn settings_of<'a>(
         ignores: known,
         seeds: options.seeds.as_slice(),
         reachable: options.reachable,
+        invalid: options.invalid,
         report: options.report,
         folder: options.site.folder.as_str(),
     }

@@ -60,6 +60,8 @@ pub struct CheckOptions {
     pub workers: u32,
     /// Whether anchors are checked.
     pub anchors: bool,
+    /// Whether links are reported that are no URL, have an unknown scheme or name a local file.
+    pub invalid: bool,
     pub report: ReportOptions,
     /// The links on the top at which the search starts; if there are none, it starts at the top.
     pub seeds: Vec<String>,

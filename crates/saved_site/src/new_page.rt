@@ -5,8 +5,8 @@ use crate::task::Task;
 use crate::web_text::WEB_LIMIT;
 use crawl_keys::CanonUrl;
 use document_links::{
-    AnchorTargets, Anchors, Document, LINK_FRONT, LinkTexts, RawLinks, ReadOptions, Target, fits,
-    is_document, read_document,
+    AnchorTargets, Anchors, Document, InvalidLink, LINK_FRONT, LinkTexts, RawLinks, ReadOptions,
+    Target, fits, is_document, read_document,
 };
 use site_files::{Left, Note, SiteFiles};
 use std::alloc::{AllocError, Global};
@@ -26,8 +26,9 @@ pub(crate) struct NewPage {
     pub(crate) own: Option<CanonUrl>,
     /// Its anchors and the targets of its links to anchors, if the rules ask for them, the page is a document, and they are known.
     pub(crate) anchors: Option<SiteAnchors>,
-    /// The positions of its links, if the rules ask for them.
+    /// The positions of its links and its invalid links, if the rules ask for them.
     pub(crate) positions: Vec<u32>,
+    pub(crate) invalid: Vec<InvalidLink>,
     pub(crate) notes: Vec<Note>,
 }
 
@@ -98,6 +99,7 @@ fn document_page(
         has_skipped,
         anchors,
         positions,
+        invalid,
         encoding,
     } = document;
     let notes = document_notes(alloc, task, has_skipped, encoding)?;
@@ -106,6 +108,7 @@ fn document_page(
     new.spellings = spellings;
     new.anchors = site_anchors(files, anchors)?;
     new.positions = positions;
+    new.invalid = invalid;
     Ok(new)
 }
 
@@ -232,7 +235,7 @@ fn without_origin<'a>(url: &'a str, origin: &str) -> &'a str {
 }
 
 impl NewPage {
-    /// Creates the page of a task, as yet without spellings, anchors and positions. If its URL is too long for a line, there is a
+    /// Creates the page of a task, as yet without spellings, anchors, positions and invalid links. If its URL is too long for a line, there is a
     /// note instead of the page.
     fn new(task: &Task, under: Under, notes: Vec<Note>) -> Result<NewPage, AllocError> {
         let page = SitePage::new(task.url.clone()?, under);
@@ -250,6 +253,7 @@ impl NewPage {
             own: None,
             anchors: None,
             positions: Vec::new(alloc),
+            invalid: Vec::new(alloc),
             notes,
         })
     }

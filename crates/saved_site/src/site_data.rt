@@ -3,7 +3,7 @@ use crate::new_page::{NewPage, SiteAnchors};
 use crate::page::PageSink;
 use crate::page_maker::PageMaker;
 use crawl_keys::CanonUrl;
-use document_links::{LinkPlaces, PageAnchors};
+use document_links::{InvalidLink, LinkPlaces, PageAnchors};
 use site_files::{Alias, Note};
 use std::alloc::{AllocError, Global};
 use std::mem;
@@ -57,11 +57,12 @@ impl<S: PageSink> SiteData<S> {
             own,
             anchors,
             positions,
+            invalid,
             notes,
             ..
         } = page;
         self.push_alias(&url, own)?;
-        self.push_places(&url, positions)?;
+        self.push_places(&url, positions, invalid)?;
         self.push_notes(&url, notes)?;
         if let Some(SiteAnchors { anchors, targets }) = anchors {
             self.anchors.push(PageAnchors {
@@ -82,11 +83,20 @@ impl<S: PageSink> SiteData<S> {
         Ok(())
     }
 
-    /// Adds the positions of the page's links, if it has any.
-    fn push_places(&mut self, url: &CanonUrl, indices: Vec<u32>) -> Result<(), AllocError> {
-        if !indices.is_empty() {
+    /// Adds the positions of the page's links and its invalid links, if it has any.
+    fn push_places(
+        &mut self,
+        url: &CanonUrl,
+        indices: Vec<u32>,
+        invalid: Vec<InvalidLink>,
+    ) -> Result<(), AllocError> {
+        if !indices.is_empty() || !invalid.is_empty() {
             let url = url.clone()?;
-            self.places.push(LinkPlaces { url, indices })?;
+            self.places.push(LinkPlaces {
+                url,
+                indices,
+                invalid,
+            })?;
         }
         Ok(())
     }

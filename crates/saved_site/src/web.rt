@@ -34,7 +34,8 @@ pub struct LinkedSite {
     pub aliases: Vec<Alias>,
     /// The anchors of its documents, in the order of their URLs, if the rules ask for them and they are known.
     pub anchors: Vec<PageAnchors>,
-    /// The positions of the links in its documents, in the order of their URLs, if the rules ask for them.
+    /// The positions of the links in its documents and their invalid links, in the order of the documents' URLs, if the rules ask for
+    /// them.
     pub places: Vec<LinkPlaces>,
 }
 

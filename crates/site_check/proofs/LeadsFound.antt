@@ -1,5 +1,5 @@
 -- The links that lead to pages that are not there, list by list.
-use Rattle.site_check.proofs.Prelude.{common_steps, ◌≡◌, ◌∙◌, ℕ, ◌+◌, ◌<◌, Bool, cond, List, [], ◌∷◌, ◌++◌, length, map, fold, take, get_or, length-take-le, Option, Some, None, refl, sym, ap, arith, append_assoc, length-map, map_more, take_more, fold-append, fold_more, fold_push, Bor, flat_map, option_map_or, bytes_eq, Page, PageResult, result_at, HasNoLink, Indices, Numbers, Target, indices_at, indices_in, indices_with, lead_to, leads_at, leads_from, leads_of, missing_from, moved_target, number_at, number_in, number_with, own_number, target_at, targets_of, to_number, Lead}
+use Rattle.site_check.proofs.Prelude.{common_steps, ◌≡◌, ◌∙◌, ℕ, ◌+◌, ◌<◌, Bool, cond, List, [], ◌∷◌, ◌++◌, length, map, fold, take, get_or, length-take-le, Option, Some, None, refl, sym, ap, arith, append_assoc, length-map, map_more, take_more, fold-append, fold_more, fold_push, Bor, flat_map, option_map_or, bytes_eq, Page, PageResult, result_at, HasNoLink, Numbers, Target, indices_in, indices_with, invalid_in, invalid_with, lead_to, leads_at, leads_from, leads_of, missing_from, moved_target, number_at, number_in, number_with, own_number, target_at, targets_of, to_number, Lead}
 use Rattle.std.specs.BTreeMap as tree
 use Rattle.document_links.specs.declared.positions.LinkPlaces.{LinkPlaces}
 use Rattle.hash_order.specs.HashOrder.{by_hash, by_hash_ties}
@@ -50,6 +50,10 @@ pub place_more : (ps : List LinkPlaces) (i : ℕ) (p : LinkPlaces) (url : List �
     indices_with url (indices_in (take i ps) url) p ≡ indices_in (take (i + 1) ps) url
 place_more ps i p url below is = ap (indices_with url (indices_in (take i ps) url)) is ∙ sym (fold_more (indices_with url) [] ps i p below)
 
+pub document_more : (ps : List LinkPlaces) (i : ℕ) (p : LinkPlaces) (url : List ℕ) → i < length ps → p ≡ get_or ps i p →
+    invalid_with url (invalid_in (take i ps) url) p ≡ invalid_in (take (i + 1) ps) url
+document_more ps i p url below is = ap (invalid_with url (invalid_in (take i ps) url)) is ∙ sym (fold_more (invalid_with url) [] ps i p below)
+
 -- ---- the maps
 
 -- what a map has after one value was written
@@ -61,15 +65,19 @@ pub number_put : (old new : Numbers) (key : List ℕ) (number : ℕ) → tree.Up
     number_at new url ≡ number_with url (number_at old url) (record { url = key; number = number })
 number_put old new key number updates url = put_at old new key (Some number) updates url
 
-either_indices : (b : Bool) (i : Bor (List ℕ)) (o : Option (Bor (List ℕ))) →
-    option_map_or (λ (x : Bor (List ℕ)). x.now) (cond b (Some i) o) [] ≡ cond b i.now (option_map_or (λ (x : Bor (List ℕ)). x.now) o [])
-either_indices b i o = grind (arith, common_steps)
+either_list : {X : Type 0} (b : Bool) (i : Bor (List X)) (o : Option (Bor (List X))) →
+    option_map_or (λ (x : Bor (List X)). x.now) (cond b (Some i) o) [] ≡ cond b i.now (option_map_or (λ (x : Bor (List X)). x.now) o [])
+either_list b i o = grind (arith, common_steps)
 
-pub indices_put : (old new : Indices) (key : List ℕ) (i : Bor (List ℕ)) → tree.Updates by_hash old new key (Some i) → (url : List ℕ) →
-    indices_at new url ≡ cond (bytes_eq key url) i.now (indices_at old url)
-indices_put old new key i updates url =
-    ap (λ o. option_map_or (λ (x : Bor (List ℕ)). x.now) o []) (put_at old new key (Some i) updates url)
-    ∙ either_indices (bytes_eq key url) i (tree.get_by (λ k. by_hash url k) old)
+-- the list at a URL
+abbrev pub list_at : {X : Type 0} → tree.BTreeMap (List ℕ) (Bor (List X)) → List ℕ → List X
+list_at lists url = option_map_or (λ x. x.now) (tree.get_by (λ k. by_hash url k) lists) []
+
+pub list_put : {X : Type 0} (old new : tree.BTreeMap (List ℕ) (Bor (List X))) (key : List ℕ) (i : Bor (List X)) → tree.Updates by_hash old new key (Some i) → (url : List ℕ) →
+    list_at new url ≡ cond (bytes_eq key url) i.now (list_at old url)
+list_put old new key i updates url =
+    ap (λ o. option_map_or (λ x. x.now) o []) (put_at old new key (Some i) updates url)
+    ∙ either_list (bytes_eq key url) i (tree.get_by (λ k. by_hash url k) old)
 
 -- nothing is found if nothing is kept
 pub none_at : (numbers : Numbers) → length numbers.entries ≡ 0 → (url : List ℕ) → number_at numbers url ≡ None

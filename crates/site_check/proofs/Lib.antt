@@ -4,3 +4,4 @@ pub mod Counting
 pub mod Fronts
 pub mod LeadsFound
 pub mod Namesakes
+pub mod TextsOnce

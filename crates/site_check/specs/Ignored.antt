@@ -6,7 +6,7 @@ use Rattle.std.specs.Str.Lines.{lines}
 use Rattle.std.specs.Str.Lossy.{utf8_lossy}
 use Rattle.check_report.specs.declared.value.Broken.{Broken}
 use Rattle.check_report.specs.declared.value.Kind.{Kind}
-use Rattle.check_report.specs.declared.value.Kind.TheVariants.{NoPage, NoAnchor}
+use Rattle.check_report.specs.declared.value.Kind.TheVariants.{NoAnchor}
 use Rattle.crawl_pages.specs.Pages.{is_missing}
 use Rattle.crawl_pages.specs.declared.page.PageResult.{PageResult}
 use Rattle.site_check.specs.Broken.{begins, is_ignored, shown}
@@ -47,8 +47,8 @@ missing_texts front results = flat_map (text_at front) results
 
 -- the texts of the anchors in rows
 abbrev pub if_part : Kind → List ℕ → List (List ℕ)
-if_part NoPage text = []
 if_part NoAnchor text = text ∷ []
+if_part _ text = []
 
 abbrev pub part_in : Broken → List (List ℕ)
 part_in b = if_part b.kind (string_bytes b.target)
@@ -60,9 +60,9 @@ parts_in all = flat_map part_in all
 abbrev pub not_ignored : List (List ℕ) → List (List ℕ) → List (List ℕ)
 not_ignored entries texts = filter (λ text. not (is_ignored entries text)) texts
 
--- of all parts that pages lack those are listed that no entry matches; the entries match none of them, and for no page that is
--- not there
-pub record AreUnused (front : List ℕ) (entries : List (List ℕ)) (results : List PageResult) (told : List (List ℕ)) (all : List (List ℕ)) : Type 0 where
+-- of all parts that pages lack those are listed that no entry matches; the entries match none of them, no page that is not there, and
+-- no invalid link with one of the texts `links`
+pub record AreUnused (front : List ℕ) (entries : List (List ℕ)) (results : List PageResult) (links told all : List (List ℕ)) : Type 0 where
   pub parts : List (List ℕ)
   pub told_parts : told ≡ not_ignored entries parts
-  pub exact : all ≡ unused entries (parts ++ missing_texts front results)
+  pub exact : all ≡ unused entries ((parts ++ links) ++ missing_texts front results)

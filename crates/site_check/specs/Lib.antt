@@ -1,6 +1,7 @@
 pub mod Aliases
 pub mod Broken
 pub mod Ignored
+pub mod Invalid
 pub mod Leads
 pub mod Names
 pub mod Parts

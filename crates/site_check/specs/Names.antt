@@ -9,7 +9,7 @@ use Rattle.std.specs.Ordering.{nat_cmp}
 use Rattle.std.specs.Str.{bytes_eq}
 use Rattle.check_report.specs.declared.value.Broken.{Broken}
 use Rattle.check_report.specs.declared.value.Kind.{Kind}
-use Rattle.check_report.specs.declared.value.Kind.TheVariants.{NoPage, NoAnchor}
+use Rattle.check_report.specs.declared.value.Kind.TheVariants.{NoPage}
 use Rattle.check_report.specs.declared.value.Place.{Place}
 use Rattle.site_files.specs.Files.{PageFile, name_at, pages_of}
 use Rattle.site_files.specs.declared.files.SiteFiles.{SiteFiles}
@@ -60,7 +60,7 @@ same_name front files target places =
 -- this is reported only of pages
 abbrev pub name_for : Kind → Option (List ℕ) → Option (List ℕ)
 name_for NoPage name = name
-name_for NoAnchor name = None
+name_for _ name = None
 
 abbrev pub own_name : List ℕ → SiteFiles → Broken → Option (List ℕ)
 own_name front files b = name_for b.kind (same_name front files (string_bytes b.target) b.places.items)

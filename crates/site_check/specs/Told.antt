@@ -4,15 +4,15 @@ use Rattle.std.specs.List.{flat_map}
 use Rattle.std.specs.Option.{option_map}
 use Rattle.check_report.specs.declared.value.Broken.{Broken}
 use Rattle.check_report.specs.declared.value.Kind.{Kind}
-use Rattle.check_report.specs.declared.value.Kind.TheVariants.{NoPage, NoAnchor}
+use Rattle.check_report.specs.declared.value.Kind.TheVariants.{NoPage}
 use Rattle.check_report.specs.declared.value.Redirect.{Redirect}
 use Rattle.site_check.specs.Broken.{Row, Way}
 
 abbrev pub if_page : Kind → Row → List Row
 if_page NoPage row = row ∷ []
-if_page NoAnchor row = []
+if_page _ row = []
 
--- the rows of pages that are not there; those of anchors are left out
+-- the rows of pages that are not there; those of anchors and of invalid links are left out
 abbrev pub row_in : Broken → List Row
 row_in b = if_page b.kind (record { text = string_bytes b.target; pages = b.pages })
 

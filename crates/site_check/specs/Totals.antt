@@ -1,8 +1,8 @@
 -- The totals of a check: of a crawl's results, and of the rows that are printed.
-use Rattle.std.specs.Prelude.{ℕ, ◌+◌, ◌-◌, ◌^◌, Bool, true, false, not, if◌then◌else◌, List, length, count_by, sum_by, min}
+use Rattle.std.specs.Prelude.{ℕ, ◌+◌, ◌-◌, ◌^◌, Bool, true, false, ◌||◌, if◌then◌else◌, List, length, count_by, sum_by, min}
 use Rattle.check_report.specs.declared.value.Broken.{Broken}
 use Rattle.check_report.specs.declared.value.Kind.{Kind}
-use Rattle.check_report.specs.declared.value.Kind.TheVariants.{NoPage, NoAnchor}
+use Rattle.check_report.specs.declared.value.Kind.TheVariants.{NoPage, NoAnchor, NotUrl, UnknownScheme, LocalFile}
 use Rattle.check_report.specs.declared.value.Redirect.{Redirect}
 use Rattle.check_report.specs.declared.value.Totals.{Totals}
 use Rattle.crawl_pages.specs.declared.page.Page.{Page}
@@ -28,20 +28,37 @@ own_links is_other r = if is_own_page is_other r then links_in r.page else 0
 abbrev pub link_count : (List ℕ → Bool) → List PageResult → ℕ
 link_count is_other results = capped (sum_by (own_links is_other) results)
 
--- the number of locations that are printed
-abbrev pub place_count : List Broken → ℕ
-place_count broken = capped (sum_by (λ b. length b.places.items) broken)
+-- a row is that of a missing page, of a missing anchor, or of an invalid link
 
--- the row is that of a missing anchor, and not of a missing page
+abbrev pub is_page : Kind → Bool
+is_page NoPage = true
+is_page _ = false
+
 abbrev pub is_part : Kind → Bool
-is_part NoPage = false
 is_part NoAnchor = true
+is_part _ = false
+
+abbrev pub is_missing : Kind → Bool
+is_missing kind = is_page kind || is_part kind
+
+abbrev pub is_invalid : Kind → Bool
+is_invalid NotUrl = true
+is_invalid UnknownScheme = true
+is_invalid LocalFile = true
+is_invalid _ = false
+
+-- the number of locations of such rows
+abbrev pub places_if : (Kind → Bool) → Broken → ℕ
+places_if test b = if test b.kind then length b.places.items else 0
+
+abbrev pub place_count : (Kind → Bool) → List Broken → ℕ
+place_count test broken = capped (sum_by (places_if test) broken)
 
 abbrev pub part_count : List Broken → ℕ
 part_count broken = count_by (λ b. is_part b.kind) broken
 
 abbrev pub url_count : List Broken → ℕ
-url_count broken = count_by (λ b. not (is_part b.kind)) broken
+url_count broken = count_by (λ b. is_page b.kind) broken
 
 -- the pages at files' own URLs and their links, the pages at aliases, and the rows
 abbrev pub totals_by : (List ℕ → Bool) → List PageResult → List Broken → List Redirect → Totals
@@ -50,9 +67,10 @@ totals_by is_other results broken redirects =
       pages = count_by (is_own_page is_other) results;
       aliases = count_by (is_alias_page is_other) results;
       links = link_count is_other results;
-      broken_links = place_count broken;
+      broken_links = place_count is_missing broken;
       broken_urls = url_count broken;
       broken_anchors = part_count broken;
+      invalid_links = place_count is_invalid broken;
       moved = length redirects;
     }
 

@@ -2,6 +2,7 @@
 ghost use Rattle.std.specs.Prelude.{◌≡◌, ◌∷◌, ◌++◌, ℕ, List, [], IfOk, OnOk, map, string_bytes};
 ghost use Rattle.site_files.specs.declared.files.SiteFiles.{SiteFiles};
 ghost use Rattle.site_check.specs.Ignored.{not_ignored, parts_in};
+ghost use Rattle.site_check.specs.Invalid.{invalid_rows_in};
 ghost use Rattle.site_check.specs.Names.{AreNamed};
 ghost use Rattle.site_check.specs.Parts.{part_text};
 ghost use Rattle.site_check.specs.Told.{rows_in};
@@ -169,6 +170,7 @@ pub(crate) fn part_rows(
     ensures rows { IfOk result (λ all. rows_in all.items ≡ []) }
     ensures names { IfOk result (λ all. (front : List ℕ) (files : SiteFiles) → AreNamed front files all.items) }
     ensures parts { IfOk result (λ all. parts_in all.items ≡ not_ignored (map string_bytes ignores.now) (map part_text parts.now)) }
+    ensures invalid { IfOk result (λ all. invalid_rows_in all.items ≡ []) }
 {
     let mut all = Vec::new(alloc);
     for part in parts {
@@ -188,6 +190,7 @@ fn push_part(
     ensures rows { OnOk result (rows_in all.new.items ≡ rows_in all.old.items) }
     ensures names { OnOk result ((front : List ℕ) (files : SiteFiles) → AreNamed front files all.old.items → AreNamed front files all.new.items) }
     ensures parts { OnOk result (parts_in all.new.items ≡ parts_in all.old.items ++ not_ignored (map string_bytes ignores.now) (part_text part.now ∷ [])) }
+    ensures invalid { OnOk result (invalid_rows_in all.new.items ≡ invalid_rows_in all.old.items) }
 {
     if is_ignored(ignores, part.text.as_str()) {
         return Ok(());

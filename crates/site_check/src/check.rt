@@ -1,11 +1,12 @@
 //! Checks the results of a crawl of a site's saved web.
-ghost use Rattle.std.specs.Prelude.{◌≡◌, ◌==◌, ◌++◌, ℕ, List, [], IfOk, OnOk, map, not, string_bytes, length};
+ghost use Rattle.std.specs.Prelude.{◌≡◌, ◌==◌, ◌++◌, ℕ, List, IfOk, OnOk, map, not, string_bytes, length};
 ghost use Rattle.std.specs.List.{flat_map};
 ghost use Rattle.crawl_sources.specs.Tallies.{pointed};
 ghost use Rattle.crawl_pages.specs.declared.page.PageResult.{PageResult};
 ghost use Rattle.site_files.specs.declared.files.SiteFiles.{SiteFiles};
 ghost use Rattle.site_check.specs.Broken.{broken_of, linked_at, redirects_of, result_at, rows_with, ways_with};
 ghost use Rattle.site_check.specs.Ignored.{AreUnused, missing_texts, not_ignored, parts_in, text_at, unused};
+ghost use Rattle.site_check.specs.Invalid.{AreInvalid, AreTexts, invalid_rows_in, row_of, text_of, texts_if};
 ghost use Rattle.site_check.specs.Leads.{indices_in, leads_from, number_in, targets_of};
 ghost use Rattle.site_check.specs.Names.{AreNamed};
 ghost use Rattle.site_check.specs.Parts.{part_text};
@@ -15,6 +16,7 @@ ghost use Rattle.site_check.specs.Totals.{totals_of};
 use crate::anchors::{MissingAnchor, part_rows, told_parts};
 use crate::ignored::unused;
 use crate::input::CheckInput;
+use crate::invalid::{InvalidText, invalid_rows, invalid_texts};
 use crate::leads::{Lead, Maps, link_indices, targets};
 use crate::linked::{Linked, linked_results};
 use crate::located::{TargetPlace, by_number};
@@ -96,8 +98,11 @@ pub fn check_site<'f, R: Threads + Sync, B: FileBytes + Sync>(
     ensures redirects { IfOk result (λ checked. map way_of checked.redirects.items ≡ redirects_of input.entry.front.now results.now) }
     // For a missing page the only page with its file name is suggested, unless a link to the missing page is in the file of that page.
     ensures names { IfOk result (λ checked. AreNamed input.entry.front.now files.now checked.broken.items) }
-    // The unused entries are those that match no missing page and no missing anchor.
-    ensures ignores { IfOk result (λ checked. AreUnused input.entry.front.now (map string_bytes input.entry.ignores.now) results.now (parts_in checked.broken.items) (map string_bytes checked.unused_ignores.items)) }
+    // The rows of invalid links are those of the texts of such links in found pages, each text once and in ascending order, without
+    // those that an entry matches, if the check lists invalid links.
+    ensures invalid { IfOk result (λ checked. AreInvalid (map string_bytes input.entry.ignores.now) (texts_if input.entry.invalid input.entry.places.now results.now) (invalid_rows_in checked.broken.items)) }
+    // The unused entries are those that match no missing page, no missing anchor and no invalid link.
+    ensures ignores { IfOk result (λ checked. AreUnused input.entry.front.now (map string_bytes input.entry.ignores.now) results.now (texts_if input.entry.invalid input.entry.places.now results.now) (parts_in checked.broken.items) (map string_bytes checked.unused_ignores.items)) }
     // The totals count the pages at files' own URLs, their links, the pages at aliases, and the rows.
     ensures totals { IfOk result (λ checked. checked.totals ≡ totals_of input.entry.aliases.now results.now checked.broken.items checked.redirects.items) }
 {
@@ -135,19 +140,22 @@ fn site_of<'p, 'f>(
 #[derive(Drop)]
 struct BrokenLinks<'p> {
     lacking: AnchorCounts<'p>,
-    /// The links to missing pages and missing anchors, page by page, in the order of a page's text.
+    invalid: Vec<InvalidText<'p>>,
+    /// The links to missing pages and missing anchors and the invalid links, page by page, in the order of a page's text.
     leads: Vec<Lead>,
 }
 
-/// Finds the links to missing pages and the links to missing anchors, at the same time if a thread can be started. Ignored pages
-/// do not count.
+/// Finds the links to missing pages and the links to missing anchors, at the same time if a thread can be started, and then the invalid
+/// links. Ignored pages do not count.
 fn sought_by<'p, R: Threads + Sync>(
     rt: &R,
     alloc: Global,
     input: CheckInput<'p>,
     site: Site<'p, '_>,
     linked: &[Linked<'p>],
-) -> Result<BrokenLinks<'p>, NoMemory> {
+) -> Result<BrokenLinks<'p>, NoMemory>
+    ensures { IfOk result (λ sought. AreTexts (texts_if input.entry.invalid input.entry.places.now site.entry.pages.results.now) (map text_of sought.invalid.items)) }
+{
     let threads = site.files.threads().max(1);
     let (leads, lacked) = join(
         rt,
@@ -158,8 +166,14 @@ fn sought_by<'p, R: Threads + Sync>(
     let mut lacked = lacked?;
     sort_by_anchor(&mut lacked)?;
     let lacking = lacking(alloc, lacked, linked.len(), &mut leads)?;
+    let before = linked.len().saturating_add(lacking.len());
+    let invalid = invalid_texts(alloc, input, site.pages.results, before, &mut leads)?;
     leads.sort_by(|a: &Lead, b: &Lead| (a.source, a.index).cmp(&(b.source, b.index)))?;
-    Ok(BrokenLinks { lacking, leads })
+    Ok(BrokenLinks {
+        lacking,
+        invalid,
+        leads,
+    })
 }
 
 /// The links to missing pages that are not ignored, directly or by a redirect.
@@ -182,6 +196,7 @@ fn page_leads<'p, R: Threads + Sync>(
 }
 
 /// The results of a check, with the locations of the links.
+#[tactic(auto, using(crate::proofs::TextsOnce::are_unused))]
 fn told(
     alloc: Global,
     input: CheckInput<'_>,
@@ -193,14 +208,19 @@ fn told(
     ensures broken { IfOk result (λ checked. rows_in checked.broken.items ≡ flat_map (rows_with input.entry.front.now (map string_bytes input.entry.ignores.now)) (map linked_at linked.now)) }
     ensures redirects { IfOk result (λ checked. map way_of checked.redirects.items ≡ flat_map (ways_with input.entry.front.now) (map linked_at linked.now)) }
     ensures names { IfOk result (λ checked. AreNamed input.entry.front.now site.entry.files.now checked.broken.items) }
-    ensures ignores { IfOk result (λ checked. (results : List PageResult) → missing_texts input.entry.front.now results ≡ flat_map (text_at input.entry.front.now) (map result_at linked.now) → AreUnused input.entry.front.now (map string_bytes input.entry.ignores.now) results (parts_in checked.broken.items) (map string_bytes checked.unused_ignores.items)) }
+    ensures invalid { IfOk result (λ checked. invalid_rows_in checked.broken.items ≡ map row_of (not_ignored (map string_bytes input.entry.ignores.now) (map text_of sought.now.invalid.items))) }
+    ensures ignores { IfOk result (λ checked. (results : List PageResult) (links : List (List ℕ)) → missing_texts input.entry.front.now results ≡ flat_map (text_at input.entry.front.now) (map result_at linked.now) → AreTexts links (map text_of sought.now.invalid.items) → AreUnused input.entry.front.now (map string_bytes input.entry.ignores.now) results links (parts_in checked.broken.items) (map string_bytes checked.unused_ignores.items)) }
     ensures totals { IfOk result (λ checked. checked.totals ≡ totals_of input.entry.aliases.now site.entry.pages.results.now checked.broken.items checked.redirects.items) }
 {
     let results = site.pages.results;
     let parts = told_parts(alloc, input.front, &sought.lacking)?;
-    let broken = broken_all(alloc, input, site, linked, parts.as_slice(), places)?;
+    let others = Others {
+        parts: parts.as_slice(),
+        invalid: sought.invalid.as_slice(),
+    };
+    let broken = broken_all(alloc, input, site, linked, others, places)?;
     let redirects = redirect_rows(alloc, input.front, linked)?;
-    let unused_ignores = unused_entries(alloc, input, linked, parts.as_slice())?;
+    let unused_ignores = unused_entries(alloc, input, linked, others)?;
     let unreached = unreached_files(alloc, input, site)?;
     let totals = totals_of(
         alloc,
@@ -232,57 +252,82 @@ fn unreached_files(
     }
 }
 
-/// The rows of the missing pages and of these anchors, with the locations of the links to them.
+/// What is reported after the missing pages: the missing anchors, and the texts of invalid links.
+#[derive(Clone, Copy)]
+struct Others<'a> {
+    parts: &'a [MissingAnchor],
+    invalid: &'a [InvalidText<'a>],
+}
+
+/// The rows of the missing pages and of these others, with the locations of the links to them.
 fn broken_all(
     alloc: Global,
     input: CheckInput<'_>,
     site: Site<'_, '_>,
     linked: &[Linked<'_>],
-    parts: &[MissingAnchor],
+    others: Others<'_>,
     places: Vec<TargetPlace>,
 ) -> Result<Vec<Broken>, NoMemory>
     ensures rows { IfOk result (λ all. rows_in all.items ≡ flat_map (rows_with input.entry.front.now (map string_bytes input.entry.ignores.now)) (map linked_at linked.now)) }
     ensures names { IfOk result (λ all. AreNamed input.entry.front.now site.entry.files.now all.items) }
-    ensures parts { IfOk result (λ all. parts_in all.items ≡ not_ignored (map string_bytes input.entry.ignores.now) (map part_text parts.now)) }
+    ensures parts { IfOk result (λ all. parts_in all.items ≡ not_ignored (map string_bytes input.entry.ignores.now) (map part_text others.entry.parts.now)) }
+    ensures invalid { IfOk result (λ all. invalid_rows_in all.items ≡ map row_of (not_ignored (map string_bytes input.entry.ignores.now) (map text_of others.entry.invalid.now))) }
 {
     let pages = linked.len();
-    let mut found = by_number(alloc, places, pages.saturating_add(parts.len()))?;
+    let links = pages.saturating_add(others.parts.len());
+    let mut found = by_number(alloc, places, links.saturating_add(others.invalid.len()))?;
     let names = names_of(alloc, site.files)?;
     let named = Named {
         files: site.files,
         names: &names,
     };
     let rows = broken_rows(alloc, input, named, linked, found.as_mut_slice())?;
-    let parts = part_rows(alloc, input.ignores, parts, pages, found.as_mut_slice())?;
-    let all = with_parts(rows, parts)?;
+    let parts = part_rows(
+        alloc,
+        input.ignores,
+        others.parts,
+        pages,
+        found.as_mut_slice(),
+    )?;
+    let invalid = invalid_rows(
+        alloc,
+        input.ignores,
+        others.invalid,
+        links,
+        found.as_mut_slice(),
+    )?;
+    let others = joined(parts, invalid)?;
+    let all = joined(rows, others)?;
     Ok(all)
 }
 
-/// The rows of pages, and then those of anchors.
-fn with_parts(rows: Vec<Broken>, parts: Vec<Broken>) -> Result<Vec<Broken>, NoMemory>
-    requires { rows_in parts.items ≡ [] }
-    ensures rows { IfOk result (λ all. rows_in all.items ≡ rows_in rows.items) }
-    ensures names { IfOk result (λ all. (front : List ℕ) (files : SiteFiles) → AreNamed front files rows.items → AreNamed front files parts.items → AreNamed front files all.items) }
-    ensures parts { IfOk result (λ all. parts_in all.items ≡ parts_in rows.items ++ parts_in parts.items) }
+/// Some rows, and then others that are not of pages.
+fn joined(rows: Vec<Broken>, others: Vec<Broken>) -> Result<Vec<Broken>, NoMemory>
+    ensures rows { IfOk result (λ all. rows_in all.items ≡ rows_in rows.items ++ rows_in others.items) }
+    ensures names { IfOk result (λ all. (front : List ℕ) (files : SiteFiles) → AreNamed front files rows.items → AreNamed front files others.items → AreNamed front files all.items) }
+    ensures parts { IfOk result (λ all. parts_in all.items ≡ parts_in rows.items ++ parts_in others.items) }
+    ensures invalid { IfOk result (λ all. invalid_rows_in all.items ≡ invalid_rows_in rows.items ++ invalid_rows_in others.items) }
 {
     let mut all = rows;
-    let mut parts = parts;
-    all.append(&mut parts)?;
+    let mut others = others;
+    all.append(&mut others)?;
     Ok(all)
 }
 
-/// The entries that match no missing page and none of these anchors.
+/// The entries that match no missing page and none of these others.
 fn unused_entries(
     alloc: Global,
     input: CheckInput<'_>,
     linked: &[Linked<'_>],
-    parts: &[MissingAnchor],
+    others: Others<'_>,
 ) -> Result<Vec<String>, NoMemory>
-    ensures { IfOk result (λ all. map string_bytes all.items ≡ unused (map string_bytes input.entry.ignores.now) (map part_text parts.now ++ flat_map (text_at input.entry.front.now) (map result_at linked.now))) }
+    ensures { IfOk result (λ all. map string_bytes all.items ≡ unused (map string_bytes input.entry.ignores.now) ((map part_text others.entry.parts.now ++ map text_of others.entry.invalid.now) ++ flat_map (text_at input.entry.front.now) (map result_at linked.now))) }
 {
-    let told = texts_of(alloc, parts)?;
+    let mut texts = texts_of(alloc, others.parts)?;
+    push_texts(others.invalid, &mut texts)?;
     let pages = missing_texts(alloc, input.front, linked)?;
-    unused(alloc, input.ignores, told.as_slice(), pages.as_slice())
+    let all = unused(alloc, input.ignores, texts.as_slice(), pages.as_slice())?;
+    Ok(all)
 }
 
 /// Returns the text of each anchor, as it is printed.
@@ -294,6 +339,16 @@ fn texts_of(alloc: Global, parts: &[MissingAnchor]) -> Result<Vec<&str>, NoMemor
         texts.push(part.text.as_str())?;
     }
     Ok(texts)
+}
+
+/// Appends the texts of invalid links.
+fn push_texts<'a>(invalid: &[InvalidText<'a>], texts: &mut Vec<&'a str>) -> Result<(), NoMemory>
+    ensures { OnOk result (pointed texts.new.items ≡ pointed texts.old.items ++ map text_of invalid.now) }
+{
+    for one in invalid {
+        texts.push(one.text())?;
+    }
+    Ok(())
 }
 
 /// The missing pages, as they are printed.

@@ -14,9 +14,11 @@ pub struct CheckInput<'a> {
     pub aliases: &'a [Alias],
     /// The anchors of the site's documents, in the order of their URLs. If there are none, no missing anchor is reported.
     pub anchors: &'a [PageAnchors],
-    /// The positions of the links in the site's documents, in the order of their URLs. If there are none, links to missing pages are
-    /// reported without locations.
+    /// The positions of the links in the site's documents and their invalid links, in the order of the documents' URLs. If there are
+    /// none, links to missing pages are reported without locations.
     pub places: &'a [LinkPlaces],
+    /// Whether invalid links are reported.
+    pub invalid: bool,
     /// The results of a search from the site's starts, if the files that it does not reach are listed.
     pub reached: Option<&'a [PageResult]>,
 }

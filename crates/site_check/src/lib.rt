@@ -6,6 +6,7 @@ mod anchors;
 mod check;
 mod ignored;
 mod input;
+mod invalid;
 mod leads;
 mod linked;
 mod located;

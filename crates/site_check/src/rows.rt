@@ -4,6 +4,7 @@ ghost use Rattle.std.specs.List.{flat_map};
 ghost use Rattle.std.specs.Option.{option_map};
 ghost use Rattle.site_check.specs.Broken.{linked_at, row_for, rows_with, shown, ways_with};
 ghost use Rattle.site_check.specs.Ignored.{parts_in};
+ghost use Rattle.site_check.specs.Invalid.{invalid_rows_in};
 ghost use Rattle.site_check.specs.Names.{AreNamed, AreNames};
 ghost use Rattle.site_check.specs.Told.{rows_in, way_of};
 
@@ -30,6 +31,7 @@ pub(crate) fn broken_rows<'n>(
     ensures rows { IfOk result (λ all. rows_in all.items ≡ flat_map (rows_with input.entry.front.now (map string_bytes input.entry.ignores.now)) (map linked_at linked.now)) }
     ensures names { IfOk result (λ all. AreNamed input.entry.front.now named.entry.files.now all.items) }
     ensures parts { IfOk result (λ all. parts_in all.items ≡ []) }
+    ensures invalid { IfOk result (λ all. invalid_rows_in all.items ≡ []) }
 {
     let mut all = Vec::new(alloc);
     for (index, one) in linked.iter().enumerate() {
@@ -52,6 +54,7 @@ fn push_row<'n>(
     ensures rows { OnOk result (rows_in all.new.items ≡ rows_in all.old.items ++ rows_with input.entry.front.now (map string_bytes input.entry.ignores.now) (linked_at one.now)) }
     ensures names { OnOk result (AreNamed input.entry.front.now named.entry.files.now all.old.items → AreNamed input.entry.front.now named.entry.files.now all.new.items) }
     ensures parts { OnOk result (parts_in all.new.items ≡ parts_in all.old.items) }
+    ensures invalid { OnOk result (invalid_rows_in all.new.items ≡ invalid_rows_in all.old.items) }
 {
     match one.result.page {
         Page::Missing => {
@@ -76,6 +79,7 @@ fn push_missing<'n>(
     ensures rows { OnOk result (rows_in all.new.items ≡ rows_in all.old.items ++ row_for (map string_bytes input.entry.ignores.now) told.entry.0.now told.entry.1) }
     ensures names { OnOk result (AreNamed input.entry.front.now named.entry.files.now all.old.items → AreNamed input.entry.front.now named.entry.files.now all.new.items) }
     ensures parts { OnOk result (parts_in all.new.items ≡ parts_in all.old.items) }
+    ensures invalid { OnOk result (invalid_rows_in all.new.items ≡ invalid_rows_in all.old.items) }
 {
     let (text, pages) = told;
     if is_ignored(input.ignores, text) {

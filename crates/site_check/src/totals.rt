@@ -1,7 +1,7 @@
 //! The totals of a check.
 ghost use Rattle.std.specs.Prelude.{◌≡◌, IfOk, count_by};
 ghost use Rattle.site_check.specs.Aliases.{is_alias_page, is_in, is_own_page};
-ghost use Rattle.site_check.specs.Totals.{capped, is_part, link_count, links_in, own_links, part_count, place_count, totals_by, totals_of, url_count};
+ghost use Rattle.site_check.specs.Totals.{capped, is_invalid, is_missing, is_page, is_part, link_count, links_in, own_links, part_count, place_count, totals_by, totals_of, url_count};
 
 use crate::aliases::{AliasUrls, alias_urls};
 use check_report::{Broken, Kind, Redirect, Totals};
@@ -37,9 +37,10 @@ fn totals_by<'a>(
         pages: page_count(urls, results),
         aliases: alias_count(urls, results),
         links: link_count(urls, results),
-        broken_links: place_count(broken),
+        broken_links: broken_links(broken),
         broken_urls: url_count(broken),
         broken_anchors: part_count(broken),
+        invalid_links: invalid_links(broken),
         moved: redirects.len() as u64,
     }
 }
@@ -119,13 +120,28 @@ fn links_in(page: &Page) -> u64
     }
 }
 
-/// The number of locations of the links to these.
-pub(crate) fn place_count(broken: &[Broken]) -> u64
-    ensures { result ≡ place_count broken.now }
+/// The number of locations of the links to missing pages and anchors.
+fn broken_links(broken: &[Broken]) -> u64
+    ensures { result ≡ place_count is_missing broken.now }
 {
     let mut count: u64 = 0;
     for one in broken {
-        count = count.saturating_add(one.places.len() as u64);
+        if is_missing(one.kind) {
+            count = count.saturating_add(one.places.len() as u64);
+        }
+    }
+    count
+}
+
+/// The number of locations of invalid links.
+fn invalid_links(broken: &[Broken]) -> u64
+    ensures { result ≡ place_count is_invalid broken.now }
+{
+    let mut count: u64 = 0;
+    for one in broken {
+        if is_invalid(one.kind) {
+            count = count.saturating_add(one.places.len() as u64);
+        }
     }
     count
 }
@@ -136,7 +152,7 @@ fn url_count(broken: &[Broken]) -> u64
 {
     let mut count: u64 = 0;
     for one in broken {
-        if !is_part(one.kind) {
+        if is_page(one.kind) {
             count += 1;
         }
     }
@@ -156,12 +172,30 @@ fn part_count(broken: &[Broken]) -> u64
     count
 }
 
+/// Whether the row is that of a missing page or a missing anchor.
+fn is_missing(kind: Kind) -> bool
+    ensures { result ≡ is_missing kind }
+{
+    is_page(kind) || is_part(kind)
+}
+
+/// Whether the row is that of a missing page.
+fn is_page(kind: Kind) -> bool
+    ensures { result ≡ is_page kind }
+{
+    matches!(kind, Kind::NoPage)
+}
+
 /// Whether the row is that of a missing anchor.
 fn is_part(kind: Kind) -> bool
     ensures { result ≡ is_part kind }
 {
-    match kind {
-        Kind::NoAnchor => true,
-        Kind::NoPage => false,
-    }
+    matches!(kind, Kind::NoAnchor)
+}
+
+/// Whether the row is that of an invalid link.
+fn is_invalid(kind: Kind) -> bool
+    ensures { result ≡ is_invalid kind }
+{
+    matches!(kind, Kind::NotUrl | Kind::UnknownScheme | Kind::LocalFile)
 }

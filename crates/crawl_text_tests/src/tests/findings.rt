@@ -5,7 +5,7 @@ use check_report::{
 };
 use std::alloc::Global;
 
-/// A target, what is missing, the suggested page, and the locations of its links.
+/// A target, what is wrong with it, the suggested page, and the locations of its links.
 type Target = (
     &'static str,
     Kind,
@@ -32,6 +32,14 @@ const TARGETS: &[Target] = &[
         &[("d,e:f%\r.html", 1, 2)],
     ),
     ("start.html", Kind::NoPage, "", &[]),
+    ("C:\\x", Kind::LocalFile, "", &[("a.html", 7, 9)]),
+    (
+        "http://[<b>",
+        Kind::NotUrl,
+        "",
+        &[("a.html", 8, 9), ("b.html", 5, 2)],
+    ),
+    ("htp://a,b", Kind::UnknownScheme, "", &[("b.html", 6, 2)]),
 ];
 
 const TOTALS: Totals = Totals {
@@ -41,12 +49,13 @@ const TOTALS: Totals = Totals {
     broken_links: 5,
     broken_urls: 2,
     broken_anchors: 1,
+    invalid_links: 4,
     moved: 2,
 };
 
 /// The text with three locations of each target, without colour.
 const TEXT: &str = "pages 4, links 20, redirects 2, aliases 3, unreached files 1, external URLs 2
-broken links 5, missing pages 2, missing anchors 1
+broken links 5, missing pages 2, missing anchors 1, invalid links 4
 
 a.html:41:12: down.html: no such page (did you mean lib/down.html?)
 b.html:3:1: down.html: no such page (did you mean lib/down.html?)
@@ -54,6 +63,10 @@ b.html:4:1: down.html: no such page (did you mean lib/down.html?)
   and 1 more
 d,e:f%\\u{d}.html:1:2: a<b>&\"'.html#x\\u{a}: no such anchor
 start.html: no such page
+a.html:7:9: C:\\x: local file
+a.html:8:9: http://[<b>: not a URL
+b.html:5:2: http://[<b>: not a URL
+b.html:6:2: htp://a,b: unknown scheme
 
 files with the most broken links:
   2 b.html
@@ -74,7 +87,7 @@ unused --ignore entries:
 ";
 
 const JSON: &str =
-    "{\"kind\":\"total\",\"base\":\"http://s.test\",\"pages\":4,\"aliases\":3,\"links\":20,\"redirects\":2,\"unreached\":1,\"external\":2,\"broken\":5,\"missing_pages\":2,\"missing_anchors\":1}
+    "{\"kind\":\"total\",\"base\":\"http://s.test\",\"pages\":4,\"aliases\":3,\"links\":20,\"redirects\":2,\"unreached\":1,\"external\":2,\"broken\":5,\"missing_pages\":2,\"missing_anchors\":1,\"invalid\":4}
 {\"kind\":\"broken\",\"target\":\"down.html\",\"missing\":\"page\",\"pages\":3,\"same_name\":\"lib/down.html\"}
 {\"kind\":\"place\",\"target\":\"down.html\",\"missing\":\"page\",\"file\":\"a.html\",\"line\":41,\"column\":12}
 {\"kind\":\"place\",\"target\":\"down.html\",\"missing\":\"page\",\"file\":\"b.html\",\"line\":3,\"column\":1}
@@ -83,6 +96,13 @@ const JSON: &str =
 {\"kind\":\"broken\",\"target\":\"a<b>&\\\"'.html#x\\n\",\"missing\":\"anchor\",\"pages\":3,\"same_name\":null}
 {\"kind\":\"place\",\"target\":\"a<b>&\\\"'.html#x\\n\",\"missing\":\"anchor\",\"file\":\"d,e:f%\\r.html\",\"line\":1,\"column\":2}
 {\"kind\":\"broken\",\"target\":\"start.html\",\"missing\":\"page\",\"pages\":3,\"same_name\":null}
+{\"kind\":\"invalid\",\"target\":\"C:\\\\x\",\"reason\":\"local_file\",\"pages\":3}
+{\"kind\":\"invalid_place\",\"target\":\"C:\\\\x\",\"reason\":\"local_file\",\"file\":\"a.html\",\"line\":7,\"column\":9}
+{\"kind\":\"invalid\",\"target\":\"http://[<b>\",\"reason\":\"not_url\",\"pages\":3}
+{\"kind\":\"invalid_place\",\"target\":\"http://[<b>\",\"reason\":\"not_url\",\"file\":\"a.html\",\"line\":8,\"column\":9}
+{\"kind\":\"invalid_place\",\"target\":\"http://[<b>\",\"reason\":\"not_url\",\"file\":\"b.html\",\"line\":5,\"column\":2}
+{\"kind\":\"invalid\",\"target\":\"htp://a,b\",\"reason\":\"unknown_scheme\",\"pages\":3}
+{\"kind\":\"invalid_place\",\"target\":\"htp://a,b\",\"reason\":\"unknown_scheme\",\"file\":\"b.html\",\"line\":6,\"column\":2}
 {\"kind\":\"worst\",\"file\":\"b.html\",\"links\":2}
 {\"kind\":\"redirect\",\"page\":\"guide\",\"to\":\"guide/\",\"pages\":7}
 {\"kind\":\"redirect\",\"page\":\"old.html\",\"to\":null,\"pages\":1}
@@ -99,6 +119,10 @@ const ANNOTATIONS: &str =
 ::error file=s%3Ate/c.html,line=5,col=6::down.html: no such page (did you mean lib/down.html?)
 ::error file=s%3Ate/d%2Ce%3Af%25%0D.html,line=1,col=2::a<b>&\"'.html#x%0A: no such anchor
 ::error::start.html: no such page
+::error file=s%3Ate/a.html,line=7,col=9::C:\\x: local file
+::error file=s%3Ate/a.html,line=8,col=9::http://[<b>: not a URL
+::error file=s%3Ate/b.html,line=5,col=2::http://[<b>: not a URL
+::error file=s%3Ate/b.html,line=6,col=2::htp://a,b: unknown scheme
 ";
 
 /// The HTML page after the fixed texts.
@@ -114,6 +138,13 @@ const PAGE: &str = "</form>
 <b>a&lt;b&gt;&amp;&#34;&#39;.html#x\\u{a}</b>\tno such anchor
 \td,e:f%\\u{d}.html:1:2
 <b>start.html</b>\tno such page
+<b>C:\\x</b>\tlocal file
+\ta.html:7:9
+<b>http://[&lt;b&gt;</b>\tnot a URL
+\ta.html:8:9
+\tb.html:5:2
+<b>htp://a,b</b>\tunknown scheme
+\tb.html:6:2
 </pre>
 </section>
 <section id=worst aria-labelledby=h-worst>
@@ -156,7 +187,7 @@ http://a.test/
 
 /// The text of a report without rows, with colour: only the totals.
 const NOTHING: &str = "pages 4, links 20, redirects 2, aliases 3
-\x1b[31mbroken links 5\x1b[0m, missing pages 2, missing anchors 1
+\x1b[31mbroken links 5\x1b[0m, missing pages 2, missing anchors 1, invalid links 4
 ";
 
 /// A link in the file `a.html` of a folder.
@@ -194,16 +225,19 @@ const SEEN: &[Seen] = &[
     ),
 ];
 
-/// The numbers of broken links and of missing pages, and the heading of the HTML page.
-type Heading = (u64, u64, &'static str);
+/// The numbers of broken links, of missing pages and of invalid links, and the heading of the HTML page.
+type Heading = (u64, u64, u64, &'static str);
 
 const HEADINGS: &[Heading] = &[
-    (0, 0, "<h1 class=good><b>0</b> broken links</h1>"),
-    (1, 1, "<h1 class=bad><b>1</b> broken link</h1>"),
-    (7, 2, "<h1 class=bad><b>7</b> broken links</h1>"),
+    (0, 0, 0, "<h1 class=good><b>0</b> broken links</h1>"),
+    (1, 1, 0, "<h1 class=bad><b>1</b> broken link</h1>"),
+    (7, 2, 9, "<h1 class=bad><b>7</b> broken links</h1>"),
     // pages at which the check starts, and to which no link leads
-    (0, 1, "<h1 class=bad><b>1</b> missing page</h1>"),
-    (0, 2, "<h1 class=bad><b>2</b> missing pages</h1>"),
+    (0, 1, 0, "<h1 class=bad><b>1</b> missing page</h1>"),
+    (0, 2, 9, "<h1 class=bad><b>2</b> missing pages</h1>"),
+    // only invalid links
+    (0, 0, 1, "<h1 class=bad><b>1</b> invalid link</h1>"),
+    (0, 0, 2, "<h1 class=bad><b>2</b> invalid links</h1>"),
 ];
 
 /// The end of the HTML page, after the last name.
@@ -421,7 +455,7 @@ fn seen(alloc: Global, row: &Seen) -> Option<[bool; 3]> {
     ])
 }
 
-/// The totals with these numbers of broken links and of missing pages, and nothing else.
+/// The totals with these numbers of broken links, of missing pages and of invalid links, and nothing else.
 fn counted(row: &Heading) -> Totals {
     Totals {
         pages: 1,
@@ -430,6 +464,7 @@ fn counted(row: &Heading) -> Totals {
         broken_links: row.0,
         broken_urls: row.1,
         broken_anchors: 0,
+        invalid_links: row.2,
         moved: 0,
     }
 }
@@ -455,8 +490,8 @@ fn is_headed(alloc: Global, row: &Heading) -> Option<bool> {
     let is_red = str::from_utf8(text.as_slice())
         .ok()?
         .contains("\x1b[31mbroken");
-    let has_heading = str::from_utf8(page.as_slice()).ok()?.contains(row.2);
-    Some(has_heading && is_red == row.2.contains("bad"))
+    let has_heading = str::from_utf8(page.as_slice()).ok()?.contains(row.3);
+    Some(has_heading && is_red == row.3.contains("bad"))
 }
 
 #[test]
@@ -468,9 +503,9 @@ fn escapes_hidden_characters(rt: HostRuntime) {
 }
 
 #[test]
-fn counts_missing_pages_without_links(rt: HostRuntime) {
+fn heads_the_page_with_the_first_count(rt: HostRuntime) {
     for row in HEADINGS {
-        assert!(rt; is_headed(rt.alloc(), row) == Some(true), "{}", row.2);
+        assert!(rt; is_headed(rt.alloc(), row) == Some(true), "{}", row.3);
     }
 }
 

@@ -18,8 +18,8 @@ what a plain static server returns. What is skipped is listed on standard error.
 Example: mercator site examples/site http://site.test/ > site.web";
 
 const CHECK_HELP: &str = "\
-Reports links to pages or anchors that do not exist, with the file, line and column of each.
-The exit status is 4 if anything is broken.
+Reports links to pages or anchors that do not exist, and invalid links, with the file, line and
+column of each. The exit status is 4 if anything is reported as broken or invalid.
 Example: mercator check examples/site";
 
 /// `site`: prints a folder as a saved web.
@@ -102,6 +102,10 @@ const CHECK_FLAGS: &[Flag] = &[
     Flag {
         name: "no-anchors",
         help: "Do not check anchors, such as page.html#use",
+    },
+    Flag {
+        name: "no-invalid",
+        help: "Do not report links that are no URL, have an unknown scheme or name a local file",
     },
 ];
 
@@ -216,6 +220,7 @@ pub fn check_options(
         paths: base.is_none(),
         workers,
         anchors: !found.get_flag("no-anchors"),
+        invalid: !found.get_flag("no-invalid"),
         report: report_options(found),
         seeds: values_of(alloc, found, "seed")?,
         reachable: found.get_flag("reachable"),

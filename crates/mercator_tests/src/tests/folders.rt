@@ -108,6 +108,7 @@ fn settings(none: &[String]) -> CheckSettings<'_> {
         front: "",
         ignores: none,
         seeds: none,
+        invalid: true,
         reachable: false,
         report: ReportOptions::default(),
         folder: "",

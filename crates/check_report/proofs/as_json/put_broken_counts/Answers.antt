@@ -10,5 +10,7 @@ returns-clause-tokens c =
     let links = key (codes "broken") ∷ number (decimal t.broken_links) ∷ [] in
     let pages = key (codes "missing_pages") ∷ number (decimal t.broken_urls) ∷ [] in
     let anchors = key (codes "missing_anchors") ∷ number (decimal t.broken_anchors) ∷ [] in
-    last_joined c.put_count-3.result old c.put_count-2.new.out.tokens c.put_count-3.new.out.tokens (links ++ pages) anchors
-    (joined old c.put_count.new.out.tokens c.put_count-2.new.out.tokens links pages c.in_ok-put_count.ensures.tokens c.in_ok-put_count-2.ensures.tokens) c.put_count-3.ensures.tokens
+    let invalid = key (codes "invalid") ∷ number (decimal t.invalid_links) ∷ [] in
+    let second = joined old c.put_count.new.out.tokens c.put_count-2.new.out.tokens links pages c.in_ok-put_count.ensures.tokens c.in_ok-put_count-2.ensures.tokens in
+    let third = joined old c.put_count-2.new.out.tokens c.put_count-3.new.out.tokens (links ++ pages) anchors second c.in_ok-put_count-3.ensures.tokens in
+    last_joined c.put_count-4.result old c.put_count-3.new.out.tokens c.put_count-4.new.out.tokens (links ++ pages ++ anchors) invalid third c.put_count-4.ensures.tokens

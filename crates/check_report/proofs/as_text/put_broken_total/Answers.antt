@@ -1,4 +1,4 @@
-use Rattle.check_report.proofs.Prelude.{◌++◌, codes, ap, ◌∙◌, code, counted, plain, verdict}
+use Rattle.check_report.proofs.Prelude.{◌++◌, codes, ap, ◌∙◌, code, counted, counted_some, plain, verdict}
 use Rattle.check_report.proofs.Adding.{joined, last_joined}
 use Rattle.check_report.proofs.as_text.put_broken_total.Goals as goal
 
@@ -15,4 +15,6 @@ returns c =
     let second = joined old c.put_code.new.out.items c.put_counted.new.out.items red links first c.in_ok-put_counted.ensures in
     let third = joined old c.put_counted.new.out.items c.put_code-2.new.out.items (red ++ links) (code colour plain) second c.in_ok-put_code-2.ensures in
     let fourth = joined old c.put_code-2.new.out.items c.put_counted-2.new.out.items (red ++ links ++ code colour plain) pages third c.in_ok-put_counted-2.ensures in
-    last_joined c.put_counted-3.result old c.put_counted-2.new.out.items c.put_counted-3.new.out.items (red ++ links ++ code colour plain ++ pages) anchors fourth c.put_counted-3.ensures
+    let fifth = joined old c.put_counted-2.new.out.items c.put_counted-3.new.out.items (red ++ links ++ code colour plain ++ pages) anchors fourth c.in_ok-put_counted-3.ensures in
+    last_joined c.put_counted_some.result old c.put_counted-3.new.out.items c.put_counted_some.new.out.items (red ++ links ++ code colour plain ++ pages ++ anchors)
+    (counted_some (codes ", invalid links ") t.invalid_links) fifth c.put_counted_some.ensures

@@ -1,7 +1,9 @@
 use Rattle.mercator_site.proofs.Prelude.{ℕ, List, map, Ok, Vec, Global, refl, sym, ap, subst, ◌∙◌, ◌≡◌, ◌==◌, not, length, string_bytes, err_from_is_err_and, External, canonical, PageResult, AreOthersListed, IsTopCrawl, row_of, own_of}
+use Rattle.std.proofs.Common.{true≢false}
 use Rattle.std.specs.Option.{option_map}
 use Rattle.site_check.specs.Broken.{broken_of, redirects_of}
 use Rattle.site_check.specs.Ignored.{AreUnused, parts_in}
+use Rattle.site_check.specs.Invalid.{AreInvalid, invalid_rows_in, texts_if}
 use Rattle.site_check.specs.Names.{AreNamed}
 use Rattle.site_check.specs.Told.{rows_in, way_of}
 use Rattle.site_check.specs.Totals.{totals_of}
@@ -27,6 +29,10 @@ returns-clause-named g c = λ web source.
     let input = c.input_of-input.result in
     let same_front = c.input_of-input.ensures.front in
     let same_entries = ap (map string_bytes) c.input_of-input.ensures.ignores in
+    let places = input.places.now in
+    let asked = c.args.settings.invalid in
+    let links = texts_if asked places pages in
+    let same_links : texts_if input.invalid places pages ≡ links = ap (λ is. texts_if is places pages) c.input_of-input.ensures.invalid in
     let checked = c.in_ok-checked.checked in
     let report = c.in_ok-report.ensures in
     let aliases = c.args.site.aliases.items in
@@ -48,11 +54,17 @@ returns-clause-named g c = λ web source.
         site = c.args.files.now;
         site_top = refl;
         names = subst (λ bs. AreNamed front c.args.files.now bs) (sym report.rows) (subst (λ f. AreNamed f c.args.files.now checked.broken.items) same_front c.in_ok-checked.ensures.names);
+        places = places;
+        invalid =
+            subst (λ bs. AreInvalid entries links (invalid_rows_in bs)) (sym report.rows)
+            (subst (λ es. AreInvalid es links (invalid_rows_in checked.broken.items)) same_entries
+            (subst (λ ls. AreInvalid (map string_bytes input.ignores.now) ls (invalid_rows_in checked.broken.items)) same_links c.in_ok-checked.ensures.invalid));
         unused =
-            subst (λ us. AreUnused front entries pages (parts_in report.found.broken.now) (map string_bytes us)) (sym report.unused)
-            (subst (λ bs. AreUnused front entries pages (parts_in bs) (map string_bytes checked.unused_ignores.items)) (sym report.rows)
-            (subst (λ es. AreUnused front es pages (parts_in checked.broken.items) (map string_bytes checked.unused_ignores.items)) same_entries
-            (subst (λ f. AreUnused f (map string_bytes input.ignores.now) pages (parts_in checked.broken.items) (map string_bytes checked.unused_ignores.items)) same_front c.in_ok-checked.ensures.ignores)));
+            subst (λ us. AreUnused front entries pages links (parts_in report.found.broken.now) (map string_bytes us)) (sym report.unused)
+            (subst (λ bs. AreUnused front entries pages links (parts_in bs) (map string_bytes checked.unused_ignores.items)) (sym report.rows)
+            (subst (λ es. AreUnused front es pages links (parts_in checked.broken.items) (map string_bytes checked.unused_ignores.items)) same_entries
+            (subst (λ f. AreUnused f (map string_bytes input.ignores.now) pages links (parts_in checked.broken.items) (map string_bytes checked.unused_ignores.items)) same_front
+            (subst (λ ls. AreUnused input.front.now (map string_bytes input.ignores.now) pages ls (parts_in checked.broken.items) (map string_bytes checked.unused_ignores.items)) same_links c.in_ok-checked.ensures.ignores))));
         is_broken = report.is_broken ∙ ap (λ bs. not (length bs == 0)) (sym report.rows);
         contents = report.contents;
         lists = report.lists;
@@ -69,3 +81,9 @@ returns-in_err-crawls-clause-incomplete g c =
     let same = err_from_is_err_and r.result r.ensures.1 in
     rw (same.1, same.2) (λ web source two.
     c.in_err-crawls.ensures.incomplete (string_bytes c.args.files.now.site.top) web (ap canonical (sym c.top.ensures) ∙ c.in_ok-top.ensures.canon) source two)
+
+pub returns-in_err-report-clause-incomplete : goal.returns-in_err-report-clause-incomplete
+returns-in_err-report-clause-incomplete g c =
+    let r = c.from_residual-in_err-report in
+    let same = err_from_is_err_and r.result r.ensures.1 in
+    rw (same.1, same.2) (λ web source two. absurd (true≢false (sym two)))

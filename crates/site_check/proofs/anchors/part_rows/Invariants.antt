@@ -1,4 +1,4 @@
-use Rattle.site_check.proofs.Prelude.{◌≡◌, ℕ, List, [], map, take, string_bytes, SiteFiles, not_ignored, parts_in, AreNamed, part_text, rows_in}
+use Rattle.site_check.proofs.Prelude.{◌≡◌, ℕ, List, [], map, take, string_bytes, SiteFiles, not_ignored, parts_in, AreNamed, invalid_rows_in, part_text, rows_in}
 use Rattle.site_check.proofs.anchors.part_rows.Given as goal
 
 abbrev pub invariant-loop-part : goal.invariant-loop-part
@@ -6,4 +6,5 @@ invariant-loop-part l = record {
   rows : rows_in l.all.items ≡ [];
   names : (front : List ℕ) (files : SiteFiles) → AreNamed front files l.all.items;
   parts : parts_in l.all.items ≡ not_ignored (map string_bytes l.ignores) (map part_text (take l.part-index l.parts));
+  invalid : invalid_rows_in l.all.items ≡ [];
 }

@@ -1,0 +1,14 @@
+use Rattle.std.proofs.Common.{◌++◌, codes}
+use Rattle.check_report.specs.Page.{item_some, total_item}
+use Rattle.check_report.proofs.Adding.{joined, last_joined}
+use Rattle.check_report.proofs.as_page.put_broken_items.Goals as goal
+
+pub returns : goal.returns
+returns c =
+    let t = c.args.totals in
+    let old = c.args.out.now.items in
+    let pages = total_item (codes "<li>missing pages <b>") t.broken_urls in
+    let anchors = total_item (codes "<li>missing anchors <b>") t.broken_anchors in
+    let both = joined old c.put_item.new.out.items c.put_item-2.new.out.items pages anchors c.in_ok-put_item.ensures c.in_ok-put_item-2.ensures in
+    last_joined c.put_item_some.result old c.put_item-2.new.out.items c.put_item_some.new.out.items (pages ++ anchors)
+    (item_some (codes "<li>invalid links <b>") t.invalid_links) both c.put_item_some.ensures
