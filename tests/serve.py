@@ -7,8 +7,8 @@ user cannot mount one. Random sessions are compared with an independent model of
 uses the models of URLs and of the machine in drawn.py.
 
 `serving/fake.py` is a frontier in Python. As --program it passes all tests except `memory`, whose
-limit is that of the program, and `changed_logs` and `logs_of_parts`, since its log has another
-first line.
+limit is that of the program, and `changed_logs`, `damaged_logs` and `logs_of_parts`, since its log has another
+first line and no checksums.
 
 The environment variable SECONDS is the time limit of each wait [default: 120]. The unproved program of
 `rt try` keeps freed memory for a while, so for the test `memory` it needs the environment variable
@@ -33,7 +33,7 @@ PARTS: Tuple[Callable[[Trial], None], ...] = (
     sessions.transcript, sessions.drawn_sessions, sessions.drawn_parts, sessions.all_at_once, sessions.byte_by_byte,
     sessions.stopped_between, sessions.dying_client, sessions.closed_output, sessions.memory,
     sessions.long_line,
-    logs.killed_sessions, logs.refused_logs, logs.changed_logs, logs.full_disk, logs.compacted_logs, compactions.stopped_compactions,
+    logs.killed_sessions, logs.refused_logs, logs.changed_logs, logs.damaged_logs, logs.full_disk, logs.compacted_logs, compactions.stopped_compactions,
     logs.logs_of_parts, lists.lists, used_logs.waiting, used_logs.replaced_while_waiting, used_logs.changed_while_running,
     clients.client_values, clients.long_base, clients.client_ends, clients.interrupted_call,
     clients.interrupted_close, clients.closing_handler, clients.forked_process, clients.client_small_pipes,

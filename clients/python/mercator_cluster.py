@@ -230,10 +230,10 @@ class _ServedPart:
         return identity
 
     def requests_of_log(self) -> Iterator[bytes]:
-        """Yield all requests of the log, as lines."""
+        """Yield all requests of the log, as lines. Checksum lines begin with `#`."""
         with open(self._log, "rb") as log:
             log.readline()
-            yield from log
+            yield from (line for line in log if not line.startswith(b"#"))
 
     @contextlib.contextmanager
     def without_log(self) -> Iterator[Channel]:

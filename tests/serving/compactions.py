@@ -13,6 +13,7 @@ from pathlib import Path
 from typing import Callable, Optional, Set, Tuple, Union
 
 from serving.logs import refuses, small_disk
+from serving.sums import requests_of
 from serving.trial import SECONDS, Serve, Skipped, Trial, expect
 
 WORDS = ("--workers", "3")
@@ -32,7 +33,7 @@ def stopped_compactions(trial: Trial) -> None:
     new = folder / "new.log"
     expect(ended(compaction(trial, log, new)) == (0, ""), "the first compaction fails")
     whole = new.read_bytes()
-    expect(whole.count(b"\n") == OFFERS + 1 and names(folder) == {"a.log", "new.log"}, "the first new log")
+    expect(len(requests_of(whole)) == OFFERS and names(folder) == {"a.log", "new.log"}, "the first new log")
     new.unlink()
     limited(trial, log, new)
     killed(trial, log, new, whole)

@@ -16,6 +16,7 @@ import drawn
 from mercator_frontier import Frontier, FrontierEnded, Refusal
 from serving.model import drawn_requests, drawn_session, read, session_of
 from serving.sessions import PARTS, compare, random_pieces
+from serving.sums import FLAG, damage, in_pieces, requests_of, whole_lines
 from serving.trial import SECONDS, Differs, Serve, Skipped, Trial, expect
 
 SETTINGS: Tuple[Tuple[str, ...], ...] = (
@@ -23,17 +24,19 @@ SETTINGS: Tuple[Tuple[str, ...], ...] = (
     ("--workers", "3", "--max-pending", "60", "--within", "a.test"),
 )
 
-# A log of this number of lines is changed this number of times; this many of them at least must be refused, and torn.
+# A log of this number of lines is changed this number of times; this many of them at least must end in each way.
 CHANGED_LINES, CHANGES, LEAST = 60, 100, 5
+
+# The most bytes of a line that a log has, without its end.
+HELD = 4098
+
+# How often one byte of a log is changed.
+DAMAGES = 1_000
 
 
 def answered(log: Path) -> int:
-    """Return the number of whole lines in a log, except the first, which has the settings."""
-    return max(0, log.read_bytes().count(b"\n") - 1) if log.exists() else 0
-
-
-def lines_of(data: bytes) -> List[bytes]:
-    return [line + b"\n" for line in data.split(b"\n")[:-1]]
+    """Return the number of requests in a log."""
+    return len(requests_of(log.read_bytes())) if log.exists() else 0
 
 
 def killed_sessions(trial: Trial) -> None:
@@ -46,7 +49,7 @@ def killed_sessions(trial: Trial) -> None:
     for number, words in enumerate((*SETTINGS, *PARTS[:2 * trial.has_part])):
         draw = trial.draw(f"killed session {number}")
         data, wanted = drawn_session(draw, trial.lines, words, trial.has_link)
-        lines = lines_of(data)
+        lines = whole_lines(data)
         log = trial.folder / f"session-{number}.log"
         words = (*words, "--log", str(log))
         begin = 0
@@ -125,30 +128,78 @@ def refused_logs(trial: Trial) -> None:
 
 
 def changed_logs(trial: Trial) -> None:
-    """A session resumes from a log with one change as one that has answered its lines. It refuses a log whose first line is changed."""
+    """A session resumes from a log with one change as one that has answered its lines, if the log has no checksums.
+
+    It refuses a log whose first line is changed, or which has a wrong checksum.
+    """
     trial.want_log()
-    refused = torn = 0
+    counts = {"refused": 0, "resumed": 0, "damaged": 0, "torn": 0}
     for number, words in enumerate(SETTINGS):
         draw = trial.draw(f"changed log {number}")
-        data, _ = drawn_session(draw, CHANGED_LINES, words, trial.has_link)
         log = trial.folder / f"changed-{number}.log"
-        words = (*words, "--log", str(log))
-        session = Serve(trial.program, words)
-        session.exchange(iter([data]))
-        expect(session.end() == (0, ""), "its end")
-        whole = log.read_bytes()
-        first = whole.index(b"\n") + 1
-        head, rest = whole[:first], whole[first:]
-        for _ in range(CHANGES):
-            body = draw.choice((drawn.changed(draw, head) + rest, head + drawn.changed(draw, rest), whole[:draw.randrange(len(whole))]))
-            log.write_bytes(body)
-            if body.startswith(head) or whole.startswith(body):
-                torn += resumes(trial, words, lines_of(body)[1:], draw)
-            else:
-                refuses(trial, words, log)
-                refused += 1
-    expect(refused >= LEAST and torn >= LEAST, f"{refused} refused and {torn} torn logs")
-    print(f"  {refused} refused and {torn} torn logs of {CHANGES * len(SETTINGS)}")
+        whole = logged(trial, words, log, draw)
+        for old in (False, True):
+            head, rest = head_of(whole, old)
+            for _ in range(CHANGES):
+                body = draw.choice((drawn.changed(draw, head) + rest, head + drawn.changed(draw, rest), (head + rest)[:draw.randrange(len(head + rest))]))
+                log.write_bytes(body)
+                counts[resumes_or_not(trial, (*words, "--log", str(log)), body, head, draw)] += 1
+    expect(min(counts.values()) >= LEAST, f"{counts}")
+    print(f"  {counts} of {CHANGES * 2 * len(SETTINGS)} logs")
+
+
+def logged(trial: Trial, words: Sequence[str], log: Path, draw: Random) -> bytes:
+    """Return a log that the program wrote, of a few appends, and check its checksums."""
+    data, _ = drawn_session(draw, CHANGED_LINES, words, trial.has_link)
+    session = Serve(trial.program, (*words, "--log", str(log)))
+    for line in whole_lines(data):
+        session.ask(line[:-1])
+    expect(session.end() == (0, ""), "its end")
+    whole = log.read_bytes()
+    lines = [(b" " + line[1:] if line.startswith(b"#") else line)[:-1][:HELD] + b"\n" for line in whole_lines(data)]
+    expect(whole == in_pieces(whole[:whole.index(b"\n") + 1], lines), "the log that it wrote")
+    return whole
+
+
+def head_of(whole: bytes, old: bool) -> Tuple[bytes, bytes]:
+    """Return the first line of a log and the rest, as they are, or as an old log without checksums."""
+    first = whole.index(b"\n") + 1
+    if not old:
+        return whole[:first], whole[first:]
+    return whole[:first].replace(FLAG, b"\n"), b"".join(requests_of(whole))
+
+
+def resumes_or_not(trial: Trial, words: Sequence[str], body: bytes, head: bytes, draw: Random) -> str:
+    """Check whether a session resumes from this log, which had this first line before it was changed."""
+    log = Path(words[-1])
+    old = head.replace(FLAG, b"\n")
+    new = old[:-1] + FLAG
+    if new.startswith(body) or body.startswith(old):
+        return "torn" if resumes(trial, words, whole_lines(body)[1:], draw) else "resumed"
+    if not body.startswith(new):
+        refuses(trial, words, log)
+        return "refused"
+    wrong = damage(body)
+    if wrong is None:
+        return "torn" if resumes(trial, words, whole_lines(body)[1:], draw) else "resumed"
+    refuses(trial, words, log, told=f"log {log}: damaged between lines {wrong[0]} and {wrong[1]}")
+    return "damaged"
+
+
+def damaged_logs(trial: Trial) -> None:
+    """A log in which one byte was changed before its last checksum is refused. The message has the lines between which it is."""
+    trial.want_log()
+    words, log = SETTINGS[0], trial.folder / "damaged.log"
+    draw = trial.draw("damaged log")
+    whole = logged(trial, words, log, draw)
+    first, last = whole.index(b"\n") + 1, whole.rindex(b"\n", 0, -1) + 9
+    for _ in range(DAMAGES):
+        at = draw.randrange(first, last)
+        body = whole[:at] + bytes([whole[at] ^ draw.randrange(1, 256)]) + whole[at + 1:]
+        log.write_bytes(body)
+        wrong = damage(body)
+        expect(wrong is not None and wrong[0] <= whole.count(b"\n", 0, at) + 1, f"byte {at}: the model finds {wrong}")
+        refuses(trial, (*words, "--log", str(log)), log, told=f"log {log}: damaged between lines {wrong[0]} and {wrong[1]}")
 
 
 def resumes(trial: Trial, words: Sequence[str], lines: Sequence[bytes], draw: Random) -> bool:
@@ -168,7 +219,7 @@ def resumes(trial: Trial, words: Sequence[str], lines: Sequence[bytes], draw: Ra
     return is_torn
 
 
-def refuses(trial: Trial, words: Sequence[str], log: Path, status: int = 1) -> None:
+def refuses(trial: Trial, words: Sequence[str], log: Path, status: int = 1, told: str = "") -> None:
     """Check that the program fails with this status and one line on standard error, and leaves the log unchanged."""
     before = log.read_bytes()
     done = subprocess.run(
@@ -177,7 +228,7 @@ def refuses(trial: Trial, words: Sequence[str], log: Path, status: int = 1) -> N
     )
     errors = done.stderr.decode()
     expect((done.returncode, done.stdout) == (status, b""), f"{words}: {done.returncode}, {done.stdout!r}")
-    expect(errors.startswith("mercator: ") and errors.count("\n") == 1, f"{words}: {errors!r}")
+    expect(errors.startswith(f"mercator: {told}") and errors.count("\n") == 1, f"{words}: {errors!r}, expected {told!r}")
     expect(log.read_bytes() == before, f"{words}: the log was changed")
 
 
@@ -236,7 +287,7 @@ def compacted_logs(trial: Trial) -> None:
     for number, words in enumerate((*SETTINGS, *PARTS[:3 * trial.has_part])):
         draw = trial.draw(f"compacted {number}")
         data, wanted = drawn_session(draw, trial.lines, words, trial.has_link)
-        lines = lines_of(data)
+        lines = whole_lines(data)
         log = trial.folder / f"whole-{number}.log"
         before = log
         for part in range(4):
@@ -273,8 +324,8 @@ def logs_of_parts(trial: Trial) -> None:
     words = ("--part", "1/2", "--workers", "2", "--log", str(log))
     named = identity(trial, words)
     expect(re.fullmatch("identity [0-9a-f]{32}", named) is not None, f"the identity {named!r}")
-    head = f"part 1 of 2 {named} workers 2 max 1048576\n".encode()
-    expect(log.read_bytes() == head + b"identity\nsync\n", f"its first line: {log.read_bytes()!r}")
+    head = f"part 1 of 2 {named} workers 2 max 1048576".encode() + FLAG
+    expect(log.read_bytes() == in_pieces(head, [b"identity\n", b"sync\n"]), f"the log: {log.read_bytes()!r}")
     expect(identity(trial, words) == named, "another identity")
     for others in (("--part", "0/2"), ("--part", "1/3"), ()):
         refuses(trial, (*others, *words[2:]), log)

@@ -140,6 +140,7 @@ ODD_LINES = (
     b"done 00000000000000000000", b"done 000000000000000000000", b"offer ", b"link  x", b"link  http://a.test/",
     b"later", b"later ", b"later x", b"later -1", b"later 4294967296", b"later 4294967295", b"stats ", b"stats x", b"stats  0",
     b"stats 4294967296", b"stats 4294967295", b"stats 0 0", b"Stats", b"sync", b"sync ", b"sync 0", b"identity x", b"synced",
+    b"#", b"#00000000", b"# next 0", b" #",
 )
 
 

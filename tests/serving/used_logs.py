@@ -11,6 +11,7 @@ import time
 from pathlib import Path
 from typing import Callable, Dict, Optional
 
+from serving.sums import requests_of
 from serving.trial import SECONDS, Serve, Skipped, Trial, expect
 
 WORDS = ("--workers", "3")
@@ -63,7 +64,8 @@ def replaced_while_waiting(trial: Trial) -> None:
     expect(first.end() == (0, ""), "the end of the first program")
     expect(second.lines(1) == [b"seen"], "it does not use the new file")
     expect(second.end() == (0, ""), "its end")
-    expect(log.read_bytes() == before + 2 * b"offer http://b.test/\n", "the new file")
+    after = requests_of(log.read_bytes())
+    expect(after == requests_of(before) + 2 * [b"offer http://b.test/\n"], "the new file")
 
 
 def is_open(serve: Serve, file: Path) -> None:

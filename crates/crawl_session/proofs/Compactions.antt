@@ -1,5 +1,5 @@
 -- The lines of a log that are needed bring a new session to the same state, except for the gate words that senders remember.
-use Rattle.crawl_session.proofs.Prelude.{◌≡◌, ℕ, suc, arith, ◌<◌, ◌≤◌, Bool, true, false, ◌||◌, if◌then◌else◌, List, [], ◌∷◌, ◌++◌, length, get_or, slice_get, Option, Some, None, Result, Ok, Err, IfOk, refl, sym, ap, subst, ◌∙◌, true≢false, is_at, nat_cmp, remove_entry, lines, slice_get-get_or, Event, Reply, GateSide, GateTurn, back, end_seeds, enter, holds, Run, in_fetch, can_hand_over, State, unfinished_in, Turn, turn, admit_to, done_with, refused, Subqueue, empty_subqueue, Sound, gate_effect, Answer, Told, Counted, Unasked, Request, Offer, Next, Again, Later, Done, EndSeeds, Stats, RequestError, Had, had_none, having, says_closed, changes, asks_again, is_needed, needed, log_text, Deferred, Exchange, Outcome, by_machine, client, after, deferring, deferring_taken, ends, admitting, entering, exchange, finishing, handing, is_count, is_due, is_entered, is_seen, offering, put_back, replies, retaking, seeds_ended, taking, taking_again, taking_next, request_for, Frontier, deferrals_at, start, with_deferrals, with_words, answered, answers, line_exchange, state_after, Settings}
+use Rattle.crawl_session.proofs.Prelude.{◌≡◌, ℕ, suc, arith, ◌<◌, ◌≤◌, Bool, true, false, ◌||◌, if◌then◌else◌, List, [], ◌∷◌, ◌++◌, length, get_or, slice_get, Option, Some, None, Result, Ok, Err, IfOk, refl, sym, ap, subst, ◌∙◌, true≢false, is_at, nat_cmp, remove_entry, lines, slice_get-get_or, Event, Reply, GateSide, GateTurn, back, end_seeds, enter, holds, Run, in_fetch, can_hand_over, State, unfinished_in, Turn, turn, admit_to, done_with, Subqueue, empty_subqueue, Sound, gate_effect, Answer, Told, Counted, Unasked, Request, Offer, Next, Again, Later, Done, EndSeeds, Stats, RequestError, Had, had_none, having, says_closed, changes, asks_again, is_needed, needed, log_text, Deferred, Exchange, Outcome, by_machine, client, after, deferring, deferring_taken, ends, admitting, entering, exchange, finishing, handing, is_count, is_due, is_entered, is_seen, offering, put_back, replies, retaking, seeds_ended, taking, taking_again, taking_next, request_for, Frontier, deferrals_at, start, with_deferrals, with_words, answered, answers, line_exchange, state_after, Settings}
 use Rattle.std.proofs.lemmas.Bool.{cond_both}
 use Rattle.crawl_core.specs.declared.event.Event.TheVariants as event
 use Rattle.crawl_core.specs.declared.reply.Reply.TheVariants as told

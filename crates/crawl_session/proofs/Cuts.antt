@@ -30,7 +30,7 @@ whole-append front more whole (inr some) = inr (front ++ some.0, ap (λ l. front
 -- ---- a line whose end was not read
 
 -- bytes without LF are one line, or none
-one_line : (bytes : List ℕ) → IsUnfinished bytes → 0 < length bytes → lines bytes ≡ bytes ∷ []
+pub one_line : (bytes : List ℕ) → IsUnfinished bytes → 0 < length bytes → lines bytes ≡ bytes ∷ []
 one_line bytes unfinished some = grind (arith, slice_split_none, ne_eqb)
 
 -- the first line of bytes with an LF

@@ -31,5 +31,8 @@ pub mod Rooms
 pub mod Runs
 pub mod Sees
 pub mod Steps
+pub mod SumLaws
+pub mod SumLines
+pub mod SumReplays
 pub mod Turns
 pub mod Words

@@ -1,9 +1,9 @@
 -- The lists of a session agree with the answers that its client received.
-use Rattle.crawl_session.proofs.Prelude.{◌≡◌, ℕ, zero, suc, ◌+◌, ◌<◌, Bool, true, false, if◌then◌else◌, nat_eq, nat_lt, List, [], ◌∷◌, ◌++◌, map, Option, Some, None, Result, refl, sym, ap, ◌∙◌, arith, append-nil, eqb-true, cons_option, option_map, option_to_list, nat_tests, common_steps, filter_map-append, start_sound, Sound, Row, Request, Again, RequestError, Asked, asked, busy_after, busy_before, busy_in, done_urls, finishes, joined_of, taken_of, times, exchange, Frontier, start, request_for, answered, line_exchange, state_after, Settings}
+use Rattle.crawl_session.proofs.Prelude.{◌≡◌, ℕ, zero, suc, ◌<◌, Bool, true, false, if◌then◌else◌, nat_eq, nat_lt, List, [], ◌∷◌, ◌++◌, map, Option, Some, None, Result, refl, sym, ap, ◌∙◌, arith, append-nil, eqb-true, cons_option, option_map, option_to_list, nat_tests, common_steps, filter_map-append, start_sound, Sound, Row, Request, Again, RequestError, Asked, asked, busy_after, busy_before, busy_in, done_urls, finishes, joined_of, taken_of, times, exchange, Frontier, start, request_for, answered, line_exchange, state_after, Settings}
 use Rattle.crawl_session.specs.declared.list.Kind.{Kind}
 use Rattle.crawl_session.specs.declared.list.Kind.TheVariants as kinds
 use Rattle.crawl_session.specs.declared.list.Row.TheVariants as variant
-use Rattle.crawl_session.specs.Listing.{AreTold, Listed, done_by, done_in, done_of, ended, in_progress_below, pending_at, pending_below, url_of_queue, url_row, urls_of}
+use Rattle.crawl_session.specs.Listing.{AreTold, Listed, done_by, done_in, done_of, in_progress_below, pending_at, pending_below, url_of_queue, url_row, urls_of}
 use Rattle.crawl_session.proofs.Conserved.{line_of, line_sound, put_on, settled_after_lines, starts_free, starts_settled}
 use Rattle.crawl_session.proofs.Drained.{Fit, pends}
 use Rattle.crawl_session.proofs.Emptied.{owned_after_lines}

@@ -1,5 +1,5 @@
 -- A URL that was put back has its sender's unit until it is done.
-use Rattle.crawl_session.proofs.Prelude.{common_steps, ◌≡◌, ℕ, zero, suc, ◌+◌, ◌≤◌, Bool, true, false, cond, ◌&&◌, ◌||◌, if◌then◌else◌, nat_eq, List, ◌∷◌, replicate, slice_get, slice_set, Option, Some, None, Result, Ok, Err, refl, sym, ap, subst, ◌∙◌, arith, eqb-true, ne_eqb, nat_tests, sum_by, nat_cmp, is_at, nat_cmp_total, sum_by-cons, sum_by-set, sum_by_push, slice_get_within, Reply, fetch_of, in_fetch, one_if, GateTurn, gave_back, holds, let_go, turned_away, can_hand_over, handed_over, has_room, is_fetching, lets_in, holds_after, State, count_of, unfinished_in, turn, with_subqueue, Subqueue, after_finishing, unfinished, there, holds_less, sum_at, eqb_same, cond_both, list_any-insert_key, Sound, gate_effect, Deferred, Request, Offer, Next, Again, Later, Done, EndSeeds, Stats, RequestError, Exchange, Outcome, accepted_at, admitting, after, by_machine, client, deferring, deferring_taken, ends, exchange, finishing, handing, is_count, is_due, is_entered, offering, put_back, replies, retaking, seeds_ended, taking, taking_again, taking_next, Deferrals, Frontier, deferrals_at, no_deferrals, start, waits_again, with_deferrals, answered}
+use Rattle.crawl_session.proofs.Prelude.{common_steps, ◌≡◌, ℕ, zero, suc, ◌+◌, ◌≤◌, Bool, true, false, cond, ◌&&◌, ◌||◌, if◌then◌else◌, nat_eq, List, ◌∷◌, replicate, slice_get, slice_set, Option, Some, None, Result, Ok, Err, refl, sym, ap, subst, ◌∙◌, arith, eqb-true, ne_eqb, nat_tests, sum_by, nat_cmp, is_at, nat_cmp_total, sum_by-cons, sum_by-set, sum_by_push, slice_get_within, Reply, fetch_of, in_fetch, one_if, GateTurn, gave_back, holds, let_go, turned_away, can_hand_over, handed_over, has_room, is_fetching, lets_in, holds_after, State, count_of, unfinished_in, turn, with_subqueue, Subqueue, after_finishing, unfinished, there, holds_less, sum_at, eqb_same, cond_both, list_any-insert_key, Sound, gate_effect, Deferred, Request, Offer, Next, Again, Later, Done, EndSeeds, Stats, RequestError, Exchange, Outcome, accepted_at, admitting, by_machine, client, deferring, deferring_taken, ends, exchange, finishing, handing, is_count, is_due, is_entered, offering, put_back, replies, retaking, seeds_ended, taking, taking_again, taking_next, Deferrals, Frontier, deferrals_at, no_deferrals, start, waits_again, with_deferrals, answered}
 use Rattle.crawl_core.specs.declared.event.Event.TheVariants as event
 use Rattle.crawl_core.specs.declared.reply.Reply.TheVariants as told
 use Rattle.crawl_core.specs.declared.reply.Refusal.TheVariants as why

@@ -1,5 +1,5 @@
 -- Between two requests the client holds no unit, so the answers to each request are those of the table.
-use Rattle.crawl_session.proofs.Prelude.{◌≡◌, ℕ, suc, arith, ◌<◌, ◌≤◌, Bool, true, false, ◌||◌, if◌then◌else◌, List, [], ◌∷◌, length, nat_eq, get_or, slice_get, Option, Some, None, Result, Ok, Err, IfOk, refl, sym, ap, subst, ◌∙◌, true≢false, nat_tests, All, list_any, length-replicate, nat_cmp, is_at, nat_cmp_total, All-nil, All-cons, slice_get-get_or, Event, Reply, in_fetch, GateSide, GateTurn, back, enter, gave_back, grant, holds, let_go, look, remembers, shown_word, turned_away, units_out, can_hand_over, holds_after, State, unfinished_in, Turn, turn, admit_to, done_with, put, refused, take_from, Subqueue, empty_subqueue, holds_less, start_sound, list_any-insert_key, lookup-insert_entry, Sound, gate_effect, Request, Offer, Next, Again, Later, Done, EndSeeds, Stats, RequestError, Asked, asked, Deferred, Exchange, Outcome, by_machine, client, after, deferring, deferring_taken, ends, admitting, entering, exchange, finishing, handing, is_count, is_due, is_entered, is_seen, is_empty, offering, put_back, replies, retaking, seeds_ended, stats_answer, taking, taking_again, taking_next, Frontier, deferrals_at, start, with_deferrals, request_for, answered, Settings, stats_for}
+use Rattle.crawl_session.proofs.Prelude.{◌≡◌, ℕ, suc, arith, ◌<◌, ◌≤◌, Bool, true, false, ◌||◌, if◌then◌else◌, List, [], ◌∷◌, length, nat_eq, get_or, slice_get, Option, Some, None, Result, Ok, Err, IfOk, refl, sym, ap, subst, ◌∙◌, true≢false, nat_tests, All, list_any, length-replicate, nat_cmp, is_at, nat_cmp_total, All-nil, All-cons, slice_get-get_or, Event, Reply, in_fetch, GateSide, GateTurn, back, enter, gave_back, grant, holds, let_go, look, remembers, shown_word, turned_away, units_out, can_hand_over, holds_after, State, unfinished_in, Turn, turn, admit_to, done_with, take_from, Subqueue, empty_subqueue, holds_less, start_sound, list_any-insert_key, lookup-insert_entry, Sound, gate_effect, Request, Offer, Next, Again, Later, Done, EndSeeds, Stats, RequestError, Asked, asked, Deferred, Exchange, Outcome, by_machine, client, after, deferring, deferring_taken, ends, admitting, entering, exchange, finishing, handing, is_count, is_due, is_entered, is_seen, is_empty, offering, put_back, replies, retaking, seeds_ended, stats_answer, taking, taking_again, taking_next, Frontier, deferrals_at, start, with_deferrals, request_for, answered, Settings, stats_for}
 use Rattle.std.proofs.lemmas.Bool.{cond_both}
 use Rattle.crawl_core.specs.declared.event.Event.TheVariants as event
 use Rattle.crawl_core.specs.declared.reply.Reply.TheVariants as told

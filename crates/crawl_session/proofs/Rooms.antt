@@ -1,7 +1,5 @@
 -- A busy queue can put its URL back.
 use Rattle.crawl_session.proofs.Prelude.{◌≡◌, ℕ, suc, ◌≤◌, Bool, true, false, not, ◌&&◌, is_some, List, Option, Some, None, Ok, refl, sym, ap, ◌∙◌, arith, option_map, fetch_of, one_if, can_hand_over, HasRoom, count_of, Subqueue, gate_invariant, eqb_same, start_sound, Sound, none_unfinished, Deferred, Later, asked, busy_in, puts_back, Outcome, deferring, deferring_taken, Frontier, deferrals_at, start, request_for, answered, history_of, line_exchange, state_after, Settings}
-use Rattle.crawl_core.specs.declared.reply.Reply.TheVariants as told
-use Rattle.crawl_core.specs.declared.reply.Refusal.TheVariants as why
 use Rattle.crawl_session.proofs.Conserved.{settled_after_lines, starts_free, starts_settled}
 use Rattle.crawl_session.proofs.Emptied.{owned_after_lines}
 use Rattle.crawl_session.proofs.Flows.{fetches_busy}

@@ -14,4 +14,5 @@ pub mod Sessions
 pub mod Serving
 pub mod Stats
 pub mod Steps
+pub mod Sums
 pub mod Tables

@@ -1,6 +1,8 @@
 //! Laws of sessions: what holds of any lines and their answers. None does anything when it is called.
 ghost use Rattle.std.specs.Prelude.{◌≡◌, ◌≢◌, ◌≤◌, ℕ, List, [], ◌∷◌, ◌++◌, slice_get, ◌<◌, ◌^◌, true, is_some, not, Option, Some, None, IfSome, Ok};
-ghost use Rattle.std.specs.List.{All, list_all};
+ghost use Rattle.std.specs.Hash.DefaultHasher.{initial};
+ghost use Rattle.std.specs.List.{All, concat, list_all};
+ghost use Rattle.std.specs.declared.hash.DefaultHasher.{DefaultHasher};
 ghost use Rattle.std.specs.Str.Lines.{lines};
 ghost use Rattle.crawl_core.specs.History.{accepted_urls, taken_urls, done_in};
 ghost use Rattle.crawl_core.specs.Invariants.{HasRoom};
@@ -17,12 +19,14 @@ ghost use Rattle.crawl_session.specs.Requests.{request_of};
 ghost use Rattle.crawl_session.specs.Listing as lists;
 ghost use Rattle.crawl_session.specs.Listing.{AreTold};
 ghost use Rattle.crawl_session.specs.LogStarts.{read_start, start_text};
+ghost use Rattle.crawl_session.specs.Input.{IsUnfinished};
 ghost use Rattle.crawl_session.specs.Logs.{settings_line};
 ghost use Rattle.crawl_session.specs.Serving.{with_words};
 ghost use Rattle.text_lines.specs.Fields.{is_space};
 ghost use Rattle.crawl_session.specs.Sessions.{answered, answers, history_of, line_exchange, state_after};
 ghost use Rattle.crawl_session.specs.Settings.{Settings};
 ghost use Rattle.crawl_session.specs.Stats.{stats_at};
+ghost use Rattle.crawl_session.specs.Sums.{first_wrong, is_sum, sum_line, summed_each};
 ghost use Rattle.crawl_session.specs.Tables.{CanBeAnswered};
 ghost use Rattle.crawl_session.specs.declared.stats.Stats.{Stats};
 ghost use Rattle.crawl_session.specs.declared.answer.Answer.TheVariants.{Told, Unasked};
@@ -150,6 +154,22 @@ pub fn others_are_told_elsewhere()
 #[tactic(auto, using(crate::proofs::LogStarts::starts_back))]
 pub fn log_starts_come_back()
     ensures { (part : Option (ℕ × ℕ)) (identity : Option (List ℕ)) (workers max : ℕ) (suffixes : List (List ℕ)) → IfSome part (λ p. (p.0 < 2 ^ 32) × (p.1 < 2 ^ 32)) → IfSome identity (λ text. list_all (λ b. not (is_space b)) text ≡ true) → read_start (start_text part identity ++ settings_line workers max suffixes) ≡ (part, (identity, settings_line workers max suffixes)) }
+{}
+
+/// A log that was written by appends has no wrong checksum, whatever the bytes of the requests are.
+pub fn a_written_log_is_right()
+    ensures { (pieces : List (List ℕ)) → first_wrong (summed_each initial 0 pieces) ≡ None }
+{}
+
+/// A line that begins with `#` and is not the checksum of all bytes before it is found, unless an earlier one is.
+pub fn a_wrong_sum_is_found()
+    ensures { (front line more : List ℕ) → IsUnfinished line → is_sum line ≡ true → line ++ 10 ∷ [] ≢ sum_line (front ++ 10 ∷ []) → first_wrong ((front ++ 10 ∷ []) ++ (line ++ 10 ∷ more)) ≢ None }
+{}
+
+/// The checksums of a log change nothing: a session that is given what was appended reaches the state that it reaches by the
+/// requests.
+pub fn sums_change_nothing()
+    ensures { (settings : Settings) (state : Frontier) (hash : DefaultHasher) (pieces : List (List ℕ)) → state_after settings state (lines (summed_each hash 0 pieces)) ≡ state_after settings state (lines (concat pieces)) }
 {}
 
 /// The lists of a session are those of its lines and their answers: in each queue, the URLs that are done, the one in progress, and

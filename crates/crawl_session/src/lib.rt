@@ -16,6 +16,7 @@ mod request;
 mod serving;
 mod session;
 mod stats;
+mod sums;
 mod texts;
 
 pub use answer::Answer;
@@ -25,6 +26,7 @@ pub use log::{read_settings, settings_line, whole_len};
 pub use log_start::{read_start, start_text};
 pub use part::Part;
 pub use request::{Request, RequestError};
-pub use serving::{ServeError, serve};
+pub use serving::{HELD_LIMIT, READ_SIZE, ServeError, serve};
 pub use session::Session;
 pub use stats::Stats;
+pub use sums::{LogSum, SumCheck};

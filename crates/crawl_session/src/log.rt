@@ -7,6 +7,7 @@ ghost use Rattle.crawl_keys.specs.HostFilter.{is_good};
 ghost use Rattle.crawl_replay.specs.Script.{header_of};
 ghost use Rattle.crawl_session.specs.Input.{IsUnfinished};
 ghost use Rattle.crawl_session.specs.Logs as spec;
+ghost use Rattle.crawl_session.specs.Sums.{lines_len};
 
 use crawl_core::NoMemory;
 use crawl_replay::{Header, header_of};
@@ -18,6 +19,7 @@ use text_lines::split_space;
 pub fn whole_len(bytes: &[u8]) -> usize
     ensures within { result ≤ length bytes.now }
     ensures whole { 0 < result → (front : List ℕ) × (take result bytes.now ≡ front ++ 10 ∷ []) }
+    ensures value { result ≡ lines_len bytes.now }
     ensures rest { IsUnfinished (drop result bytes.now) }
 {
     match memrchr(b'\n', bytes) {

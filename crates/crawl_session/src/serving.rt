@@ -14,11 +14,11 @@ use std::io::{ErrorKind, Read, Write};
 use text_lines::{LINE_LIMIT, first_line};
 
 /// The most bytes that a read asks for.
-const READ_SIZE: usize = 65_536;
+pub const READ_SIZE: usize = 65_536;
 
 /// The most bytes that are held of a line whose end was not read: enough to see that it is too long, with or without a CR
 /// before its end.
-const HELD_LIMIT: usize = LINE_LIMIT + 2;
+pub const HELD_LIMIT: usize = LINE_LIMIT + 2;
 
 /// Why a session ends before its input does.
 #[derive(Clone, Copy, Debug, PartialEq, Eq)]

@@ -78,6 +78,7 @@ pub plain_list : (why : LogFault) → IsReadFault why → status_of_fault (of_lo
 plain_list unlogged.CannotOpen is = refl
 plain_list unlogged.CannotRead is = refl
 plain_list unlogged.NotALog is = refl
+plain_list (unlogged.Damaged last first) is = refl
 plain_list unlogged.NoMemory is = refl
 plain_list why is = absurd is
 
@@ -85,6 +86,7 @@ pub list_fails : (why : LogFault) → IsReadFault why → FailsList (of_log why)
 list_fails unlogged.CannotOpen is = tt
 list_fails unlogged.CannotRead is = tt
 list_fails unlogged.NotALog is = tt
+list_fails (unlogged.Damaged last first) is = tt
 list_fails unlogged.NoMemory is = tt
 list_fails why is = absurd is
 

@@ -140,11 +140,12 @@ FailsLog within (wrong.Log fault) = is_bad_suffix within ≡ false
 FailsLog within wrong.NoMemory = Unit {0}
 FailsLog within _ = ⊥
 
--- why a log is not listed: it cannot be opened or read, it is none, or memory runs out
+-- why a log is not listed: it cannot be opened or read, it is none, it is damaged, or memory runs out
 abbrev pub FailsList : Fault → Type 0
 FailsList (wrong.Log unlogged.CannotOpen) = Unit {0}
 FailsList (wrong.Log unlogged.CannotRead) = Unit {0}
 FailsList (wrong.Log unlogged.NotALog) = Unit {0}
+FailsList (wrong.Log (unlogged.Damaged last first)) = Unit {0}
 FailsList wrong.NoMemory = Unit {0}
 FailsList _ = ⊥
 

@@ -27,6 +27,7 @@ log_text unlogged.InUse = codes "in use by another program"
 log_text unlogged.CannotRead = codes "cannot read"
 log_text unlogged.NotALog = codes "not a log"
 log_text (unlogged.OtherSettings setting) = setting_text setting
+log_text (unlogged.Damaged right wrong) = codes "damaged between lines " ++ decimal right ++ codes " and " ++ decimal wrong
 log_text unlogged.CannotWrite = codes "cannot write"
 log_text unlogged.Changed = codes "changed by another program"
 log_text unlogged.CannotMakeNew = codes "cannot create the new log, which must not exist"

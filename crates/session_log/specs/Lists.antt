@@ -1,5 +1,5 @@
 -- The list of a log, by its first line and its requests.
-use Rattle.std.specs.Prelude.{◌≡◌, ℕ, List, ◌++◌, Option, Some, Ok}
+use Rattle.std.specs.Prelude.{◌≡◌, ℕ, Bool, List, ◌++◌, Option, Some, Ok}
 use Rattle.crawl_keys.specs.HostFilter.{filter_of}
 use Rattle.crawl_replay.specs.Script.{header_of}
 use Rattle.crawl_session.specs.Frontiers.{Frontier, Shows, start}
@@ -9,6 +9,7 @@ use Rattle.crawl_session.specs.Logs.{within_text}
 use Rattle.crawl_session.specs.Sessions.{state_after}
 use Rattle.crawl_session.specs.Settings.{Settings, SessionView}
 use Rattle.crawl_session.specs.declared.list.ListForm.{ListForm}
+use Rattle.session_log.specs.LogFile.{flag_text}
 use Rattle.session_log.specs.Plans.{IsSessionPlan, queues_of, settings_of}
 use Rattle.session_log.specs.declared.listing.ListKind.{ListKind}
 use Rattle.session_log.specs.declared.listing.ListKind.TheVariants as kinds
@@ -22,12 +23,12 @@ listed_of kinds.InProgress form settings requests state = in_progress_below sett
 listed_of kinds.Done form settings requests state = done_in settings requests state
 listed_of kinds.Stats form settings requests state = stats_in form settings.workers (state_after settings state requests)
 
--- the first line of a log has these settings, which are within the limits, and the suffixes of this filter
-pub record IsFirstLine (line : List ℕ) (plan : SessionPlan) (filter : List (List ℕ)) : Type 0 where
+-- the first line of a log, with checksums or not, has these settings, which are within the limits, and the suffixes of this filter
+pub record IsFirstLine (line : List ℕ) (sums : Bool) (plan : SessionPlan) (filter : List (List ℕ)) : Type 0 where
   pub suffixes : List (List ℕ)
   pub rest : List ℕ
   pub placed : (read_start line).0 ≡ plan.part
-  pub begun : (read_start line).1.1 ≡ within_text suffixes ++ rest
+  pub begun : (read_start line).1.1 ≡ (within_text suffixes ++ rest) ++ flag_text sums
   pub numbers : header_of rest ≡ Some (record { workers = plan.workers; max = plan.max })
   pub limits : IsSessionPlan plan
   pub filtered : filter_of suffixes ≡ Ok filter
@@ -35,19 +36,20 @@ pub record IsFirstLine (line : List ℕ) (plan : SessionPlan) (filter : List (Li
 -- the list of a log: of some settings that a first line has, and some requests after it
 pub record IsListed (plan : ListPlan) (text : List ℕ) : Type 0 where
   pub line : List ℕ
+  pub sums : Bool
   pub own : SessionPlan
   pub filter : List (List ℕ)
   pub identity : List ℕ
-  pub first : IsFirstLine line own filter
+  pub first : IsFirstLine line sums own filter
   pub requests : List (List ℕ)
   pub listed : text ≡ list_text plan.form (listed_of plan.kind plan.form (settings_of own filter identity) requests (start (queues_of own) own.max)).rows
 
 -- a new session of a log with this first line
-pub record IsBegun (line : List ℕ) (session : SessionView) : Type 0 where
+pub record IsBegun (line : List ℕ) (sums : Bool) (session : SessionView) : Type 0 where
   pub own : SessionPlan
   pub filter : List (List ℕ)
   pub identity : List ℕ
-  pub first : IsFirstLine line own filter
+  pub first : IsFirstLine line sums own filter
   pub settings : session.settings ≡ settings_of own filter identity
   pub start : Shows session.core (start (queues_of own) own.max)
 

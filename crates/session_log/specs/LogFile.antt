@@ -2,14 +2,21 @@
 use Rattle.std.specs.Prelude.{◌≡◌, ℕ, ◌-◌, Bool, true, false, ◌&&◌, ◌||◌, List, [], ◌∷◌, ◌++◌, ◌==◌, codes, if◌then◌else◌, drop, length, min, nat_lt, Option, Some, None, position, slice_range, String, string_bytes, take, unwrap_or}
 use Rattle.std.specs.Option.{option_or}
 use Rattle.std.specs.declared.alloc.Global.{Global}
-use Rattle.std.specs.List.{list_any}
+use Rattle.std.specs.List.{concat, list_any}
 use Rattle.std.specs.Str.{bytes_eq}
 use Rattle.std.specs.Str.Lines.{lines}
+use Rattle.std.specs.Hash.DefaultHasher.{initial, write}
+use Rattle.std.specs.declared.hash.DefaultHasher.{DefaultHasher}
 use Rattle.crawl_replay.specs.Script.{header_of}
 use Rattle.crawl_replay.specs.declared.script.header.Header.{Header}
 use Rattle.crawl_session.specs.Input.{held_limit}
 use Rattle.crawl_session.specs.LogStarts.{read_start}
 use Rattle.crawl_session.specs.Logs.{within_text}
+use Rattle.crawl_session.specs.Sums.{summed, unchecked, wrong_after}
+use Rattle.crawl_session.specs.declared.serving.ServeError.{ServeError}
+use Rattle.crawl_session.specs.declared.serving.ServeError.TheVariants as session
+use Rattle.session_log.specs.declared.fault.AppendError.{AppendError}
+use Rattle.session_log.specs.declared.fault.AppendError.TheVariants as append
 use Rattle.session_log.specs.declared.fault.LogFault.{LogFault}
 use Rattle.session_log.specs.declared.fault.LogFault.TheVariants as unlogged
 use Rattle.session_log.specs.declared.fault.LoggedFault.{LoggedFault}
@@ -31,9 +38,24 @@ line_end last = if last == 10 then [] else if last == 13 then 13 ∷ 10 ∷ [] e
 abbrev pub line_len : List ℕ → ℕ
 line_len bytes = unwrap_or (position (λ b. b == 10) bytes) (length bytes)
 
--- what a log has of bytes that follow the given number of an unfinished line: all, but for those of that line past the limit
+-- what is appended of bytes that follow the given number of an unfinished line: all, but for those of that line past the limit
 abbrev pub noted : ℕ → List ℕ → List ℕ
 noted unfinished bytes = take (min (line_len bytes) (held_limit - unfinished)) bytes ++ drop (line_len bytes) bytes
+
+-- what a file gains of bytes of requests, which are at the start of a line or not, if this is the state of its checksum, or if it has
+-- none
+abbrev pub framed : Option DefaultHasher → Bool → List ℕ → List ℕ
+framed None start bytes = bytes
+framed (Some hash) start bytes = summed hash start bytes
+
+-- the state of its checksum after this text
+abbrev pub sum_with : Option DefaultHasher → List ℕ → Option DefaultHasher
+sum_with None text = None
+sum_with (Some hash) text = Some (write hash text)
+
+-- the checksum of some lines of a log, each with its LF, of which none is a wrong checksum
+abbrev pub IsRightSum : DefaultHasher → Type 0
+IsRightSum sum = (lines : List (List ℕ)) × ((wrong_after unchecked lines ≡ None) × (sum ≡ write initial (concat lines)))
 
 -- a line of these is `sync`
 abbrev pub has_sync : List (List ℕ) → Bool
@@ -77,12 +99,18 @@ abbrev pub setting_apart : Option (ℕ × ℕ) → List (List ℕ) → Header �
 setting_apart part suffixes header plan =
     option_or (option_or (option_or (part_apart part plan.part) (within_apart suffixes plan.within)) (workers_apart header.workers plan.workers)) (max_apart header.max plan.max)
 
+-- what follows the settings in the first line of a log, which may have checksums
+abbrev pub flag_text : Bool → List ℕ
+flag_text false = []
+flag_text true = codes " sums"
+
 -- the first line of a log has this setting, which is another one than that of a plan
 pub record HasOther (line : List ℕ) (plan : SessionPlan) (setting : Setting) : Type 0 where
   pub suffixes : List (List ℕ)
   pub rest : List ℕ
   pub header : Header
-  pub begun : (read_start line).1.1 ≡ within_text suffixes ++ rest
+  pub sums : Bool
+  pub begun : (read_start line).1.1 ≡ (within_text suffixes ++ rest) ++ flag_text sums
   pub numbers : header_of rest ≡ Some header
   pub other : setting_apart (read_start line).0 suffixes header plan ≡ Some setting
 
@@ -92,8 +120,9 @@ IsFaultOfLine line plan (unlogged.OtherSettings setting) = HasOther line plan se
 IsFaultOfLine line plan unlogged.NotALog = Unit {0}
 IsFaultOfLine line plan fault = ⊥
 
--- a log cannot be read: it cannot be opened, a read fails, it is none, or memory runs out
+-- a log cannot be read: it cannot be opened, a read fails, it is none, it is damaged, or memory runs out
 abbrev pub IsReadFault : LogFault → Type 0
+IsReadFault (unlogged.Damaged right wrong) = Unit {0}
 IsReadFault unlogged.CannotOpen = Unit {0}
 IsReadFault unlogged.CannotRead = Unit {0}
 IsReadFault unlogged.NotALog = Unit {0}
@@ -115,3 +144,16 @@ IsBreak (ends.Session why) = Unit {0}
 IsBreak (ends.Log unlogged.CannotWrite) = Unit {0}
 IsBreak (ends.Log unlogged.Changed) = Unit {0}
 IsBreak fault = ⊥
+
+-- the error of a log that cannot be appended to
+abbrev pub fault_of_append : AppendError → LogFault
+fault_of_append append.CannotWrite = unlogged.CannotWrite
+fault_of_append append.Changed = unlogged.Changed
+fault_of_append append.NoMemory = unlogged.NoMemory
+
+-- the error of a session that ends for this reason, after an append that may have failed
+abbrev pub fault_of_break : Option AppendError → ServeError → LoggedFault
+fault_of_break None why = ends.Session why
+fault_of_break (Some append.CannotWrite) why = ends.Log unlogged.CannotWrite
+fault_of_break (Some append.Changed) why = ends.Log unlogged.Changed
+fault_of_break (Some append.NoMemory) why = ends.Session session.NoMemory

@@ -1,17 +1,15 @@
 //! The compacted log of a session, in a new file.
-ghost use Rattle.std.specs.Prelude.{◌≤◌, [], length, IfErr, IfOk, IsOk, OnOk, string_bytes};
-ghost use Rattle.std.specs.Io.KnownBytes.{Appends};
-ghost use Rattle.session_log.specs.Compaction.{Compacted, IsCompacted};
-ghost use Rattle.session_log.specs.LogFile.{IsReadFault};
+ghost use Rattle.std.specs.Prelude.{◌∷◌, [], IfOk, IsOk, OnOk, string_bytes};
+ghost use Rattle.session_log.specs.Compaction.{Compacted, IsCompacted, summing};
 
 use crate::fault::LogFault;
-use crate::new_log::{create_partial, publish};
+use crate::lines::LineReader;
+use crate::new_log::{NewLog, create_partial, publish};
 use crate::opening::OpenedLog;
-use crate::window::READ_SIZE;
-use crawl_session::{Compactor, Session, whole_len};
+use crawl_session::{Compactor, Session};
 use std::alloc::Global;
 use std::fs::{self, Files, OpenFile};
-use std::io::{self, Read, Seek, SeekFrom, Write};
+use std::io::{self, Read, Seek, Write};
 
 /// Writes a compacted copy of the log, with only the requests that are needed, to a new file. The log does not change. The new
 /// file gets its name when it is whole and synced to disk. If the program is killed, the new file is whole or does not exist, but
@@ -27,8 +25,9 @@ pub fn compact<R: Files, F: Read + Seek>(
     log: &mut OpenedLog<F>,
     new: &str,
 ) -> Result<(), LogFault> {
-    let (partial, mut file) = create_partial(rt, alloc, new)?;
-    if let Err(fault) = compact_synced(alloc, session, log, &mut file) {
+    let (partial, file) = create_partial(rt, alloc, new)?;
+    let mut written = NewLog::new(alloc, file);
+    if let Err(fault) = compact_synced(alloc, session, log, &mut written) {
         let _ = fs::remove_file(rt, partial.as_str());
         return Err(fault);
     }
@@ -40,12 +39,12 @@ fn compact_synced<F: Read + Seek, O: Write + OpenFile>(
     alloc: Global,
     session: &mut Session,
     log: &mut OpenedLog<F>,
-    out: &mut O,
+    new: &mut NewLog<O>,
 ) -> Result<(), LogFault>
-    ensures compacted { OnOk result (IsCompacted session.old (string_bytes log.old.first) (O.contents out.old) (O.contents out.new)) }
+    ensures compacted { OnOk result (IsCompacted session.old (string_bytes log.old.first ∷ []) new.old.frame.sum (O.contents new.old.file) (O.contents new.new.file)) }
 {
-    let written = compact_to(alloc, session, log, out);
-    let synced = out.sync_all();
+    let written = compact_to(alloc, session, log, new);
+    let synced = new.file.sync_all();
     finish(written, synced)
 }
 
@@ -61,74 +60,35 @@ fn finish(written: Result<(), LogFault>, synced: io::Result<()>) -> Result<(), L
 }
 
 /// Writes the first line of the log, and the requests that are needed.
+#[tactic(auto, using(crate::proofs::Logs::compacted_first, crate::proofs::Logs::gained_one))]
 fn compact_to<F: Read + Seek, O: Write>(
     alloc: Global,
     session: &mut Session,
     log: &mut OpenedLog<F>,
-    out: &mut O,
+    new: &mut NewLog<O>,
 ) -> Result<(), LogFault>
-    ensures compacted { OnOk result (IsCompacted session.old (string_bytes log.old.first) (O.contents out.old) (O.contents out.new)) }
+    ensures compacted { OnOk result (IsCompacted session.old (string_bytes log.old.first ∷ []) new.old.frame.sum (O.contents new.old.file) (O.contents new.new.file)) }
 {
-    write_new(out, log.first.as_bytes())?;
-    let ends = (log.first.len() as u64, log.whole);
-    compact_lines(alloc, session, &mut log.file, ends, out)
+    new.append(log.first.as_bytes())?;
+    let mut lines = LineReader::new(alloc, &mut log.file, log.start, log.whole)?;
+    compact_lines(alloc, session, &mut lines, new)
 }
 
-/// Runs the lines between these positions of the file, and writes those that are needed.
+/// Runs these lines, and writes those that are needed. Fails with `CannotRead` also if a line is too long for the reader.
+#[tactic(auto, using(crate::proofs::Logs::compacted_none))]
 fn compact_lines<F: Read + Seek, O: Write>(
     alloc: Global,
     session: &mut Session,
-    file: &mut F,
-    ends: (u64, u64),
-    out: &mut O,
+    lines: &mut LineReader<'_, F>,
+    new: &mut NewLog<O>,
 ) -> Result<(), LogFault>
-    ensures compacted { OnOk result (IsCompacted session.old [] (O.contents out.old) (O.contents out.new)) }
+    ensures compacted { OnOk result (IsCompacted session.old [] new.old.frame.sum (O.contents new.old.file) (O.contents new.new.file)) }
 {
-    let mut buffer = vec![in alloc; 0u8; READ_SIZE]?;
-    compact_by(alloc, session, file, ends, out, &mut buffer)
-}
-
-/// Like [`compact_lines`], with this buffer. Fails with `CannotRead` if a line is longer than the buffer.
-fn compact_by<F: Read + Seek, O: Write>(
-    alloc: Global,
-    session: &mut Session,
-    file: &mut F,
-    ends: (u64, u64),
-    out: &mut O,
-    buffer: &mut [u8],
-) -> Result<(), LogFault>
-    ensures compacted { OnOk result (IsCompacted session.old [] (O.contents out.old) (O.contents out.new)) }
-{
-    let (mut at, end) = ends;
     let mut compactor = Compactor::new(alloc);
-    for _turn in 0..u64::MAX {
-        if end <= at {
-            return Ok(());
-        }
-        let count = read_lines(file, buffer, at, end)?;
-        compact_bytes(alloc, &mut compactor, session, &buffer[..count], out)?;
-        at = at.saturating_add(count as u64);
+    while lines.read()? {
+        compact_bytes(alloc, &mut compactor, session, lines.as_slice(), new)?;
     }
-    Err(LogFault::CannotRead)
-}
-
-/// Reads whole lines from this position of the file, and returns their number of bytes.
-pub fn read_lines<F: Read + Seek>(
-    file: &mut F,
-    buffer: &mut [u8],
-    at: u64,
-    end: u64,
-) -> Result<usize, LogFault>
-    ensures within { IfOk result (λ count. count ≤ length buffer.new) }
-    ensures fault { IfErr result IsReadFault }
-{
-    let count = end.saturating_sub(at).min(buffer.len() as u64) as usize;
-    file.seek(SeekFrom::Start(at))?;
-    file.read_exact(&mut buffer[..count])?;
-    match whole_len(&buffer[..count]) {
-        0 => Err(LogFault::CannotRead),
-        whole => Ok(whole),
-    }
+    lines.finish()
 }
 
 /// Runs the lines of these bytes, and writes those that are needed.
@@ -137,23 +97,12 @@ fn compact_bytes<O: Write>(
     compactor: &mut Compactor,
     session: &mut Session,
     bytes: &[u8],
-    out: &mut O,
+    new: &mut NewLog<O>,
 ) -> Result<(), LogFault>
-    ensures compacted { OnOk result (Compacted compactor.old session.old compactor.new session.new (O.contents out.old) (O.contents out.new)) }
+    ensures compacted { OnOk result (Compacted compactor.old session.old compactor.new session.new (summing new.old.frame.sum (O.contents new.old.file)) (summing new.new.frame.sum (O.contents new.new.file))) }
 {
     let mut kept = Vec::new(alloc);
-    if compactor.compact(session, bytes, &mut kept).is_err() {
-        return Err(LogFault::NoMemory);
-    }
-    write_new(out, &kept)
-}
-
-/// Appends the bytes to the file of the compacted log. Fails with `CannotWriteNew`.
-fn write_new<O: Write>(out: &mut O, bytes: &[u8]) -> Result<(), LogFault>
-    ensures gained { OnOk result (Appends (O.contents out.old) (O.contents out.new) bytes.now) }
-{
-    match out.write_all(bytes) {
-        Ok(()) => Ok(()),
-        Err(_) => Err(LogFault::CannotWriteNew),
-    }
+    compactor.compact(session, bytes, &mut kept)?;
+    new.append(&kept)?;
+    Ok(())
 }

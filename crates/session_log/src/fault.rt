@@ -19,6 +19,8 @@ pub enum LogFault {
     NotALog,
     /// The log was made with other options, of which this is the first.
     OtherSettings(Setting),
+    /// The log is damaged between these of its lines: its last right checksum before the damage, and the first wrong one.
+    Damaged(u64, u64),
     /// A write failed.
     CannotWrite,
     /// Another process changed, moved or removed the file since it was opened.
@@ -57,6 +59,17 @@ pub enum LoggedFault {
     Session(ServeError),
 }
 
+/// Why bytes could not be appended to a log.
+#[derive(Clone, Copy, Debug, PartialEq, Eq)]
+pub enum AppendError {
+    /// A write failed.
+    CannotWrite,
+    /// Another process changed, moved or removed the file since it was opened.
+    Changed,
+    /// Out of memory.
+    NoMemory,
+}
+
 impl LogFault {
     ghost use Rattle.session_log.specs.Faults as spec;
 
@@ -84,6 +97,9 @@ impl fmt::Display for LogFault {
             LogFault::CannotRead => f.write_str("cannot read"),
             LogFault::NotALog => f.write_str("not a log"),
             LogFault::OtherSettings(setting) => setting.fmt(f),
+            LogFault::Damaged(right, wrong) => {
+                write!(f, "damaged between lines {right} and {wrong}")
+            }
             LogFault::CannotWrite => f.write_str("cannot write"),
             LogFault::Changed => f.write_str("changed by another program"),
             LogFault::CannotMakeNew => {
@@ -140,6 +156,42 @@ impl<T: Drop> From<AllocFailed<T>> for LogFault {
 
     fn from(_refused: AllocFailed<T>) -> LogFault {
         LogFault::NoMemory
+    }
+}
+
+// An error of this type comes from a `Lister` or a `Compactor`, which read nothing. They write to memory, so a write fails only if
+// there is none.
+impl From<ServeError> for LogFault {
+    ghost use Rattle.session_log.specs.declared.fault.LogFault.TheVariants.{NoMemory};
+
+    ghost from_gives = { λ _ fault. fault ≡ NoMemory };
+
+    fn from(_why: ServeError) -> LogFault {
+        LogFault::NoMemory
+    }
+}
+
+impl From<AppendError> for LogFault {
+    ghost use Rattle.session_log.specs.LogFile.{fault_of_append};
+
+    ghost from_gives = { λ why fault. fault ≡ fault_of_append why };
+
+    fn from(why: AppendError) -> LogFault {
+        match why {
+            AppendError::CannotWrite => LogFault::CannotWrite,
+            AppendError::Changed => LogFault::Changed,
+            AppendError::NoMemory => LogFault::NoMemory,
+        }
+    }
+}
+
+impl From<AllocError> for AppendError {
+    ghost use Rattle.session_log.specs.declared.fault.AppendError.TheVariants.{NoMemory};
+
+    ghost from_gives = { λ _ error. error ≡ NoMemory };
+
+    fn from(_refused: AllocError) -> AppendError {
+        AppendError::NoMemory
     }
 }
 

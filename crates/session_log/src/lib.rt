@@ -9,6 +9,8 @@
 
 mod compacting;
 mod fault;
+mod frame;
+mod lines;
 mod listing;
 mod lock_file;
 mod log_file;

@@ -6,15 +6,14 @@ ghost use Rattle.session_log.specs.Lists.{IsBegun, IsListed, ListsLines, ListsLo
 ghost use Rattle.session_log.specs.LogFile.{IsReadFault};
 ghost use Rattle.session_log.specs.Plans.{IsSessionPlan};
 
-use crate::compacting::read_lines;
 use crate::fault::LogFault;
-use crate::log_settings::{first_line_in, is_part};
+use crate::lines::{LineReader, checked_sum};
+use crate::log_settings::{first_line_in, is_part, split_flag};
 use crate::opening::{read_head, whole_end};
 use crate::plan::SessionPlan;
-use crate::window::READ_SIZE;
 use crawl_keys::{Filter, FilterError};
 use crawl_replay::Header;
-use crawl_session::{ListForm, Lister, ServeError, Session, read_settings, read_start};
+use crawl_session::{ListForm, Lister, READ_SIZE, Session, read_settings, read_start};
 use std::alloc::Global;
 use std::fs::{self, Files};
 use std::io::{self, Read, Seek, Write};
@@ -47,7 +46,7 @@ pub struct ListPlan {
 /// the end that it has now, and an incomplete last line is left out.
 ///
 /// # Errors
-/// `CannotOpen`; `NotALog` if the first line is not that of a log; `CannotRead`, `NoMemory`.
+/// `CannotOpen`; `NotALog` if the first line is not that of a log; `Damaged` if a checksum is wrong; `CannotRead`, `NoMemory`.
 pub fn list<R: Files>(rt: &R, alloc: Global, plan: &ListPlan) -> Result<Vec<u8>, LogFault>
     ensures listed { IfOk result (λ text. IsListed plan.now text.items) }
     ensures fault { IfErr result IsReadFault }
@@ -71,27 +70,31 @@ fn list_file<F: Read + Seek>(
     let Some(line) = first_line_in(&head) else {
         return Err(LogFault::NotALog);
     };
-    let mut session = session_of_line(alloc, line)?;
+    let (mut session, sums) = session_of_line(alloc, line)?;
     let mut buffer = vec![in alloc; 0u8; READ_SIZE]?;
     let first = line.len() as u64 + 1;
     let whole = whole_end(file, first, len, &mut buffer)?;
+    if sums {
+        checked_sum(alloc, file, whole)?;
+    }
     let lister = Lister {
         alloc,
         form: plan.form,
     };
-    let ends = (first, whole);
-    list_lines(&lister, plan.kind, &mut session, file, ends, &mut buffer)
+    let mut lines = LineReader::new(alloc, file, first, whole)?;
+    list_lines(&lister, plan.kind, &mut session, &mut lines)
 }
 
-/// Creates the session of a log with this first line, without its LF.
+/// Creates the session of a log with this first line, without its LF. Also returns whether the log has checksums.
 ///
 /// # Errors
 /// `NotALog`, `NoMemory`.
-fn session_of_line(alloc: Global, line: &str) -> Result<Session, LogFault>
-    ensures begun { IfOk result (λ session. IsBegun line.now session) }
+fn session_of_line(alloc: Global, line: &str) -> Result<(Session, bool), LogFault>
+    ensures begun { IfOk result (λ r. IsBegun line.now r.1 r.0) }
     ensures fault { IfErr result IsReadFault }
 {
     let (part, identity, settings) = read_start(line);
+    let (settings, sums) = split_flag(settings);
     let Some((header, suffixes)) = read_settings(alloc, settings)? else {
         return Err(LogFault::NotALog);
     };
@@ -100,7 +103,7 @@ fn session_of_line(alloc: Global, line: &str) -> Result<Session, LogFault>
     };
     let filter = filter_of(alloc, &suffixes)?;
     let session = plan.session(alloc, filter, identity.unwrap_or(""))?;
-    Ok(session)
+    Ok((session, sums))
 }
 
 /// Returns the plan of a log with this part and these numbers, if all parts together do not have too many queues. It names no
@@ -133,70 +136,48 @@ fn filter_of(alloc: Global, suffixes: &[&str]) -> Result<Filter, LogFault>
     }
 }
 
-/// Returns the list of a session that is given the lines between these positions of the file.
+/// Returns the list of a session that is given these lines.
 fn list_lines<F: Read + Seek>(
     lister: &Lister,
     kind: ListKind,
     session: &mut Session,
-    file: &mut F,
-    ends: (u64, u64),
-    buffer: &mut [u8],
+    lines: &mut LineReader<'_, F>,
 ) -> Result<Vec<u8>, LogFault>
     ensures listed { IfOk result (λ text. ListsLog kind lister.now.form session.old text.items) }
     ensures fault { IfErr result IsReadFault }
 {
     let mut text = Vec::new(lister.alloc);
     match kind {
-        ListKind::Done => give_lines(lister, session, file, ends, &mut text, buffer)?,
+        ListKind::Done => give_lines(lister, session, lines, &mut text)?,
         ListKind::Pending => {
-            give_lines(lister, session, file, ends, &mut io::sink(), buffer)?;
+            give_lines(lister, session, lines, &mut io::sink())?;
             lister.pending(session, &mut text)?;
         }
         ListKind::InProgress => {
-            give_lines(lister, session, file, ends, &mut io::sink(), buffer)?;
+            give_lines(lister, session, lines, &mut io::sink())?;
             lister.in_progress(session, &mut text)?;
         }
         ListKind::Stats => {
-            give_lines(lister, session, file, ends, &mut io::sink(), buffer)?;
+            give_lines(lister, session, lines, &mut io::sink())?;
             lister.stats(session, &mut text)?;
         }
     }
     Ok(text)
 }
 
-/// Gives the lines between these positions of the file to the session, and writes the URLs that they end. Fails with `CannotRead`
-/// if a line is longer than the buffer.
+/// Gives these lines to the session, and writes the URLs that they end. Fails with `CannotRead` also if a line is too long for the
+/// reader.
 fn give_lines<F: Read + Seek, O: Write>(
     lister: &Lister,
     session: &mut Session,
-    file: &mut F,
-    ends: (u64, u64),
+    lines: &mut LineReader<'_, F>,
     out: &mut O,
-    buffer: &mut [u8],
 ) -> Result<(), LogFault>
     ensures listed { IfOk result (λ _. ListsLines lister.now.form session.old (O.contents out.old) (O.contents out.new) session.new) }
     ensures fault { IfErr result IsReadFault }
 {
-    let (mut at, end) = ends;
-    for _turn in 0..u64::MAX {
-        if end <= at {
-            return Ok(());
-        }
-        let count = read_lines(file, buffer, at, end)?;
-        lister.done(session, &buffer[..count], out)?;
-        at = at.saturating_add(count as u64);
+    while lines.read()? {
+        lister.done(session, lines.as_slice(), out)?;
     }
-    Err(LogFault::CannotRead)
-}
-
-// An error of this type comes from a `Lister`, which reads nothing. A list is written to memory, so a write fails only if there is
-// none.
-impl From<ServeError> for LogFault {
-    ghost use Rattle.session_log.specs.declared.fault.LogFault.TheVariants.{NoMemory};
-
-    ghost from_gives = { λ _ fault. fault ≡ NoMemory };
-
-    fn from(_why: ServeError) -> LogFault {
-        LogFault::NoMemory
-    }
+    lines.finish()
 }

@@ -1,24 +1,20 @@
 //! The file of a log, to which each byte of the input is appended before the session reads it.
-ghost use Rattle.std.specs.Prelude.{◌≡◌, ◌<◌, ◌≤◌, ◌⊎◌, [], ◌++◌, true, length, take, drop, vec_len, IfOk, OnOk};
+ghost use Rattle.std.specs.Prelude.{◌≡◌, ◌<◌, ◌≤◌, ◌==◌, [], ◌++◌, true, length, take, drop, vec_len, IfOk, OnOk};
 ghost use Rattle.std.specs.Str.Lines.{lines};
 ghost use Rattle.std.specs.Io.{ReadsAtMost};
 ghost use Rattle.std.specs.Io.KnownBytes.{Appends, IsAtEnd, Keeps, ReadConsumes, prepend_known};
-ghost use Rattle.session_log.specs.LogFile.{has_sync, items, line_end, line_len, may_be_sync, may_sync, noted};
-ghost use Rattle.session_log.specs.declared.fault.LogFault.TheVariants as unlogged;
-ghost use Rattle.session_log.specs.declared.fault.LoggedFault.TheVariants as ends;
+ghost use Rattle.session_log.specs.LogFile.{fault_of_break, framed, has_sync, items, line_end, line_len, may_be_sync, may_sync, noted, sum_with};
 
-use crate::fault::{LogFault, LoggedFault};
+use crate::fault::{AppendError, LogFault, LoggedFault};
+use crate::frame::Frame;
 use crate::window::Window;
-use crawl_session::{ServeError, whole_len};
+use crawl_session::{HELD_LIMIT, LogSum, ServeError, whole_len};
 use memchr::memchr;
 use std::alloc::{AllocError, Global};
 use std::fs::{self, Files, OpenFile};
 use std::io::{self, ErrorKind, Read, Write};
 use std::os::unix::fs::MetadataExt;
-use text_lines::{LINE_LIMIT, first_line};
-
-/// The most bytes of a line that a log needs. They show that the line is too long, whether or not it ends in CR LF.
-const HELD_LIMIT: usize = LINE_LIMIT + 2;
+use text_lines::first_line;
 
 /// The name of a log, and the file that it led to.
 #[derive(Drop)]
@@ -61,39 +57,45 @@ impl<'p, R: Files> LogPlace<'p, R> {
 /// A log, which only grows at its end.
 #[derive(Drop)]
 pub struct Log<'p, F, R> {
+    alloc: Global,
     /// The file.
     file: F,
     /// The name that leads to it.
     place: LogPlace<'p, R>,
     /// The length of the file.
     len: u64,
-    /// How many of these bytes belong to an unfinished line.
+    /// How many bytes of requests belong to an unfinished line.
     unfinished: usize,
     /// The last byte; LF if there is none.
     last: u8,
+    /// The last append, and the checksum of the file.
+    frame: Frame,
     /// Whether each append is synced to disk.
     sync: bool,
     /// Whether everything that was appended is synced to disk.
     synced: bool,
-    /// Whether an append failed.
-    failed: bool,
-    /// Whether it failed because another process changed the file.
-    changed: bool,
 }
 
 impl<'p, F: Write + OpenFile, R: Files> Log<'p, F, R> {
-    /// A log of `len` bytes, all of them in whole lines.
-    pub(crate) fn new(file: F, place: LogPlace<'p, R>, len: u64, sync: bool) -> Log<'p, F, R> {
+    /// A log of `len` bytes, all of them in whole lines. If it has checksums, `sum` is that of these bytes.
+    pub(crate) fn new(
+        alloc: Global,
+        file: F,
+        place: LogPlace<'p, R>,
+        len: u64,
+        sum: Option<LogSum>,
+        sync: bool,
+    ) -> Log<'p, F, R> {
         Log {
+            alloc,
             file,
             place,
             len,
             unfinished: 0,
             last: b'\n',
+            frame: Frame::new(alloc, sum),
             sync,
             synced: false,
-            failed: false,
-            changed: false,
         }
     }
 
@@ -101,24 +103,26 @@ impl<'p, F: Write + OpenFile, R: Files> Log<'p, F, R> {
     ///
     /// # Errors
     /// As for [`append`](Log::append).
-    pub(crate) fn note(&mut self, bytes: &[u8]) -> io::Result<()>
-        ensures gained { OnOk result (Appends (F.contents self.old.file) (F.contents self.new.file) (noted self.old.unfinished bytes.now)) }
+    pub(crate) fn note(&mut self, bytes: &[u8]) -> Result<(), AppendError>
+        ensures gained { OnOk result (Appends (F.contents self.old.file) (F.contents self.new.file) (framed self.old.frame.sum (self.old.unfinished == 0) (noted self.old.unfinished bytes.now))) }
+        ensures sum { OnOk result (self.new.frame.sum ≡ sum_with self.old.frame.sum (framed self.old.frame.sum (self.old.unfinished == 0) (noted self.old.unfinished bytes.now))) }
     {
         let end = line_len(bytes);
         let room = HELD_LIMIT.saturating_sub(self.unfinished);
         if end <= room {
-            self.append(bytes, &[])
-        } else {
-            self.append(&bytes[..room], &bytes[end..])
+            return self.append(bytes);
         }
+        let kept = joined(self.alloc, &bytes[..room], &bytes[end..])?;
+        self.append(&kept)
     }
 
     /// Like [`note`](Log::note); if a line that ends in these bytes may be `sync`, also syncs the log to disk.
     ///
     /// # Errors
     /// As for [`append`](Log::append).
-    pub(crate) fn note_synced(&mut self, bytes: &[u8]) -> io::Result<()>
-        ensures gained { OnOk result (Appends (F.contents self.old.file) (F.contents self.new.file) (noted self.old.unfinished bytes.now)) }
+    pub(crate) fn note_synced(&mut self, bytes: &[u8]) -> Result<(), AppendError>
+        ensures gained { OnOk result (Appends (F.contents self.old.file) (F.contents self.new.file) (framed self.old.frame.sum (self.old.unfinished == 0) (noted self.old.unfinished bytes.now))) }
+        ensures sum { OnOk result (self.new.frame.sum ≡ sum_with self.old.frame.sum (framed self.old.frame.sum (self.old.unfinished == 0) (noted self.old.unfinished bytes.now))) }
         ensures synced { OnOk result (may_sync self.old.unfinished bytes.now ≡ true → self.new.synced ≡ true) }
     {
         let before = self.len;
@@ -131,14 +135,14 @@ impl<'p, F: Write + OpenFile, R: Files> Log<'p, F, R> {
     }
 
     /// Syncs the log to disk. If that fails, removes what follows this length.
-    fn sync_from(&mut self, before: u64) -> io::Result<()>
+    fn sync_from(&mut self, before: u64) -> Result<(), AppendError>
         ensures kept { OnOk result (self.new.file ≡ self.old.file) }
+        ensures sum { self.new.frame ≡ self.old.frame }
         ensures synced { OnOk result (self.new.synced ≡ true) }
     {
         if self.file.sync_data().is_err() {
-            self.failed = true;
             self.cut(before);
-            return Err(io::Error::from(ErrorKind::Other));
+            return Err(AppendError::CannotWrite);
         }
         self.synced = true;
         Ok(())
@@ -148,45 +152,44 @@ impl<'p, F: Write + OpenFile, R: Files> Log<'p, F, R> {
     ///
     /// # Errors
     /// As for [`append`](Log::append).
-    pub(crate) fn end_line(&mut self) -> io::Result<()>
-        ensures gained { OnOk result (Appends (F.contents self.old.file) (F.contents self.new.file) (line_end self.old.last)) }
+    pub(crate) fn end_line(&mut self) -> Result<(), AppendError>
+        ensures gained { OnOk result (Appends (F.contents self.old.file) (F.contents self.new.file) (framed self.old.frame.sum (self.old.unfinished == 0) (line_end self.old.last))) }
     {
         match self.last {
             b'\n' => Ok(()),
-            b'\r' => self.append(b"\r\n", &[]),
-            _ => self.append(b"\n", &[]),
+            b'\r' => self.append(b"\r\n"),
+            _ => self.append(b"\n"),
         }
     }
 
-    /// Appends both slices.
+    /// Appends bytes of requests by one write. If the log has checksums, one follows the last LF of these bytes.
     ///
     /// # Errors
-    /// If another process changed the file, which then stays as it is. If a write fails; what it wrote is then removed.
-    pub(crate) fn append(&mut self, front: &[u8], rest: &[u8]) -> io::Result<()>
-        ensures gained { OnOk result (Appends (F.contents self.old.file) (F.contents self.new.file) (front.now ++ rest.now)) }
+    /// `Changed` if another process changed the file, which then stays as it is. `CannotWrite` if a write fails; what it wrote is
+    /// then removed. `NoMemory`.
+    pub(crate) fn append(&mut self, bytes: &[u8]) -> Result<(), AppendError>
+        ensures gained { OnOk result (Appends (F.contents self.old.file) (F.contents self.new.file) (framed self.old.frame.sum (self.old.unfinished == 0) bytes.now)) }
+        ensures sum { OnOk result (self.new.frame.sum ≡ sum_with self.old.frame.sum (framed self.old.frame.sum (self.old.unfinished == 0) bytes.now)) }
     {
         if !self.place.has(self.len) {
-            self.failed = true;
-            self.changed = true;
-            return Err(io::Error::from(ErrorKind::Other));
+            return Err(AppendError::Changed);
         }
-        if self.write(front, rest).is_err() {
-            self.failed = true;
+        self.frame.fill(self.unfinished == 0, bytes)?;
+        if self.write().is_err() {
             self.cut(self.len);
-            return Err(io::Error::from(ErrorKind::Other));
+            return Err(AppendError::CannotWrite);
         }
-        self.grow(front);
-        self.grow(rest);
+        self.grow(bytes);
         Ok(())
     }
 
-    /// Writes both slices, and syncs the log to disk if each append is synced. An error may leave some of the bytes in the file.
-    fn write(&mut self, front: &[u8], rest: &[u8]) -> io::Result<()>
-        ensures gained { OnOk result (Appends (F.contents self.old.file) (F.contents self.new.file) (front.now ++ rest.now)) }
+    /// Writes the frame, and syncs the log to disk if each append is synced. An error may leave some of the bytes in the file.
+    fn write(&mut self) -> io::Result<()>
+        ensures gained { OnOk result (Appends (F.contents self.old.file) (F.contents self.new.file) self.old.frame.bytes.items) }
+        ensures frame { self.new.frame ≡ self.old.frame }
     {
         self.synced = false;
-        self.file.write_all(front)?;
-        self.file.write_all(rest)?;
+        self.file.write_all(self.frame.as_slice())?;
         if self.sync {
             self.file.sync_data()?;
             self.synced = true;
@@ -203,29 +206,30 @@ impl<'p, F: Write + OpenFile, R: Files> Log<'p, F, R> {
         }
     }
 
-    /// Returns the error after an append that failed.
-    pub(crate) fn fault(&self) -> LogFault
-        ensures { (result ≡ unlogged.CannotWrite) ⊎ (result ≡ unlogged.Changed) }
-    {
-        if self.changed {
-            LogFault::Changed
-        } else {
-            LogFault::CannotWrite
-        }
-    }
-
-    /// Counts bytes that were appended.
+    /// Counts bytes of requests that were appended as the frame.
     fn grow(&mut self, bytes: &[u8])
-        ensures { self.new.file ≡ self.old.file }
+        ensures file { self.new.file ≡ self.old.file }
+        ensures frame { self.new.frame ≡ self.old.frame }
     {
+        let count = self.frame.as_slice().len();
+        self.len = self.len.saturating_add(count as u64);
         let whole = whole_len(bytes);
         let before = if whole == 0 { self.unfinished } else { 0 };
         self.unfinished = before.saturating_add(bytes.len() - whole);
-        self.len = self.len.saturating_add(bytes.len() as u64);
         if let Some(last) = bytes.last() {
             self.last = *last;
         }
     }
+}
+
+/// Returns one slice after the other.
+fn joined(alloc: Global, front: &[u8], rest: &[u8]) -> Result<Vec<u8>, AllocError>
+    ensures { IfOk result (λ bytes. bytes.items ≡ front.now ++ rest.now) }
+{
+    let mut bytes = Vec::new(alloc);
+    bytes.extend_from_slice(front)?;
+    bytes.extend_from_slice(rest)?;
+    Ok(bytes)
 }
 
 /// Appends the bytes to the log. If `syncs`, the log is synced to disk before a `sync` is answered.
@@ -233,8 +237,9 @@ fn gain<F: Write + OpenFile, R: Files>(
     log: &mut Log<'_, F, R>,
     bytes: &[u8],
     syncs: bool,
-) -> io::Result<()>
-    ensures gained { OnOk result (Appends (F.contents log.old.file) (F.contents log.new.file) (noted log.old.unfinished bytes.now)) }
+) -> Result<(), AppendError>
+    ensures gained { OnOk result (Appends (F.contents log.old.file) (F.contents log.new.file) (framed log.old.frame.sum (log.old.unfinished == 0) (noted log.old.unfinished bytes.now))) }
+    ensures sum { OnOk result (log.new.frame.sum ≡ sum_with log.old.frame.sum (framed log.old.frame.sum (log.old.unfinished == 0) (noted log.old.unfinished bytes.now))) }
     ensures synced { OnOk result (syncs ≡ true → may_sync log.old.unfinished bytes.now ≡ true → log.new.synced ≡ true) }
 {
     if syncs {
@@ -291,6 +296,8 @@ pub struct LoggedInput<'a, 'p, I, F, R> {
     /// Whether the log is synced to disk before a `sync` is handed on.
     syncs: bool,
     window: Window,
+    /// Why an append failed, if one did.
+    failure: Option<AppendError>,
 }
 
 impl<'a, 'p, I: Read, F: Write + OpenFile, R: Files> LoggedInput<'a, 'p, I, F, R> {
@@ -311,17 +318,19 @@ impl<'a, 'p, I: Read, F: Write + OpenFile, R: Files> LoggedInput<'a, 'p, I, F, R
             log,
             syncs,
             window: Window::new(alloc)?,
+            failure: None,
         })
     }
 
     /// Returns the error of a session that ended for this reason.
     pub fn fault_of(&self, why: ServeError) -> LoggedFault
-        ensures { (result ≡ ends.Session why) ⊎ ((result ≡ ends.Log unlogged.CannotWrite) ⊎ (result ≡ ends.Log unlogged.Changed)) }
+        ensures { result ≡ fault_of_break self.now.failure why }
     {
-        if self.log.failed {
-            LoggedFault::Log(self.log.fault())
-        } else {
-            LoggedFault::Session(why)
+        match self.failure {
+            Some(AppendError::CannotWrite) => LoggedFault::Log(LogFault::CannotWrite),
+            Some(AppendError::Changed) => LoggedFault::Log(LogFault::Changed),
+            Some(AppendError::NoMemory) => LoggedFault::Session(ServeError::NoMemory),
+            None => LoggedFault::Session(why),
         }
     }
 }
@@ -332,8 +341,10 @@ impl<'a, 'p, I: Read, F: Write + OpenFile, R: Files> Read for LoggedInput<'a, 'p
     fn read(&mut self, buf: &mut [u8]) -> io::Result<usize>
         ensures bound { ReadsAtMost result buf.new }
         ensures bytes { ReadConsumes (prepend_known (items self.old.window) (I.remaining self.old.input.now)) (prepend_known (items self.new.window) (I.remaining self.new.input.now)) result buf.new }
-        // What is handed on is in the log.
-        ensures logged { IfOk result (λ n. 0 < n → Appends (F.contents self.old.log.file) (F.contents self.new.log.file) (noted self.old.log.unfinished (take n buf.new))) }
+        // What is handed on is in the log, with its checksum.
+        ensures logged { IfOk result (λ n. 0 < n → Appends (F.contents self.old.log.file) (F.contents self.new.log.file) (framed self.old.log.frame.sum (self.old.log.unfinished == 0) (noted self.old.log.unfinished (take n buf.new)))) }
+        // The next checksum covers it.
+        ensures sum { IfOk result (λ n. 0 < n → self.new.log.frame.sum ≡ sum_with self.old.log.frame.sum (framed self.old.log.frame.sum (self.old.log.unfinished == 0) (noted self.old.log.unfinished (take n buf.new)))) }
         // A `sync` is handed on only after it is synced to disk.
         ensures synced { IfOk result (λ n. 0 < n → self.old.syncs ≡ true → may_sync self.old.log.unfinished (take n buf.new) ≡ true → self.new.log.synced ≡ true) }
     {
@@ -344,10 +355,16 @@ impl<'a, 'p, I: Read, F: Write + OpenFile, R: Files> Read for LoggedInput<'a, 'p
         let ready = self.window.as_slice();
         let count = buf.len().min(ready.len());
         if count == 0 {
-            self.log.end_line()?;
+            if let Err(why) = self.log.end_line() {
+                self.failure = Some(why);
+                return Err(io::Error::from(ErrorKind::Other));
+            }
             return Ok(0);
         }
-        gain(&mut self.log, &ready[..count], self.syncs)?;
+        if let Err(why) = gain(&mut self.log, &ready[..count], self.syncs) {
+            self.failure = Some(why);
+            return Err(io::Error::from(ErrorKind::Other));
+        }
         buf[..count].copy_from_slice(&ready[..count]);
         self.window.consume(count);
         Ok(count)

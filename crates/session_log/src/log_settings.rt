@@ -1,9 +1,9 @@
 //! The settings in the first line of a log.
-ghost use Rattle.std.specs.Prelude.{◌≡◌, ◌≤◌, true, map, IfOk};
+ghost use Rattle.std.specs.Prelude.{◌≡◌, ◌≤◌, ◌++◌, true, map, IfOk};
 ghost use Rattle.crawl_core.specs.Limits.{queue_limit};
 ghost use Rattle.crawl_limits.specs.Limits.{worker_limit};
 ghost use Rattle.session_log.specs.Plans.{IsPartOf, all_queues};
-ghost use Rattle.session_log.specs.LogFile.{IsFaultOfLine, is_within, max_apart, part_apart, setting_apart, within_apart, workers_apart};
+ghost use Rattle.session_log.specs.LogFile.{IsFaultOfLine, flag_text, is_within, max_apart, part_apart, setting_apart, within_apart, workers_apart};
 
 use crate::fault::{LogFault, Setting};
 use crate::plan::SessionPlan;
@@ -13,6 +13,9 @@ use crawl_session::{read_settings, read_start};
 use memchr::memchr;
 use std::alloc::{AllocError, Global};
 use std::str;
+
+/// What ends the first line of a log with checksums.
+pub const SUMS: &str = " sums";
 
 /// Returns why a log that begins with these bytes is not the log of the plan: its first setting that is another one, or that the
 /// first line is not one that the program writes. A line without its end here is none.
@@ -38,6 +41,7 @@ fn fault_of_line(alloc: Global, line: &str, plan: &SessionPlan) -> Result<LogFau
     ensures { IfOk result (IsFaultOfLine line.now plan.now) }
 {
     let (part, _identity, settings) = read_start(line);
+    let (settings, _sums) = split_flag(settings);
     let Some((header, suffixes)) = read_settings(alloc, settings)? else {
         return Ok(LogFault::NotALog);
     };
@@ -47,6 +51,16 @@ fn fault_of_line(alloc: Global, line: &str, plan: &SessionPlan) -> Result<LogFau
     match setting_apart(part, &suffixes, &header, plan) {
         Some(setting) => Ok(LogFault::OtherSettings(setting)),
         None => Ok(LogFault::NotALog),
+    }
+}
+
+/// Returns the settings without the word after them that says that the log has checksums, and whether it was there.
+pub fn split_flag(settings: &str) -> (&str, bool)
+    ensures { settings.now ≡ result.0.now ++ flag_text result.1 }
+{
+    match settings.strip_suffix(SUMS) {
+        Some(numbers) => (numbers, true),
+        None => (settings, false),
     }
 }
 

@@ -1,12 +1,53 @@
 //! The file of a compacted log. It gets its name when it is whole, because a session resumes from any beginning of a log.
+ghost use Rattle.std.specs.Prelude.{◌≡◌, true, OnOk, Some};
+ghost use Rattle.std.specs.Hash.DefaultHasher.{initial};
+ghost use Rattle.std.specs.Io.KnownBytes.{Appends};
+ghost use Rattle.session_log.specs.LogFile.{framed, sum_with};
 
 use crate::fault::LogFault;
+use crate::frame::Frame;
+use crawl_session::LogSum;
 use std::alloc::Global;
 use std::fs::{self, File, Files, OpenFile};
-use std::io::{self, ErrorKind};
+use std::io::{self, ErrorKind, Write};
 
 /// How many temporary names a new log may have. A name remains in use if its compaction was killed.
 const NAME_LIMIT: u32 = 9;
+
+/// The file of a new log, which has checksums.
+#[derive(Drop)]
+pub struct NewLog<O> {
+    pub(crate) file: O,
+    frame: Frame,
+}
+
+impl<O: Write> NewLog<O> {
+    /// An empty file.
+    pub fn new(alloc: Global, file: O) -> NewLog<O>
+        ensures file { result.file ≡ file }
+        ensures sum { result.frame.sum ≡ Some initial }
+    {
+        NewLog {
+            file,
+            frame: Frame::new(alloc, Some(LogSum::new())),
+        }
+    }
+
+    /// Appends whole lines, with their checksum.
+    ///
+    /// # Errors
+    /// `CannotWriteNew`, `NoMemory`.
+    pub fn append(&mut self, lines: &[u8]) -> Result<(), LogFault>
+        ensures gained { OnOk result (Appends (O.contents self.old.file) (O.contents self.new.file) (framed self.old.frame.sum true lines.now)) }
+        ensures sum { OnOk result (self.new.frame.sum ≡ sum_with self.old.frame.sum (framed self.old.frame.sum true lines.now)) }
+    {
+        self.frame.fill(true, lines)?;
+        match self.file.write_all(self.frame.as_slice()) {
+            Ok(()) => Ok(()),
+            Err(_) => Err(LogFault::CannotWriteNew),
+        }
+    }
+}
 
 /// Creates the file of a new log under a temporary name in the same folder, and returns both.
 ///

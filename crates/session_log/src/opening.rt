@@ -5,13 +5,13 @@ ghost use Rattle.session_log.specs.LogFile.{IsReadFault, IsUseFault};
 ghost use Rattle.session_log.specs.Plans.{IsSessionPlan, queues_of, settings_of};
 
 use crate::fault::LogFault;
+use crate::lines::checked_sum;
 use crate::lock_file::LockFile;
-use crate::log_settings::fault_of_head;
+use crate::log_settings::{SUMS, fault_of_head};
 use crate::plan::{LogPlan, SessionPlan};
-use crate::window::READ_SIZE;
 use crawl_keys::Filter;
 use crawl_replay::Header;
-use crawl_session::{Session, settings_line, start_text, whole_len};
+use crawl_session::{LogSum, READ_SIZE, Session, settings_line, start_text, whole_len};
 use std::alloc::{AllocError, Global};
 use std::fs::{self, Files, OpenFile, OpenOptions};
 use std::io::{self, Read, Seek, SeekFrom};
@@ -35,8 +35,12 @@ const START_LEN: usize = 8;
 pub struct OpenedLog<F> {
     /// The file.
     pub(crate) file: F,
-    /// The first line of the log, with its LF. The file may have only a beginning of it, or nothing.
+    /// The first line of a log with checksums and these settings, with its LF.
     pub(crate) first: String,
+    /// The length of the first line of the file, which may be that of a log without checksums; 0 if it is not whole.
+    pub(crate) start: u64,
+    /// The checksum of the whole lines of the file, if it has checksums.
+    pub(crate) sum: Option<LogSum>,
     /// The identity in the first line, if the log is that of a part.
     pub(crate) identity: String,
     /// The length of the whole lines of the file; 0 if the first line is not whole.
@@ -63,11 +67,42 @@ impl<F: OpenFile> OpenedLog<F> {
     }
 }
 
+/// The lengths of a log, as it was opened.
+#[derive(Clone, Copy)]
+struct Lengths {
+    /// Of its first line; 0 if that is not whole.
+    start: u64,
+    /// Of its whole lines.
+    whole: u64,
+    /// Of the file.
+    len: u64,
+    /// Whether it has checksums.
+    sums: bool,
+}
+
+impl Lengths {
+    /// Returns the checksum of the whole lines, if the log has checksums. Each checksum in it must be right.
+    ///
+    /// # Errors
+    /// `Damaged`, `CannotRead`, `NoMemory`.
+    fn sum_of<F: Read + Seek>(
+        &self,
+        alloc: Global,
+        file: &mut F,
+    ) -> Result<Option<LogSum>, LogFault> {
+        if !self.sums {
+            return Ok(None);
+        }
+        Ok(Some(checked_sum(alloc, file, self.whole)?))
+    }
+}
+
 /// Opens the log and creates the session of its plan, with the filter of its suffix. If `makes`, a file that does not exist is
 /// created.
 ///
 /// # Errors
-/// `CannotOpen`, `InUse`; `NotALog` or `OtherSettings` if the log begins otherwise than the plan says; `CannotRead`, `NoMemory`.
+/// `CannotOpen`, `InUse`; `NotALog` or `OtherSettings` if the log begins otherwise than the plan says; `Damaged` if a checksum is
+/// wrong; `CannotRead`, `NoMemory`.
 pub fn open_session<R: Files, L: LockFile<R::File>>(
     rt: &R,
     locks: &L,
@@ -90,7 +125,8 @@ pub fn open_session<R: Files, L: LockFile<R::File>>(
 /// Opens the file of the log, which must begin as the plan says.
 ///
 /// # Errors
-/// `CannotOpen`, `InUse`; `NotALog` or `OtherSettings` if it begins otherwise; `CannotRead`, `NoMemory`.
+/// `CannotOpen`, `InUse`; `NotALog` or `OtherSettings` if it begins otherwise; `Damaged` if a checksum is wrong; `CannotRead`,
+/// `NoMemory`.
 fn open_log<R: Files, L: LockFile<R::File>>(
     rt: &R,
     locks: &L,
@@ -104,15 +140,18 @@ fn open_log<R: Files, L: LockFile<R::File>>(
         return Err(unlike(alloc, &mut file, &plan.session)?);
     };
     let first = first_line_of(alloc, plan, identity.as_str())?;
-    let Some((whole, len)) = measure(alloc, &mut file, first.as_bytes())? else {
+    let Some(head) = measure(alloc, &mut file, first.as_bytes())? else {
         return Err(unlike(alloc, &mut file, &plan.session)?);
     };
+    let sum = head.sum_of(alloc, &mut file)?;
     Ok(OpenedLog {
         file,
         first,
+        start: head.start,
+        sum,
         identity,
-        whole,
-        len,
+        whole: head.whole,
+        len: head.len,
     })
 }
 
@@ -261,7 +300,7 @@ fn text_of_digits(alloc: Global, digits: &[u8]) -> Result<Option<String>, AllocE
     Ok(Some(text))
 }
 
-/// Returns the first line of the log, with its LF.
+/// Returns the first line of a log with checksums, with its LF.
 fn first_line_of(alloc: Global, plan: &LogPlan, identity: &str) -> Result<String, AllocError> {
     let session = &plan.session;
     let header = Header {
@@ -277,12 +316,13 @@ fn first_line_of(alloc: Global, plan: &LogPlan, identity: &str) -> Result<String
         None => settings_line(alloc, &header, &[])?,
     };
     line.push_str(settings.as_str())?;
+    line.push_str(SUMS)?;
     line.push('\n')?;
     Ok(line)
 }
 
-/// Returns the length of the whole lines of the log, and the length of the file. If the first line is not whole, the log has no
-/// whole line. Returns `None` if the log begins otherwise.
+/// Returns the lengths of a log that begins with this line, or with the same line of a log without checksums. If the first line is
+/// not whole, the log has no whole line. Returns `None` if the log begins otherwise.
 ///
 /// # Errors
 /// `CannotRead`, `NoMemory`.
@@ -290,17 +330,46 @@ fn measure<F: Read + Seek>(
     alloc: Global,
     file: &mut F,
     first: &[u8],
-) -> Result<Option<(u64, u64)>, LogFault> {
+) -> Result<Option<Lengths>, LogFault> {
     let (head, len) = read_head(alloc, file, first.len())?;
-    if !first.starts_with(&head) {
+    let Some((start, sums)) = start_of(first, &head) else {
         return Ok(None);
+    };
+    if start == 0 {
+        return Ok(Some(Lengths {
+            start: 0,
+            whole: 0,
+            len,
+            sums,
+        }));
     }
-    if head.len() < first.len() {
-        return Ok(Some((0, len)));
-    }
+    let start = start as u64;
     let mut buffer = vec![in alloc; 0u8; READ_SIZE]?;
-    let whole = whole_end(file, head.len() as u64, len, &mut buffer)?;
-    Ok(Some((whole, len)))
+    let whole = whole_end(file, start, len, &mut buffer)?;
+    Ok(Some(Lengths {
+        start,
+        whole,
+        len,
+        sums,
+    }))
+}
+
+/// Returns the length of the first line that the log begins with, 0 if it is not whole, and whether it is that of a log with
+/// checksums. Returns `None` if the log begins otherwise.
+fn start_of(first: &[u8], head: &[u8]) -> Option<(usize, bool)> {
+    if first.starts_with(head) {
+        let start = if head.len() < first.len() {
+            0
+        } else {
+            head.len()
+        };
+        return Some((start, true));
+    }
+    let old = first.len().saturating_sub(SUMS.len() + 1);
+    if old < head.len() && head[..old] == first[..old] && head[old] == b'\n' {
+        return Some((old + 1, false));
+    }
+    None
 }
 
 /// Returns why a log that begins otherwise than the plan says is not the log of the plan.

@@ -31,35 +31,36 @@ pub fn resume<'p, R: Files, F: Read + Seek + Write + OpenFile + Drop>(
     let OpenedLog {
         mut file,
         first,
+        start,
+        sum,
         identity: _,
         whole,
         len: _,
     } = opened;
-    let first = first.as_bytes();
-    rerun_file(alloc, session, &mut file, whole, first.len())?;
+    rerun_file(alloc, session, &mut file, start)?;
     let place = LogPlace::new(rt, plan.file.clone()?, &file)?;
-    let mut log = Log::new(file, place, whole, plan.sync);
-    if whole == 0 && log.append(first, &[]).is_err() {
-        return Err(log.fault());
+    let mut log = Log::new(alloc, file, place, whole, sum, plan.sync);
+    if start == 0 {
+        log.append(first.as_bytes())?;
     }
     Ok(log)
 }
 
-/// Runs the requests in the lines after the first one, and drops their answers. There are none if the log has no whole line.
+/// Runs the requests in the lines after the first one, which has this length, and drops their answers. There are none if the log has
+/// no whole line.
 fn rerun_file<F: Read + Seek>(
     alloc: Global,
     session: &mut Session,
     file: &mut F,
-    whole: u64,
-    first: usize,
+    start: u64,
 ) -> Result<(), LogFault>
     ensures resumed { OnOk result ((bytes : List ℕ) × Reruns session.old (lines bytes) session.new) }
     ensures fault { IfErr result IsUseFault }
 {
-    if whole == 0 {
+    if start == 0 {
         return Ok(());
     }
-    file.seek(SeekFrom::Start(first as u64))?;
+    file.seek(SeekFrom::Start(start))?;
     match serve(alloc, session, file, &mut io::sink()) {
         Ok(()) => Ok(()),
         Err(ServeError::NoMemory) => Err(LogFault::NoMemory),

@@ -2,11 +2,9 @@
 ghost use Rattle.std.specs.Prelude.{◌≡◌, ◌<◌, ◌≤◌, [], drop, length, vec_len, IfOk, OnOk};
 ghost use Rattle.std.specs.Io.KnownBytes.{IsAtEnd, Keeps, prepend_known};
 
+use crawl_session::READ_SIZE;
 use std::alloc::{AllocError, Global};
 use std::io::{self, Read};
-
-/// The most bytes that one read asks for.
-pub const READ_SIZE: usize = 65_536;
 
 /// A buffer of bytes that were read and not handed on yet.
 #[derive(Drop)]

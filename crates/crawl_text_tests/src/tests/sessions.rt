@@ -1,10 +1,10 @@
 //! Tests of what no command shows: a line is sent again after out of memory, a log without an end of its last line is compacted, the
-//! first line of a log is read as a value, and the URLs of a log are listed.
+//! first line of a log is read as a value, the URLs of a log are listed, and a log has known checksums.
 use crawl_keys::Filter;
 use crawl_replay::Header;
 use crawl_session::{
-    Compactor, ListForm, Lister, ServeError, Session, read_settings, read_start, settings_line,
-    start_text,
+    Compactor, ListForm, Lister, LogSum, ServeError, Session, read_settings, read_start,
+    settings_line, start_text,
 };
 use std::alloc::{AllocError, Global};
 
@@ -247,4 +247,28 @@ fn lists_the_urls_of_a_log(rt: HostRuntime) {
     assert!(rt; are_lists(rt.alloc(), PUT_BACK, ListForm::Text, PUT_BACK_AS_TEXT));
     assert!(rt; are_lists(rt.alloc(), PENDING, ListForm::Text, PENDING_AS_TEXT));
     assert!(rt; are_lists(rt.alloc(), PENDING, ListForm::Json, PENDING_AS_JSON));
+}
+
+/// The lines of a log, and the checksum line after them: `hash` of these bytes in Python 3.11 with `PYTHONHASHSEED=0`, its low 32
+/// bits.
+const SUMS: &[(&str, &str)] = &[
+    ("workers 1 max 1048576 sums\n", "#94201f12\n"),
+    (
+        "workers 1 max 1048576 sums\noffer http://a.test/\n",
+        "#4b0b2a6e\n",
+    ),
+    ("endseeds\nnext 0\n", "#79556d54\n"),
+];
+
+fn has_sum(alloc: Global, row: &(&str, &str)) -> bool {
+    let mut log = Vec::new(alloc);
+    let pushed = LogSum::new().push(true, row.0.as_bytes(), &mut log);
+    pushed.is_ok() && log.strip_prefix(row.0.as_bytes()) == Some(row.1.as_bytes())
+}
+
+#[test]
+fn the_checksums_of_a_log_are_known_ones(rt: HostRuntime) {
+    for row in SUMS {
+        assert!(rt; has_sum(rt.alloc(), row), "{}", row.0);
+    }
 }

@@ -13,4 +13,4 @@ returns-in-Ok-clause-served g c =
     subst (λ i. ServesInput c.args.session.now i (g.O.Write.contents c.args.out.now) (g.O.Write.contents c.serve.new.out) c.serve.new.session) same c.in-Ok.ensures
 
 pub returns-clause-fault : goal.returns-clause-fault
-returns-clause-fault g c = is_break c.in-Err.why c.fault_of.result c.fault_of.ensures
+returns-clause-fault g c = rw c.fault_of.ensures (is_break _ c.in-Err.why)
