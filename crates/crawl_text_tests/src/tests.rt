@@ -3,6 +3,7 @@ mod findings;
 mod indices;
 mod keys;
 mod machine;
+mod rebuilding;
 mod sessions;
 mod start_tags;
 mod styles;
