@@ -12,6 +12,8 @@ pub mod Elsewheres
 pub mod Emptied
 pub mod Flows
 pub mod InLine
+pub mod Inventories
+pub mod KeptUrls
 pub mod Joined
 pub mod Lifts
 pub mod Lines
@@ -20,11 +22,14 @@ pub mod Listing
 pub mod LogStarts
 pub mod Logs
 pub mod Onces
+pub mod Orders
 pub mod Owned
 pub mod Assigned
 pub mod PartLaws
 pub mod Placed
 pub mod Queues
+pub mod Rebuilding
+pub mod Rebuilt
 pub mod Rests
 pub mod Returns
 pub mod Rooms

@@ -41,10 +41,10 @@ record ToldBy (state : Frontier) (queue : ℕ) (r : Result Request RequestError)
 line_told : (state : Frontier) (queue : ℕ) (r : Result Request RequestError) → ToldBy state queue r (done_of r state)
 line_told state queue r = grind arith
 
-abbrev was_done : ℕ → Asked → Bool
+abbrev pub was_done : ℕ → Asked → Bool
 was_done queue x = finishes queue x.request x.answer
 
-done_told : (settings : Settings) (state : Frontier) (lines : List (List ℕ)) (queue : ℕ) → Sound state.machine → Settled state → urls_of queue (done_in settings lines state).rows ≡ busy_before (was_done queue) queue (busy_of state queue) (asked settings state lines)
+pub done_told : (settings : Settings) (state : Frontier) (lines : List (List ℕ)) (queue : ℕ) → Sound state.machine → Settled state → urls_of queue (done_in settings lines state).rows ≡ busy_before (was_done queue) queue (busy_of state queue) (asked settings state lines)
 done_told settings state [] queue sound settled = refl
 done_told settings state (line ∷ more) queue sound settled =
     let r = request_for settings line in
@@ -79,14 +79,14 @@ below_next queue n xs apart = grind (arith, common_steps, append-nil)
 not_below : (queue n : ℕ) → nat_eq n queue ≡ true → nat_lt queue n ≡ false
 not_below queue n is = grind (arith, nat_tests, is)
 
-record Busy (state : Frontier) (queue n : ℕ) (x : Listed) : Type 0 where
-  rows : urls_of queue x.rows ≡ (if nat_lt queue n then option_to_list (busy_of state queue) else [])
-  after : x.state ≡ state
+pub record Busy (state : Frontier) (queue n : ℕ) (x : Listed) : Type 0 where
+  pub rows : urls_of queue x.rows ≡ (if nat_lt queue n then option_to_list (busy_of state queue) else [])
+  pub after : x.state ≡ state
 
 own_list : (state : Frontier) (queue n : ℕ) → option_to_list (own queue n (busy_of state n)) ≡ (if nat_eq n queue then option_to_list (busy_of state queue) else [])
 own_list state queue n = grind arith
 
-busy_told : (state : Frontier) (queue n : ℕ) → Busy state queue n (in_progress_below n state)
+pub busy_told : (state : Frontier) (queue n : ℕ) → Busy state queue n (in_progress_below n state)
 busy_told state queue zero = record { rows = none_below queue (option_to_list (busy_of state queue)); after = refl }
 busy_told state queue (suc n) =
     let before = busy_told state queue n in
@@ -117,12 +117,12 @@ urls_all queue n urls = by_own (nat_eq n queue) refl
     by_own : (b : Bool) → nat_eq n queue ≡ b → urls_of queue (map (λ url. variant.Url kinds.Pending n url) urls) ≡ (if b then urls else [])
     by_own b is = each b is urls
 
-record Left (state : Frontier) (queue n : ℕ) (x : Listed) : Type 0 where
-  fit : Fit x.state
-  rows : urls_of queue x.rows ≡ (if nat_lt queue n then line_of state queue else [])
-  left : nat_lt queue n ≡ false → line_of x.state queue ≡ line_of state queue
+pub record Left (state : Frontier) (queue n : ℕ) (x : Listed) : Type 0 where
+  pub fit : Fit x.state
+  pub rows : urls_of queue x.rows ≡ (if nat_lt queue n then line_of state queue else [])
+  pub left : nat_lt queue n ≡ false → line_of x.state queue ≡ line_of state queue
 
-pending_told : (state : Frontier) (queue n : ℕ) → Fit state → Left state queue n (pending_below n state)
+pub pending_told : (state : Frontier) (queue n : ℕ) → Fit state → Left state queue n (pending_below n state)
 pending_told state queue zero fit = grind (arith, line_of)
 pending_told state queue (suc n) fit =
     let before = pending_told state queue n fit in
@@ -150,7 +150,7 @@ pending_told state queue (suc n) fit =
 
 -- ---- a new session
 
-is_below : (queue n : ℕ) → queue < n → nat_lt queue n ≡ true
+pub is_below : (queue n : ℕ) → queue < n → nat_lt queue n ≡ true
 is_below queue n below = grind (arith, nat_tests, below)
 
 pub lists_told : (settings : Settings) (max : ℕ) (lines : List (List ℕ)) (queue : ℕ) → queue < settings.workers

@@ -15,7 +15,7 @@ one url u = cond (bytes_eq u url) 1 0
 abbrev pub times_in : List ℕ → Option (List ℕ) → ℕ
 times_in url o = times url (option_to_list o)
 
-times_on : (url : List ℕ) (o : Option (List ℕ)) (urls : List (List ℕ)) → times url (cons_option o urls) ≡ times_in url o + times url urls
+pub times_on : (url : List ℕ) (o : Option (List ℕ)) (urls : List (List ℕ)) → times url (cons_option o urls) ≡ times_in url o + times url urls
 times_on url o urls = grind (arith, common_steps, sum_by-cons)
 
 pub times_append : (url : List ℕ) (front back : List (List ℕ)) → times url (front ++ back) ≡ times url front + times url back

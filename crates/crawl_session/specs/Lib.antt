@@ -8,6 +8,7 @@ pub mod Listing
 pub mod LogStarts
 pub mod Logs
 pub mod Parts
+pub mod Rebuilding
 pub mod Requests
 pub mod Settings
 pub mod Sessions

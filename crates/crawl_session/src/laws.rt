@@ -15,6 +15,7 @@ ghost use Rattle.crawl_keys.specs.Assignment.{subqueue_of};
 ghost use Rattle.crawl_session.specs.Exchanges.{exchange};
 ghost use Rattle.crawl_session.specs.Frontiers.{Frontier, NoneDeferred, start};
 ghost use Rattle.crawl_session.specs.Parts.{part_with, request_for};
+ghost use Rattle.crawl_session.specs.Rebuilding.{KeepsUrls, inventory, rebuilt};
 ghost use Rattle.crawl_session.specs.Requests.{request_of};
 ghost use Rattle.crawl_session.specs.Listing as lists;
 ghost use Rattle.crawl_session.specs.Listing.{AreTold};
@@ -24,7 +25,7 @@ ghost use Rattle.crawl_session.specs.Logs.{settings_line};
 ghost use Rattle.crawl_session.specs.Serving.{with_words};
 ghost use Rattle.text_lines.specs.Fields.{is_space};
 ghost use Rattle.crawl_session.specs.Sessions.{answered, answers, history_of, line_exchange, state_after};
-ghost use Rattle.crawl_session.specs.Settings.{Settings};
+ghost use Rattle.crawl_session.specs.Settings.{IsSession, Settings};
 ghost use Rattle.crawl_session.specs.Stats.{stats_at};
 ghost use Rattle.crawl_session.specs.Sums.{first_wrong, is_sum, sum_line, summed_each};
 ghost use Rattle.crawl_session.specs.Tables.{CanBeAnswered};
@@ -177,4 +178,13 @@ pub fn sums_change_nothing()
 pub fn lists_are_what_was_told()
     ensures { (settings : Settings) (max : ℕ) (lines : List (List ℕ)) (queue : ℕ) → queue < settings.workers
         → AreTold (asked settings (start settings.workers max) lines) queue (lists.done_in settings lines (start settings.workers max)).rows (lists.in_progress_below settings.workers (state_after settings (start settings.workers max) lines)).rows (lists.pending_below settings.workers (state_after settings (start settings.workers max) lines)).rows }
+{}
+
+/// A rebuilt log keeps the URLs: a new session that is given its lines, and answers each as it has to, accepted the URLs that the old
+/// session accepted, but for those whose offer it answers with `filtered`, and has the same ones done. Of each host, the URL that was in
+/// progress is the first that waits, and the others wait in the same order.
+#[tactic(auto, using(crate::proofs::KeptUrls::keeps))]
+pub fn a_rebuilt_log_keeps_the_urls()
+    ensures { (old new : Settings) (most room : ℕ) (lines : List (List ℕ)) (queue : ℕ) → IsSession old → IsSession new → (rebuilt new queue (inventory old most lines) (start new.workers room)).fits ≡ true
+        → KeepsUrls old new (asked old (start old.workers most) lines) (asked new (start new.workers room) (rebuilt new queue (inventory old most lines) (start new.workers room)).lines) }
 {}

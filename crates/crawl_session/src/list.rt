@@ -30,7 +30,7 @@ pub enum ListForm {
 
 /// What a listed URL is.
 #[derive(Clone, Copy, Debug, PartialEq, Eq)]
-enum Kind {
+pub(crate) enum Kind {
     /// It waits in its queue.
     Pending,
     /// Its queue is busy with it.
@@ -41,7 +41,7 @@ enum Kind {
 
 /// A line of a list.
 #[derive(Debug, Drop)]
-enum Row {
+pub(crate) enum Row {
     /// A URL, and its queue.
     Url { kind: Kind, queue: u32, url: Text },
     /// The numbers of the URLs of a queue, or of all queues.
@@ -252,7 +252,7 @@ fn give_line(session: &mut Session, line: &[u8]) -> Result<Option<Row>, NoMemory
 }
 
 /// Gives a request to the session, and returns the URL that it ends.
-fn give(session: &mut Session, request: Request) -> Result<Option<Row>, NoMemory>
+pub(crate) fn give(session: &mut Session, request: Request) -> Result<Option<Row>, NoMemory>
     ensures { IfOk result (λ row. Gives (spec.done_with request) session.old row session.new) }
 {
     if let Some(queue) = done_queue(&request) {
@@ -285,7 +285,7 @@ fn end(session: &mut Session, queue: u32) -> Result<Option<Row>, NoMemory>
 }
 
 /// Returns the URL that a queue is busy with.
-fn again(session: &mut Session, queue: u32) -> Result<Option<Row>, NoMemory>
+pub(crate) fn again(session: &mut Session, queue: u32) -> Result<Option<Row>, NoMemory>
     ensures { IfOk result (λ row. Gives (λ state. spec.in_progress_at state queue) session.old row session.new) }
 {
     let answer = session.frontier.exchange(Request::Again { queue })?;
@@ -293,7 +293,7 @@ fn again(session: &mut Session, queue: u32) -> Result<Option<Row>, NoMemory>
 }
 
 /// Takes the next URL of a queue, and ends it.
-fn take(session: &mut Session, queue: u32) -> Result<Option<Row>, NoMemory>
+pub(crate) fn take(session: &mut Session, queue: u32) -> Result<Option<Row>, NoMemory>
     ensures { IfOk result (λ row. Gives (spec.taken_one queue) session.old row session.new) }
 {
     let answer = session.frontier.exchange(Request::Next { queue })?;
@@ -302,7 +302,7 @@ fn take(session: &mut Session, queue: u32) -> Result<Option<Row>, NoMemory>
 }
 
 /// Returns the number of URLs that wait in a queue.
-fn waiting(session: &mut Session, queue: u32) -> Result<u64, NoMemory>
+pub(crate) fn waiting(session: &mut Session, queue: u32) -> Result<u64, NoMemory>
     ensures { IfOk result (λ count. spec.Waits queue session.old count session.new) }
 {
     let answer = session
@@ -322,7 +322,7 @@ fn waiting_in(answer: &Answer) -> u64
 }
 
 /// Returns whether the answer is `count`.
-fn is_count(answer: &Answer) -> bool
+pub(crate) fn is_count(answer: &Answer) -> bool
     ensures { result ≡ spec.is_count answer.now }
 {
     matches!(answer, Answer::Told(Reply::Count(_)))

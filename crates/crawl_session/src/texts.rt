@@ -56,4 +56,11 @@ impl Texts {
             }
         }
     }
+
+    /// Returns the texts, in order.
+    pub(crate) fn as_slice(&self) -> &[Text]
+        ensures { result.now ≡ self.now }
+    {
+        &self.texts
+    }
 }

@@ -4,5 +4,6 @@ mod findings;
 mod indices;
 mod keys;
 mod machine;
+mod rebuilding;
 mod sessions;
 mod start_tags;

@@ -1,0 +1,6 @@
+use Rattle.crawl_session.proofs.Prelude.{take}
+use Rattle.crawl_session.specs.Rebuilding.{Writes, other_url, each_url}
+use Rattle.crawl_session.proofs.rebuild.other_urls.Given as goal
+
+abbrev pub invariant-loop-url : goal.invariant-loop-url
+invariant-loop-url g l = Writes (each_url (other_url l.initial.session.settings) (take l.url-index l.urls)) l.initial.session (g.O.Write.contents l.initial.out) (g.O.Write.contents l.out) l.left_out l.session

@@ -1,0 +1,16 @@
+use Rattle.crawl_session.proofs.Prelude.{take, subst, List, ℕ, Option, option_to_list}
+use Rattle.std.proofs.lemmas.List.{take_more}
+use Rattle.crawl_session.specs.Rebuilding.{Writes, each_url, waiting_url}
+use Rattle.crawl_session.proofs.Rebuilding.{turn_more}
+use Rattle.crawl_session.proofs.rebuild.write_turn.Goals as goal
+
+pub loop-queue-preserved : goal.loop-queue-preserved
+loop-queue-preserved g c =
+    let written = g.O.Write.contents in
+    let i = c.loop-queue.queue-index in
+    let mid = c.loop-queue.session in
+    let more = take_more c.args.queues.now i c.queue-item.result c.loop-queue-test.true in
+    let here =
+    subst (λ (o : Option (List ℕ)). Writes (each_url (waiting_url mid.settings) (option_to_list o)) mid (written c.loop-queue.out) (written c.waiting_at.new.out) c.in_ok-more.more c.waiting_at.new.session) c.get.ensures c.in_ok-more.ensures in
+    rw (c.in_ok-left_out.ensures, more, ← c.queue-item.is)
+    (turn_more waiting_url c.args.position (take i c.args.queues.now) c.queue-item.result c.args.session.now mid c.waiting_at.new.session (written c.args.out.now) (written c.loop-queue.out) (written c.waiting_at.new.out) c.loop-queue.left_out c.in_ok-more.more c.loop-queue.invariant here)
