@@ -152,8 +152,9 @@ const SHEETS: &[(&str, &[(usize, &str)])] = &[
 
 fn are_links(found: &Texts, begin: usize, links: &[(usize, &str)]) -> bool {
     found.texts.len() == links.len()
-        && found.texts.iter().zip(links).all(|(one, (index, text))| one.0 == begin + *index
-            && one.1.as_slice() == text.as_bytes())
+        && found.texts.iter().zip(links).all(|(one, (index, text))| {
+            one.0 == begin.wrapping_add(*index) && one.1.as_slice() == text.as_bytes()
+        })
 }
 
 fn are_ids(found: &Texts, ids: &[&str]) -> bool {
