@@ -335,14 +335,26 @@ def is_served(folder: str, url: str) -> bool:
     """Whether the server and the model must agree on a URL.
 
     Its line and that of the file's own URL are short enough, the name is UTF-8, and it is a file, a folder or nothing. The server
-    redirects a path that ends in `%2F`, or in dots after it, for which others, and the model, return the folder.
+    redirects a path that ends in `%2F`, or in dots after it, for which others, and the model, return the folder. It ignores each
+    `..` of a path that leads above the folder, for which others, and the model, return nothing.
     """
     request = url[len(BASE):].partition("?")[0]
     name = unquote_to_bytes(request)
     path = os.path.join(os.fsencode(folder), name.lstrip(b"/"))
     is_known = os.path.isfile(path) or os.path.isdir(path) or not os.path.lexists(path)
     is_line = is_short("page", url) and is_short("page", BASE + quote(name))
-    return is_known and is_line and TOOL.is_utf8(name) and not re.search(r"%2f(?:\.|%2e)*$", request, re.IGNORECASE)
+    is_same = not leads_above(name) and not re.search(r"%2f(?:\.|%2e)*$", request, re.IGNORECASE)
+    return is_known and is_line and TOOL.is_utf8(name) and is_same
+
+
+def leads_above(path: bytes) -> bool:
+    """Whether the names of a path lead above the folder in which it begins."""
+    depth = 0
+    for name in path.split(b"/"):
+        depth += -1 if name == b".." else name not in (b"", b".")
+        if depth < 0:
+            return True
+    return False
 
 
 def keep(seed: int, number: int) -> str:
