@@ -44,8 +44,11 @@ Each request is one line, and is answered immediately by one line:
   link BASE TEXT  as for offer; TEXT is a link on the page BASE
   next Q          taken URL | pending COUNT | closed | refused busy | refused nosuch
   again Q         taken URL | refused nothing | refused nosuch
+  later Q         count COUNT | refused nothing | refused nosuch
   done Q          count COUNT | refused nothing | refused nosuch
   endseeds        count COUNT | refused nothing
+  stats           stats accepted A done D in-progress P waiting W put-back B
+  stats Q         as for stats, with the numbers of queue Q | refused nosuch
 Only with --part:
   sync            synced
   identity        identity TEXT
