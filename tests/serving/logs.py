@@ -182,7 +182,7 @@ def resumes_or_not(trial: Trial, words: Sequence[str], body: bytes, head: bytes,
     wrong = damage(body)
     if wrong is None:
         return "torn" if resumes(trial, words, whole_lines(body)[1:], draw) else "resumed"
-    refuses(trial, words, log, told=f"log {log}: damaged between lines {wrong[0]} and {wrong[1]}")
+    refuses(trial, words, log, message=f"log {log}: damaged between lines {wrong[0]} and {wrong[1]}")
     return "damaged"
 
 
@@ -199,7 +199,7 @@ def damaged_logs(trial: Trial) -> None:
         log.write_bytes(body)
         wrong = damage(body)
         expect(wrong is not None and wrong[0] <= whole.count(b"\n", 0, at) + 1, f"byte {at}: the model finds {wrong}")
-        refuses(trial, (*words, "--log", str(log)), log, told=f"log {log}: damaged between lines {wrong[0]} and {wrong[1]}")
+        refuses(trial, (*words, "--log", str(log)), log, message=f"log {log}: damaged between lines {wrong[0]} and {wrong[1]}")
 
 
 def resumes(trial: Trial, words: Sequence[str], lines: Sequence[bytes], draw: Random) -> bool:
@@ -219,7 +219,7 @@ def resumes(trial: Trial, words: Sequence[str], lines: Sequence[bytes], draw: Ra
     return is_torn
 
 
-def refuses(trial: Trial, words: Sequence[str], log: Path, status: int = 1, told: str = "") -> None:
+def refuses(trial: Trial, words: Sequence[str], log: Path, status: int = 1, message: str = "") -> None:
     """Check that the program fails with this status and one line on standard error, and leaves the log unchanged."""
     before = log.read_bytes()
     done = subprocess.run(
@@ -228,7 +228,7 @@ def refuses(trial: Trial, words: Sequence[str], log: Path, status: int = 1, told
     )
     errors = done.stderr.decode()
     expect((done.returncode, done.stdout) == (status, b""), f"{words}: {done.returncode}, {done.stdout!r}")
-    expect(errors.startswith(f"mercator: {told}") and errors.count("\n") == 1, f"{words}: {errors!r}, expected {told!r}")
+    expect(errors.startswith(f"mercator: {message}") and errors.count("\n") == 1, f"{words}: {errors!r}, expected {message!r}")
     expect(log.read_bytes() == before, f"{words}: the log was changed")
 
 
