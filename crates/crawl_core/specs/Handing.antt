@@ -2,7 +2,7 @@
 -- subqueue is.
 use Rattle.std.specs.Prelude.{◌≡◌, ℕ, suc, ◌-◌, Bool, false, nat_eq, not, ◌&&◌, length, slice_get, if◌then◌else◌, Option, None, Some, option_map}
 use Rattle.crawl_core.specs.declared.event.Event.TheVariants.{Look, Enter, Done}
-use Rattle.crawl_core.specs.declared.machine.handing.Progress.{Progress}
+use Rattle.crawl_core.specs.declared.progress.Progress.{Progress}
 use Rattle.crawl_core.specs.GateSide.{GateSide, holds}
 use Rattle.crawl_core.specs.Kept.{Kept, KeptQueue}
 use Rattle.crawl_core.specs.Shows.{Shows}

@@ -6,6 +6,7 @@ mod event;
 /// What holds of whole runs.
 pub mod laws;
 mod machine;
+mod progress;
 mod reply;
 mod runs;
 mod text;
@@ -16,7 +17,8 @@ mod word;
 pub use crawl_limits::{PENDING_LIMIT, WORKER_LIMIT};
 pub use error::{CoreError, NoMemory};
 pub use event::Event;
-pub use machine::{Core, Progress, QUEUE_LIMIT};
+pub use machine::{Core, QUEUE_LIMIT};
+pub use progress::Progress;
 pub use reply::{Refusal, Reply};
 pub use runs::run;
 pub use text::Text;

@@ -21,8 +21,6 @@ mod gate;
 mod handing;
 mod queues;
 
-pub use handing::Progress;
-
 /// The most subqueues of a machine, 2^20. So the parts of one crawl can have many more together than one frontier has.
 pub const QUEUE_LIMIT: u32 = 1 << 20;
 

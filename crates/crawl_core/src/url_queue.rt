@@ -6,7 +6,7 @@ ghost use Rattle.crawl_core.specs.Kept.{empty_queue, has_seen, number_at};
 ghost use Rattle.crawl_core.specs.Moves.{accepting};
 
 use crate::error::NoMemory;
-use crate::machine::Progress;
+use crate::progress::Progress;
 use crate::text::Text;
 use hash_index::HashIndex;
 use std::alloc::Global;

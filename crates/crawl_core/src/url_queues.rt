@@ -6,7 +6,7 @@ ghost use Rattle.crawl_core.specs.Kept.{KeptQueue, empty_queue, has_seen, number
 ghost use Rattle.crawl_core.specs.Moves.{accepting};
 
 use crate::error::NoMemory;
-use crate::machine::Progress;
+use crate::progress::Progress;
 use crate::text::Text;
 use crate::url_queue::UrlQueue;
 use std::alloc::Global;

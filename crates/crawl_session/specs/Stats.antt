@@ -2,7 +2,7 @@
 use Rattle.std.specs.Prelude.{ℕ, zero, suc, ◌+◌, ◌-◌, Bool, List, ◌++◌, codes, is_some, length, unwrap_or, Option, None, Some}
 use Rattle.std.specs.Fmt.{decimal}
 use Rattle.std.specs.Option.{option_map}
-use Rattle.crawl_core.specs.declared.machine.handing.Progress.{Progress}
+use Rattle.crawl_core.specs.declared.progress.Progress.{Progress}
 use Rattle.crawl_core.specs.Flags.{one_if}
 use Rattle.crawl_core.specs.Handing.{progress_of}
 use Rattle.crawl_session.specs.declared.stats.Stats.{Stats}

@@ -12,17 +12,10 @@ ghost use Rattle.crawl_core.specs.State.{State, count_of};
 
 use super::Core;
 use crate::error::NoMemory;
+use crate::progress::Progress;
 use crate::word::Word;
 use std::alloc::AllocError;
 use std::collections::{BTreeMap, BTreeSet};
-
-/// How far a subqueue is: how many URLs it accepted, how many of these were taken, and whether the last of those is not done.
-#[derive(Clone, Copy, Debug, PartialEq, Eq)]
-pub struct Progress {
-    pub accepted: usize,
-    pub taken: usize,
-    pub busy: bool,
-}
 
 impl Core {
     /// How many units are out.
