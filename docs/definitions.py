@@ -37,10 +37,11 @@ THEOREMS = (
         Calls("crawl_gate", "gate/leave.rt"), Calls("crawl_gate", "gate/close.rt"), Calls("crawl_gate", "laws.rt"),
     )),
     ("The frontier for threads", (
-        Calls("crawl_frontier", "frontier.rt"), Calls("crawl_frontier", "seeder.rt"),
-        Calls("crawl_frontier", "sender.rt"), Calls("crawl_frontier", "worker.rt"),
-        Calls("crawl_frontier", "busy_worker.rt"), Calls("crawl_frontier", "finish.rt"),
-        Calls("crawl_frontier", "account.rt"), Calls("crawl_queues", "laws.rt"),
+        Calls("crawl_frontier", "new_frontier.rt"), Calls("crawl_frontier", "frontier.rt"),
+        Calls("crawl_frontier", "seeder.rt"), Calls("crawl_frontier", "sender.rt"),
+        Calls("crawl_frontier", "worker.rt"), Calls("crawl_frontier", "busy_worker.rt"),
+        Calls("crawl_frontier", "finish.rt"), Calls("crawl_frontier", "account.rt"),
+        Calls("crawl_queues", "laws.rt"),
     )),
     ("Threads and machine", (Calls("crawl_tie", "laws.rt"),)),
     ("The certificate", (

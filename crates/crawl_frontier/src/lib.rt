@@ -50,6 +50,7 @@ mod error;
 mod finish;
 mod frontier;
 pub mod laws;
+mod new_frontier;
 mod offer;
 mod seeder;
 mod sender;

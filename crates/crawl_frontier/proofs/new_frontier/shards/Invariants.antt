@@ -1,5 +1,5 @@
 use Rattle.crawl_frontier.proofs.Prelude.{◌≡◌, ◌+◌, length, vec_len, AllPush}
-use Rattle.crawl_frontier.proofs.frontier.shards.Given as goal
+use Rattle.crawl_frontier.proofs.new_frontier.shards.Given as goal
 
 abbrev pub invariant-loop-right : goal.invariant-loop-right
 invariant-loop-right g l =

@@ -1,5 +1,5 @@
 use Rattle.crawl_frontier.proofs.Prelude.{◌≡◌, ◌≤◌, ◌+◌, length, vec_len, vec_capacity, Knows, book_of, AllPop, AllFresh}
-use Rattle.crawl_frontier.proofs.frontier.workers.Given as goal
+use Rattle.crawl_frontier.proofs.new_frontier.workers.Given as goal
 
 abbrev pub invariant-loop-right : goal.invariant-loop-right
 invariant-loop-right g l =
