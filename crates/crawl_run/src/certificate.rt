@@ -10,10 +10,10 @@ ghost use Rattle.crawl_run.specs.JudgedRuns.{CountsLosses, IsRun};
 ghost use Rattle.crawl_run.specs.Losses.{IsLost};
 ghost use Rattle.crawl_run.specs.declared.settings.Mode.{Mode};
 
+use crate::crawled::Crawled;
 use crate::failure::CrawlFailure;
 use crate::run_output::{RunOutput, counts_of};
 use crate::settings::CrawlSettings;
-use crate::whole_crawl::Crawled;
 use crawl_certificate::{CertifySettings, certify_with};
 use crawl_keys::CanonUrl;
 use std::alloc::Global;

@@ -6,6 +6,7 @@
 #![tactic(auto)]
 
 mod certificate;
+mod crawled;
 mod error;
 mod failure;
 /// Theorems that connect the definitions of this crate and of the crates below it.
@@ -16,8 +17,9 @@ mod settings;
 mod watched;
 mod whole_crawl;
 
+pub use crawled::Crawled;
 pub use error::CrawlError;
 pub use failure::CrawlFailure;
 pub use settings::{CrawlSettings, Mode};
 pub use watched::{Observe, Watched};
-pub use whole_crawl::{Crawled, crawl, crawl_with};
+pub use whole_crawl::{crawl, crawl_with};

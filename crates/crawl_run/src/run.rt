@@ -14,11 +14,11 @@ ghost use Rattle.crawl_run.specs.Losses.{IsLost};
 ghost use Rattle.crawl_run.specs.declared.settings.Mode.TheVariants as modes;
 
 use crate::certificate::crawled_of;
+use crate::crawled::Crawled;
 use crate::error::CrawlError;
 use crate::failure::CrawlFailure;
 use crate::run_output::{RunOutput, output_of};
 use crate::settings::CrawlSettings;
-use crate::whole_crawl::Crawled;
 use crawl_frontier::{Frontier, Name, Seeder, Setup, Worker};
 use crawl_keys::CanonUrl;
 use crawl_pages::SessionFetch;

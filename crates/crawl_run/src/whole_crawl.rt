@@ -8,29 +8,18 @@ ghost use Rattle.crawl_run.specs.Crawls.{AreCounts, ComesIn, CrawlFails, IsJudge
 ghost use Rattle.crawl_run.specs.JudgedRuns.{CountsLosses};
 ghost use Rattle.crawl_run.specs.Losses.{IsLost};
 
+use crate::crawled::Crawled;
 use crate::error::CrawlError;
 use crate::failure::CrawlFailure;
 use crate::run::crawl_named;
 use crate::settings::{CrawlSettings, Mode};
-use crawl_certificate::CrawlResult;
-use crawl_frontier::{Account, Setup};
+use crawl_frontier::Setup;
 use crawl_keys::{CanonUrl, Filter};
 use crawl_pages::SessionFetch;
 use std::alloc::Global;
 use std::marker::Brand;
 use std::sync::Wait;
 use std::thread::Threads;
-
-/// What a crawl found, certified.
-#[derive(Drop)]
-pub struct Crawled {
-    /// The pages of all reachable URLs, sorted by the bytes of their URLs, each URL once.
-    pub result: CrawlResult,
-    /// How many of these URLs belong to each queue, by the number of the queue.
-    pub counts: Vec<u64>,
-    // Kept so that a caller that forgets the whole value at the end of a process does not wait until it is freed.
-    pub(crate) account: Account,
-}
 
 /// Crawls from the seeds: fetches every URL that the filter allows and that is reachable from them over links between such
 /// URLs.

@@ -6,9 +6,9 @@ pub use Rattle.crawl_pages.specs.declared.page.PageResult.{PageResult}
 pub use Rattle.crawl_report.specs.Printing.{joined}
 pub use Rattle.crawl_report.specs.Unreached.{unreached_of}
 pub use Rattle.crawl_run.specs.Crawls.{AreCounts, ComesIn, CrawlFails, IsJudgedAt, is_incomplete}
+pub use Rattle.crawl_run.specs.declared.crawled.Crawled.{Crawled}
 pub use Rattle.crawl_run.specs.declared.error.CrawlError.{CrawlError}
 pub use Rattle.crawl_run.specs.declared.failure.CrawlFailure.{CrawlFailure}
-pub use Rattle.crawl_run.specs.declared.whole_crawl.Crawled.{Crawled}
 pub use Rattle.mercator.specs.Ending.{Begins, EndsByText}
 pub use Rattle.mercator.specs.Faults.{of_crawl, of_crawl_by, of_log, of_logged, of_seed, of_session, of_site, status_of_fault}
 pub use Rattle.mercator.specs.Plans.{IsVisible, IsWithinLimits, crawl_of, has_notices, is_bad_suffix, is_input, known_bytes, known_seeds, lists_input, plan_of, suffixes_of}

@@ -25,7 +25,7 @@ use Rattle.crawl_keys.specs.HostFilter.{allows}
 use Rattle.crawl_run.specs.Crawls.{AreCounts, ComesIn, CrawlFails, IsJudgedAt}
 use Rattle.crawl_run.specs.JudgedRuns.{CountsLosses}
 use Rattle.crawl_run.specs.Losses.{IsLost}
-use Rattle.crawl_run.specs.declared.whole_crawl.Crawled.{Crawled}
+use Rattle.crawl_run.specs.declared.crawled.Crawled.{Crawled}
 use Rattle.crawl_run.specs.declared.failure.CrawlFailure.{CrawlFailure}
 use Rattle.crawl_run.specs.declared.settings.Mode.{Mode}
 use Rattle.crawl_pages.specs.declared.page.PageResult.{PageResult}
