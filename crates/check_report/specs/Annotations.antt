@@ -1,7 +1,6 @@
 -- A row as a GitHub annotation.
-use Rattle.std.specs.Prelude.{ℕ, ◌-◌, ◌==◌, List, [], ◌++◌, codes, drop, length, nat_eq, nat_lt, slice_get, string_bytes, if◌then◌else◌, Option, None, Some}
+use Rattle.std.specs.Prelude.{ℕ, ◌-◌, ◌==◌, List, [], ◌++◌, codes, drop, length, nat_eq, nat_lt, slice_get, string_bytes, if◌then◌else◌, Option, None, Some, bytes_eq}
 use Rattle.std.specs.List.{starts_with}
-use Rattle.std.specs.Str.{bytes_eq}
 use Rattle.check_report.specs.Escape.{escaped}
 use Rattle.check_report.specs.Rows as line
 use Rattle.check_report.specs.Rows.{Line}

@@ -1,6 +1,5 @@
 -- A row as a JSON object on its own line.
-use Rattle.std.specs.Prelude.{ℕ, Bool, true, false, List, [], ◌∷◌, ◌++◌, codes, decimal, string_bytes, if◌then◌else◌, Option, None, Some}
-use Rattle.std.specs.Option.{option_map}
+use Rattle.std.specs.Prelude.{ℕ, Bool, true, false, List, [], ◌∷◌, ◌++◌, codes, decimal, string_bytes, if◌then◌else◌, Option, None, Some, option_map}
 use Rattle.json.specs.Json.{Json, null, string, number, object, Members, no_members, member}
 use Rattle.json.specs.Print.{print}
 use Rattle.json.specs.Token.{Token}

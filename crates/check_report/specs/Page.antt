@@ -1,6 +1,5 @@
 -- A row of the HTML page. Untrusted texts are only in elements, and escaped.
-use Rattle.std.specs.Prelude.{ℕ, ◌==◌, Bool, ◌&&◌, ◌||◌, List, [], ◌++◌, codes, decimal, nat_lt, string_bytes, if◌then◌else◌, Option, None, Some}
-use Rattle.std.specs.Option.{option_map}
+use Rattle.std.specs.Prelude.{ℕ, ◌==◌, Bool, ◌&&◌, ◌||◌, List, [], ◌++◌, codes, decimal, nat_lt, string_bytes, if◌then◌else◌, Option, None, Some, option_map}
 use Rattle.check_report.specs.Escape.{escaped}
 use Rattle.check_report.specs.Rows as line
 use Rattle.check_report.specs.Rows.{Line}

@@ -1,6 +1,5 @@
 -- The bytes of a report: those of its rows, in order.
-use Rattle.std.specs.Prelude.{◌≡◌, ℕ, Bool, true, List, ◌++◌}
-use Rattle.std.specs.List.{flat_map}
+use Rattle.std.specs.Prelude.{◌≡◌, ℕ, Bool, true, List, ◌++◌, flat_map}
 use Rattle.check_report.specs.Annotations.{annotation_line}
 use Rattle.check_report.specs.Json.{json_line}
 use Rattle.check_report.specs.Page.{page_line}

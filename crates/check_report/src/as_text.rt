@@ -1,6 +1,5 @@
 //! Prints a row as text.
-ghost use Rattle.std.specs.Prelude.{◌≡◌, ◌++◌, OnOk, string_bytes};
-ghost use Rattle.std.specs.Option.{option_map};
+ghost use Rattle.std.specs.Prelude.{◌≡◌, ◌++◌, OnOk, string_bytes, option_map};
 ghost use Rattle.check_report.specs.Rows.{line_of};
 ghost use Rattle.check_report.specs.Text.{begin_text, broken_text, broken_total, external_text, is_broken, linked_from, message, more_text, moves_text, name_text, pages_noun, place_start, place_text, redirect_target, redirect_text, same_name_text, site_total, target_text, text_line, title, total_text, verdict, worst_text, wrong_of, wrong_text};
 

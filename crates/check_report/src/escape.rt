@@ -1,6 +1,5 @@
 //! Escapes untrusted texts.
-ghost use Rattle.std.specs.Prelude.{◌≡◌, ◌-◌, ◌≤◌, ◌++◌, IfOk, IsUtf8, OnOk, length};
-ghost use Rattle.std.specs.List.{take_while};
+ghost use Rattle.std.specs.Prelude.{◌≡◌, ◌-◌, ◌≤◌, ◌++◌, IfOk, IsUtf8, OnOk, length, take_while};
 ghost use Rattle.check_report.specs.Escape.{data_char, escaped, escaped_char, html_char, is_ordinary, property_char};
 
 use crate::put::{NoMemory, put};

@@ -1,7 +1,6 @@
 //! Laws about escaped texts. A law is a function that does nothing; its clauses are the theorem.
-ghost use Rattle.std.specs.Prelude.{◌≡◌, ℕ, true, List, IsUtf8};
+ghost use Rattle.std.specs.Prelude.{◌≡◌, ℕ, true, List, IsUtf8, chars};
 ghost use Rattle.std.specs.List.{list_all};
-ghost use Rattle.std.specs.Str.{chars};
 ghost use Rattle.check_report.specs.Escape.{escaped, has_no_c1, is_in_property, is_inert};
 ghost use Rattle.check_report.specs.declared.escape.Escape.{Escape};
 ghost use Rattle.check_report.specs.declared.escape.Escape.TheVariants as escape;

@@ -1,8 +1,7 @@
 -- What the client of a session knows of URLs, only by its requests and their answers.
-use Rattle.std.specs.Prelude.{◌≡◌, ℕ, suc, ◌+◌, ◌≤◌, Bool, false, ◌||◌, List, [], ◌∷◌, ◌++◌, is_some, length, nat_eq, slice_get, if◌then◌else◌, Option, Some, None, Result, Ok}
+use Rattle.std.specs.Prelude.{◌≡◌, ℕ, suc, ◌+◌, ◌≤◌, Bool, false, ◌||◌, List, [], ◌∷◌, ◌++◌, is_some, length, nat_eq, slice_get, if◌then◌else◌, Option, Some, None, Result, Ok, bytes_eq}
 use Rattle.std.specs.List.{cons_option, count_by, filter_map}
 use Rattle.std.specs.Option.{option_or, option_to_list}
-use Rattle.std.specs.Str.{bytes_eq}
 use Rattle.crawl_core.specs.declared.reply.Reply.TheVariants as told
 use Rattle.crawl_core.specs.Flags.{one_if}
 use Rattle.crawl_core.specs.Kept.{has_text}

@@ -1,9 +1,6 @@
 -- Which URLs of a session are done, in progress and pending, by requests and their answers, and how lists of them are printed.
-use Rattle.std.specs.Prelude.{◌≡◌, ℕ, zero, suc, ◌+◌, Bool, true, false, ◌||◌, List, [], ◌∷◌, ◌++◌, codes, is_some, not, nat_eq, nat_lt, if◌then◌else◌, Option, Some, None, Result, Ok, Err}
-use Rattle.std.specs.Fmt.{decimal}
+use Rattle.std.specs.Prelude.{◌≡◌, ℕ, zero, suc, ◌+◌, Bool, true, false, ◌||◌, List, [], ◌∷◌, ◌++◌, codes, is_some, not, nat_eq, nat_lt, if◌then◌else◌, Option, Some, None, Result, Ok, Err, decimal, filter_map, flat_map, option_to_list}
 use Rattle.std.specs.Io.KnownBytes.{Appends}
-use Rattle.std.specs.List.{filter_map, flat_map}
-use Rattle.std.specs.Option.{option_to_list}
 use Rattle.json.specs.Json.{Json, null, number, string, object, Members, member, no_members}
 use Rattle.json.specs.Print.{print}
 use Rattle.json.specs.Tree.{json_tokens}

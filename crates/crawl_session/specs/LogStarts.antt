@@ -1,8 +1,5 @@
 -- What comes before the settings in the first line of a log.
-use Rattle.std.specs.Prelude.{ℕ, List, [], ◌++◌, codes, if◌then◌else◌, Option, Some, None, option_and_then}
-use Rattle.std.specs.Fmt.{decimal}
-use Rattle.std.specs.Option.{option_map}
-use Rattle.std.specs.Str.{bytes_eq}
+use Rattle.std.specs.Prelude.{ℕ, List, [], ◌++◌, codes, if◌then◌else◌, Option, Some, None, option_and_then, decimal, option_map, bytes_eq}
 use Rattle.crawl_replay.specs.Numbers.{number_of}
 use Rattle.text_lines.specs.Fields.{at_space}
 

@@ -1,8 +1,5 @@
 -- What a log of requests gives back.
-use Rattle.std.specs.Prelude.{◌≡◌, ℕ, List, ◌++◌, codes, if◌then◌else◌, Option, None, option_and_then}
-use Rattle.std.specs.Fmt.{decimal}
-use Rattle.std.specs.List.{flat_map}
-use Rattle.std.specs.Str.{bytes_eq}
+use Rattle.std.specs.Prelude.{◌≡◌, ℕ, List, ◌++◌, codes, if◌then◌else◌, Option, None, option_and_then, decimal, flat_map, bytes_eq}
 use Rattle.text_lines.specs.Fields.{at_space}
 use Rattle.crawl_session.specs.Frontiers.{Frontier, Shows}
 use Rattle.crawl_session.specs.Sessions.{state_after}

@@ -1,6 +1,5 @@
 -- What a line asks of a frontier that may be one part of a crawl.
-use Rattle.std.specs.Prelude.{ℕ, ◌/◌, Bool, List, codes, nat_eq, if◌then◌else◌, Option, Some, None, Result, Ok, Err}
-use Rattle.std.specs.Str.{bytes_eq}
+use Rattle.std.specs.Prelude.{ℕ, ◌/◌, Bool, List, codes, nat_eq, if◌then◌else◌, Option, Some, None, Result, Ok, Err, bytes_eq}
 use Rattle.crawl_session.specs.declared.part.Part.{Part}
 use Rattle.crawl_session.specs.declared.request.Request.{Request}
 use Rattle.crawl_session.specs.declared.request.Request.TheVariants.{Offer, Next, Again, Later, Done, EndSeeds, Stats}

@@ -1,11 +1,7 @@
 -- The log of a session with other settings that has the URLs of an old session: what is read of the old one, and the lines of the
 -- new one, each of which has to be answered in one way.
-use Rattle.std.specs.Prelude.{◌≡◌, ℕ, zero, suc, ◌+◌, Bool, true, false, ◌&&◌, ◌||◌, List, [], ◌∷◌, ◌++◌, codes, drop, is_some, length, max, nat_eq, not, slice_get, if◌then◌else◌, Option, Some, None, Result, Ok, Err}
-use Rattle.std.specs.Fmt.{decimal}
+use Rattle.std.specs.Prelude.{◌≡◌, ℕ, zero, suc, ◌+◌, Bool, true, false, ◌&&◌, ◌||◌, List, [], ◌∷◌, ◌++◌, codes, drop, is_some, length, max, nat_eq, not, slice_get, if◌then◌else◌, Option, Some, None, Result, Ok, Err, decimal, filter, filter_map, flat_map, option_to_list, bytes_eq}
 use Rattle.std.specs.Io.KnownBytes.{Appends}
-use Rattle.std.specs.List.{filter, filter_map, flat_map}
-use Rattle.std.specs.Option.{option_to_list}
-use Rattle.std.specs.Str.{bytes_eq}
 use Rattle.crawl_keys.specs.Assignment.{assign, subqueue_of}
 use Rattle.crawl_keys.specs.HostKey.{host_key}
 use Rattle.crawl_core.specs.declared.reply.Reply.TheVariants as told

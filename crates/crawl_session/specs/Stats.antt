@@ -1,7 +1,5 @@
 -- How many URLs a queue, or all queues, accepted, and how far these are.
-use Rattle.std.specs.Prelude.{ℕ, zero, suc, ◌+◌, ◌-◌, Bool, List, ◌++◌, codes, is_some, length, unwrap_or, Option, None, Some}
-use Rattle.std.specs.Fmt.{decimal}
-use Rattle.std.specs.Option.{option_map}
+use Rattle.std.specs.Prelude.{ℕ, zero, suc, ◌+◌, ◌-◌, Bool, List, ◌++◌, codes, is_some, length, unwrap_or, Option, None, Some, decimal, option_map}
 use Rattle.crawl_core.specs.declared.progress.Progress.{Progress}
 use Rattle.crawl_core.specs.Flags.{one_if}
 use Rattle.crawl_core.specs.Handing.{progress_of}

@@ -1,7 +1,6 @@
 -- Checksums in a log: a line after each append that ends a line, over all bytes before it.
-use Rattle.std.specs.Prelude.{ℕ, suc, ◌+◌, ◌/◌, ◌%◌, ◌^◌, ◌==◌, Bool, true, false, ◌&&◌, ◌||◌, List, [], ◌∷◌, ◌++◌, codes, ◌-◌, drop, if◌then◌else◌, length, min, nat_lt, Option, Some, None, slice_index, take}
+use Rattle.std.specs.Prelude.{ℕ, suc, ◌+◌, ◌/◌, ◌%◌, ◌^◌, ◌==◌, Bool, true, false, ◌&&◌, ◌||◌, List, [], ◌∷◌, ◌++◌, codes, ◌-◌, drop, if◌then◌else◌, length, min, nat_lt, Option, Some, None, slice_index, take, bytes_eq}
 use Rattle.std.specs.Hash.DefaultHasher.{finish, initial, write}
-use Rattle.std.specs.Str.{bytes_eq}
 use Rattle.std.specs.declared.hash.DefaultHasher.{DefaultHasher}
 
 -- the hexadecimal digit of the low four bits

@@ -1,6 +1,5 @@
 //! The URLs that were put back, for each queue.
-ghost use Rattle.std.specs.Prelude.{◌≡◌, ◌∷◌, ◌<◌, List, None, Some, get_or, length, replicate, slice_get, slice_set, if◌then◌else◌, IfOk, OnErr};
-ghost use Rattle.std.specs.Option.{option_map};
+ghost use Rattle.std.specs.Prelude.{◌≡◌, ◌∷◌, ◌<◌, List, None, Some, get_or, length, replicate, slice_get, slice_set, if◌then◌else◌, IfOk, OnErr, option_map};
 ghost use Rattle.crawl_core.specs.Handing.{Hands};
 ghost use Rattle.crawl_session.specs.Frontiers.{no_deferrals, waits_again};
 ghost use Rattle.crawl_session.specs.declared.deferrals.Deferred.{Deferred};

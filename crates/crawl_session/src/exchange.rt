@@ -1,6 +1,5 @@
 //! The events of a request to the machine, one after another.
-ghost use Rattle.std.specs.Prelude.{◌≡◌, IfOk, OnErr};
-ghost use Rattle.std.specs.Result.{IsOk};
+ghost use Rattle.std.specs.Prelude.{◌≡◌, IfOk, OnErr, IsOk};
 ghost use Rattle.crawl_core.specs.declared.event.Event.{Event};
 ghost use Rattle.crawl_session.specs.Exchanges as spec;
 ghost use Rattle.crawl_session.specs.Steps.{Comes, GivesUp, GoesBack, Leads};

@@ -1,7 +1,6 @@
 //! Lists of a session's URLs: those that are done, in progress and pending, and how many there are.
-ghost use Rattle.std.specs.Prelude.{◌≡◌, ◌++◌, ◌∷◌, [], IfOk, OnOk, decimal, codes};
+ghost use Rattle.std.specs.Prelude.{◌≡◌, ◌++◌, ◌∷◌, [], IfOk, OnOk, decimal, codes, option_to_list};
 ghost use Rattle.std.specs.Io.KnownBytes.{Appends};
-ghost use Rattle.std.specs.Option.{option_to_list};
 ghost use Rattle.std.specs.Str.Lines.{lines};
 ghost use Rattle.json.specs.Token.{begin_object, end_object, key, string, number};
 ghost use Rattle.json.specs.Tree.{json_tokens};

@@ -1,7 +1,5 @@
 //! A log of requests: its first line, and where its last whole line ends.
-ghost use Rattle.std.specs.Prelude.{◌≡◌, ◌<◌, ◌≤◌, ◌++◌, ◌∷◌, [], ℕ, List, Some, length, map, take, drop, true, IfOk, IfSome, MatchOption, string_bytes};
-ghost use Rattle.std.specs.List.{All};
-ghost use Rattle.std.specs.Option.{option_map};
+ghost use Rattle.std.specs.Prelude.{◌≡◌, ◌<◌, ◌≤◌, ◌++◌, ◌∷◌, [], ℕ, List, Some, length, map, take, drop, true, IfOk, IfSome, MatchOption, string_bytes, All, option_map};
 ghost use Rattle.crawl_limits.specs.Limits.{AreLimits};
 ghost use Rattle.crawl_keys.specs.HostFilter.{is_good};
 ghost use Rattle.crawl_replay.specs.Script.{header_of};

@@ -1,6 +1,5 @@
 //! What comes before the settings in the first line of a log: which part of a crawl it is of, and its identity.
-ghost use Rattle.std.specs.Prelude.{◌≡◌, ◌++◌, IfOk, string_bytes};
-ghost use Rattle.std.specs.Option.{option_map};
+ghost use Rattle.std.specs.Prelude.{◌≡◌, ◌++◌, IfOk, string_bytes, option_map};
 ghost use Rattle.crawl_session.specs.LogStarts as spec;
 
 use crawl_core::NoMemory;

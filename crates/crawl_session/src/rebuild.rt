@@ -1,7 +1,6 @@
 //! The log of a session with other settings that has the URLs of an old session.
-ghost use Rattle.std.specs.Prelude.{◌≡◌, ◌++◌, ◌∷◌, [], codes, decimal, false, length, slice_get, string_bytes, true, ℕ, Err, IfOk};
+ghost use Rattle.std.specs.Prelude.{◌≡◌, ◌++◌, ◌∷◌, [], codes, decimal, false, length, slice_get, string_bytes, true, ℕ, Err, IfOk, option_map, option_to_list};
 ghost use Rattle.std.specs.Io.KnownBytes.{Appends};
-ghost use Rattle.std.specs.Option.{option_map, option_to_list};
 ghost use Rattle.std.specs.Str.Lines.{lines};
 ghost use Rattle.crawl_session.specs.Compacting.{says_closed};
 ghost use Rattle.crawl_session.specs.Exchanges.{exchange};

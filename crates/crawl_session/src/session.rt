@@ -1,6 +1,5 @@
 //! A frontier for one client, which sends requests line by line.
-ghost use Rattle.std.specs.Prelude.{◌≡◌, ◌*◌, ◌<◌, ◌≤◌, ◌⊎◌, ◌↔◌, None, Some, Err, IfOk, OnOk, OnErr};
-ghost use Rattle.std.specs.Str.{bytes_eq};
+ghost use Rattle.std.specs.Prelude.{◌≡◌, ◌*◌, ◌<◌, ◌≤◌, ◌⊎◌, ◌↔◌, None, Some, Err, IfOk, OnOk, OnErr, bytes_eq};
 ghost use Rattle.crawl_limits.specs.Limits.{AreLimits, worker_limit, pending_limit};
 ghost use Rattle.crawl_core.specs.Limits.{queue_limit};
 ghost use Rattle.crawl_core.specs.declared.error.CoreError.{CoreError};

@@ -1,7 +1,6 @@
 -- The text of a document in UTF-8, and its links.
-use Rattle.std.specs.Prelude.{◌≡◌, ℕ, ◌-◌, ◌%◌, nat_lt, Bool, true, List, [], ◌∷◌, drop, take, slice_index, Option, None, Some, Vec, if◌then◌else◌}
+use Rattle.std.specs.Prelude.{◌≡◌, ℕ, ◌-◌, ◌%◌, nat_lt, Bool, true, List, [], ◌∷◌, drop, take, slice_index, Option, None, Some, Vec, if◌then◌else◌, bytes_eq}
 use Rattle.std.specs.Int.{is_in_range}
-use Rattle.std.specs.Str.{bytes_eq}
 use Rattle.std.specs.Str.Lossy.{utf8_lossy}
 use Rattle.std.specs.declared.alloc.Global.{Global}
 use Rattle.document_links.specs.declared.charset.Charset.{Charset}

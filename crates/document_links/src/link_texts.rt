@@ -1,6 +1,5 @@
 //! The texts of links, in one block of memory.
-ghost use Rattle.std.specs.Prelude.{◌≡◌, ◌∷◌, ◌++◌, ◌<◌, [], true, length, slice_index_or, IfOk, OnErr, OnOk};
-ghost use Rattle.std.specs.List.{flat_map};
+ghost use Rattle.std.specs.Prelude.{◌≡◌, ◌∷◌, ◌++◌, ◌<◌, [], true, length, slice_index_or, IfOk, OnErr, OnOk, flat_map};
 ghost use Rattle.document_links.specs.Texts.{fits, all_fit};
 
 use page_anchors::Ids;

@@ -1,6 +1,5 @@
 //! The schemes of links, and what is wrong with a link that has no URL of a page.
-ghost use Rattle.std.specs.Prelude.{◌≡◌, ◌≤◌, length};
-ghost use Rattle.std.specs.Option.{option_map};
+ghost use Rattle.std.specs.Prelude.{◌≡◌, ◌≤◌, length, option_map};
 ghost use Rattle.url.specs.Scheme as spec;
 ghost use Rattle.document_links.specs.Schemes.{invalid_kind, is_known, is_local, is_web, kind_by, scheme_of};
 

@@ -1,8 +1,7 @@
 -- The context of a tag: whether it is in HTML content, in an element of SVG or MathML, or in a document in XML. In the Standard, the
 -- namespace of the adjusted current node decides. Here are no nodes: a context has the number of integration points around it, and
 -- of the `svg` and `math` elements that are open in the element of SVG or MathML. No number is above 255.
-use Rattle.std.specs.Prelude.{ℕ, ◌+◌, ◌-◌, ◌==◌, ◌||◌, ◌&&◌, not, Bool, true, false, if◌then◌else◌, List, codes, Option, None, Some}
-use Rattle.std.specs.Str.{bytes_eq}
+use Rattle.std.specs.Prelude.{ℕ, ◌+◌, ◌-◌, ◌==◌, ◌||◌, ◌&&◌, not, Bool, true, false, if◌then◌else◌, List, codes, Option, None, Some, bytes_eq}
 use Rattle.html_links.specs.declared.context.Context.{Context}
 use Rattle.html_links.specs.declared.context.Context.TheVariants as context
 use Rattle.html_links.specs.declared.context.Syntax.{Syntax}

@@ -1,8 +1,7 @@
 -- The tags of a document, as the tokenizer of the HTML Standard reads them, in its states from the data state to the DOCTYPE state.
 -- The name of an element and its context decide what its content is.
 -- A doctype ends at the first `>` in each of its states, as a bogus comment does.
-use Rattle.std.specs.Prelude.{ℕ, ◌==◌, ◌||◌, ◌&&◌, Bool, true, false, if◌then◌else◌, List, [], ◌∷◌, ◌++◌, reverse, codes}
-use Rattle.std.specs.Str.{bytes_eq}
+use Rattle.std.specs.Prelude.{ℕ, ◌==◌, ◌||◌, ◌&&◌, Bool, true, false, if◌then◌else◌, List, [], ◌∷◌, ◌++◌, reverse, codes, bytes_eq}
 use Rattle.html_links.specs.declared.bytes.Class.{Class}
 use Rattle.html_links.specs.declared.bytes.Class.TheVariants.{Space, Slash, Greater}
 use Rattle.html_links.specs.declared.document.Opening.{Opening}

@@ -1,11 +1,10 @@
 -- The links of a document with or without those of its styles, its base, and its ids.
-use Rattle.std.specs.Prelude.{ℕ, ◌||◌, not, Bool, true, false, if◌then◌else◌, List, [], ◌∷◌, ◌++◌, codes, Option, None, Some}
+use Rattle.std.specs.Prelude.{ℕ, ◌||◌, not, Bool, true, false, if◌then◌else◌, List, [], ◌∷◌, ◌++◌, codes, Option, None, Some, bytes_eq}
 use Rattle.html_links.specs.declared.context.Syntax.{Syntax}
 use Rattle.html_links.specs.declared.element.Element.{Element}
 use Rattle.html_links.specs.declared.element.Element.TheVariants as element
 use Rattle.html_links.specs.declared.reader.Form.{Form}
 use Rattle.html_links.specs.declared.reader.Form.TheVariants as form
-use Rattle.std.specs.Str.{bytes_eq}
 use Rattle.html_links.specs.RawText.{same_name}
 use Rattle.html_links.specs.Shown.{is_space}
 use Rattle.html_links.specs.Values.{Values}

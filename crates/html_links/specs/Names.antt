@@ -1,8 +1,6 @@
 -- The named character references of the HTML Standard, by the table of their names and characters.
-use Rattle.std.specs.Prelude.{ℕ, ◌+◌, ◌*◌, ◌%◌, ◌==◌, ◌||◌, ◌&&◌, nat_lt, nat_le, if◌then◌else◌, Bool, List, [], ◌∷◌, length, take, drop, Option, None, Some, slice_get, slice_index, slice_range}
-use Rattle.std.specs.Str.{bytes_eq}
+use Rattle.std.specs.Prelude.{ℕ, ◌+◌, ◌*◌, ◌%◌, ◌==◌, ◌||◌, ◌&&◌, nat_lt, nat_le, if◌then◌else◌, Bool, List, [], ◌∷◌, length, take, drop, Option, None, Some, slice_get, slice_index, slice_range, bytes_eq, option_map}
 use Rattle.std.specs.List.{find, slice_split}
-use Rattle.std.specs.Option.{option_map}
 use Rattle.std.specs.Borrow.{Bor}
 use Rattle.html_links.specs.declared.names.table.TheConstants.{STARTS, ROWS}
 

@@ -1,7 +1,6 @@
 -- Raw text, as in `style` or `title`, to its end tag, as the tokenizer of the HTML Standard reads it
 -- in its RCDATA and RAWTEXT states, which differ only in character references.
-use Rattle.std.specs.Prelude.{ℕ, ◌==◌, Bool, true, false, if◌then◌else◌, List, [], ◌∷◌, ◌++◌, map, Option, None, Some}
-use Rattle.std.specs.Str.{bytes_eq}
+use Rattle.std.specs.Prelude.{ℕ, ◌==◌, Bool, true, false, if◌then◌else◌, List, [], ◌∷◌, ◌++◌, map, Option, None, Some, bytes_eq}
 use Rattle.html_links.specs.declared.bytes.Class.{Class}
 use Rattle.html_links.specs.declared.bytes.Class.TheVariants.{Space, Slash, Greater}
 use Rattle.std.specs.Char.{to_ascii_lowercase}

@@ -2,8 +2,7 @@
 -- style sheet in the element.
 -- The contents of a `template` element are in its template contents, a document fragment that is not part of the page, unless
 -- it becomes a shadow root.
-use Rattle.std.specs.Prelude.{◌<◌, ◌≤◌, ℕ, zero, suc, ◌-◌, ◌==◌, ◌&&◌, not, Bool, if◌then◌else◌, List, [], ◌∷◌, length, map, take, codes, Option, None, Some}
-use Rattle.std.specs.Str.{bytes_eq}
+use Rattle.std.specs.Prelude.{◌<◌, ◌≤◌, ℕ, zero, suc, ◌-◌, ◌==◌, ◌&&◌, not, Bool, if◌then◌else◌, List, [], ◌∷◌, length, map, take, codes, Option, None, Some, bytes_eq}
 use Rattle.std.specs.Borrow.{Bor}
 use Rattle.html_links.specs.declared.context.Context.{Context}
 use Rattle.html_links.specs.declared.context.Syntax.{Syntax}

@@ -1,7 +1,6 @@
 -- The values of a tag's attributes that are read, and of those that each tag may have. Of attributes with one name, the first counts.
-use Rattle.std.specs.Prelude.{ℕ, Bool, true, false, if◌then◌else◌, List, [], ◌∷◌, map, codes, Option, None, Some}
+use Rattle.std.specs.Prelude.{ℕ, Bool, true, false, if◌then◌else◌, List, [], ◌∷◌, map, codes, Option, None, Some, bytes_eq}
 use Rattle.std.specs.Option.{option_or}
-use Rattle.std.specs.Str.{bytes_eq}
 use Rattle.std.specs.Borrow.{Bor}
 use Rattle.html_links.specs.declared.found.Values as code
 use Rattle.html_links.specs.Tags.{lower, Attribute, Tag}

@@ -1,6 +1,5 @@
 //! Classes of bytes, and slices up to the first byte of another class.
-ghost use Rattle.std.specs.Prelude.{◌≡◌, ◌∷◌, ◌==◌, [], length, not, MatchOption};
-ghost use Rattle.std.specs.List.{take_while};
+ghost use Rattle.std.specs.Prelude.{◌≡◌, ◌∷◌, ◌==◌, [], length, not, MatchOption, take_while};
 ghost use Rattle.html_links.specs.Tags.{class_of};
 ghost use Rattle.html_links.specs.Shown.{front, behind, is_space, in_name, in_unquoted, name_front, name_behind, BeginsName, Stopped};
 

@@ -1,6 +1,5 @@
 //! The end of a comment.
-ghost use Rattle.std.specs.Prelude.{◌≡◌, ◌≤◌, ◌==◌, length, option_map, IfSome};
-ghost use Rattle.std.specs.List.{take_while};
+ghost use Rattle.std.specs.Prelude.{◌≡◌, ◌≤◌, ◌==◌, length, option_map, IfSome, take_while};
 ghost use Rattle.html_links.specs.Comments.{Comment, run, comment_rest, bytes_at};
 ghost use Rattle.html_links.specs.Shown.{behind, Stopped};
 ghost use Rattle.html_links.specs.Dashes.{Dashed, LeavesRest};

@@ -1,6 +1,5 @@
 //! The target of a `meta` that sends on to another page.
-ghost use Rattle.std.specs.Prelude.{◌≡◌, length};
-ghost use Rattle.std.specs.List.{take_while};
+ghost use Rattle.std.specs.Prelude.{◌≡◌, length, take_while};
 ghost use Rattle.html_links.specs.Comments.{bytes_at};
 ghost use Rattle.html_links.specs.Shown.{behind};
 ghost use Rattle.html_links.specs.Refresh.{in_time, is_separator, behind_letter, behind_mark, behind_end, behind_number, behind_time, behind_equals, behind_url, is_quote, unquoted, some_bytes, target_of, and_then};

@@ -1,6 +1,5 @@
 //! The candidates of a `srcset`.
-ghost use Rattle.std.specs.Prelude.{◌≡◌, ◌≤◌, ◌<◌, ◌∷◌, ◌++◌, [], length, OnOk, MatchOption, false};
-ghost use Rattle.std.specs.List.{take_while};
+ghost use Rattle.std.specs.Prelude.{◌≡◌, ◌≤◌, ◌<◌, ◌∷◌, ◌++◌, [], length, OnOk, MatchOption, false, take_while};
 ghost use Rattle.html_links.specs.Shown.{front, behind, is_space, Stopped};
 ghost use Rattle.html_links.specs.Candidates.{Between, Descriptors, read, candidates_of, are_commas, without_commas, behind_shorter, is_between, is_unspaced};
 

@@ -1,6 +1,5 @@
 //! The documents that a style sheet names, and the style sheets in documents.
-ghost use Rattle.std.specs.Prelude.{◌≡◌, ◌<◌, ◌∷◌, ◌++◌, [], length, map, false, OnOk, MatchOption};
-ghost use Rattle.std.specs.List.{take_while};
+ghost use Rattle.std.specs.Prelude.{◌≡◌, ◌<◌, ◌∷◌, ◌++◌, [], length, map, false, OnOk, MatchOption, take_while};
 ghost use Rattle.html_links.specs.Comments.{bytes_at};
 ghost use Rattle.html_links.specs.Shown.{front, behind};
 ghost use Rattle.html_links.specs.Styles.{is_wide_space, in_plain, quoted, plain, in_brackets, behind_url, behind_import, opened, behind_comment, found_at, pass_byte, pass, urls_of, style_links_of};

@@ -1,6 +1,5 @@
 -- The line with a URL's canonical text, its host key and its queue.
-use Rattle.std.specs.Prelude.{◌≡◌, ℕ, List, [], ◌∷◌, ◌++◌, codes, Ok}
-use Rattle.std.specs.Fmt.{decimal}
+use Rattle.std.specs.Prelude.{◌≡◌, ℕ, List, [], ◌∷◌, ◌++◌, codes, Ok, decimal}
 use Rattle.crawl_keys.specs.CanonicalText.{canonical}
 use Rattle.crawl_keys.specs.HostKey.{host_key}
 use Rattle.crawl_keys.specs.Assignment.{subqueue_of}

@@ -1,8 +1,7 @@
 -- What a command line asks for.
-use Rattle.std.specs.Prelude.{ℕ, ◌≤◌, ◌≡◌, ◌⊎◌, ◌&&◌, ◌||◌, Bool, true, false, not, List, [], ◌∷◌, codes, length, if◌then◌else◌, Option, Some, None, IsSome, String, Vec, string_bytes}
+use Rattle.std.specs.Prelude.{ℕ, ◌≤◌, ◌≡◌, ◌⊎◌, ◌&&◌, ◌||◌, Bool, true, false, not, List, [], ◌∷◌, codes, length, if◌then◌else◌, Option, Some, None, IsSome, String, Vec, string_bytes, bytes_eq, chars}
 use Rattle.std.specs.declared.alloc.Global.{Global}
 use Rattle.std.specs.List.{list_all}
-use Rattle.std.specs.Str.{bytes_eq, chars}
 use Rattle.crawl_limits.specs.Limits.{worker_limit, AreLimits}
 use Rattle.crawl_keys.specs.HostFilter.{is_good}
 use Rattle.session_log.specs.Plans.{IsSessionPlan}

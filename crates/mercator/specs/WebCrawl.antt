@@ -1,9 +1,7 @@
 -- A crawl of a saved web, from its bytes to the report.
-use Rattle.std.specs.Prelude.{◌≡◌, ℕ, ◌+◌, Bool, false, if◌then◌else◌, List, [], ◌∷◌, ◌++◌, ◌≤◌, length, map, Ok, Err, IsOk, String, Vec}
+use Rattle.std.specs.Prelude.{◌≡◌, ℕ, ◌+◌, Bool, false, if◌then◌else◌, List, [], ◌∷◌, ◌++◌, ◌≤◌, length, map, Ok, Err, IsOk, String, Vec, flat_map, IsPermutation, IsSortedByKey}
 use Rattle.std.specs.declared.alloc.Global.{Global}
 use Rattle.std.specs.Cmp.Lexicographic.{slice_cmp}
-use Rattle.std.specs.List.{flat_map}
-use Rattle.std.specs.List.Sorted.{IsPermutation, IsSortedByKey}
 use Rattle.std.specs.Ordering.{nat_cmp}
 use Rattle.std.specs.Str.Lines.{lines}
 use Rattle.crawl_keys.specs.CanonicalText.{canonical}

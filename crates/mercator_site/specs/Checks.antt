@@ -1,7 +1,5 @@
 -- The report of a check of a folder's links.
-use Rattle.std.specs.Prelude.{◌≡◌, ◌==◌, ℕ, Bool, true, false, not, ◌&&◌, List, [], ◌∷◌, ◌++◌, length, map, string_bytes, Ok, Option, Some, None, ⊤}
-use Rattle.std.specs.List.{All}
-use Rattle.std.specs.Option.{option_map}
+use Rattle.std.specs.Prelude.{◌≡◌, ◌==◌, ℕ, Bool, true, false, not, ◌&&◌, List, [], ◌∷◌, ◌++◌, length, map, string_bytes, Ok, Option, Some, None, ⊤, All, option_map}
 use Rattle.std.specs.Str.Lines.{lines}
 use Rattle.check_report.specs.Printing.{printed_text, printed_json, printed_annotations, printed_page}
 use Rattle.check_report.specs.declared.value.Findings.{Findings}

@@ -1,10 +1,7 @@
 -- The external links of a site.
-use Rattle.std.specs.Prelude.{◌≡◌, ℕ, ◌+◌, not, List, [], ◌∷◌, if◌then◌else◌, filter, string_bytes}
+use Rattle.std.specs.Prelude.{◌≡◌, ℕ, ◌+◌, not, List, [], ◌∷◌, if◌then◌else◌, filter, string_bytes, flat_map, IsPermutation, IsSortedByKey, bytes_eq}
 use Rattle.std.specs.Cmp.Lexicographic.{slice_cmp}
-use Rattle.std.specs.List.{flat_map}
-use Rattle.std.specs.List.Sorted.{IsPermutation, IsSortedByKey}
 use Rattle.std.specs.Ordering.{nat_cmp}
-use Rattle.std.specs.Str.{bytes_eq}
 use Rattle.check_report.specs.declared.value.External.{External}
 use Rattle.crawl_pages.specs.Pages.{links_of}
 use Rattle.crawl_pages.specs.declared.page.PageResult.{PageResult}

@@ -1,6 +1,5 @@
 //! Checks a site: from its files to the report.
-ghost use Rattle.std.specs.Prelude.{◌≡◌, ℕ, List, IfErr, IfOk, map, Ok, string_bytes, true};
-ghost use Rattle.std.specs.Option.{option_map};
+ghost use Rattle.std.specs.Prelude.{◌≡◌, ℕ, List, IfErr, IfOk, map, Ok, string_bytes, true, option_map};
 ghost use Rattle.crawl_keys.specs.CanonicalText.{canonical};
 ghost use Rattle.mercator_site.specs.Asks.{asks_in};
 ghost use Rattle.mercator_site.specs.Checks.{AreOthersListed, IsNamedCheck, IsNamedSiteCheck, IsReport, IsSiteCheckAt, IsTopCrawl};

@@ -1,7 +1,6 @@
 -- Texts one after another in a block, each up to its end.
-use Rattle.std.specs.Prelude.{◌≡◌, ℕ, ◌≤◌, List, [], ◌∷◌, map}
+use Rattle.std.specs.Prelude.{◌≡◌, ℕ, ◌≤◌, List, [], ◌∷◌, map, slice_range}
 use Rattle.std.specs.Borrow.{Bor}
-use Rattle.std.specs.List.{slice_range}
 
 -- those of the bytes from here on, which end at these places
 abbrev pub texts_from : List ℕ → ℕ → List ℕ → List (List ℕ)

@@ -1,7 +1,5 @@
 //! The ids of a document, in one block of memory.
-ghost use Rattle.std.specs.Prelude.{◌≡◌, ◌∷◌, ◌++◌, ◌<◌, ◌≤◌, [], IfOk, OnErr, OnOk, get_or, length, slice_index_or};
-ghost use Rattle.std.specs.List.{flat_map};
-ghost use Rattle.std.specs.List.Sorted.{IsPermutation};
+ghost use Rattle.std.specs.Prelude.{◌≡◌, ◌∷◌, ◌++◌, ◌<◌, ◌≤◌, [], IfOk, OnErr, OnOk, get_or, length, slice_index_or, flat_map, IsPermutation};
 ghost use Rattle.page_anchors.specs.Ids.{DoBound, pointed, texts_from};
 ghost use Rattle.page_anchors.specs.Indicated.{DoAscend};
 

@@ -1,6 +1,5 @@
 -- The URLs to which links lead, by their indices in a list, and what is known of the links of a folder's pages.
-use Rattle.std.specs.Prelude.{◌≡◌, ℕ, true, List, [], All, slice_get, Option, Some, None}
-use Rattle.std.specs.Option.{option_map}
+use Rattle.std.specs.Prelude.{◌≡◌, ℕ, true, List, [], All, slice_get, Option, Some, None, option_map}
 use Rattle.crawl_keys.specs.Folders.{is_of_folder}
 use Rattle.saved_pages.specs.SavedWeb.{link_url}
 use Rattle.saved_site.specs.declared.linked.link_table.LinkTable.{LinkTable}

@@ -1,8 +1,6 @@
 -- The pages of a site as a source: what a crawl finds at each URL.
-use Rattle.std.specs.Prelude.{◌≡◌, ℕ, true, List, [], ◌∷◌, ◌++◌, All, if◌then◌else◌, Option, Some, None}
-use Rattle.std.specs.Option.{is_some}
+use Rattle.std.specs.Prelude.{◌≡◌, ℕ, true, List, [], ◌∷◌, ◌++◌, All, if◌then◌else◌, Option, Some, None, is_some, bytes_eq}
 use Rattle.std.specs.Str.Lines.{lines}
-use Rattle.std.specs.Str.{bytes_eq}
 use Rattle.saved_pages.specs.SavedWeb.{page_of}
 use Rattle.crawl_pages.specs.declared.page.Page.{Page}
 use Rattle.crawl_pages.specs.declared.page.Page.TheVariants as page

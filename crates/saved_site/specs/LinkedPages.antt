@@ -1,7 +1,5 @@
 -- Pages whose links are the indices of URLs.
-use Rattle.std.specs.Prelude.{◌≡◌, ℕ, List, [], ◌∷◌, ◌++◌, All, if◌then◌else◌, map, slice_get}
-use Rattle.std.specs.List.{filter_map}
-use Rattle.std.specs.Option.{is_some}
+use Rattle.std.specs.Prelude.{◌≡◌, ℕ, List, [], ◌∷◌, ◌++◌, All, if◌then◌else◌, map, slice_get, filter_map, is_some}
 use Rattle.hash_index.specs.Index.{IsIndexOf}
 use Rattle.hash_index.specs.Lists.{index_of}
 use Rattle.hash_order.specs.HashOrder.{hash_of}

@@ -1,7 +1,6 @@
 -- The page that a crawl finds at a URL of a site, and why a site has no saved web.
-use Rattle.std.specs.Prelude.{◌≡◌, ℕ, List, [], ◌∷◌, if◌then◌else◌}
+use Rattle.std.specs.Prelude.{◌≡◌, ℕ, List, [], ◌∷◌, if◌then◌else◌, bytes_eq}
 use Rattle.std.specs.Str.Lines.{lines}
-use Rattle.std.specs.Str.{bytes_eq}
 use Rattle.saved_pages.specs.SavedWeb.{link_url, found_page, page_of}
 use Rattle.saved_pages.specs.WebFaults.{IsSound}
 use Rattle.crawl_pages.specs.declared.page.Page.{Page}

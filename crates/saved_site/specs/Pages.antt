@@ -1,7 +1,6 @@
 -- The pages of a site, and the saved web that they are.
-use Rattle.std.specs.Prelude.{◌≡◌, ℕ, true, Bool, List, [], ◌∷◌, ◌++◌, Ok, codes, if◌then◌else◌}
+use Rattle.std.specs.Prelude.{◌≡◌, ℕ, true, Bool, List, [], ◌∷◌, ◌++◌, Ok, codes, if◌then◌else◌, flat_map}
 use Rattle.std.specs.Cmp.Lexicographic.{slice_cmp}
-use Rattle.std.specs.List.{flat_map}
 use Rattle.std.specs.Ordering.{is_lt, nat_cmp}
 use Rattle.crawl_keys.specs.CanonicalText.{canonical}
 use Rattle.document_links.specs.Texts.{fits, all_fit}

@@ -1,6 +1,5 @@
 -- The text of a saved web, page by page.
-use Rattle.std.specs.Prelude.{◌≡◌, ℕ, true, List, [], ◌∷◌, ◌++◌, codes}
-use Rattle.std.specs.List.{flat_map}
+use Rattle.std.specs.Prelude.{◌≡◌, ℕ, true, List, [], ◌∷◌, ◌++◌, codes, flat_map}
 use Rattle.saved_site.specs.Below.{is_next}
 use Rattle.saved_site.specs.Pages.{page_text, IsPage}
 use Rattle.saved_site.specs.declared.page.SitePage.{SitePage}

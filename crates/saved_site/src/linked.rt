@@ -1,6 +1,5 @@
 //! The pages of a site as a source of a crawl. Their links are stored as indices of URLs.
-ghost use Rattle.std.specs.Prelude.{◌≡◌, IfOk, IfErr};
-ghost use Rattle.std.specs.List.{flat_map};
+ghost use Rattle.std.specs.Prelude.{◌≡◌, IfOk, IfErr, flat_map};
 ghost use Rattle.saved_site.specs.Linked.{AreKept, IsSiteSource, page_at, page_with};
 
 mod known_texts;
@@ -25,8 +24,7 @@ pub struct LinkedPages {
 
 // Contracts see the page at each URL.
 impl Model for LinkedPages {
-    ghost use Rattle.std.specs.Prelude.{ℕ, List};
-    ghost use Rattle.std.specs.List.{flat_map};
+    ghost use Rattle.std.specs.Prelude.{ℕ, List, flat_map};
     ghost use Rattle.crawl_pages.specs.declared.page.Page.{Page};
 
     ghost Value = { List (List ℕ × Page) };

@@ -1,9 +1,8 @@
 -- What a log gains, and why it cannot be used.
-use Rattle.std.specs.Prelude.{◌≡◌, ℕ, ◌-◌, Bool, true, false, ◌&&◌, ◌||◌, List, [], ◌∷◌, ◌++◌, ◌==◌, codes, if◌then◌else◌, drop, length, min, nat_lt, Option, Some, None, position, slice_range, String, string_bytes, take, unwrap_or}
+use Rattle.std.specs.Prelude.{◌≡◌, ℕ, ◌-◌, Bool, true, false, ◌&&◌, ◌||◌, List, [], ◌∷◌, ◌++◌, ◌==◌, codes, if◌then◌else◌, drop, length, min, nat_lt, Option, Some, None, position, slice_range, String, string_bytes, take, unwrap_or, bytes_eq}
 use Rattle.std.specs.Option.{option_or}
 use Rattle.std.specs.declared.alloc.Global.{Global}
 use Rattle.std.specs.List.{concat, list_any}
-use Rattle.std.specs.Str.{bytes_eq}
 use Rattle.std.specs.Str.Lines.{lines}
 use Rattle.std.specs.Hash.DefaultHasher.{initial, write}
 use Rattle.std.specs.declared.hash.DefaultHasher.{DefaultHasher}

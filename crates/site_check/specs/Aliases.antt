@@ -1,8 +1,7 @@
 -- Aliases of a site: other URLs of its files, whose links are followed at the file's own URL.
-use Rattle.std.specs.Prelude.{ℕ, Bool, ◌&&◌, not, List}
+use Rattle.std.specs.Prelude.{ℕ, Bool, ◌&&◌, not, List, bytes_eq}
 use Rattle.std.specs.BTreeSet.{BTreeSet, contains}
 use Rattle.std.specs.List.{list_any}
-use Rattle.std.specs.Str.{bytes_eq}
 use Rattle.crawl_pages.specs.Pages.{is_found}
 use Rattle.crawl_pages.specs.declared.page.PageResult.{PageResult}
 use Rattle.hash_order.specs.HashOrder.{by_hash}

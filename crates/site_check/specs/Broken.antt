@@ -1,8 +1,6 @@
 -- What a check reports of the results of a crawl: the pages that are missing, and those that moved, with how many pages link to them.
-use Rattle.std.specs.Prelude.{◌==◌, ℕ, Bool, not, if◌then◌else◌, List, [], ◌∷◌, length, take, drop, codes, Option}
+use Rattle.std.specs.Prelude.{◌==◌, ℕ, Bool, not, if◌then◌else◌, List, [], ◌∷◌, length, take, drop, codes, Option, option_map, bytes_eq}
 use Rattle.std.specs.List.{list_any, flat_map}
-use Rattle.std.specs.Option.{option_map}
-use Rattle.std.specs.Str.{bytes_eq}
 use Rattle.crawl_sources.specs.Sources.{sources_of}
 use Rattle.crawl_pages.specs.Pages.{is_found}
 use Rattle.crawl_pages.specs.declared.page.Page.{Page}

@@ -1,7 +1,5 @@
 -- The rows that values of a report mean.
-use Rattle.std.specs.Prelude.{List, [], ◌∷◌, string_bytes}
-use Rattle.std.specs.List.{flat_map}
-use Rattle.std.specs.Option.{option_map}
+use Rattle.std.specs.Prelude.{List, [], ◌∷◌, string_bytes, flat_map, option_map}
 use Rattle.check_report.specs.declared.value.Broken.{Broken}
 use Rattle.check_report.specs.declared.value.Kind.{Kind}
 use Rattle.check_report.specs.declared.value.Kind.TheVariants.{NoPage}

@@ -1,7 +1,5 @@
 //! Links that lead to what is reported: to a missing page, or to a missing anchor.
-ghost use Rattle.std.specs.Prelude.{◌≡◌, ◌∷◌, ◌++◌, ◌+◌, ◌<◌, ◌^◌, ℕ, List, [], IfOk, MatchOption, OnOk, fold, length, map, string_bytes};
-ghost use Rattle.std.specs.List.{flat_map};
-ghost use Rattle.std.specs.Option.{option_copied};
+ghost use Rattle.std.specs.Prelude.{◌≡◌, ◌∷◌, ◌++◌, ◌+◌, ◌<◌, ◌^◌, ℕ, List, [], IfOk, MatchOption, OnOk, fold, length, map, string_bytes, flat_map, option_copied};
 ghost use Rattle.site_check.specs.Broken.{result_at};
 ghost use Rattle.site_check.specs.Leads.{HasNoLink, indices_at, indices_in, lead_to, leads_at, leads_from, leads_of, is_told, missing_from, moved_number, moved_target, number_at, number_in, number_with, own_number, target_at, targets_of, to_number};
 

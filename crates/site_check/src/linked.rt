@@ -1,7 +1,6 @@
 //! The results that found no page, and how many results link to each.
-ghost use Rattle.std.specs.Prelude.{◌≡◌, ◌++◌, ◌+◌, ◌<◌, ◌^◌, ℕ, List, IfOk, IsSome, Some, map, filter, length, slice_get, false, true};
+ghost use Rattle.std.specs.Prelude.{◌≡◌, ◌++◌, ◌+◌, ◌<◌, ◌^◌, ℕ, List, IfOk, IsSome, Some, map, filter, length, slice_get, false, true, bytes_eq};
 ghost use Rattle.std.specs.List.{list_any};
-ghost use Rattle.std.specs.Str.{bytes_eq};
 ghost use Rattle.crawl_pages.specs.declared.page.PageResult.{PageResult};
 ghost use Rattle.crawl_sources.specs.Sources.{sources_of};
 ghost use Rattle.crawl_sources.specs.Tallies.{pointed, count_of, IsTally};

@@ -1,7 +1,5 @@
 //! Pages with the file name of one that is not there.
-ghost use Rattle.std.specs.Prelude.{◌≡◌, ◌∷◌, [], ℕ, List, None, Some, filter, if◌then◌else◌, IfOk, MatchOption, OnOk, slice_get, string_bytes, unwrap_or};
-ghost use Rattle.std.specs.Option.{option_copied, option_map};
-ghost use Rattle.std.specs.Str.{bytes_eq};
+ghost use Rattle.std.specs.Prelude.{◌≡◌, ◌∷◌, [], ℕ, List, None, Some, filter, if◌then◌else◌, IfOk, MatchOption, OnOk, slice_get, string_bytes, unwrap_or, option_copied, option_map, bytes_eq};
 ghost use Rattle.site_files.specs.Files.{PageFile, page_file, pages_of};
 ghost use Rattle.site_check.specs.Names.{AreNames, behind_slashes, has_name, is_slash, known_at, known_with, last_part, named_at, only_told, page_told, path_of, same_name, stands_in};
 

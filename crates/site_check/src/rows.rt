@@ -1,7 +1,5 @@
 //! The rows of a check: pages that are not there, and pages that moved.
-ghost use Rattle.std.specs.Prelude.{◌≡◌, ◌++◌, ◌∷◌, [], OnOk, IfOk, map, string_bytes};
-ghost use Rattle.std.specs.List.{flat_map};
-ghost use Rattle.std.specs.Option.{option_map};
+ghost use Rattle.std.specs.Prelude.{◌≡◌, ◌++◌, ◌∷◌, [], OnOk, IfOk, map, string_bytes, flat_map, option_map};
 ghost use Rattle.site_check.specs.Broken.{linked_at, row_for, rows_with, shown, ways_with};
 ghost use Rattle.site_check.specs.Ignored.{parts_in};
 ghost use Rattle.site_check.specs.Invalid.{invalid_rows_in};

@@ -1,7 +1,6 @@
 -- Which URLs are below the top of a site, which is that of BASE.
-use Rattle.std.specs.Prelude.{◌≡◌, ℕ, ◌==◌, Bool, false, ◌||◌, List, [], ◌∷◌, ◌++◌, Ok, if◌then◌else◌, length, take}
+use Rattle.std.specs.Prelude.{◌≡◌, ℕ, ◌==◌, Bool, false, ◌||◌, List, [], ◌∷◌, ◌++◌, Ok, if◌then◌else◌, length, take, bytes_eq}
 use Rattle.std.specs.List.{list_all, list_any}
-use Rattle.std.specs.Str.{bytes_eq}
 use Rattle.crawl_keys.specs.CanonicalText.{canonical}
 use Rattle.percent_encoding.specs.Percent.{percent_decode}
 

@@ -1,7 +1,6 @@
 -- The pages of a site, and the files that they are made of.
-use Rattle.std.specs.Prelude.{ℕ, List, map, Option, Some, None, slice_get, string_bytes}
+use Rattle.std.specs.Prelude.{ℕ, List, map, Option, Some, None, slice_get, string_bytes, option_map}
 use Rattle.std.specs.List.Sorted.{IsStrictlySortedBy}
-use Rattle.std.specs.Option.{option_map}
 use Rattle.site_files.specs.declared.error.SiteError.{SiteError}
 use Rattle.site_files.specs.declared.error.SiteError.TheVariants as wrong
 use Rattle.site_files.specs.declared.files.SiteFiles.{SiteFiles}

@@ -1,7 +1,6 @@
 -- The pages that the names in a folder make, and what a plain static server returns for a URL.
-use Rattle.std.specs.Prelude.{ℕ, ◌-◌, Bool, false, not, ◌&&◌, ◌||◌, ◌==◌, List, [], ◌∷◌, ◌++◌, length, take, drop, find, filter_map, map, slice_get, slice_index, bytes_eq, Option, Some, None, option_and_then, Result, Ok, Err, if◌then◌else◌}
+use Rattle.std.specs.Prelude.{ℕ, ◌-◌, Bool, false, not, ◌&&◌, ◌||◌, ◌==◌, List, [], ◌∷◌, ◌++◌, length, take, drop, find, filter_map, map, slice_get, slice_index, bytes_eq, Option, Some, None, option_and_then, Result, Ok, Err, if◌then◌else◌, option_map}
 use Rattle.std.specs.List.{enumerate_from, flat_map}
-use Rattle.std.specs.Option.{option_map}
 use Rattle.crawl_keys.specs.CanonicalText.{canonical}
 use Rattle.crawl_keys.specs.declared.error.KeyError.{KeyError}
 use Rattle.site_files.specs.Firsts.{first_with}

@@ -1,7 +1,6 @@
 -- What a plain static server looks up for a URL.
-use Rattle.std.specs.Prelude.{ℕ, Bool, false, not, ◌||◌, nat_lt, List, [], ◌∷◌, ◌++◌, length, drop, map, codes, bytes_eq, Option, Some, None, option_and_then, if◌then◌else◌}
+use Rattle.std.specs.Prelude.{ℕ, Bool, false, not, ◌||◌, nat_lt, List, [], ◌∷◌, ◌++◌, length, drop, map, codes, bytes_eq, Option, Some, None, option_and_then, if◌then◌else◌, option_map}
 use Rattle.std.specs.List.{after_first, before_first, join_with_byte, position_or_len, slice_split}
-use Rattle.std.specs.Option.{option_map}
 use Rattle.percent_encoding.specs.Percent.{percent_decode, percent_encode}
 use Rattle.site_files.specs.Below.{begins, is_mark, is_slash}
 use Rattle.site_files.specs.declared.escapes.TheConstants.{IN_NAME, IN_PATH, IN_QUERY}

@@ -1,7 +1,6 @@
 //! Other URLs of files, and other names of folders.
-ghost use Rattle.std.specs.Prelude.{◌≡◌, [], IfOk, string_bytes, unwrap_or};
+ghost use Rattle.std.specs.Prelude.{◌≡◌, [], IfOk, string_bytes, unwrap_or, option_map};
 ghost use Rattle.std.specs.List.Sorted.{IsStrictlySortedBy};
-ghost use Rattle.std.specs.Option.{option_map};
 ghost use Rattle.site_files.specs.Links.{FindsLink, IsLinkTable, cmp_names, own_in};
 ghost use Rattle.site_files.specs.Pages.{own_spelling};
 ghost use Rattle.site_files.specs.Server.{names_of};

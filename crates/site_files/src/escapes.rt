@@ -1,7 +1,6 @@
 //! Names in URLs.
-ghost use Rattle.std.specs.Prelude.{◌≡◌, ◌++◌, ◌∷◌, [], IfOk, MatchOption, None, OnOk, Some, if◌then◌else◌, string_bytes};
+ghost use Rattle.std.specs.Prelude.{◌≡◌, ◌++◌, ◌∷◌, [], IfOk, MatchOption, None, OnOk, Some, if◌then◌else◌, string_bytes, option_map};
 ghost use Rattle.std.specs.List.{join_with_byte};
-ghost use Rattle.std.specs.Option.{option_map};
 ghost use Rattle.percent_encoding.specs.Percent.{percent_decode, percent_encode};
 ghost use Rattle.site_files.specs.Names.{IsCut, shown};
 ghost use Rattle.site_files.specs.Server.{is_parent, is_same_folder, looked_up, names_of, respelled, stepped};

@@ -1,8 +1,6 @@
 //! The pages of a site, by the names of its files.
-ghost use Rattle.std.specs.Prelude.{◌≡◌, ◌++◌, ◌∷◌, ◌<◌, ℕ, List, [], IfErr, IfOk, None, Ok, OnOk, false, filter_map, if◌then◌else◌, length, map, option_to_list, string_bytes, true};
+ghost use Rattle.std.specs.Prelude.{◌≡◌, ◌++◌, ◌∷◌, ◌<◌, ℕ, List, [], IfErr, IfOk, None, Ok, OnOk, false, filter_map, if◌then◌else◌, length, map, option_to_list, string_bytes, true, IsSorted, option_map};
 ghost use Rattle.std.specs.List.{flat_map, list_any};
-ghost use Rattle.std.specs.List.Sorted.{IsSorted};
-ghost use Rattle.std.specs.Option.{option_map};
 ghost use Rattle.crawl_keys.specs.CanonicalText.{canonical};
 ghost use Rattle.percent_encoding.specs.Percent.{percent_decode};
 ghost use Rattle.site_files.specs.Below.{IsTop, is_mark, without_slashes};

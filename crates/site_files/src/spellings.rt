@@ -1,7 +1,6 @@
 //! The URLs for which a server returns a page of the site, although they are not its URL: another spelling, a query, a path through a
 //! symbolic link to a folder, or a name without its `.html`.
-ghost use Rattle.std.specs.Prelude.{◌≡◌, ◌&&◌, [], IfOk, not, string_bytes};
-ghost use Rattle.std.specs.Option.{option_map};
+ghost use Rattle.std.specs.Prelude.{◌≡◌, ◌&&◌, [], IfOk, not, string_bytes, option_map};
 ghost use Rattle.site_files.specs.Entries.{LeadsTo, entry_at, host_of};
 ghost use Rattle.site_files.specs.Files.{IsOrdered, server_of};
 ghost use Rattle.site_files.specs.Links.{own_in};

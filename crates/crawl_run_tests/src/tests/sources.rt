@@ -1,6 +1,5 @@
 //! Sources of pages.
-ghost use Rattle.std.specs.Prelude.{if◌then◌else◌, [], ◌∷◌, Some};
-ghost use Rattle.std.specs.Str.{bytes_eq};
+ghost use Rattle.std.specs.Prelude.{if◌then◌else◌, [], ◌∷◌, Some, bytes_eq};
 ghost use Rattle.crawl_pages.specs.declared.page.Page.TheVariants.{Found, Moved, Missing};
 ghost use Rattle.saved_web.specs.KnownPages.{page_at};
 

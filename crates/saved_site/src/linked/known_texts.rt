@@ -1,6 +1,5 @@
 //! Texts of links, each found by its hash.
-ghost use Rattle.std.specs.Prelude.{◌≡◌, ◌<◌, ◌++◌, ℕ, List, [], None, true, length, get_or, IfOk, IfSome, OnOk};
-ghost use Rattle.std.specs.List.{Contains};
+ghost use Rattle.std.specs.Prelude.{◌≡◌, ◌<◌, ◌++◌, ℕ, List, [], None, true, length, get_or, IfOk, IfSome, OnOk, Contains};
 ghost use Rattle.crawl_keys.specs.Folders.{is_of_folder};
 ghost use Rattle.saved_pages.specs.SavedWeb.{link_url};
 ghost use Rattle.saved_site.specs.LinkTables.{AreKnown, AreOfFolder, LeadsTo};

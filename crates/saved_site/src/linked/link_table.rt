@@ -1,6 +1,5 @@
 //! The URLs to which the links of pages lead, as indices.
-ghost use Rattle.std.specs.Prelude.{◌≡◌, true, None, IfOk, OnOk, count_by, is_none};
-ghost use Rattle.std.specs.List.{filter_map};
+ghost use Rattle.std.specs.Prelude.{◌≡◌, true, None, IfOk, OnOk, count_by, is_none, filter_map};
 ghost use Rattle.saved_pages.specs.UrlIndices.{KeepIndices, LeadTo};
 ghost use Rattle.saved_pages.specs.SavedWeb.{link_url};
 ghost use Rattle.saved_site.specs.LinkTables.{LeadsTo, IsTable, IsTableOf};

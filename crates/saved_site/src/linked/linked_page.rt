@@ -1,6 +1,5 @@
 //! A page whose links are the indices of URLs.
-ghost use Rattle.std.specs.Prelude.{◌≡◌, ◌++◌, ◌∷◌, [], slice_get, IfOk, OnOk};
-ghost use Rattle.std.specs.List.{filter_map};
+ghost use Rattle.std.specs.Prelude.{◌≡◌, ◌++◌, ◌∷◌, [], slice_get, IfOk, OnOk, filter_map};
 ghost use Rattle.saved_site.specs.LinkedPages.{page_led};
 
 use crawl_keys::CanonUrl;

@@ -1,6 +1,5 @@
 //! Pages, each found by its URL.
-ghost use Rattle.std.specs.Prelude.{◌≡◌, ◌++◌, ◌∷◌, [], IfOk, if◌then◌else◌};
-ghost use Rattle.std.specs.Option.{is_some};
+ghost use Rattle.std.specs.Prelude.{◌≡◌, ◌++◌, ◌∷◌, [], IfOk, if◌then◌else◌, is_some};
 ghost use Rattle.hash_index.specs.Lists.{index_of};
 ghost use Rattle.saved_site.specs.Linked.{page_with};
 ghost use Rattle.saved_site.specs.LinkedPages.{IsPageList, found_all, urls_of};
