@@ -1,7 +1,8 @@
 -- A text that is escaped piece by piece.
 use Rattle.check_report.proofs.Prelude.{common_steps, ◌≡◌, ℕ, ◌<◌, ◌==◌, true, false, List, [], ◌∷◌, ◌++◌, codes, length, take, chars, IsUtf8, IsCharBoundary, refl, sym, ap, ◌∙◌, append-nil, arith, if◌then◌else◌, and_parts, both_ways, ne_eqb, nat_tests, flat_map-append, list_all-append, chars-append, chars-nil, chars_past_char, encodes-chars, flat_map, list_all, prefix_len, shown, shown_char, data_char, escaped, escaped_char, html_char, is_ordinary, property_char, Escape}
 use Rattle.std.proofs.lemmas.List.Sums.{prefix_len-le-length, prefix_len_stops}
-use Rattle.std.proofs.Common.{encode_utf8, encode_utf8_all}
+use Rattle.std.specs.Char.{encode_utf8}
+use Rattle.std.specs.Str.{encode_utf8_all}
 use Rattle.shown_text.proofs.Pieces.{front_passes}
 use Rattle.check_report.specs.declared.escape.Escape.TheVariants as escape
 

@@ -1,6 +1,7 @@
 -- The URLs of a host wait in a rebuilt session in the order in which they waited in the old one.
 use Rattle.crawl_session.proofs.Prelude.{◌≡◌, ℕ, zero, suc, ◌+◌, ◌≤◌, ◌<◌, Bool, true, false, not, cond, if◌then◌else◌, nat_eq, nat_lt, List, [], ◌∷◌, ◌++◌, length, take, drop, map, Option, Some, None, inl, inr, refl, sym, ap, ◌∙◌, true≢false, arith, append-nil, nat_tests, cons_option, option_to_list, bytes_eq, bytes_eq-Decides, sum_by-cons, slice_get, filter_map-append, same_text, eqb_same, eqb-true, take_all, subqueue_of, Row, asked, busy_in, done_in, joined_of, taken_of, times, Frontier, start, state_after, pending_at, Settings}
-use Rattle.std.proofs.Common.{filter, drop_at}
+use Rattle.std.specs.List.{filter}
+use Rattle.std.proofs.lemmas.List.{drop_at}
 use Rattle.std.proofs.lemmas.Bool.{cases_lt}
 use Rattle.std.proofs.lemmas.List.Elements.{filter-append}
 use Rattle.crawl_keys.specs.Assignment.{assign}

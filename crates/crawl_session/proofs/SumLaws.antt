@@ -1,5 +1,5 @@
 -- A log that was written with checksums has no wrong one, and a wrong one is found.
-use Rattle.std.proofs.Common.{◌≡◌, ◌≢◌, ◌⊎◌, inl, inr, ℕ, suc, ◌+◌, ◌-◌, ◌/◌, ◌%◌, ◌^◌, codes, ◌<◌, ◌==◌, ◌&&◌, Bool, true, false, not, if◌then◌else◌, List, [], ◌∷◌, ◌++◌, length, take, drop, None, refl, sym, ap, subst, ◌∙◌, arith, append-nil, append_assoc, eqb-true, ne_eqb, length-append, Some, bytes_eq}
+use Rattle.std.proofs.Common.{◌≡◌, ◌≢◌, ◌⊎◌, inl, inr, ℕ, suc, ◌+◌, ◌-◌, ◌/◌, ◌%◌, ◌^◌, codes, ◌<◌, ◌==◌, ◌&&◌, Bool, true, false, not, if◌then◌else◌, List, [], ◌∷◌, ◌++◌, length, take, drop, None, refl, sym, ap, subst, ◌∙◌, arith, append-nil, append_assoc, eqb-true, ne_eqb, length-append, Some}
 use Rattle.std.proofs.lemmas.Bool.{false_from_ne_true, false≢true}
 use Rattle.std.proofs.lemmas.Option.{none-some}
 use Rattle.std.proofs.lemmas.List.Elements.{All-nil, All-cons, All-append, All-from_recursion, All-get_or, All-head, All-tail}
@@ -7,6 +7,7 @@ use Rattle.std.proofs.lemmas.Slice.Eq.{bytes_eq-Decides}
 use Rattle.std.proofs.Math.Seq.{take-append_seam, drop-append_seam}
 use Rattle.std.specs.Hash.DefaultHasher.{finish, initial, write}
 use Rattle.std.specs.List.{All, concat, list_all}
+use Rattle.std.specs.Str.{bytes_eq}
 use Rattle.std.specs.declared.hash.DefaultHasher.{DefaultHasher}
 use Rattle.crawl_session.specs.Input.{IsUnfinished}
 use Rattle.crawl_session.specs.Sums.{Checked, after_line, checked_after, digit, ended_lines, first_wrong, is_right, is_sum, kept, kept_byte, lines_len, next_line, sum_after, summed, sum_line, summed_each, summed_lines, unchecked, unfinished_after, with_first, wrong_after}

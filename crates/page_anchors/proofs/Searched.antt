@@ -2,7 +2,9 @@
 use Rattle.page_anchors.proofs.Prelude.{◌≡◌, ◌∙◌, ℕ, ◌+◌, ◌<◌, ◌≤◌, true, false, List, [], length, get_or, inl, inr, sym, ap, arith, cases_lt, get_or_default, searchable_from_sorted, slice_cmp, nat_list_cmp_total, is_eq, is_lt, nat_cmp, ordering_index, has_id, DoAscend}
 use Rattle.std.proofs.lemmas.List.Folds.{list_any_at, list_any_none}
 use Rattle.std.proofs.lemmas.Map.Text.{is_eq-slice_cmp}
-use Rattle.std.proofs.Common.{bytes_eq, Ordering, Less, Greater}
+use Rattle.std.specs.Str.{bytes_eq}
+use Rattle.std.specs.declared.cmp.Ordering.{Ordering}
+use Rattle.std.specs.declared.cmp.Ordering.TheVariants.{Less, Greater}
 
 -- the ids before the bounds are less than the text, and those after them greater
 pub record IsBetween (ids : List (List ℕ)) (text : List ℕ) (low high : ℕ) : Type 0 where

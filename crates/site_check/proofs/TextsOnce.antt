@@ -1,7 +1,8 @@
 -- The texts of a sorted list, each once.
 use Rattle.site_check.proofs.Prelude.{common_steps, ◌≡◌, ◌∙◌, ℕ, suc, ◌+◌, ◌<◌, ◌≤◌, Bool, true, false, not, ◌||◌, cond, List, [], ◌∷◌, ◌++◌, length, map, filter, drop, get_or, Option, Some, None, refl, sym, subst, ap, inl, inr, arith, cases_Bool, cond-true, cond-false, append_assoc, bytes_eq, bytes_eq-Decides, list_any, AreTexts, PageLink, PageResult, ascends, begins, missing_texts, not_ignored, unused, ascends_after, link_text, next_text, once, once_after, once_next, rises, rises_after}
-use Rattle.std.proofs.Common.{Less, Equal, Greater, Ordering, add-one, drop-cons, true≢false, IsSortedBy}
+use Rattle.std.proofs.Common.{Less, Equal, Greater, Ordering, add-one, drop-cons, true≢false}
 use Rattle.std.specs.Cmp.Lexicographic.{slice_cmp}
+use Rattle.std.specs.List.Sorted.{IsSortedBy}
 use Rattle.std.specs.Ordering.{is_eq, is_lt, nat_cmp, ordering_reverse}
 use Rattle.std.proofs.lemmas.List.{drop_all}
 use Rattle.std.proofs.lemmas.List.Folds.{list_any-append}

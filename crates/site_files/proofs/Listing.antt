@@ -1,6 +1,7 @@
 -- The pages of names, one after another.
-use Rattle.std.proofs.Common.{◌≡◌, ℕ, ◌+◌, ◌<◌, suc, List, [], ◌∷◌, ◌++◌, Option, Some, None, Global, String, drop, get_or, length, map, refl, sym, ap, ◌∙◌, append_assoc, append-nil, add-one, drop-cons, string_bytes, option_to_list}
+use Rattle.std.proofs.Common.{◌≡◌, ℕ, ◌+◌, ◌<◌, suc, List, [], ◌∷◌, ◌++◌, Option, Some, None, Global, String, drop, get_or, length, map, refl, sym, ap, ◌∙◌, append_assoc, append-nil, add-one, drop-cons, string_bytes}
 use Rattle.std.specs.List.{cons_option, enumerate_from, filter_map, flat_map}
+use Rattle.std.specs.Option.{option_to_list}
 use Rattle.std.proofs.lemmas.List.{map-append}
 use Rattle.site_files.specs.Entries.{Adds, Listed, expected, listed, texts}
 use Rattle.site_files.specs.Pages.{Page}

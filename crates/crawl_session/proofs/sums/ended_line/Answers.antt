@@ -1,4 +1,5 @@
-use Rattle.std.proofs.Common.{◌+◌, ◌-◌, length, drop, arith, take_all, length-drop}
+use Rattle.std.proofs.Common.{◌+◌, ◌-◌, length, drop, arith}
+use Rattle.std.proofs.lemmas.List.{take_all, length-drop}
 use Rattle.crawl_session.proofs.SumLines.{ended_lines-first, ended_lines-none}
 use Rattle.crawl_session.proofs.sums.ended_line.Goals as goal
 

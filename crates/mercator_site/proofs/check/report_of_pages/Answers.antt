@@ -1,5 +1,6 @@
 use Rattle.mercator_site.proofs.Prelude.{ℕ, List, map, Ok, Vec, Global, refl, sym, ap, subst, ◌∙◌, ◌≡◌, ◌==◌, not, length, string_bytes, err_from_is_err_and, External, canonical, PageResult, AreOthersListed, IsTopCrawl, row_of, own_of}
-use Rattle.std.proofs.Common.{true≢false, option_map}
+use Rattle.std.proofs.Common.{true≢false}
+use Rattle.std.specs.Option.{option_map}
 use Rattle.site_check.specs.Broken.{broken_of, redirects_of}
 use Rattle.site_check.specs.Ignored.{AreUnused, parts_in}
 use Rattle.site_check.specs.Invalid.{AreInvalid, invalid_rows_in, texts_if}

@@ -1,4 +1,5 @@
-use Rattle.std.proofs.Common.{rules, is_lt}
+use Rattle.std.proofs.Common.{rules}
+use Rattle.std.specs.Ordering.{is_lt}
 use Rattle.std.proofs.lemmas.List.Sorted.{answers_always}
 use Rattle.site_files.specs.Entries.{cmp_urls}
 use Rattle.site_files.proofs.Table.{in_order_from_sort, urls_rank}

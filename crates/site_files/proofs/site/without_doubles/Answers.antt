@@ -1,4 +1,5 @@
-use Rattle.std.proofs.Common.{rules, bytes_eq}
+use Rattle.std.proofs.Common.{rules}
+use Rattle.std.specs.Str.{bytes_eq}
 use Rattle.std.proofs.lemmas.Fn.{dedup_same}
 use Rattle.site_files.proofs.Table.{once_from_dedup}
 use Rattle.site_files.proofs.site.without_doubles.Goals as goal

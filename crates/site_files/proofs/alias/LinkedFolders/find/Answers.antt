@@ -1,6 +1,7 @@
-use Rattle.std.proofs.Common.{List, rules, subst, sym, nat_cmp}
+use Rattle.std.proofs.Common.{List, rules, subst, sym}
 use Rattle.std.specs.Cmp.Lexicographic.{slice_cmp}
 use Rattle.std.specs.List.Sorted.{IsStrictlySortedBy}
+use Rattle.std.specs.Ordering.{nat_cmp}
 use Rattle.std.proofs.lemmas.Fn.{always_returns_same}
 use Rattle.site_files.specs.Links.{FindsLink, cmp_names, name_in}
 use Rattle.site_files.specs.declared.alias.FolderLink.{FolderLink}

@@ -1,4 +1,6 @@
-use Rattle.std.proofs.Common.{rules, string_bytes, is_lt, bytes_eq}
+use Rattle.std.proofs.Common.{rules, string_bytes}
+use Rattle.std.specs.Ordering.{is_lt}
+use Rattle.std.specs.Str.{bytes_eq}
 use Rattle.std.proofs.lemmas.Fn.{dedup_same}
 use Rattle.std.proofs.lemmas.List.Sorted.{answers_always}
 use Rattle.site_files.specs.Links.{cmp_names}

@@ -1,5 +1,6 @@
 use Rattle.std.proofs.Common.{◌≡◌, ℕ, List, Option, Some, ap, subst, sym, ◌∙◌, string_bytes}
-use Rattle.std.specs.Prelude.{IfOk, option_map}
+use Rattle.std.specs.Prelude.{IfOk}
+use Rattle.std.specs.Option.{option_map}
 use Rattle.site_files.specs.Entries.{LeadsTo, entry_at, host_of}
 use Rattle.site_files.specs.Files.{server_of}
 use Rattle.site_files.specs.Links.{own_in}

@@ -1,4 +1,5 @@
-use Rattle.std.proofs.Common.{◌++◌, drop, map, string_bytes, filter_map}
+use Rattle.std.proofs.Common.{◌++◌, drop, map, string_bytes}
+use Rattle.std.specs.List.{filter_map}
 use Rattle.site_files.specs.Entries.{expected, listed, texts}
 use Rattle.site_files.specs.Pages.{moved_page}
 use Rattle.site_files.proofs.Listing.{Leaves}

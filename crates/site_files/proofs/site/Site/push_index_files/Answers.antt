@@ -1,4 +1,5 @@
-use Rattle.std.proofs.Common.{◌++◌, List, ℕ, map, string_bytes, subst, sym, option_to_list}
+use Rattle.std.proofs.Common.{◌++◌, List, ℕ, map, string_bytes, subst, sym}
+use Rattle.std.specs.Option.{option_to_list}
 use Rattle.site_files.specs.Entries.{Adds, expected, listed, server_at, texts}
 use Rattle.site_files.specs.Pages.{Page, index_page, index_pages}
 use Rattle.site_files.proofs.Listing.{Leaves, gone_on, numbered_left}

@@ -1,4 +1,5 @@
-use Rattle.std.proofs.Common.{◌++◌, drop, map, flat_map}
+use Rattle.std.proofs.Common.{◌++◌, drop, map}
+use Rattle.std.specs.List.{flat_map}
 use Rattle.site_files.specs.Entries.{expected, listed, server_at, texts}
 use Rattle.site_files.specs.Pages.{index_pages}
 use Rattle.site_files.proofs.Listing.{Leaves}
