@@ -4,12 +4,13 @@ ghost use Rattle.std.specs.List.Sorted.{IsStrictlySortedBy};
 ghost use Rattle.site_files.specs.Below.{IsTop};
 ghost use Rattle.site_files.specs.Files.{IsOfFiles};
 ghost use Rattle.site_files.specs.Entries.{Finds, IsTable, cmp_urls, texts};
+ghost use Rattle.site_files.specs.Kinds.{is_document};
 ghost use Rattle.site_files.specs.Links.{IsLinked};
 ghost use Rattle.site_files.specs.Files.{IsOrdered, name_at, page_file, page_of, pages_of, server_of};
 
 use crate::alias::FolderLink;
 use crate::error::SiteError;
-use crate::kinds::{Kind, kind_of};
+use crate::kinds::{FileKind, kind_of};
 use crate::notes::Note;
 use crate::site::{Entry, Rules, Site, Source, split_name};
 use crawl_keys::CanonUrl;
@@ -31,8 +32,19 @@ pub struct SiteFile<'a> {
     /// Its index among the names of the site.
     pub index: usize,
     pub name: &'a str,
-    /// Whether it is known to be a document. Otherwise it is read only if its first bytes are those of a document.
-    pub is_document: bool,
+    pub kind: FileKind,
+}
+
+impl SiteFile<'_> {
+    /// Whether it is known to be a document. A file of unknown kind is one if its first bytes are those of a document.
+    pub fn is_document(&self) -> bool
+        ensures { result ≡ is_document self.now.kind }
+    {
+        match self.kind {
+            FileKind::Html | FileKind::Xml => true,
+            FileKind::Style | FileKind::Unknown => false,
+        }
+    }
 }
 
 /// The pages of a site by their URLs, and their files.
@@ -137,20 +149,17 @@ impl<'a> SiteFiles<'a> {
         self.url(self.site.own.get(index).copied()??)
     }
 
-    /// The file of the page with this number, if it has one that can be a document.
+    /// The file of the page with this number, if it has one that can have links. Without `Rules.styles`, a style sheet has none.
     pub fn document(&self, number: usize) -> Option<SiteFile<'a>> {
         let (_, index) = self.page(number)?;
         let index = index?;
         let name = self.name(index)?;
         let (path, _) = split_name(name, self.rules.queries);
-        match kind_of(path) {
-            Kind::Other => None,
-            kind => Some(SiteFile {
-                index,
-                name,
-                is_document: kind == Kind::Document,
-            }),
+        let kind = kind_of(path)?;
+        if kind == FileKind::Style && !self.rules.styles {
+            return None;
         }
+        Some(SiteFile { index, name, kind })
     }
 
     /// The URL to which the page with this number is moved, without a query, if the page is a redirect.

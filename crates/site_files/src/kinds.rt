@@ -1,14 +1,16 @@
 //! The kind of a file, by its name.
 
-/// The kind of a file.
+/// The kind of a file that can have links.
 #[derive(Clone, Copy, Debug, PartialEq, Eq)]
-pub(crate) enum Kind {
+pub enum FileKind {
     /// An HTML document.
-    Document,
-    /// The first bytes say what it is.
+    Html,
+    /// An XML document: XHTML or SVG.
+    Xml,
+    /// A style sheet.
+    Style,
+    /// An HTML document if its first bytes are those of one.
     Unknown,
-    /// A file without links.
-    Other,
 }
 
 /// The suffixes of Python's own table, without `.htm` and `.html`.
@@ -18,22 +20,22 @@ const OTHERS: &str =
 /// Suffixes of packed files, only in this case.
 const PACKED: &str = ".gz .Z .bz2 .xz .br";
 
-/// The kind of a file with this name.
-pub(crate) fn kind_of(name: &str) -> Kind {
+/// The kind of a file with this name, or `None` if it has no links.
+pub(crate) fn kind_of(name: &str) -> Option<FileKind> {
     let suffix = suffix_of(name);
     if PACKED.split(' ').any(|packed| packed == suffix) {
-        return Kind::Other;
+        return None;
     }
     if suffix.eq_ignore_ascii_case(".html") || suffix.eq_ignore_ascii_case(".htm") {
-        return Kind::Document;
+        return Some(FileKind::Html);
     }
     if OTHERS
         .split(' ')
         .any(|other| other.eq_ignore_ascii_case(suffix))
     {
-        return Kind::Other;
+        return None;
     }
-    Kind::Unknown
+    Some(FileKind::Unknown)
 }
 
 /// The last dot of a file's name and what comes after it, if something other than dots comes before it.

@@ -20,6 +20,7 @@ pub use below::is_below;
 pub use body::{Body, FileBytes, InMemory};
 pub use error::SiteError;
 pub use files::{SiteFile, SiteFiles, SiteNames};
+pub use kinds::FileKind;
 pub use notes::{Left, Note};
 pub use site::Rules;
 pub use walk::{FolderNames, folder_names};

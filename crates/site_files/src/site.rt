@@ -33,6 +33,10 @@ pub struct Rules {
     pub anchors: bool,
     /// Whether the positions of links are kept.
     pub places: bool,
+    /// Whether the links of style sheets, and those of styles in documents, are read.
+    pub styles: bool,
+    /// Whether an absolute path is below the folder, as in a check without BASE.
+    pub rooted: bool,
     /// Whether symbolic links that lead out of the folder are followed.
     pub follow: bool,
     /// The number of threads that make pages; 0 means 1.
