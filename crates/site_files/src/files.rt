@@ -4,9 +4,9 @@ ghost use Rattle.std.specs.List.Sorted.{IsStrictlySortedBy};
 ghost use Rattle.site_files.specs.Below.{IsTop};
 ghost use Rattle.site_files.specs.Files.{IsOfFiles};
 ghost use Rattle.site_files.specs.Entries.{Finds, IsTable, cmp_urls, texts};
-ghost use Rattle.site_files.specs.Kinds.{is_document};
+ghost use Rattle.site_files.specs.Kinds.{is_document, is_style};
 ghost use Rattle.site_files.specs.Links.{IsLinked};
-ghost use Rattle.site_files.specs.Files.{IsOrdered, name_at, page_file, page_of, pages_of, server_of};
+ghost use Rattle.site_files.specs.Files.{IsOrdered, document_at, document_of, kind_at, name_at, page_file, page_of, pages_of, server_of, site_file};
 
 use crate::alias::FolderLink;
 use crate::error::SiteError;
@@ -150,16 +150,35 @@ impl<'a> SiteFiles<'a> {
     }
 
     /// The file of the page with this number, if it has one that can have links. Without `Rules.styles`, a style sheet has none.
-    pub fn document(&self, number: usize) -> Option<SiteFile<'a>> {
-        let (_, index) = self.page(number)?;
-        let index = index?;
+    pub fn document(&self, number: usize) -> Option<SiteFile<'a>>
+        ensures { option_map (λ file. site_file file.index file.kind file.name.now) result ≡ document_at self.now number }
+    {
+        match self.page(number) {
+            Some((_, Some(index))) => self.document_of(index),
+            _ => None,
+        }
+    }
+
+    /// The file with this index, if it can have links.
+    fn document_of(&self, index: usize) -> Option<SiteFile<'a>>
+        ensures { option_map (λ file. site_file file.index file.kind file.name.now) result ≡ document_of self.now index }
+    {
         let name = self.name(index)?;
+        let kind = self.kind_at(name)?;
+        Some(SiteFile { index, name, kind })
+    }
+
+    /// The kind of the file with this name, if the links of such a file are read.
+    fn kind_at(&self, name: &str) -> Option<FileKind>
+        ensures { result ≡ kind_at self.now name.now }
+    {
         let (path, _) = split_name(name, self.rules.queries);
         let kind = kind_of(path)?;
-        if kind == FileKind::Style && !self.rules.styles {
-            return None;
+        if is_style(kind) && !self.rules.styles {
+            None
+        } else {
+            Some(kind)
         }
-        Some(SiteFile { index, name, kind })
     }
 
     /// The URL to which the page with this number is moved, without a query, if the page is a redirect.
@@ -212,6 +231,13 @@ impl<'a> SiteFiles<'a> {
     pub fn threads(&self) -> usize {
         self.rules.threads
     }
+}
+
+/// Whether the file is a style sheet.
+fn is_style(kind: FileKind) -> bool
+    ensures { result ≡ is_style kind }
+{
+    matches!(kind, FileKind::Style)
 }
 
 /// Returns the URL of a page and the index of its file among the names. A page that is a redirect has no file.
