@@ -23,4 +23,5 @@ pub use files::{SiteFile, SiteFiles, SiteNames};
 pub use kinds::FileKind;
 pub use notes::{Left, Note};
 pub use site::Rules;
+pub use spellings::before_query;
 pub use walk::{FolderNames, folder_names};
