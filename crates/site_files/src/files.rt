@@ -186,7 +186,7 @@ impl<'a> SiteFiles<'a> {
         ensures { result ≡ kind_at self.now name.now }
     {
         let (path, _) = split_name(name, self.rules.queries);
-        let kind = kind_of(path)?;
+        let kind = kind_of(path.as_bytes())?;
         if is_style(kind) && !self.rules.styles {
             None
         } else {
