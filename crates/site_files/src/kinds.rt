@@ -1,7 +1,7 @@
-//! The kind of a file, by its name.
+//! The kind of a file, by its name or its media type.
 ghost use Rattle.std.specs.Prelude.{◌≡◌, option_map};
-ghost use Rattle.std.specs.List.{list_all};
-ghost use Rattle.site_files.specs.Kinds.{is_among, is_dot, is_packed, is_xml, kind_by, kind_of, last_name, suffix_of};
+ghost use Rattle.std.specs.List.{before_first, list_all};
+ghost use Rattle.site_files.specs.Kinds.{is_among, is_dot, is_packed, is_semicolon, is_xml, is_xml_type, kind_by, kind_of, kind_of_type, last_name, suffix_of};
 
 /// The kind of a file that can have links.
 #[derive(Clone, Copy, Debug, PartialEq, Eq)]
@@ -70,6 +70,39 @@ fn is_among(suffix: &str, suffixes: &str) -> bool
     suffixes
         .split(' ')
         .any(|one| suffix.eq_ignore_ascii_case(one))
+}
+
+/// The kind of a file with this media type, which may have parameters, or `None` if it has no links. Case does not matter.
+pub(crate) fn kind_of_type(text: &str) -> Option<FileKind>
+    ensures { result ≡ kind_of_type text.now }
+{
+    let name = media_type(text);
+    if name.eq_ignore_ascii_case("text/html") {
+        Some(FileKind::Html)
+    } else if is_xml_type(name) {
+        Some(FileKind::Xml)
+    } else if name.eq_ignore_ascii_case("text/css") {
+        Some(FileKind::Style)
+    } else {
+        None
+    }
+}
+
+/// Whether the media type is that of XHTML or SVG.
+fn is_xml_type(name: &str) -> bool
+    ensures { result ≡ is_xml_type name.now }
+{
+    name.eq_ignore_ascii_case("application/xhtml+xml") || name.eq_ignore_ascii_case("image/svg+xml")
+}
+
+/// A media type without its parameters.
+fn media_type(text: &str) -> &str
+    ensures { result.now ≡ before_first is_semicolon text.now }
+{
+    match text.split_once(';') {
+        Some((name, _)) => name,
+        None => text,
+    }
 }
 
 /// What comes after the last dot of a file's name, if something other than dots comes before it.
