@@ -69,6 +69,7 @@ impl<'a> SiteFiles<'a> {
         ensures error { IfErr result IsOfFiles }
         ensures top { IfOk result (λ files. IsTop input.entry.base.now (string_bytes files.site.top)) }
         ensures names { IfOk result (IsOfNames input.entry.names.now input.entry.rules.now) }
+        ensures url { IfOk result (λ files. files.site.top_url ≡ string_bytes files.site.top) }
         ensures table { IfOk result (λ files. IsTable (server_of files) (texts input.entry.names.now) files.site.entries.items) }
         ensures links { IfOk result (λ files. IsLinked (string_bytes files.site.top) input.entry.links.now files.site.linked.links.items) }
         ensures ordered { IfOk result IsOrdered }
@@ -106,7 +107,9 @@ impl<'a> SiteFiles<'a> {
     }
 
     /// The URL of the top as that of a page.
-    pub fn top_url(&self) -> &CanonUrl {
+    pub fn top_url(&self) -> &CanonUrl
+        ensures { result.now ≡ self.now.site.top_url }
+    {
         &self.site.top_url
     }
 

@@ -26,4 +26,5 @@ pub use kinds::FileKind;
 pub use notes::{Left, Note};
 pub use site::Rules;
 pub use site_list::{ListError, SiteList, read_site_list};
+pub use spellings::before_query;
 pub use walk::{FolderNames, folder_names};

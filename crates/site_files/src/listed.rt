@@ -28,6 +28,7 @@ impl<'a> SiteFiles<'a> {
     ) -> Result<SiteFiles<'a>, SiteError>
         ensures error { IfErr result IsOfFiles }
         ensures top { IfOk result (λ files. IsTop base.now (string_bytes files.site.top)) }
+        ensures url { IfOk result (λ files. files.site.top_url ≡ string_bytes files.site.top) }
         ensures list { IfOk result (IsOfList list.now rules.entry.now) }
         ensures pages { IfOk result (λ files. IsListed (string_bytes files.site.top) list.now.urls.items (texts list.now.names.items) files.site.entries.items) }
         ensures links { IfOk result (λ files. IsLinked (string_bytes files.site.top) [] files.site.linked.links.items) }
@@ -57,6 +58,7 @@ fn listed_site(
 ) -> Result<Site, SiteError>
     ensures error { IfErr result IsOfFiles }
     ensures top { IfOk result (λ site. IsTop base.now (string_bytes site.top)) }
+    ensures url { IfOk result (λ site. site.top_url ≡ string_bytes site.top) }
     ensures pages { IfOk result (λ site. IsListed (string_bytes site.top) urls.now (texts names.now) site.entries.items) }
     ensures links { IfOk result (λ site. IsLinked (string_bytes site.top) [] site.linked.links.items) }
 {

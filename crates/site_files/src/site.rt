@@ -104,6 +104,7 @@ impl Site {
     ) -> Result<Site, SiteError>
         ensures error { IfErr result IsOfFiles }
         ensures top { IfOk result (λ site. IsTop base.now (string_bytes site.top)) }
+        ensures url { IfOk result (λ site. site.top_url ≡ string_bytes site.top) }
         ensures table { IfOk result (λ site. IsTable (server_at rules.now site) (texts names.now) site.entries.items) }
         ensures links { IfOk result (λ site. IsLinked (string_bytes site.top) links.now site.linked.links.items) }
     {
@@ -138,6 +139,7 @@ impl Site {
         ensures error { IfErr result IsOfFiles }
         ensures top { IfOk result (λ site. IsTop base.now (string_bytes site.top)) }
         ensures links { IfOk result (λ site. IsLinked (string_bytes site.top) [] site.linked.links.items) }
+        ensures url { IfOk result (λ site. site.top_url ≡ string_bytes site.top) }
     {
         let page = url_at(alloc, base)?;
         let Some((origin, path)) = split_origin(page.as_str()) else {
@@ -468,6 +470,7 @@ fn url_at(alloc: Global, text: &str) -> Result<CanonUrl, SiteError>
 fn top_at(alloc: Global, page: &CanonUrl, text: &str) -> Result<CanonUrl, SiteError>
     ensures error { IfErr result IsOfFiles }
     ensures top { IfOk result (λ _. (base : List ℕ) → canonical base ≡ Ok page.now → IsTop base text.now) }
+    ensures url { IfOk result (λ url. url ≡ text.now) }
 {
     let url = url_at(alloc, text)?;
     let is_top = is_top(alloc, page.as_str(), &url, text)?;
