@@ -49,6 +49,7 @@ impl<'a> SiteFiles<'a> {
 }
 
 /// The site of listed URLs with these names.
+#[tactic(auto, using(crate::proofs::ListedPages::listed_once))]
 fn listed_site(
     alloc: Global,
     urls: &[ListedUrl],
@@ -75,6 +76,7 @@ fn listed_site(
 }
 
 /// The pages of the listed URLs below the top, in the order of the lines.
+#[tactic(auto, using(crate::proofs::ListedPages::nothing_yet, crate::proofs::ListedPages::line_listed, crate::proofs::ListedPages::line_left_out, crate::proofs::ListedPages::all_listed))]
 fn entries_below(
     alloc: Global,
     top: &str,
