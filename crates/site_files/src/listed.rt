@@ -29,7 +29,7 @@ impl<'a> SiteFiles<'a> {
         ensures error { IfErr result IsOfFiles }
         ensures top { IfOk result (λ files. IsTop base.now (string_bytes files.site.top)) }
         ensures url { IfOk result (λ files. files.site.top_url ≡ string_bytes files.site.top) }
-        ensures list { IfOk result (IsOfList list.now rules.entry.now) }
+        ensures list { IfOk result (IsOfList list.now rules.now) }
         ensures pages { IfOk result (λ files. IsListed (string_bytes files.site.top) list.now.urls.items (texts list.now.names.items) files.site.entries.items) }
         ensures links { IfOk result (λ files. IsLinked (string_bytes files.site.top) [] files.site.linked.links.items) }
         ensures ordered { IfOk result IsOrdered }
