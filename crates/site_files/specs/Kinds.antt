@@ -6,7 +6,7 @@ use Rattle.std.specs.Path.{rsplit_once}
 use Rattle.std.specs.Str.{str_eq_ignore_ascii_case}
 use Rattle.site_files.specs.Below.{is_slash}
 use Rattle.site_files.specs.declared.kinds.FileKind.{FileKind}
-use Rattle.site_files.specs.declared.kinds.FileKind.TheVariants.{Html, Xml, Style, Unknown}
+use Rattle.site_files.specs.declared.kinds.FileKind.TheVariants.{Html, Xml, Svg, Style, Unknown}
 use Rattle.site_files.specs.declared.kinds.TheConstants.{OTHERS}
 
 abbrev pub is_dot : ℕ → Bool
@@ -29,10 +29,8 @@ suffix_of path = option_and_then after_stem (rsplit_once 46 (last_name path))
 abbrev pub is_html : List ℕ → Bool
 is_html suffix = str_eq_ignore_ascii_case suffix (codes "html") || str_eq_ignore_ascii_case suffix (codes "htm")
 
-abbrev pub is_xml : List ℕ → Bool
-is_xml suffix =
-    str_eq_ignore_ascii_case suffix (codes "xhtml") || str_eq_ignore_ascii_case suffix (codes "xht")
-    || str_eq_ignore_ascii_case suffix (codes "svg")
+abbrev pub is_xhtml : List ℕ → Bool
+is_xhtml suffix = str_eq_ignore_ascii_case suffix (codes "xhtml") || str_eq_ignore_ascii_case suffix (codes "xht")
 
 abbrev pub is_packed : List ℕ → Bool
 is_packed suffix =
@@ -47,7 +45,8 @@ is_among suffix suffixes = list_any (str_eq_ignore_ascii_case suffix) (slice_spl
 abbrev pub kind_by : List ℕ → Option FileKind
 kind_by suffix =
     if is_html suffix then Some Html
-    else if is_xml suffix then Some Xml
+    else if is_xhtml suffix then Some Xml
+    else if str_eq_ignore_ascii_case suffix (codes "svg") then Some Svg
     else if str_eq_ignore_ascii_case suffix (codes "css") then Some Style
     else if is_packed suffix || is_among suffix OTHERS.now then None
     else Some Unknown
@@ -61,15 +60,12 @@ kind_of path = option_map_or kind_by (suffix_of path) (Some Unknown)
 abbrev pub is_semicolon : ℕ → Bool
 is_semicolon b = b == 59
 
-abbrev pub is_xml_type : List ℕ → Bool
-is_xml_type name =
-    str_eq_ignore_ascii_case name (codes "application/xhtml+xml") || str_eq_ignore_ascii_case name (codes "image/svg+xml")
-
 -- the kind of a file with this media type, which has no parameters
 abbrev pub kind_by_type : List ℕ → Option FileKind
 kind_by_type name =
     if str_eq_ignore_ascii_case name (codes "text/html") then Some Html
-    else if is_xml_type name then Some Xml
+    else if str_eq_ignore_ascii_case name (codes "application/xhtml+xml") then Some Xml
+    else if str_eq_ignore_ascii_case name (codes "image/svg+xml") then Some Svg
     else if str_eq_ignore_ascii_case name (codes "text/css") then Some Style
     else None
 
@@ -83,12 +79,22 @@ kind_of_type text = kind_by_type (before_first is_semicolon text)
 abbrev pub is_document : FileKind → Bool
 is_document Html = true
 is_document Xml = true
+is_document Svg = true
 is_document Style = false
 is_document Unknown = false
+
+-- known to be a page
+abbrev pub is_page : FileKind → Bool
+is_page Html = true
+is_page Xml = true
+is_page Svg = false
+is_page Style = false
+is_page Unknown = false
 
 abbrev pub is_style : FileKind → Bool
 is_style Html = false
 is_style Xml = false
+is_style Svg = false
 is_style Style = true
 is_style Unknown = false
 

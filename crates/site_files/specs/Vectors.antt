@@ -5,7 +5,7 @@ use Rattle.percent_encoding.specs.Percent.{percent_decode}
 use Rattle.site_files.specs.Kinds.{kind_of}
 use Rattle.site_files.specs.Pages.{Folder, Response, Missing, Moved, Found, own_text, response_at}
 use Rattle.site_files.specs.Server.{Host, Server, looked_up}
-use Rattle.site_files.specs.declared.kinds.FileKind.TheVariants.{Html, Xml, Style, Unknown}
+use Rattle.site_files.specs.declared.kinds.FileKind.TheVariants.{Html, Xml, Svg, Style, Unknown}
 
 -- the path that is looked up for the path of a request, which comes without its first slash
 abbrev pub requested : List ℕ → Option (List ℕ)
@@ -139,7 +139,7 @@ pub record Kinds : Type 0 where
   pub upper_case : kind_of (codes "PAGE.HTM") ≡ Some Html
   pub dots_in_name : kind_of (codes "v1.2.html") ≡ Some Html
   pub xhtml : kind_of (codes "page.xhtml") ≡ Some Xml
-  pub svg : kind_of (codes "img/Logo.SVG") ≡ Some Xml
+  pub svg : kind_of (codes "img/Logo.SVG") ≡ Some Svg
   pub style : kind_of (codes "style.css") ≡ Some Style
   pub text : kind_of (codes "notes.TXT") ≡ None
   pub packed : kind_of (codes "page.html.gz") ≡ None

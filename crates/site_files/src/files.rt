@@ -4,7 +4,7 @@ ghost use Rattle.std.specs.List.Sorted.{IsStrictlySortedBy};
 ghost use Rattle.site_files.specs.Below.{IsTop};
 ghost use Rattle.site_files.specs.Files.{IsOfFiles};
 ghost use Rattle.site_files.specs.Entries.{Finds, IsTable, cmp_urls, texts};
-ghost use Rattle.site_files.specs.Kinds.{is_document, is_style};
+ghost use Rattle.site_files.specs.Kinds.{is_document, is_page, is_style};
 ghost use Rattle.site_files.specs.Links.{IsLinked};
 ghost use Rattle.site_files.specs.Files.{IsOrdered, IsOfNames, document_at, document_of, file_kind, kind_at, line_kind, name_at, named_kind, page_file, page_of, pages_of, server_of, site_file};
 
@@ -42,8 +42,18 @@ impl SiteFile<'_> {
         ensures { result ≡ is_document self.now.kind }
     {
         match self.kind {
-            FileKind::Html | FileKind::Xml => true,
+            FileKind::Html | FileKind::Xml | FileKind::Svg => true,
             FileKind::Style | FileKind::Unknown => false,
+        }
+    }
+
+    /// Whether it is known to be a page: an HTML or XHTML document.
+    pub fn is_page(&self) -> bool
+        ensures { result ≡ is_page self.now.kind }
+    {
+        match self.kind {
+            FileKind::Html | FileKind::Xml => true,
+            FileKind::Svg | FileKind::Style | FileKind::Unknown => false,
         }
     }
 }

@@ -1,15 +1,17 @@
 //! The kind of a file, by its name or its media type.
 ghost use Rattle.std.specs.Prelude.{◌≡◌, option_map};
 ghost use Rattle.std.specs.List.{before_first, list_all};
-ghost use Rattle.site_files.specs.Kinds.{is_among, is_dot, is_packed, is_semicolon, is_xml, is_xml_type, kind_by, kind_of, kind_of_type, last_name, suffix_of};
+ghost use Rattle.site_files.specs.Kinds.{is_among, is_dot, is_packed, is_semicolon, kind_by, kind_of, kind_of_type, last_name, suffix_of};
 
 /// The kind of a file that can have links.
 #[derive(Clone, Copy, Debug, PartialEq, Eq)]
 pub enum FileKind {
     /// An HTML document.
     Html,
-    /// An XML document: XHTML or SVG.
+    /// An XHTML document.
     Xml,
+    /// An SVG picture, which is XML too and can have links and anchors.
+    Svg,
     /// A style sheet.
     Style,
     /// An HTML document if its first bytes are those of one.
@@ -36,8 +38,10 @@ fn kind_by(suffix: &str) -> Option<FileKind>
 {
     if suffix.eq_ignore_ascii_case("html") || suffix.eq_ignore_ascii_case("htm") {
         Some(FileKind::Html)
-    } else if is_xml(suffix) {
+    } else if suffix.eq_ignore_ascii_case("xhtml") || suffix.eq_ignore_ascii_case("xht") {
         Some(FileKind::Xml)
+    } else if suffix.eq_ignore_ascii_case("svg") {
+        Some(FileKind::Svg)
     } else if suffix.eq_ignore_ascii_case("css") {
         Some(FileKind::Style)
     } else if is_packed(suffix) || is_among(suffix, OTHERS) {
@@ -45,15 +49,6 @@ fn kind_by(suffix: &str) -> Option<FileKind>
     } else {
         Some(FileKind::Unknown)
     }
-}
-
-/// Whether the suffix is that of XHTML or SVG.
-fn is_xml(suffix: &str) -> bool
-    ensures { result ≡ is_xml suffix.now }
-{
-    suffix.eq_ignore_ascii_case("xhtml")
-        || suffix.eq_ignore_ascii_case("xht")
-        || suffix.eq_ignore_ascii_case("svg")
 }
 
 /// Whether the suffix is that of a packed file.
@@ -79,20 +74,15 @@ pub(crate) fn kind_of_type(text: &str) -> Option<FileKind>
     let name = media_type(text);
     if name.eq_ignore_ascii_case("text/html") {
         Some(FileKind::Html)
-    } else if is_xml_type(name) {
+    } else if name.eq_ignore_ascii_case("application/xhtml+xml") {
         Some(FileKind::Xml)
+    } else if name.eq_ignore_ascii_case("image/svg+xml") {
+        Some(FileKind::Svg)
     } else if name.eq_ignore_ascii_case("text/css") {
         Some(FileKind::Style)
     } else {
         None
     }
-}
-
-/// Whether the media type is that of XHTML or SVG.
-fn is_xml_type(name: &str) -> bool
-    ensures { result ≡ is_xml_type name.now }
-{
-    name.eq_ignore_ascii_case("application/xhtml+xml") || name.eq_ignore_ascii_case("image/svg+xml")
 }
 
 /// A media type without its parameters.
