@@ -1,5 +1,5 @@
 //! The file of each page of a site.
-ghost use Rattle.std.specs.Prelude.{◌≡◌, IfErr, IfOk, is_some, length, slice_get, string_bytes, option_map};
+ghost use Rattle.std.specs.Prelude.{◌≡◌, IfErr, IfOk, length, slice_get, string_bytes, option_map};
 ghost use Rattle.std.specs.List.Sorted.{IsStrictlySortedBy};
 ghost use Rattle.site_files.specs.Below.{IsTop};
 ghost use Rattle.site_files.specs.Files.{IsOfFiles};
@@ -206,13 +206,6 @@ impl<'a> SiteFiles<'a> {
             Some(urls) => line_kind(urls, index),
             None => named_kind(self.rules, name),
         }
-    }
-
-    /// Whether a list has the pages. Then the target of a redirect is exactly the listed one, at the redirect's own URL.
-    pub fn is_listed(&self) -> bool
-        ensures { result ≡ is_some self.now.listed }
-    {
-        self.listed.is_some()
     }
 
     /// The URL to which the page with this number is moved, without a query, if the page is a redirect.
