@@ -2,9 +2,8 @@
 use Rattle.std.specs.Prelude.{ℕ, ◌==◌, Bool, true, false, not, ◌||◌, ◌&&◌, List, codes, bytes_eq, Option, Some, None, option_and_then, option_map, if◌then◌else◌}
 use Rattle.std.specs.List.{before_first, list_all, list_any, slice_split}
 use Rattle.std.specs.Option.{option_map_or}
-use Rattle.std.specs.Path.{rsplit_once}
 use Rattle.std.specs.Str.{str_eq_ignore_ascii_case}
-use Rattle.site_files.specs.Below.{is_slash}
+use Rattle.url.specs.Input.{rsplit_once}
 use Rattle.site_files.specs.declared.kinds.FileKind.{FileKind}
 use Rattle.site_files.specs.declared.kinds.FileKind.TheVariants.{Html, Xml, Svg, Style, Unknown}
 use Rattle.site_files.specs.declared.kinds.TheConstants.{OTHERS}
@@ -14,15 +13,16 @@ is_dot b = b == 46
 
 -- the last name on a path
 abbrev pub last_name : List ℕ → List ℕ
-last_name path = option_map_or (λ cut. cut.1) (rsplit_once 47 path) path
+last_name path = (rsplit_once 47 path).1
 
 -- what is after a last dot, unless only dots are before it
-abbrev pub after_stem : List ℕ × List ℕ → Option (List ℕ)
-after_stem cut = if list_all is_dot cut.0 then None else Some cut.1
+abbrev pub after_stem : Option (List ℕ) → List ℕ → Option (List ℕ)
+after_stem None suffix = None
+after_stem (Some stem) suffix = if list_all is_dot stem then None else Some suffix
 
 -- the suffix of a file's name
 abbrev pub suffix_of : List ℕ → Option (List ℕ)
-suffix_of path = option_and_then after_stem (rsplit_once 46 (last_name path))
+suffix_of path = after_stem (rsplit_once 46 (last_name path)).0 (rsplit_once 46 (last_name path)).1
 
 -- ---- suffixes, in any case but those of packed files
 
@@ -41,6 +41,9 @@ is_packed suffix =
 abbrev pub is_among : List ℕ → List ℕ → Bool
 is_among suffix suffixes = list_any (str_eq_ignore_ascii_case suffix) (slice_split (λ b. b == 32) suffixes)
 
+abbrev pub is_other : List ℕ → Bool
+is_other suffix = is_among suffix OTHERS.now
+
 -- the kind of a file with this suffix; none if it has no links
 abbrev pub kind_by : List ℕ → Option FileKind
 kind_by suffix =
@@ -48,7 +51,7 @@ kind_by suffix =
     else if is_xhtml suffix then Some Xml
     else if str_eq_ignore_ascii_case suffix (codes "svg") then Some Svg
     else if str_eq_ignore_ascii_case suffix (codes "css") then Some Style
-    else if is_packed suffix || is_among suffix OTHERS.now then None
+    else if is_packed suffix || is_other suffix then None
     else Some Unknown
 
 -- the kind of the file with this path

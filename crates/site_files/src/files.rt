@@ -275,7 +275,7 @@ fn named_kind(rules: &Rules, name: &str) -> Option<FileKind>
     ensures { result ≡ named_kind rules.now name.now }
 {
     let (path, _) = split_name(name, rules.queries);
-    kind_of(path)
+    kind_of(path.as_bytes())
 }
 
 /// Whether the file is a style sheet.

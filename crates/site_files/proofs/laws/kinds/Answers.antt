@@ -1,5 +1,5 @@
 use Rattle.std.proofs.Common.{refl}
-use Rattle.std.specs.Path.{rsplit_once}
+use Rattle.url.specs.Input.{rsplit_once}
 use Rattle.site_files.proofs.laws.kinds.Goals as goal
 
 pub returns : goal.returns
