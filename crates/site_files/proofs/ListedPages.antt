@@ -35,9 +35,12 @@ entry_more (first ∷ entries) entry url rest =
           ∙ sym (ap (λ r. or_else r more) (cond-false _ _ _ other))
     ]
 
+urls_left : (urls : List ListedUrl) (i : ℕ) (one : ListedUrl) → i < length urls → get_or urls i one ≡ one → drop i urls ≡ one ∷ drop (i + 1) urls
+urls_left urls i one below is = rw (add-one i) (drop-cons urls i one below ∙ ap (λ line. line ∷ drop (suc i) urls) is)
+
 lines_left : (urls : List ListedUrl) (i : ℕ) (one : ListedUrl) → i < length urls → get_or urls i one ≡ one → enumerate_from i (drop i urls) ≡ (i, one) ∷ enumerate_from (i + 1) (drop (i + 1) urls)
 lines_left urls i one below is =
-    rw (add-one i) (ap (enumerate_from i) (drop-cons urls i one below) ∙ ap (λ line. (i, line) ∷ enumerate_from (suc i) (drop (suc i) urls)) is)
+    ap (enumerate_from i) (urls_left urls i one below is)
 
 -- a line with another URL has nothing for this one
 other_line : (top : List ℕ) (names : List (List ℕ)) (i : ℕ) (one : ListedUrl) (lines : List (ℕ × ListedUrl)) (url : List ℕ) → bytes_eq one.url url ≡ false → first_listed top names ((i, one) ∷ lines) url ≡ first_listed top names lines url

@@ -1,4 +1,4 @@
--- The kinds of files that can have links, by their names.
+-- The kinds of files that can have links, by their names or media types.
 use Rattle.std.specs.Prelude.{ℕ, ◌==◌, Bool, true, false, not, ◌||◌, ◌&&◌, List, codes, bytes_eq, Option, Some, None, if◌then◌else◌}
 use Rattle.std.specs.List.{before_first, list_all, list_any, slice_split}
 use Rattle.std.specs.Option.{option_map_or}
