@@ -22,7 +22,14 @@ use std::alloc::{AllocError, Global};
 
 /// What is read of a document.
 #[derive(Clone, Copy)]
-pub struct ReadOptions {
+pub struct ReadOptions<'a> {
+    /// How the document is written.
+    pub syntax: Syntax,
+    /// Whether `url()` and `@import` in `style` elements and attributes are links.
+    pub styles: bool,
+    /// The path of the site's top, which ends with a slash, if links and a `base` that begin with one slash lead below the top. That is so
+    /// in a folder whose URL is not known.
+    pub root: Option<&'a str>,
     /// Whether anchors and links to anchors are read.
     pub anchors: bool,
     /// Whether the positions of links and the invalid links are kept.
@@ -69,11 +76,11 @@ pub fn read_document(
     alloc: Global,
     body: &[u8],
     url: &CanonUrl,
-    options: ReadOptions,
+    options: ReadOptions<'_>,
     room: &mut RawLinks,
 ) -> Result<Document, AllocError>
     // In a Unicode encoding and without `base`: one text for each link, in order.
-    ensures { IfOk result (λ document. HasLinkTexts body.now options.byte_limit document.links) }
+    ensures { IfOk result (λ document. HasLinkTexts body.now options.entry.byte_limit document.links) }
 {
     let charset = charset_of(body);
     let mut document = document_in(alloc, body, charset, url, options, room)?;
@@ -87,10 +94,10 @@ fn document_in(
     body: &[u8],
     charset: Charset,
     url: &CanonUrl,
-    options: ReadOptions,
+    options: ReadOptions<'_>,
     room: &mut RawLinks,
 ) -> Result<Document, AllocError>
-    ensures { IfOk result (λ document. HasLinks charset body.now options.byte_limit document.links) }
+    ensures { IfOk result (λ document. HasLinks charset body.now options.entry.byte_limit document.links) }
 {
     match utf8_text(alloc, body, charset)? {
         Some(text) => text_document(alloc, text.as_slice(), charset, url, options, room),
@@ -119,10 +126,10 @@ fn text_document(
     text: &[u8],
     charset: Charset,
     url: &CanonUrl,
-    options: ReadOptions,
+    options: ReadOptions<'_>,
     raw: &mut RawLinks,
 ) -> Result<Document, AllocError>
-    ensures { IfOk result (λ document. HasTexts charset text.now options.byte_limit document.links) }
+    ensures { IfOk result (λ document. HasTexts charset text.now options.entry.byte_limit document.links) }
 {
     let mut ids = RawIds::new(alloc);
     raw.clear()?;
@@ -154,10 +161,10 @@ fn written_links(
     charset: Charset,
     base: Base,
     url: &CanonUrl,
-    options: ReadOptions,
+    options: ReadOptions<'_>,
     raw: &RawLinks,
 ) -> Result<LinkWriter, AllocError>
-    ensures { is_unicode charset ≡ true → base_at base ≡ None → IfOk result (λ writer. AreWritten [] raw.now.texts writer.links options.byte_limit) }
+    ensures { is_unicode charset ≡ true → base_at base ≡ None → IfOk result (λ writer. AreWritten [] raw.now.texts writer.links options.entry.byte_limit) }
 {
     let mut writer = LinkWriter::new(alloc, charset, base, url)?;
     writer.make_room(url, raw, options.places)?;
@@ -170,7 +177,7 @@ fn read_known(
     alloc: Global,
     text: &[u8],
     charset: Charset,
-    options: ReadOptions,
+    options: ReadOptions<'_>,
     raw: &mut RawLinks,
     ids: &mut RawIds,
 ) -> Result<Base, AllocError>
@@ -191,19 +198,20 @@ fn read_known(
 fn read_all(
     alloc: Global,
     text: &[u8],
-    options: ReadOptions,
+    options: ReadOptions<'_>,
     raw: &mut RawLinks,
     ids: &mut RawIds,
 ) -> Result<Base, AllocError>
     ensures links { OnOk result (raw.new.texts ≡ raw.old.texts ++ links_of false Html text.now) }
     ensures base { IfOk result (λ base. base_at base ≡ base_of Html text.now) }
 {
+    let ReadOptions { syntax, styles, .. } = options;
     if options.anchors {
-        read_page(alloc, Syntax::Html, text, false, raw, ids)
-    } else if options.places {
-        read_places(alloc, Syntax::Html, text, false, raw)
+        read_page(alloc, syntax, text, styles, raw, ids)
+    } else if options.places || styles {
+        read_places(alloc, syntax, text, styles, raw)
     } else {
-        read_links(alloc, Syntax::Html, text, raw)
+        read_links(alloc, syntax, text, raw)
     }
 }
 
