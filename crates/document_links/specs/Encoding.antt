@@ -5,6 +5,7 @@ use Rattle.std.specs.Str.Lossy.{utf8_lossy}
 use Rattle.std.specs.declared.alloc.Global.{Global}
 use Rattle.document_links.specs.declared.charset.Charset.{Charset}
 use Rattle.document_links.specs.declared.charset.TheConstants.{LIKELY, WINDOWS}
+use Rattle.document_links.specs.declared.document.ReadOptions.{ReadOptions}
 use Rattle.document_links.specs.declared.charset.Charset.TheVariants.{Utf8, Utf16Le, Utf16Be, Windows1252, Other}
 use Rattle.document_links.specs.Written.{HasTexts}
 
@@ -32,16 +33,16 @@ text_in body None = without_mark body
 text_in body (Some text) = text.items
 
 -- a document in this encoding has these link texts
-pub record HasLinks (charset : Charset) (body : List ℕ) (limit : ℕ) (links : List (List ℕ)) : Type 0 where
+pub record HasLinks (options : ReadOptions) (charset : Charset) (body : List ℕ) (links : List (List ℕ)) : Type 0 where
   pub text : List ℕ
   pub decoded : IsTextIn charset body text
-  pub texts : HasTexts charset text limit links
+  pub texts : HasTexts options charset text links
 
 -- a document has these link texts in some encoding, which is UTF-8 if it begins with the mark of that
-pub record HasLinkTexts (body : List ℕ) (limit : ℕ) (links : List (List ℕ)) : Type 0 where
+pub record HasLinkTexts (options : ReadOptions) (body : List ℕ) (links : List (List ℕ)) : Type 0 where
   pub charset : Charset
   pub marked : has_mark body ≡ true → charset ≡ Utf8
-  pub has : HasLinks charset body limit links
+  pub has : HasLinks options charset body links
 
 -- ---- windows-1252
 

@@ -1,12 +1,11 @@
 //! Reads a document.
-ghost use Rattle.std.specs.Prelude.{◌≡◌, ◌++◌, [], true, false, IfOk, OnOk, IfSome, IsAscii, MatchOption, None};
+ghost use Rattle.std.specs.Prelude.{◌≡◌, ◌++◌, [], true, IfOk, OnOk, IfSome, IsAscii, MatchOption, None};
 ghost use Rattle.std.specs.Str.Lossy.{utf8_lossy};
-ghost use Rattle.html_links.specs.Links.{base_of, links_of};
-ghost use Rattle.html_links.specs.declared.context.Syntax.TheVariants.{Html};
+ghost use Rattle.html_links.specs.Links.{base_of};
 ghost use Rattle.html_links.specs.Reads.{base_at};
 ghost use Rattle.document_links.specs.Encoding.{HasLinks, HasLinkTexts, IsTextIn, text_in};
 ghost use Rattle.document_links.specs.Places.{keeps_ascii};
-ghost use Rattle.document_links.specs.Written.{AreWritten, HasTexts, is_unicode};
+ghost use Rattle.document_links.specs.Written.{AreWritten, HasTexts, is_unicode, read_links_of};
 
 use crate::anchors::{AnchorTargets, anchors_of};
 use crate::charset::{Charset, charset_of, declared, from_utf16, from_windows};
@@ -80,7 +79,7 @@ pub fn read_document(
     room: &mut RawLinks,
 ) -> Result<Document, AllocError>
     // In a Unicode encoding and without `base`: one text for each link, in order.
-    ensures { IfOk result (λ document. HasLinkTexts body.now options.entry.byte_limit document.links) }
+    ensures { IfOk result (λ document. HasLinkTexts options.entry body.now document.links) }
 {
     let charset = charset_of(body);
     let mut document = document_in(alloc, body, charset, url, options, room)?;
@@ -97,7 +96,7 @@ fn document_in(
     options: ReadOptions<'_>,
     room: &mut RawLinks,
 ) -> Result<Document, AllocError>
-    ensures { IfOk result (λ document. HasLinks charset body.now options.entry.byte_limit document.links) }
+    ensures { IfOk result (λ document. HasLinks options.entry charset body.now document.links) }
 {
     match utf8_text(alloc, body, charset)? {
         Some(text) => text_document(alloc, text.as_slice(), charset, url, options, room),
@@ -129,7 +128,7 @@ fn text_document(
     options: ReadOptions<'_>,
     raw: &mut RawLinks,
 ) -> Result<Document, AllocError>
-    ensures { IfOk result (λ document. HasTexts charset text.now options.entry.byte_limit document.links) }
+    ensures { IfOk result (λ document. HasTexts options.entry charset text.now document.links) }
 {
     let mut ids = RawIds::new(alloc);
     raw.clear()?;
@@ -181,8 +180,8 @@ fn read_known(
     raw: &mut RawLinks,
     ids: &mut RawIds,
 ) -> Result<Base, AllocError>
-    ensures links { is_unicode charset ≡ true → OnOk result (raw.new.texts ≡ raw.old.texts ++ links_of false Html text.now) }
-    ensures base { is_unicode charset ≡ true → IfOk result (λ base. base_at base ≡ base_of Html text.now) }
+    ensures links { is_unicode charset ≡ true → OnOk result (raw.new.texts ≡ raw.old.texts ++ read_links_of options.entry text.now) }
+    ensures base { is_unicode charset ≡ true → IfOk result (λ base. base_at base ≡ base_of options.entry.syntax text.now) }
 {
     let base = read_all(alloc, text, options, raw, ids)?;
     match charset {
@@ -202,16 +201,15 @@ fn read_all(
     raw: &mut RawLinks,
     ids: &mut RawIds,
 ) -> Result<Base, AllocError>
-    ensures links { OnOk result (raw.new.texts ≡ raw.old.texts ++ links_of false Html text.now) }
-    ensures base { IfOk result (λ base. base_at base ≡ base_of Html text.now) }
+    ensures links { OnOk result (raw.new.texts ≡ raw.old.texts ++ read_links_of options.entry text.now) }
+    ensures base { IfOk result (λ base. base_at base ≡ base_of options.entry.syntax text.now) }
 {
-    let ReadOptions { syntax, styles, .. } = options;
     if options.anchors {
-        read_page(alloc, syntax, text, styles, raw, ids)
-    } else if options.places || styles {
-        read_places(alloc, syntax, text, styles, raw)
+        read_page(alloc, options.syntax, text, options.styles, raw, ids)
+    } else if options.places || options.styles {
+        read_places(alloc, options.syntax, text, options.styles, raw)
     } else {
-        read_links(alloc, syntax, text, raw)
+        read_links(alloc, options.syntax, text, raw)
     }
 }
 
