@@ -1,11 +1,11 @@
 //! Reads a document.
 ghost use Rattle.std.specs.Prelude.{◌≡◌, ◌++◌, [], true, IfOk, OnOk, IfSome, IsAscii, MatchOption, None};
 ghost use Rattle.std.specs.Str.Lossy.{utf8_lossy};
-ghost use Rattle.html_links.specs.Links.{base_of};
+ghost use Rattle.html_links.specs.Links.{base_of, links_of};
 ghost use Rattle.html_links.specs.Reads.{base_at};
-ghost use Rattle.document_links.specs.Encoding.{HasLinks, HasLinkTexts, IsTextIn, text_in};
+ghost use Rattle.document_links.specs.Encoding.{HasLinks, HasLinkTexts, HasTexts, IsTextIn, text_in};
 ghost use Rattle.document_links.specs.Places.{keeps_ascii};
-ghost use Rattle.document_links.specs.Written.{AreWritten, HasTexts, is_unicode, read_links_of};
+ghost use Rattle.document_links.specs.Written.{AreWritten, is_unicode};
 
 use crate::anchors::{AnchorTargets, anchors_of};
 use crate::charset::{Charset, charset_of, declared, from_utf16, from_windows};
@@ -14,6 +14,7 @@ use crate::link_texts::LinkTexts;
 use crate::link_writer::LinkWriter;
 use crate::positions::InvalidLink;
 use crate::raw_links::{RawIds, RawLinks};
+use crate::root::add_root;
 use crate::unknown::{ascii_text, has_unknown, keep_known};
 use crawl_keys::CanonUrl;
 use html_links::{Base, Syntax, read_links, read_page, read_places};
@@ -65,6 +66,22 @@ impl Document {
             encoding: None,
         }
     }
+
+    /// The document with the links that were written, without anchors.
+    pub(crate) fn written(writer: &mut LinkWriter) -> Document
+        ensures { result.links ≡ writer.old.links }
+    {
+        let links = writer.take_links();
+        let (positions, invalid) = writer.take_positions();
+        Document {
+            links,
+            has_skipped: writer.has_skipped,
+            anchors: None,
+            positions,
+            invalid,
+            encoding: None,
+        }
+    }
 }
 
 /// Reads the document at a URL. `room` is memory for its links, which is reused.
@@ -78,10 +95,11 @@ pub fn read_document(
     options: ReadOptions<'_>,
     room: &mut RawLinks,
 ) -> Result<Document, AllocError>
-    // In a Unicode encoding and without `base`: one text for each link, in order.
+    // In a Unicode encoding and without `base`: one text for each link, in order. If there is a root, paths that begin with one slash
+    // are below it.
     ensures { IfOk result (λ document. HasLinkTexts options.entry body.now document.links) }
 {
-    let charset = charset_of(body);
+    let charset = charset_of(body, false);
     let mut document = document_in(alloc, body, charset, url, options, room)?;
     document.encoding = unknown_encoding(alloc, body, charset)?;
     Ok(document)
@@ -133,29 +151,22 @@ fn text_document(
     let mut ids = RawIds::new(alloc);
     raw.clear()?;
     let base = read_known(alloc, text, charset, options, raw, &mut ids)?;
+    let base = add_root(options.root, url, base, raw)?;
     // The base also applies to the links before it, so all were found first.
     let mut writer = written_links(alloc, charset, base, url, options, raw)?;
-    let links = writer.take_links();
-    let (positions, invalid) = writer.take_positions();
-    let has_skipped = writer.has_skipped;
+    let mut document = Document::written(&mut writer);
     // If an id is not known, no link to an anchor is known to be broken.
     let anchors = if options.anchors && !ids.has_unknown {
         Some(anchors_of(alloc, &ids.ids, raw, writer, url)?)
     } else {
         None
     };
-    Ok(Document {
-        links,
-        has_skipped,
-        anchors,
-        positions,
-        invalid,
-        encoding: None,
-    })
+    document.anchors = anchors;
+    Ok(document)
 }
 
 /// Writes the texts of these links of a page with this base.
-fn written_links(
+pub(crate) fn written_links(
     alloc: Global,
     charset: Charset,
     base: Base,
@@ -180,7 +191,7 @@ fn read_known(
     raw: &mut RawLinks,
     ids: &mut RawIds,
 ) -> Result<Base, AllocError>
-    ensures links { is_unicode charset ≡ true → OnOk result (raw.new.texts ≡ raw.old.texts ++ read_links_of options.entry text.now) }
+    ensures links { is_unicode charset ≡ true → OnOk result (raw.new.texts ≡ raw.old.texts ++ links_of options.entry.styles options.entry.syntax text.now) }
     ensures base { is_unicode charset ≡ true → IfOk result (λ base. base_at base ≡ base_of options.entry.syntax text.now) }
 {
     let base = read_all(alloc, text, options, raw, ids)?;
@@ -201,7 +212,7 @@ fn read_all(
     raw: &mut RawLinks,
     ids: &mut RawIds,
 ) -> Result<Base, AllocError>
-    ensures links { OnOk result (raw.new.texts ≡ raw.old.texts ++ read_links_of options.entry text.now) }
+    ensures links { OnOk result (raw.new.texts ≡ raw.old.texts ++ links_of options.entry.styles options.entry.syntax text.now) }
     ensures base { IfOk result (λ base. base_at base ≡ base_of options.entry.syntax text.now) }
 {
     if options.anchors {

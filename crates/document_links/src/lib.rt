@@ -1,4 +1,4 @@
-//! One HTML document, from its bytes: its encoding, its links and their positions, and its anchors.
+//! One HTML document or style sheet, from its bytes: its encoding, its links and their positions, and its anchors.
 #![tactic(auto)]
 
 mod anchors;
@@ -15,6 +15,7 @@ mod places;
 mod positions;
 mod query;
 mod raw_links;
+mod root;
 mod scheme;
 mod style_sheet;
 mod targets;
