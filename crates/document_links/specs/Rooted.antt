@@ -37,7 +37,7 @@ depth_after depth segment = if dot_count segment == 2 then depth - 1 else (if do
 abbrev pub kept : ℕ → List ℕ → List ℕ → List ℕ
 kept depth segment end = if climbs depth segment then [] else segment ++ end
 
--- the rest of a text after so many open folders and the start of a segment, without the segments that lead above the top
+-- the rest of a text, if `depth` folders are open and a segment begins so: without the segments that lead above the top
 abbrev pub below_after : ℕ → List ℕ → List ℕ → List ℕ
 below_after depth segment [] = kept depth segment []
 below_after depth segment (b ∷ bytes) =
