@@ -56,7 +56,9 @@ pub struct Document {
 
 impl Document {
     /// A document without links.
-    pub fn empty(alloc: Global) -> Document {
+    pub fn empty(alloc: Global) -> Document
+        ensures { result.links ≡ [] }
+    {
         Document {
             links: LinkTexts::new(alloc),
             has_skipped: false,
