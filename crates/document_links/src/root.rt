@@ -1,5 +1,5 @@
 //! Links in a folder whose URL is not known: a path that begins with one slash is a path below the top.
-ghost use Rattle.std.specs.Prelude.{◌≡◌, ◌<◌, ◌≤◌, ◌∷◌, ◌++◌, ℕ, List, [], false, length, map, option_map, unwrap_or, IfOk, OnOk, None};
+ghost use Rattle.std.specs.Prelude.{◌≡◌, ◌<◌, ◌≤◌, ◌∷◌, ◌++◌, ℕ, List, [], drop, false, length, map, option_map, take, unwrap_or, IfOk, OnOk, None};
 ghost use Rattle.std.specs.List.{prefix_len};
 ghost use Rattle.url.specs.Path as spec;
 ghost use Rattle.html_links.specs.Reads.{base_at};
@@ -180,7 +180,7 @@ fn push_below(path: &[u8], out: &mut Vec<u8>) -> Result<(), AllocError>
     let mut depth = 0;
     let mut rest = path;
     'segments: loop {
-        let (segment, behind) = rest.split_at(segment_len(rest));
+        let (segment, behind) = split_segment(rest);
         if !begins_path(behind) {
             push_kept(depth, segment, &[], out)?;
             return out.extend_from_slice(behind);
@@ -190,6 +190,14 @@ fn push_below(path: &[u8], out: &mut Vec<u8>) -> Result<(), AllocError>
         depth = depth_after(depth, segment);
         rest = more;
     }
+}
+
+/// The first segment of a path, and what follows it.
+fn split_segment(path: &[u8]) -> (&[u8], &[u8])
+    ensures segment { result.0.now ≡ take (prefix_len in_segment path.now) path.now }
+    ensures behind { result.1.now ≡ drop (prefix_len in_segment path.now) path.now }
+{
+    path.split_at(segment_len(path))
 }
 
 /// The number of bytes before the first slash, and before the query and the fragment.
