@@ -3,6 +3,5 @@ pub mod Fitting
 pub mod Parsing
 pub mod Prelude
 pub mod Rooting
-pub mod Topping
 pub mod Trimming
 pub mod WindowsBytes

@@ -22,9 +22,6 @@ path_of (b ∷ bytes) = if is_slash b && not (begins_path bytes) then Some bytes
 abbrev pub ends_path : ℕ → Bool
 ends_path b = b == 63 || b == 35
 
-abbrev pub in_path : ℕ → Bool
-in_path b = not (ends_path b)
-
 abbrev pub in_segment : ℕ → Bool
 in_segment b = not (is_slash b || b == 63 || b == 35)
 
