@@ -1,5 +1,5 @@
 -- The links of a file, by its kind.
-use Rattle.std.specs.Prelude.{◌≡◌, ◌⊎◌, ◌^◌, ℕ, true, List, [], ◌++◌, Option, MatchOption, string_bytes}
+use Rattle.std.specs.Prelude.{◌≡◌, ◌⊎◌, ◌^◌, ℕ, List, [], ◌++◌, Option, IfSome, string_bytes}
 use Rattle.std.specs.Borrow.{Bor}
 use Rattle.html_links.specs.declared.context.Syntax.{Syntax}
 use Rattle.html_links.specs.declared.context.Syntax.TheVariants as syntax
@@ -20,15 +20,13 @@ syntax_of Svg = syntax.Xhtml
 syntax_of Style = syntax.Html
 syntax_of Unknown = syntax.Html
 
--- if there is a path below which absolute paths are, the rules ask for it, and it is that of the top
+-- the path below which absolute paths are, if there is one, is that of the top
 abbrev pub IsRoot : SiteFiles → Option (Bor (List ℕ)) → Type 0
-IsRoot files root =
-    MatchOption root (Unit {0}) (λ path. (files.rules.now.rooted ≡ true) × (string_bytes files.site.top ≡ string_bytes files.site.origin ++ path.now))
+IsRoot files root = IfSome root (λ path. string_bytes files.site.top ≡ string_bytes files.site.origin ++ path.now)
 
--- what is read of a file of this kind: the styles if the rules ask for them, and not more links than the largest saved web has
+-- what is read of a file of this kind: not more links than the largest saved web has
 pub record AreOptions (files : SiteFiles) (kind : FileKind) (options : ReadOptions) : Type 0 where
   pub syntax : options.syntax ≡ syntax_of kind
-  pub styles : options.styles ≡ files.rules.now.styles
   pub root : IsRoot files options.root
   pub limit : options.byte_limit ≡ 2 ^ 30
 
@@ -46,12 +44,11 @@ pub record IsFileDocument (files : SiteFiles) (kind : FileKind) (body : List ℕ
   pub has : HasFileLinks kind options body links
 
 -- the page at this URL, with these contents
-pub record IsPageOf (url : List ℕ) (under : Under) (page : SitePage) : Type 0 where
-  pub at : page.url ≡ url
-  pub is : page.under ≡ under
+abbrev pub IsPageOf : List ℕ → Under → SitePage → Type 0
+IsPageOf url under page = (page.url ≡ url) × (page.under ≡ under)
 
 -- the page at the URL of a file of this kind with these contents. A file of unknown kind may have no links
 pub record IsFilePage (files : SiteFiles) (url : List ℕ) (kind : FileKind) (body : List ℕ) (page : SitePage) : Type 0 where
   pub links : List (List ℕ)
-  pub page : IsPageOf url (Links links) page
+  pub is : IsPageOf url (Links links) page
   pub has : ((kind ≡ Unknown) × (links ≡ [])) ⊎ IsFileDocument files kind body links

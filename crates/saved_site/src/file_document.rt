@@ -28,8 +28,8 @@ pub(crate) fn file_document(
     }
 }
 
-/// What is read of a file of this kind. After as many bytes of links as the largest saved web has, no more are read: either the saved
-/// web is too large, or the page is not in it because its URL is too long.
+/// What is read of a file of this kind. After 2^30 bytes of links, the limit of a saved web, no more are read: either the saved web is
+/// too large, or the page is not in it because its URL is too long.
 fn options_of<'a>(files: &'a SiteFiles<'_>, kind: FileKind) -> ReadOptions<'a>
     ensures { AreOptions files.now kind result }
 {

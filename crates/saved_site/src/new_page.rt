@@ -43,8 +43,8 @@ pub(crate) struct SiteAnchors {
     pub(crate) targets: Vec<Target>,
 }
 
-/// Makes the page of a task whose URL is the own one of a file with these contents. A file of unknown kind has no links, unless its
-/// first bytes are those of a document. `room` is memory for the links.
+/// Makes the page at the own URL of a file of this kind with these contents. A file of unknown kind has no links, unless its first bytes
+/// are those of a document. `room` is memory for the links.
 pub(crate) fn file_page(
     alloc: Global,
     files: &SiteFiles<'_>,
@@ -229,7 +229,8 @@ impl NewPage {
     fn new(task: &Task, under: Under, notes: Vec<Note>) -> Result<NewPage, AllocError>
         ensures { IfOk result (λ new. IfSome new.page (IsPageOf task.now.url under)) }
     {
-        let page = SitePage::new(task.url.clone()?, under);
+        let url = task.url.clone()?;
+        let page = SitePage::new(url, under);
         let mut notes = notes;
         let alloc = *notes.allocator();
         if page.is_none() {

@@ -12,7 +12,7 @@ pub(crate) struct Task {
 /// What a server returns for a URL.
 #[derive(Clone, Copy)]
 pub(crate) enum Response<'a> {
-    /// A file, of which the URL is the own one. If the file can have links, they are those of the page.
+    /// A file at its own URL. If the file can have links, they are those of the page.
     Own(Option<SiteFile<'a>>),
     /// A file, whose own URL is this one.
     Alias(&'a CanonUrl),
