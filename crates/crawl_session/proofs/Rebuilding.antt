@@ -10,14 +10,19 @@ use Rattle.crawl_session.specs.Rebuilding.{Collects, CollectsQueues, Given, Inve
 
 -- ---- lines that are read
 
-done_push : (settings : Settings) (front : List (List ℕ)) (line : List ℕ) (state : Frontier) → (done_by settings line (done_in settings front state).state).state ≡ (done_in settings (front ++ line ∷ []) state).state
-done_push settings [] line state = refl
-done_push settings (first ∷ more) line state = done_push settings more line (done_by settings first state).state
+done_append : (settings : Settings) (front back : List (List ℕ)) (state : Frontier) → (done_in settings back (done_in settings front state).state).state ≡ (done_in settings (front ++ back) state).state
+done_append settings [] back state = refl
+done_append settings (first ∷ more) back state = done_append settings more back (done_by settings first state).state
 
-with_push : (settings : Settings) (state : Frontier) (had : Inventory) (front : List (List ℕ)) (line : List ℕ)
-    → with_line settings (done_in settings front state).state (with_lines settings state had front) line ≡ with_lines settings state had (front ++ line ∷ [])
-with_push settings state had [] line = refl
-with_push settings state had (first ∷ more) line = with_push settings (done_by settings first state).state (with_line settings state had first) more line
+with_append : (settings : Settings) (state : Frontier) (had : Inventory) (front back : List (List ℕ))
+    → with_lines settings (done_in settings front state).state (with_lines settings state had front) back ≡ with_lines settings state had (front ++ back)
+with_append settings state had [] back = refl
+with_append settings state had (first ∷ more) back = with_append settings (done_by settings first state).state (with_line settings state had first) more back
+
+-- more lines were read
+pub reads_both : (had : Inventory) (old : SessionView) (front : List (List ℕ)) (next : Inventory) (mid : SessionView) (back : List (List ℕ)) (last : Inventory) (new : SessionView)
+    → ReadsLines had old front next mid → ReadsLines next mid back last new → ReadsLines had old (front ++ back) last new
+reads_both had old front next mid back last new one two = grind (arith, done_append, with_append)
 
 -- the first of all lines were read
 abbrev pub ReadsFront : Inventory → SessionView → List (List ℕ) → List (List ℕ) → Inventory → SessionView → Type 0
@@ -25,7 +30,7 @@ ReadsFront had old all rest next mid = (front : List (List ℕ)) × (all ≡ fro
 
 reads_more : (had : Inventory) (old : SessionView) (front : List (List ℕ)) (next : Inventory) (mid : SessionView) (line : List ℕ) (last : Inventory) (new : SessionView)
     → ReadsLines had old front next mid → ReadsLine next mid line last new → ReadsLines had old (front ++ line ∷ []) last new
-reads_more had old front next mid line last new so_far one = grind (arith, done_push, with_push)
+reads_more had old front next mid line last new so_far one = reads_both had old front next mid (line ∷ []) last new so_far (record { settings = one.settings; comes = one.comes })
 
 pub front_more : (had : Inventory) (old : SessionView) (all rest : List (List ℕ)) (next : Inventory) (mid : SessionView) (line : List ℕ) (more : List (List ℕ)) (last : Inventory) (new : SessionView)
     → ReadsFront had old all rest next mid → rest ≡ line ∷ more → ReadsLine next mid line last new → ReadsFront had old all more last new

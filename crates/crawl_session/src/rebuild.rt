@@ -59,8 +59,8 @@ pub struct LeftOut {
 }
 
 impl LeftOut {
-    /// Returns the number of none.
-    fn none() -> LeftOut
+    /// Returns the numbers of no URLs.
+    pub fn none() -> LeftOut
         ensures { result ≡ spec.none_left_out }
     {
         LeftOut {
