@@ -1,12 +1,12 @@
 //! The log of a session with other settings that has the URLs of an old session.
-ghost use Rattle.std.specs.Prelude.{◌≡◌, ◌++◌, ◌∷◌, [], codes, decimal, false, string_bytes, true, ℕ, Err, IfOk, option_map, option_to_list};
+ghost use Rattle.std.specs.Prelude.{◌≡◌, ◌≢◌, ◌++◌, ◌∷◌, [], codes, decimal, false, string_bytes, true, ℕ, Err, IfErr, IfOk, option_map, option_to_list};
 ghost use Rattle.std.specs.Io.KnownBytes.{Appends};
 ghost use Rattle.crawl_session.specs.Compacting.{says_closed};
 ghost use Rattle.crawl_session.specs.Exchanges.{exchange};
 ghost use Rattle.crawl_session.specs.Frontiers.{Frontier, Shows};
 ghost use Rattle.crawl_session.specs.Listing.{is_count};
 ghost use Rattle.crawl_session.specs.Rebuilding as spec;
-ghost use Rattle.crawl_session.specs.Rebuilding.{Offers, Tells, Writes};
+ghost use Rattle.crawl_session.specs.Rebuilding.{IsFull, IsRefused, Offers, Tells, Writes};
 ghost use Rattle.crawl_session.specs.declared.rebuild.RebuildError.TheVariants as wrong;
 ghost use Rattle.crawl_session.specs.declared.request.Request.TheVariants as request;
 ghost use Rattle.crawl_session.specs.declared.request.RequestError.TheVariants as why;
@@ -91,13 +91,15 @@ impl LeftOut {
 ///
 /// # Errors
 /// Those of [`RebuildError`].
+#[tactic(auto, using(std::proofs::lemmas::Result::err_from_is_err_and, crate::proofs::Rebuilding::rebuilt_ended, crate::proofs::Rebuilding::rebuilt_unfinished))]
 pub fn rebuild_log<O: Write>(
     inventory: &Inventory,
     session: &mut Session,
     queue: u32,
     out: &mut O,
 ) -> Result<LeftOut, RebuildError>
-    ensures { IfOk result (λ left_out. Writes (spec.rebuilt session.old.settings queue inventory.now) session.old (O.contents out.old) (O.contents out.new) left_out session.new) }
+    ensures written { IfOk result (λ left_out. Writes (spec.rebuilt session.old.settings queue inventory.now) session.old (O.contents out.old) (O.contents out.new) left_out session.new) }
+    ensures full { IfErr result (λ error. error ≡ wrong.Full → IsFull (spec.rebuilt session.old.settings queue inventory.now) session.old) }
 {
     let done = write_done(inventory, session, out)?;
     let unfinished = write_unfinished(inventory, session, out)?;
@@ -107,24 +109,28 @@ pub fn rebuild_log<O: Write>(
 }
 
 /// Writes the end of the seeds, and the URLs that are done.
+#[tactic(auto, using(std::proofs::lemmas::Result::err_from_is_err_and, crate::proofs::Rebuilding::ended_full))]
 fn write_done<O: Write>(
     inventory: &Inventory,
     session: &mut Session,
     out: &mut O,
 ) -> Result<LeftOut, RebuildError>
-    ensures { IfOk result (λ left_out. Writes (spec.ended_urls session.old.settings inventory.now) session.old (O.contents out.old) (O.contents out.new) left_out session.new) }
+    ensures written { IfOk result (λ left_out. Writes (spec.ended_urls session.old.settings inventory.now) session.old (O.contents out.old) (O.contents out.new) left_out session.new) }
+    ensures full { IfErr result (λ error. error ≡ wrong.Full → IsFull (spec.ended_urls session.old.settings inventory.now) session.old) }
 {
     end_seeds_if(inventory.ended, session, out)?;
     done_urls(inventory.alloc, session, &inventory.done, out)
 }
 
 /// Writes the URLs that are not done.
+#[tactic(auto, using(std::proofs::lemmas::Result::err_from_is_err_and, crate::proofs::Rebuilding::busy_full, crate::proofs::Rebuilding::pending_full))]
 fn write_unfinished<O: Write>(
     inventory: &Inventory,
     session: &mut Session,
     out: &mut O,
 ) -> Result<LeftOut, RebuildError>
-    ensures { IfOk result (λ left_out. Writes (spec.unfinished_urls session.old.settings inventory.now) session.old (O.contents out.old) (O.contents out.new) left_out session.new) }
+    ensures written { IfOk result (λ left_out. Writes (spec.unfinished_urls session.old.settings inventory.now) session.old (O.contents out.old) (O.contents out.new) left_out session.new) }
+    ensures full { IfErr result (λ error. error ≡ wrong.Full → IsFull (spec.unfinished_urls session.old.settings inventory.now) session.old) }
 {
     let busy = waiting_urls(inventory.alloc, session, &inventory.in_progress, out)?;
     let pending = pending_urls(inventory.alloc, session, &inventory.pending, out)?;
@@ -138,7 +144,8 @@ fn write_closing<O: Write>(
     queue: u32,
     out: &mut O,
 ) -> Result<LeftOut, RebuildError>
-    ensures { IfOk result (λ left_out. Writes (spec.closing session.old.settings queue inventory.now) session.old (O.contents out.old) (O.contents out.new) left_out session.new) }
+    ensures written { IfOk result (λ left_out. Writes (spec.closing session.old.settings queue inventory.now) session.old (O.contents out.old) (O.contents out.new) left_out session.new) }
+    ensures room { IfErr result (λ error. error ≢ wrong.Full) }
 {
     let others = other_urls(
         inventory.alloc,
@@ -156,7 +163,8 @@ fn end_seeds_if<O: Write>(
     session: &mut Session,
     out: &mut O,
 ) -> Result<(), RebuildError>
-    ensures { IfOk result (λ _. Writes (spec.line_if ended session.old.settings spec.end_line is_count) session.old (O.contents out.old) (O.contents out.new) spec.none_left_out session.new) }
+    ensures written { IfOk result (λ _. Writes (spec.line_if ended session.old.settings spec.end_line is_count) session.old (O.contents out.old) (O.contents out.new) spec.none_left_out session.new) }
+    ensures room { IfErr result (λ error. error ≢ wrong.Full) }
 {
     if !ended {
         return Ok(());
@@ -173,7 +181,8 @@ fn close_if<O: Write>(
     queue: u32,
     out: &mut O,
 ) -> Result<(), RebuildError>
-    ensures { IfOk result (λ _. Writes (spec.line_if closed session.old.settings (spec.next_line queue) says_closed) session.old (O.contents out.old) (O.contents out.new) spec.none_left_out session.new) }
+    ensures written { IfOk result (λ _. Writes (spec.line_if closed session.old.settings (spec.next_line queue) says_closed) session.old (O.contents out.old) (O.contents out.new) spec.none_left_out session.new) }
+    ensures room { IfErr result (λ error. error ≢ wrong.Full) }
 {
     if !closed {
         return Ok(());
@@ -190,7 +199,8 @@ fn done_urls<O: Write>(
     urls: &[Text],
     out: &mut O,
 ) -> Result<LeftOut, RebuildError>
-    ensures { IfOk result (λ left_out. Writes (spec.each_url (spec.done_url session.old.settings) urls.now) session.old (O.contents out.old) (O.contents out.new) left_out session.new) }
+    ensures written { IfOk result (λ left_out. Writes (spec.each_url (spec.done_url session.old.settings) urls.now) session.old (O.contents out.old) (O.contents out.new) left_out session.new) }
+    ensures full { IfErr result (λ error. error ≡ wrong.Full → IsFull (spec.each_url (spec.done_url session.old.settings) urls.now) session.old) }
 {
     let mut left_out = LeftOut::none();
     for url in urls {
@@ -201,14 +211,15 @@ fn done_urls<O: Write>(
 }
 
 /// Writes a URL that is done: it is offered, taken and done.
-#[tactic(auto, using(crate::proofs::Rebuilding::done_more))]
+#[tactic(auto, using(std::proofs::lemmas::Result::err_from_is_err_and, crate::proofs::Rebuilding::done_more, crate::proofs::Rebuilding::full_done))]
 fn done_url<O: Write>(
     alloc: Global,
     session: &mut Session,
     url: &Text,
     out: &mut O,
 ) -> Result<LeftOut, RebuildError>
-    ensures { IfOk result (λ left_out. Writes (spec.done_url session.old.settings url.now) session.old (O.contents out.old) (O.contents out.new) left_out session.new) }
+    ensures written { IfOk result (λ left_out. Writes (spec.done_url session.old.settings url.now) session.old (O.contents out.old) (O.contents out.new) left_out session.new) }
+    ensures full { IfErr result (λ error. error ≡ wrong.Full → IsFull (spec.done_url session.old.settings url.now) session.old) }
 {
     match offer(alloc, session, url, out)? {
         None => Ok(LeftOut {
@@ -230,7 +241,8 @@ fn finish<O: Write>(
     queue: u32,
     out: &mut O,
 ) -> Result<(), RebuildError>
-    ensures { IfOk result (λ _. Writes (spec.finish_url session.old.settings url.now queue) session.old (O.contents out.old) (O.contents out.new) spec.none_left_out session.new) }
+    ensures written { IfOk result (λ _. Writes (spec.finish_url session.old.settings url.now queue) session.old (O.contents out.old) (O.contents out.new) spec.none_left_out session.new) }
+    ensures room { IfErr result (λ error. error ≢ wrong.Full) }
 {
     take_url(alloc, session, url, queue, out)?;
     end_url(alloc, session, queue, out)
@@ -244,7 +256,8 @@ fn take_url<O: Write>(
     queue: u32,
     out: &mut O,
 ) -> Result<(), RebuildError>
-    ensures { IfOk result (λ _. Writes (spec.one_line session.old.settings (spec.next_line queue) (spec.takes_url url.now)) session.old (O.contents out.old) (O.contents out.new) spec.none_left_out session.new) }
+    ensures written { IfOk result (λ _. Writes (spec.one_line session.old.settings (spec.next_line queue) (spec.takes_url url.now)) session.old (O.contents out.old) (O.contents out.new) spec.none_left_out session.new) }
+    ensures room { IfErr result (λ error. error ≢ wrong.Full) }
 {
     let line = queue_line(alloc, "next", queue)?;
     let answer = record_line(session, &line, out)?;
@@ -258,7 +271,8 @@ fn end_url<O: Write>(
     queue: u32,
     out: &mut O,
 ) -> Result<(), RebuildError>
-    ensures { IfOk result (λ _. Writes (spec.one_line session.old.settings (spec.done_line queue) is_count) session.old (O.contents out.old) (O.contents out.new) spec.none_left_out session.new) }
+    ensures written { IfOk result (λ _. Writes (spec.one_line session.old.settings (spec.done_line queue) is_count) session.old (O.contents out.old) (O.contents out.new) spec.none_left_out session.new) }
+    ensures room { IfErr result (λ error. error ≢ wrong.Full) }
 {
     let line = queue_line(alloc, "done", queue)?;
     let answer = record_line(session, &line, out)?;
@@ -272,7 +286,8 @@ fn waiting_urls<O: Write>(
     urls: &[Text],
     out: &mut O,
 ) -> Result<LeftOut, RebuildError>
-    ensures { IfOk result (λ left_out. Writes (spec.each_url (spec.waiting_url session.old.settings) urls.now) session.old (O.contents out.old) (O.contents out.new) left_out session.new) }
+    ensures written { IfOk result (λ left_out. Writes (spec.each_url (spec.waiting_url session.old.settings) urls.now) session.old (O.contents out.old) (O.contents out.new) left_out session.new) }
+    ensures full { IfErr result (λ error. error ≡ wrong.Full → IsFull (spec.each_url (spec.waiting_url session.old.settings) urls.now) session.old) }
 {
     let mut left_out = LeftOut::none();
     for url in urls {
@@ -289,7 +304,8 @@ fn pending_urls<O: Write>(
     queues: &[WaitingUrls],
     out: &mut O,
 ) -> Result<LeftOut, RebuildError>
-    ensures { IfOk result (λ left_out. Writes (spec.each_url (spec.waiting_url session.old.settings) (spec.by_turns queues.now)) session.old (O.contents out.old) (O.contents out.new) left_out session.new) }
+    ensures written { IfOk result (λ left_out. Writes (spec.each_url (spec.waiting_url session.old.settings) (spec.by_turns queues.now)) session.old (O.contents out.old) (O.contents out.new) left_out session.new) }
+    ensures full { IfErr result (λ error. error ≡ wrong.Full → IsFull (spec.each_url (spec.waiting_url session.old.settings) (spec.by_turns queues.now)) session.old) }
 {
     let mut left_out = LeftOut::none();
     for position in 0..longest(queues) {
@@ -318,7 +334,8 @@ fn write_turn<O: Write>(
     queues: &[WaitingUrls],
     out: &mut O,
 ) -> Result<LeftOut, RebuildError>
-    ensures { IfOk result (λ left_out. Writes (spec.each_url (spec.waiting_url session.old.settings) (spec.turn position queues.now)) session.old (O.contents out.old) (O.contents out.new) left_out session.new) }
+    ensures written { IfOk result (λ left_out. Writes (spec.each_url (spec.waiting_url session.old.settings) (spec.turn position queues.now)) session.old (O.contents out.old) (O.contents out.new) left_out session.new) }
+    ensures full { IfErr result (λ error. error ≡ wrong.Full → IsFull (spec.each_url (spec.waiting_url session.old.settings) (spec.turn position queues.now)) session.old) }
 {
     let mut left_out = LeftOut::none();
     for queue in queues {
@@ -335,7 +352,8 @@ fn waiting_at<O: Write>(
     url: Option<&Text>,
     out: &mut O,
 ) -> Result<LeftOut, RebuildError>
-    ensures { IfOk result (λ left_out. Writes (spec.each_url (spec.waiting_url session.old.settings) (option_to_list (option_map (λ u. u.now) url.entry))) session.old (O.contents out.old) (O.contents out.new) left_out session.new) }
+    ensures written { IfOk result (λ left_out. Writes (spec.each_url (spec.waiting_url session.old.settings) (option_to_list (option_map (λ u. u.now) url.entry))) session.old (O.contents out.old) (O.contents out.new) left_out session.new) }
+    ensures full { IfErr result (λ error. error ≡ wrong.Full → IsFull (spec.each_url (spec.waiting_url session.old.settings) (option_to_list (option_map (λ u. u.now) url.entry))) session.old) }
 {
     match url {
         Some(url) => waiting_url(alloc, session, url, out),
@@ -344,13 +362,15 @@ fn waiting_at<O: Write>(
 }
 
 /// Writes a URL that is not done: it is offered.
+#[tactic(auto, using(std::proofs::lemmas::Result::err_from_is_err_and, crate::proofs::Rebuilding::full_waiting))]
 fn waiting_url<O: Write>(
     alloc: Global,
     session: &mut Session,
     url: &Text,
     out: &mut O,
 ) -> Result<LeftOut, RebuildError>
-    ensures { IfOk result (λ left_out. Writes (spec.waiting_url session.old.settings url.now) session.old (O.contents out.old) (O.contents out.new) left_out session.new) }
+    ensures written { IfOk result (λ left_out. Writes (spec.waiting_url session.old.settings url.now) session.old (O.contents out.old) (O.contents out.new) left_out session.new) }
+    ensures full { IfErr result (λ error. error ≡ wrong.Full → IsFull (spec.waiting_url session.old.settings url.now) session.old) }
 {
     match offer(alloc, session, url, out)? {
         None => Ok(LeftOut {
@@ -368,7 +388,8 @@ fn offer<O: Write>(
     url: &Text,
     out: &mut O,
 ) -> Result<Option<u32>, RebuildError>
-    ensures { IfOk result (λ queue. Offers url.now session.old (O.contents out.old) (O.contents out.new) queue session.new) }
+    ensures offers { IfOk result (λ queue. Offers url.now session.old (O.contents out.old) (O.contents out.new) queue session.new) }
+    ensures full { IfErr result (λ error. error ≡ wrong.Full → IsRefused url.now session.old) }
 {
     let line = offer_line(alloc, url)?;
     let asked = session.request(line.as_bytes());
@@ -385,7 +406,8 @@ fn asked_queue(
     asked: &Result<Request, RequestError>,
     url: &Text,
 ) -> Result<Option<u32>, RebuildError>
-    ensures { IfOk result (λ queue. asked.now ≡ spec.offer_asks url.now queue) }
+    ensures asks { IfOk result (λ queue. asked.now ≡ spec.offer_asks url.now queue) }
+    ensures room { IfErr result (λ error. error ≢ wrong.Full) }
 {
     match asked {
         Ok(Request::Offer { url: named, queue }) if named == url => Ok(Some(*queue)),
@@ -399,6 +421,7 @@ fn asked_queue(
 fn accept(session: &mut Session, url: &Text, queue: u32) -> Result<(), RebuildError>
     ensures settings { session.new.settings ≡ session.old.settings }
     ensures accepted { IfOk result (λ _. (state : Frontier) → Shows session.old.core state → (spec.is_accepted (exchange state (request.Offer url.now queue)).answer ≡ true) × Shows session.new.core (exchange state (request.Offer url.now queue)).state) }
+    ensures full { IfErr result (λ error. error ≡ wrong.Full → (state : Frontier) → Shows session.old.core state → spec.is_full (exchange state (request.Offer url.now queue)).answer ≡ true) }
 {
     let url = url.clone()?;
     let answer = session.frontier.exchange(Request::Offer { url, queue })?;
@@ -407,7 +430,8 @@ fn accept(session: &mut Session, url: &Text, queue: u32) -> Result<(), RebuildEr
 
 /// Returns an error unless the answer to an offer is `accepted`.
 fn fit_offer(answer: &Answer) -> Result<(), RebuildError>
-    ensures { IfOk result (λ _. spec.is_accepted answer.now ≡ true) }
+    ensures accepted { IfOk result (λ _. spec.is_accepted answer.now ≡ true) }
+    ensures full { IfErr result (λ error. error ≡ wrong.Full → spec.is_full answer.now ≡ true) }
 {
     match answer {
         Answer::Told(Reply::Accepted { .. }) => Ok(()),
@@ -423,7 +447,8 @@ fn other_urls<O: Write>(
     urls: &[Text],
     out: &mut O,
 ) -> Result<LeftOut, RebuildError>
-    ensures { IfOk result (λ left_out. Writes (spec.each_url (spec.other_url session.old.settings) urls.now) session.old (O.contents out.old) (O.contents out.new) left_out session.new) }
+    ensures written { IfOk result (λ left_out. Writes (spec.each_url (spec.other_url session.old.settings) urls.now) session.old (O.contents out.old) (O.contents out.new) left_out session.new) }
+    ensures room { IfErr result (λ error. error ≢ wrong.Full) }
 {
     let mut left_out = LeftOut::none();
     for url in urls {
@@ -441,7 +466,8 @@ fn other_url<O: Write>(
     url: &Text,
     out: &mut O,
 ) -> Result<LeftOut, RebuildError>
-    ensures { IfOk result (λ left_out. Writes (spec.other_url session.old.settings url.now) session.old (O.contents out.old) (O.contents out.new) left_out session.new) }
+    ensures written { IfOk result (λ left_out. Writes (spec.other_url session.old.settings url.now) session.old (O.contents out.old) (O.contents out.new) left_out session.new) }
+    ensures room { IfErr result (λ error. error ≢ wrong.Full) }
 {
     let line = offer_line(alloc, url)?;
     let asked = session.request(line.as_bytes());
@@ -459,6 +485,7 @@ fn other_url<O: Write>(
 fn is_elsewhere(asked: &Result<Request, RequestError>, url: &Text) -> Result<bool, RebuildError>
     ensures other { IfOk result (λ is. is ≡ true → (part : ℕ) × (asked.now ≡ Err (why.Elsewhere part url.now))) }
     ensures filtered { IfOk result (λ is. is ≡ false → asked.now ≡ Err why.Filtered) }
+    ensures room { IfErr result (λ error. error ≢ wrong.Full) }
 {
     match asked {
         Err(RequestError::Elsewhere { url: named, .. }) if named == url => Ok(true),
@@ -470,7 +497,8 @@ fn is_elsewhere(asked: &Result<Request, RequestError>, url: &Text) -> Result<boo
 
 /// Returns an error unless a line was answered as it has to be.
 fn fit_if(fits: bool) -> Result<(), RebuildError>
-    ensures { IfOk result (λ _. fits ≡ true) }
+    ensures fits { IfOk result (λ _. fits ≡ true) }
+    ensures room { IfErr result (λ error. error ≢ wrong.Full) }
 {
     if fits {
         Ok(())
@@ -513,7 +541,8 @@ fn record_line<O: Write>(
     line: &str,
     out: &mut O,
 ) -> Result<Answer, RebuildError>
-    ensures { IfOk result (λ answer. Tells session.old line.now (O.contents out.old) (O.contents out.new) answer session.new) }
+    ensures tells { IfOk result (λ answer. Tells session.old line.now (O.contents out.old) (O.contents out.new) answer session.new) }
+    ensures room { IfErr result (λ error. error ≢ wrong.Full) }
 {
     let answer = session.answer(line.as_bytes())?;
     write_line(line, out)?;
@@ -522,7 +551,8 @@ fn record_line<O: Write>(
 
 /// Writes a line, and LF.
 fn write_line<O: Write>(line: &str, out: &mut O) -> Result<(), RebuildError>
-    ensures { IfOk result (λ _. Appends (O.contents out.old) (O.contents out.new) (line.now ++ 10 ∷ [])) }
+    ensures written { IfOk result (λ _. Appends (O.contents out.old) (O.contents out.new) (line.now ++ 10 ∷ [])) }
+    ensures room { IfErr result (λ error. error ≢ wrong.Full) }
 {
     if out.write_all(line.as_bytes()).is_err() || out.write_all(b"\n").is_err() {
         return Err(RebuildError::CannotWrite);

@@ -4,8 +4,8 @@ use Rattle.crawl_session.specs.Rebuilding.{Writes, done_url, each_url, end_line,
 use Rattle.crawl_session.proofs.Rebuilding.{ended_both}
 use Rattle.crawl_session.proofs.rebuild.write_done.Goals as goal
 
-pub returns : goal.returns
-returns g c =
+pub returns-clause-written : goal.returns-clause-written
+returns-clause-written g c =
     let written = g.O.Write.contents in
     let had = c.args.inventory.now in
     let old = c.args.session.now in

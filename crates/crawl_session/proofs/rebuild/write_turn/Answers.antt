@@ -11,6 +11,6 @@ loop-queue-preserved g c =
     let mid = c.loop-queue.session in
     let more = take_more c.args.queues.now i c.queue-item.result c.loop-queue-test.true in
     let here =
-    subst (λ (o : Option (List ℕ)). Writes (each_url (waiting_url mid.settings) (option_to_list o)) mid (written c.loop-queue.out) (written c.waiting_at.new.out) c.in_ok-more.more c.waiting_at.new.session) c.get.ensures c.in_ok-more.ensures in
+    subst (λ (o : Option (List ℕ)). Writes (each_url (waiting_url mid.settings) (option_to_list o)) mid (written c.loop-queue.out) (written c.waiting_at.new.out) c.in_ok-more.more c.waiting_at.new.session) c.get.ensures c.in_ok-more.ensures.written in
     rw (c.in_ok-left_out.ensures, more, ← c.queue-item.is)
     (turn_more waiting_url c.args.position (take i c.args.queues.now) c.queue-item.result c.args.session.now mid c.waiting_at.new.session (written c.args.out.now) (written c.loop-queue.out) (written c.waiting_at.new.out) c.loop-queue.left_out c.in_ok-more.more c.loop-queue.invariant here)
