@@ -19,6 +19,6 @@ returns-in_err-more-clause-full g c =
     let i = c.loop-url.url-index in
     let urls = c.args.urls.now in
     let more = take_more urls i c.url-item.result c.loop-url-test.true ∙ ap (λ u. take i urls ++ u ∷ []) (sym c.url-item.is) in
-    let r = c.from_residual-in_err-more in
+    let r = c.from_residual in
     let same = err_from_is_err_and r.result r.ensures.1 in
     rw (same.1, same.2) (λ is. full_url done_url urls i c.url-item.result c.args.session.now c.loop-url.session (written c.args.out.now) (written c.loop-url.out) c.loop-url.left_out more c.loop-url.invariant (c.in_err-more.ensures.full is))

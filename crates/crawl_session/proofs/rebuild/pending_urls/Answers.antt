@@ -15,6 +15,6 @@ returns-in_err-more-clause-full g c =
     let written = g.O.Write.contents in
     let n = c.loop-position.position in
     let below : n < longest c.args.queues.now = search rules in
-    let r = c.from_residual-in_err-more in
+    let r = c.from_residual in
     let same = err_from_is_err_and r.result r.ensures.1 in
     rw (same.1, same.2) (λ is. full_turn waiting_url n c.args.queues.now c.args.session.now c.loop-position.session (written c.args.out.now) (written c.loop-position.out) c.loop-position.left_out below c.loop-position.invariant (c.in_err-more.ensures.full is))

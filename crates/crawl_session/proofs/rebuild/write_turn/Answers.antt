@@ -23,7 +23,7 @@ returns-in_err-more-clause-full g c =
     let mid = c.loop-queue.session in
     let queues = c.args.queues.now in
     let more = take_more queues i c.queue-item.result c.loop-queue-test.true ∙ ap (λ (q : List (List ℕ)). take i queues ++ q ∷ []) (sym c.queue-item.is) in
-    let r = c.from_residual-in_err-more in
+    let r = c.from_residual in
     let same = err_from_is_err_and r.result r.ensures.1 in
     rw (same.1, same.2)
     (λ is. full_queue waiting_url c.args.position queues i c.queue-item.result c.args.session.now mid (written c.args.out.now) (written c.loop-queue.out) c.loop-queue.left_out more c.loop-queue.invariant
