@@ -1,5 +1,5 @@
 -- A path of a rooted link, a segment at a time.
-use Rattle.document_links.proofs.Prelude.{◌≡◌, ◌∙◌, ℕ, ◌+◌, ◌-◌, ◌<◌, ◌≤◌, ◌==◌, Bool, true, false, cond, List, [], ◌∷◌, ◌++◌, take, drop, prefix_len, refl, sym, ap, subst, arith, length, length-drop, cond-true, cond-false, true≢false, StopsAt, StopsAt-drop-prefix_len, begins_path, below_after, depth_after, in_segment, is_slash, kept}
+use Rattle.document_links.proofs.Prelude.{◌≡◌, ◌∙◌, ℕ, ◌+◌, ◌-◌, ◌<◌, ◌≤◌, ◌==◌, true, false, cond, List, [], ◌∷◌, ◌++◌, take, drop, prefix_len, refl, sym, ap, subst, arith, length, length-drop, cond-true, cond-false, true≢false, StopsAt, StopsAt-drop-prefix_len, begins_path, below_after, depth_after, in_segment, is_slash, kept}
 use Rattle.std.proofs.Common.{append-nil, append_assoc, one-add}
 use Rattle.std.proofs.lemmas.Bool.{cond_both}
 use Rattle.url.specs.Path.{dot_count}
