@@ -2,7 +2,7 @@
 use Rattle.std.specs.Prelude.{ℕ, ◌+◌, ◌-◌, ◌^◌, Bool, true, false, ◌||◌, if◌then◌else◌, List, length, count_by, sum_by, min}
 use Rattle.check_report.specs.declared.value.Broken.{Broken}
 use Rattle.check_report.specs.declared.value.Kind.{Kind}
-use Rattle.check_report.specs.declared.value.Kind.TheVariants.{NoPage, NoAnchor, NotUrl, UnknownScheme, LocalFile}
+use Rattle.check_report.specs.declared.value.Kind.TheVariants.{NoPage, NoAnchor, NotUrl, UnknownScheme, LocalFile, Leaves, OutsideBase}
 use Rattle.check_report.specs.declared.value.Redirect.{Redirect}
 use Rattle.check_report.specs.declared.value.Totals.{Totals}
 use Rattle.crawl_pages.specs.declared.page.Page.{Page}
@@ -28,7 +28,7 @@ own_links is_other r = if is_own_page is_other r then links_in r.page else 0
 abbrev pub link_count : (List ℕ → Bool) → List PageResult → ℕ
 link_count is_other results = capped (sum_by (own_links is_other) results)
 
--- a row is that of a missing page, of a missing anchor, or of an invalid link
+-- a row is that of a missing page, of a missing anchor, of an invalid link, or of a URL outside the site
 
 abbrev pub is_page : Kind → Bool
 is_page NoPage = true
@@ -46,6 +46,11 @@ is_invalid NotUrl = true
 is_invalid UnknownScheme = true
 is_invalid LocalFile = true
 is_invalid _ = false
+
+abbrev pub is_leaving : Kind → Bool
+is_leaving Leaves = true
+is_leaving OutsideBase = true
+is_leaving _ = false
 
 -- the number of locations of such rows
 abbrev pub places_if : (Kind → Bool) → Broken → ℕ
@@ -71,6 +76,7 @@ totals_by is_other results broken redirects =
       broken_urls = url_count broken;
       broken_anchors = part_count broken;
       invalid_links = place_count is_invalid broken;
+      leaving_links = place_count is_leaving broken;
       moved = length redirects;
     }
 

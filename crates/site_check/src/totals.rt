@@ -1,7 +1,7 @@
 //! The totals of a check.
 ghost use Rattle.std.specs.Prelude.{◌≡◌, IfOk, count_by};
 ghost use Rattle.site_check.specs.Aliases.{is_alias_page, is_in, is_own_page};
-ghost use Rattle.site_check.specs.Totals.{capped, is_invalid, is_missing, is_page, is_part, link_count, links_in, own_links, part_count, place_count, totals_by, totals_of, url_count};
+ghost use Rattle.site_check.specs.Totals.{capped, is_invalid, is_leaving, is_missing, is_page, is_part, link_count, links_in, own_links, part_count, place_count, totals_by, totals_of, url_count};
 
 use crate::aliases::{AliasUrls, alias_urls};
 use check_report::{Broken, Kind, Redirect, Totals};
@@ -41,6 +41,7 @@ fn totals_by<'a>(
         broken_urls: url_count(broken),
         broken_anchors: part_count(broken),
         invalid_links: invalid_links(broken),
+        leaving_links: leaving_links(broken),
         moved: redirects.len() as u64,
     }
 }
@@ -146,6 +147,19 @@ fn invalid_links(broken: &[Broken]) -> u64
     count
 }
 
+/// The number of locations of links that lead out of the site.
+fn leaving_links(broken: &[Broken]) -> u64
+    ensures { result ≡ place_count is_leaving broken.now }
+{
+    let mut count: u64 = 0;
+    for one in broken {
+        if is_leaving(one.kind) {
+            count = count.saturating_add(one.places.len() as u64);
+        }
+    }
+    count
+}
+
 /// The number of rows of missing pages.
 fn url_count(broken: &[Broken]) -> u64
     ensures { result ≡ url_count broken.now }
@@ -191,6 +205,13 @@ fn is_part(kind: Kind) -> bool
     ensures { result ≡ is_part kind }
 {
     matches!(kind, Kind::NoAnchor)
+}
+
+/// Whether the row is that of a URL outside the site.
+fn is_leaving(kind: Kind) -> bool
+    ensures { result ≡ is_leaving kind }
+{
+    matches!(kind, Kind::Leaves | Kind::OutsideBase)
 }
 
 /// Whether the row is that of an invalid link.

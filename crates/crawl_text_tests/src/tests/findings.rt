@@ -50,6 +50,7 @@ const TOTALS: Totals = Totals {
     broken_urls: 2,
     broken_anchors: 1,
     invalid_links: 4,
+    leaving_links: 0,
     moved: 2,
 };
 
@@ -465,6 +466,7 @@ fn counted(row: &Heading) -> Totals {
         broken_urls: row.1,
         broken_anchors: 0,
         invalid_links: row.2,
+        leaving_links: 0,
         moved: 0,
     }
 }
