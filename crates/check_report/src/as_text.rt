@@ -84,7 +84,8 @@ fn verdict(totals: Totals) -> &'static str
     if is_broken(totals) { RED } else { GREEN }
 }
 
-/// Whether something is missing or invalid, or leads out of the site. A page at which the check starts can be missing though no link leads to it.
+/// Whether something is missing or invalid, or leads out of the site. A page at which the check starts can be missing though no link
+/// leads to it.
 pub fn is_broken(totals: Totals) -> bool
     ensures { result ≡ is_broken totals }
 {

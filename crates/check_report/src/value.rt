@@ -52,9 +52,10 @@ pub struct Totals {
     pub broken_urls: u64,
     /// The missing anchors in pages that exist.
     pub broken_anchors: u64,
-    /// The invalid links: those that are no URL, have an unknown scheme or name a local file.
+    /// The invalid links: those that are no URL, have an unknown scheme or name a local file. A target without locations counts as one.
     pub invalid_links: u64,
-    /// The links that lead out of the site: above the folder, or to the host of BASE and not below BASE.
+    /// The links that lead out of the site: above the folder, or to the host of BASE and not below BASE. A target without locations
+    /// counts as one.
     pub leaving_links: u64,
     /// The redirects that pages link to.
     pub moved: u64,

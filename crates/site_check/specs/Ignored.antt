@@ -60,9 +60,9 @@ parts_in all = flat_map part_in all
 abbrev pub not_ignored : List (List ℕ) → List (List ℕ) → List (List ℕ)
 not_ignored entries texts = filter (λ text. not (is_ignored entries text)) texts
 
--- of all parts that pages lack those are listed that no entry matches; the entries match none of them, no page that is not there, and
--- no invalid link with one of the texts `links`
-pub record AreUnused (front : List ℕ) (entries : List (List ℕ)) (results : List PageResult) (links told all : List (List ℕ)) : Type 0 where
+-- of all parts that pages lack those are listed that no entry matches; the entries match none of them, no page that is not there, no
+-- invalid link with one of the texts `links`, and none of the other texts
+pub record AreUnused (front : List ℕ) (entries : List (List ℕ)) (results : List PageResult) (links others told all : List (List ℕ)) : Type 0 where
   pub parts : List (List ℕ)
   pub told_parts : told ≡ not_ignored entries parts
-  pub exact : all ≡ unused entries ((parts ++ links) ++ missing_texts front results)
+  pub exact : all ≡ unused entries ((parts ++ links) ++ others ++ missing_texts front results)

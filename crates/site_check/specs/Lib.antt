@@ -3,6 +3,7 @@ pub mod Broken
 pub mod Ignored
 pub mod Invalid
 pub mod Leads
+pub mod Leaving
 pub mod Names
 pub mod Parts
 pub mod Told

@@ -1,5 +1,5 @@
 -- The totals of a check: of a crawl's results, and of the rows that are printed.
-use Rattle.std.specs.Prelude.{ℕ, ◌+◌, ◌-◌, ◌^◌, Bool, true, false, ◌||◌, if◌then◌else◌, List, length, count_by, sum_by, min}
+use Rattle.std.specs.Prelude.{ℕ, ◌+◌, ◌-◌, ◌^◌, Bool, true, false, ◌||◌, if◌then◌else◌, List, length, count_by, sum_by, min, max}
 use Rattle.check_report.specs.declared.value.Broken.{Broken}
 use Rattle.check_report.specs.declared.value.Kind.{Kind}
 use Rattle.check_report.specs.declared.value.Kind.TheVariants.{NoPage, NoAnchor, NotUrl, UnknownScheme, LocalFile, Leaves, OutsideBase}
@@ -59,6 +59,13 @@ places_if test b = if test b.kind then length b.places.items else 0
 abbrev pub place_count : (Kind → Bool) → List Broken → ℕ
 place_count test broken = capped (sum_by (places_if test) broken)
 
+-- the same, if a row without locations is one of one link
+abbrev pub links_if : (Kind → Bool) → Broken → ℕ
+links_if test b = if test b.kind then max (length b.places.items) 1 else 0
+
+abbrev pub row_links : (Kind → Bool) → List Broken → ℕ
+row_links test broken = capped (sum_by (links_if test) broken)
+
 abbrev pub part_count : List Broken → ℕ
 part_count broken = count_by (λ b. is_part b.kind) broken
 
@@ -75,8 +82,8 @@ totals_by is_other results broken redirects =
       broken_links = place_count is_missing broken;
       broken_urls = url_count broken;
       broken_anchors = part_count broken;
-      invalid_links = place_count is_invalid broken;
-      leaving_links = place_count is_leaving broken;
+      invalid_links = row_links is_invalid broken;
+      leaving_links = row_links is_leaving broken;
       moved = length redirects;
     }
 

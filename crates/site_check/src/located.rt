@@ -115,15 +115,10 @@ pub(crate) fn every_place<B: FileBytes>(
     Ok(all)
 }
 
-/// The file of the page that has these links.
+/// The file of the page that has these links, if it can have links.
 fn file_of<'f>(site: Site<'_, 'f>, leads: &[Lead]) -> Option<SiteFile<'f>> {
     let one = site.pages.results.get(leads.first()?.source)?;
-    let index = site.files.file_of(one.url.as_str())?;
-    Some(SiteFile {
-        index,
-        name: site.files.name(index)?,
-        is_document: true,
-    })
+    site.files.document(site.files.find(one.url.as_str())?)
 }
 
 /// Appends the locations of these links in the contents of the file with this name.

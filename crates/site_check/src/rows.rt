@@ -3,6 +3,7 @@ ghost use Rattle.std.specs.Prelude.{◌≡◌, ◌++◌, ◌∷◌, [], OnOk, If
 ghost use Rattle.site_check.specs.Broken.{linked_at, row_for, rows_with, shown, ways_with};
 ghost use Rattle.site_check.specs.Ignored.{parts_in};
 ghost use Rattle.site_check.specs.Invalid.{invalid_rows_in};
+ghost use Rattle.site_check.specs.Leaving.{leaving_in};
 ghost use Rattle.site_check.specs.Names.{AreNamed, AreNames};
 ghost use Rattle.site_check.specs.Told.{rows_in, way_of};
 
@@ -30,6 +31,7 @@ pub(crate) fn broken_rows<'n>(
     ensures names { IfOk result (λ all. AreNamed input.entry.front.now named.entry.files.now all.items) }
     ensures parts { IfOk result (λ all. parts_in all.items ≡ []) }
     ensures invalid { IfOk result (λ all. invalid_rows_in all.items ≡ []) }
+    ensures leaving { IfOk result (λ all. leaving_in all.items ≡ []) }
 {
     let mut all = Vec::new(alloc);
     for (index, one) in linked.iter().enumerate() {
@@ -53,6 +55,7 @@ fn push_row<'n>(
     ensures names { OnOk result (AreNamed input.entry.front.now named.entry.files.now all.old.items → AreNamed input.entry.front.now named.entry.files.now all.new.items) }
     ensures parts { OnOk result (parts_in all.new.items ≡ parts_in all.old.items) }
     ensures invalid { OnOk result (invalid_rows_in all.new.items ≡ invalid_rows_in all.old.items) }
+    ensures leaving { OnOk result (leaving_in all.new.items ≡ leaving_in all.old.items) }
 {
     match one.result.page {
         Page::Missing => {
@@ -78,6 +81,7 @@ fn push_missing<'n>(
     ensures names { OnOk result (AreNamed input.entry.front.now named.entry.files.now all.old.items → AreNamed input.entry.front.now named.entry.files.now all.new.items) }
     ensures parts { OnOk result (parts_in all.new.items ≡ parts_in all.old.items) }
     ensures invalid { OnOk result (invalid_rows_in all.new.items ≡ invalid_rows_in all.old.items) }
+    ensures leaving { OnOk result (leaving_in all.new.items ≡ leaving_in all.old.items) }
 {
     let (text, pages) = told;
     if is_ignored(input.ignores, text) {

@@ -15,7 +15,7 @@ use std::thread;
 use std::thread::{Threads, join};
 
 /// How often results are halved: the number of threads is two to this power. They are more than run at the same time, since the
-/// pages of one part can have more links than those of another.
+/// pages of one chunk can have more links than those of another.
 const HALVINGS: u32 = 4;
 
 /// Some of the results, the first of which has this number, and what their links are looked for in.
@@ -54,7 +54,6 @@ impl<'a, 'p> Part<'a, 'p> {
 }
 
 /// The links of results that lead to targets, by threads if there may be four.
-#[tactic(auto, using(crate::proofs::LeadsFound::no_leads, crate::proofs::LeadsFound::none_at))]
 pub(crate) fn leads_by<'p, R: Threads + Sync>(
     rt: &R,
     alloc: Global,
@@ -64,10 +63,6 @@ pub(crate) fn leads_by<'p, R: Threads + Sync>(
 ) -> Result<Vec<Lead>, NoMemory>
     ensures { IfOk result (λ all. all.items ≡ leads_from (number_at maps.entry.numbers.now) (indices_at maps.entry.indices.now) 0 results.now) }
 {
-    let is_empty = maps.numbers.is_empty();
-    if is_empty {
-        return Ok(Vec::new(alloc));
-    }
     let halvings = if count < 4 { 0 } else { HALVINGS };
     let part = Part {
         maps,
