@@ -34,12 +34,12 @@ abbrev pub is_page : Kind → Bool
 is_page NoPage = true
 is_page _ = false
 
-abbrev pub is_part : Kind → Bool
-is_part NoAnchor = true
-is_part _ = false
+abbrev pub is_anchor : Kind → Bool
+is_anchor NoAnchor = true
+is_anchor _ = false
 
 abbrev pub is_missing : Kind → Bool
-is_missing kind = is_page kind || is_part kind
+is_missing kind = is_page kind || is_anchor kind
 
 abbrev pub is_invalid : Kind → Bool
 is_invalid NotUrl = true
@@ -66,8 +66,8 @@ links_if test b = if test b.kind then max (length b.places.items) 1 else 0
 abbrev pub row_links : (Kind → Bool) → List Broken → ℕ
 row_links test broken = capped (sum_by (links_if test) broken)
 
-abbrev pub part_count : List Broken → ℕ
-part_count broken = count_by (λ b. is_part b.kind) broken
+abbrev pub anchor_count : List Broken → ℕ
+anchor_count broken = count_by (λ b. is_anchor b.kind) broken
 
 abbrev pub url_count : List Broken → ℕ
 url_count broken = count_by (λ b. is_page b.kind) broken
@@ -81,7 +81,7 @@ totals_by is_other results broken redirects =
       links = link_count is_other results;
       broken_links = place_count is_missing broken;
       broken_urls = url_count broken;
-      broken_anchors = part_count broken;
+      broken_anchors = anchor_count broken;
       invalid_links = row_links is_invalid broken;
       leaving_links = row_links is_leaving broken;
       moved = length redirects;

@@ -1,11 +1,11 @@
 //! Links to anchors that documents do not have.
 ghost use Rattle.std.specs.Prelude.{◌≡◌, ◌∷◌, ◌++◌, ℕ, List, [], IfOk, OnOk, map, string_bytes};
 ghost use Rattle.site_files.specs.declared.files.SiteFiles.{SiteFiles};
-ghost use Rattle.site_check.specs.Ignored.{not_ignored, parts_in};
+ghost use Rattle.site_check.specs.Ignored.{not_ignored, anchors_in};
 ghost use Rattle.site_check.specs.Invalid.{invalid_rows_in};
 ghost use Rattle.site_check.specs.Leaving.{leaving_in};
 ghost use Rattle.site_check.specs.Names.{AreNamed};
-ghost use Rattle.site_check.specs.Parts.{part_text};
+ghost use Rattle.site_check.specs.Anchors.{anchor_text};
 ghost use Rattle.site_check.specs.Told.{rows_in};
 
 use crate::ignored::is_ignored;
@@ -133,7 +133,7 @@ pub(crate) fn anchor_rows(
 ) -> Result<Vec<Broken>, NoMemory>
     ensures rows { IfOk result (λ all. rows_in all.items ≡ []) }
     ensures names { IfOk result (λ all. (front : List ℕ) (files : SiteFiles) → AreNamed front files all.items) }
-    ensures parts { IfOk result (λ all. parts_in all.items ≡ not_ignored (map string_bytes ignores.now) (map part_text anchors.now)) }
+    ensures anchors { IfOk result (λ all. anchors_in all.items ≡ not_ignored (map string_bytes ignores.now) (map anchor_text anchors.now)) }
     ensures invalid { IfOk result (λ all. invalid_rows_in all.items ≡ []) }
     ensures leaving { IfOk result (λ all. leaving_in all.items ≡ []) }
 {
@@ -154,7 +154,7 @@ fn push_anchor(
 ) -> Result<(), NoMemory>
     ensures rows { OnOk result (rows_in all.new.items ≡ rows_in all.old.items) }
     ensures names { OnOk result ((front : List ℕ) (files : SiteFiles) → AreNamed front files all.old.items → AreNamed front files all.new.items) }
-    ensures parts { OnOk result (parts_in all.new.items ≡ parts_in all.old.items ++ not_ignored (map string_bytes ignores.now) (part_text anchor.now ∷ [])) }
+    ensures anchors { OnOk result (anchors_in all.new.items ≡ anchors_in all.old.items ++ not_ignored (map string_bytes ignores.now) (anchor_text anchor.now ∷ [])) }
     ensures invalid { OnOk result (invalid_rows_in all.new.items ≡ invalid_rows_in all.old.items) }
     ensures leaving { OnOk result (leaving_in all.new.items ≡ leaving_in all.old.items) }
 {

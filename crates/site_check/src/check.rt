@@ -5,12 +5,12 @@ ghost use Rattle.crawl_sources.specs.Tallies.{pointed};
 ghost use Rattle.crawl_pages.specs.declared.page.PageResult.{PageResult};
 ghost use Rattle.site_files.specs.declared.files.SiteFiles.{SiteFiles};
 ghost use Rattle.site_check.specs.Broken.{broken_of, linked, linked_at, redirects_of, result_at, rows_with, ways_with};
-ghost use Rattle.site_check.specs.Ignored.{AreUnused, missing_texts, not_ignored, parts_in, text_at, unused};
+ghost use Rattle.site_check.specs.Ignored.{AreUnused, missing_texts, not_ignored, anchors_in, text_at, unused};
 ghost use Rattle.site_check.specs.Invalid.{AreInvalid, AreTexts, invalid_rows_in, row_of, text_of, texts_if};
 ghost use Rattle.site_check.specs.Leads.{indices_in, leads_from, number_in, targets_of};
 ghost use Rattle.site_check.specs.Leaving.{leaving_in, leaving_of, outside_at, outside_of, outside_row, outside_texts, row_at, shown_at};
 ghost use Rattle.site_check.specs.Names.{AreNamed};
-ghost use Rattle.site_check.specs.Parts.{part_text};
+ghost use Rattle.site_check.specs.Anchors.{anchor_text};
 ghost use Rattle.site_check.specs.Told.{rows_in, way_of};
 ghost use Rattle.site_check.specs.Totals.{totals_of};
 
@@ -107,7 +107,7 @@ pub fn check_site<'f, R: Threads + Sync, B: FileBytes + Sync>(
     // each with the number of results that link to it, without those that an entry matches.
     ensures leaving { IfOk result (λ checked. leaving_in checked.broken.items ≡ leaving_of (map string_bytes input.entry.ignores.now) input.entry.rooted files.now results.now input.entry.found.now) }
     // The unused entries are those that match no missing page, no missing anchor, no invalid link and no link that leads out of the site.
-    ensures ignores { IfOk result (λ checked. AreUnused input.entry.front.now (map string_bytes input.entry.ignores.now) results.now (texts_if input.entry.invalid input.entry.places.now results.now) (outside_texts input.entry.rooted files.now input.entry.found.now) (parts_in checked.broken.items) (map string_bytes checked.unused_ignores.items)) }
+    ensures ignores { IfOk result (λ checked. AreUnused input.entry.front.now (map string_bytes input.entry.ignores.now) results.now (texts_if input.entry.invalid input.entry.places.now results.now) (outside_texts input.entry.rooted files.now input.entry.found.now) (anchors_in checked.broken.items) (map string_bytes checked.unused_ignores.items)) }
     // The totals count the pages at files' own URLs, their links, the pages at aliases, and the rows.
     ensures totals { IfOk result (λ checked. checked.totals ≡ totals_of input.entry.aliases.now results.now checked.broken.items checked.redirects.items) }
     // By the totals something is broken if and only if there is a row.
@@ -230,7 +230,7 @@ fn told(
     ensures names { IfOk result (λ checked. AreNamed input.entry.front.now site.entry.files.now checked.broken.items) }
     ensures invalid { IfOk result (λ checked. invalid_rows_in checked.broken.items ≡ map row_of (not_ignored (map string_bytes input.entry.ignores.now) (map text_of sought.now.invalid.items))) }
     ensures leaving { IfOk result (λ checked. leaving_in checked.broken.items ≡ flat_map (row_at (map string_bytes input.entry.ignores.now)) (map outside_at sought.now.outside.items)) }
-    ensures ignores { IfOk result (λ checked. (results : List PageResult) (links others : List (List ℕ)) → missing_texts input.entry.front.now results ≡ flat_map (text_at input.entry.front.now) (map result_at linked.now) → AreTexts links (map text_of sought.now.invalid.items) → others ≡ map shown_at sought.now.outside.items → AreUnused input.entry.front.now (map string_bytes input.entry.ignores.now) results links others (parts_in checked.broken.items) (map string_bytes checked.unused_ignores.items)) }
+    ensures ignores { IfOk result (λ checked. (results : List PageResult) (links others : List (List ℕ)) → missing_texts input.entry.front.now results ≡ flat_map (text_at input.entry.front.now) (map result_at linked.now) → AreTexts links (map text_of sought.now.invalid.items) → others ≡ map shown_at sought.now.outside.items → AreUnused input.entry.front.now (map string_bytes input.entry.ignores.now) results links others (anchors_in checked.broken.items) (map string_bytes checked.unused_ignores.items)) }
     ensures totals { IfOk result (λ checked. checked.totals ≡ totals_of input.entry.aliases.now site.entry.pages.results.now checked.broken.items checked.redirects.items) }
 {
     let results = site.pages.results;
@@ -292,7 +292,7 @@ fn broken_all(
 ) -> Result<Vec<Broken>, NoMemory>
     ensures rows { IfOk result (λ all. rows_in all.items ≡ flat_map (rows_with input.entry.front.now (map string_bytes input.entry.ignores.now)) (map linked_at linked.now)) }
     ensures names { IfOk result (λ all. AreNamed input.entry.front.now site.entry.files.now all.items) }
-    ensures parts { IfOk result (λ all. parts_in all.items ≡ not_ignored (map string_bytes input.entry.ignores.now) (map part_text others.entry.anchors.now)) }
+    ensures anchors { IfOk result (λ all. anchors_in all.items ≡ not_ignored (map string_bytes input.entry.ignores.now) (map anchor_text others.entry.anchors.now)) }
     ensures invalid { IfOk result (λ all. invalid_rows_in all.items ≡ map row_of (not_ignored (map string_bytes input.entry.ignores.now) (map text_of others.entry.invalid.now))) }
     ensures leaving { IfOk result (λ all. leaving_in all.items ≡ flat_map (row_at (map string_bytes input.entry.ignores.now)) (map outside_at others.entry.outside.now)) }
 {
@@ -320,7 +320,7 @@ fn missing_rows(
 ) -> Result<Vec<Broken>, NoMemory>
     ensures rows { IfOk result (λ all. rows_in all.items ≡ flat_map (rows_with input.entry.front.now (map string_bytes input.entry.ignores.now)) (map linked_at linked.now)) }
     ensures names { IfOk result (λ all. AreNamed input.entry.front.now site.entry.files.now all.items) }
-    ensures parts { IfOk result (λ all. parts_in all.items ≡ []) }
+    ensures anchors { IfOk result (λ all. anchors_in all.items ≡ []) }
     ensures invalid { IfOk result (λ all. invalid_rows_in all.items ≡ []) }
     ensures leaving { IfOk result (λ all. leaving_in all.items ≡ []) }
 {
@@ -352,7 +352,7 @@ fn has_none(linked: &[Linked<'_>]) -> bool
 fn joined(rows: Vec<Broken>, others: Vec<Broken>) -> Result<Vec<Broken>, NoMemory>
     ensures rows { IfOk result (λ all. rows_in all.items ≡ rows_in rows.items ++ rows_in others.items) }
     ensures names { IfOk result (λ all. (front : List ℕ) (files : SiteFiles) → AreNamed front files rows.items → AreNamed front files others.items → AreNamed front files all.items) }
-    ensures parts { IfOk result (λ all. parts_in all.items ≡ parts_in rows.items ++ parts_in others.items) }
+    ensures anchors { IfOk result (λ all. anchors_in all.items ≡ anchors_in rows.items ++ anchors_in others.items) }
     ensures invalid { IfOk result (λ all. invalid_rows_in all.items ≡ invalid_rows_in rows.items ++ invalid_rows_in others.items) }
     ensures leaving { IfOk result (λ all. leaving_in all.items ≡ leaving_in rows.items ++ leaving_in others.items) }
 {
@@ -369,19 +369,19 @@ fn unused_entries(
     linked: &[Linked<'_>],
     others: Others<'_>,
 ) -> Result<Vec<String>, NoMemory>
-    ensures { IfOk result (λ all. map string_bytes all.items ≡ unused (map string_bytes input.entry.ignores.now) ((map part_text others.entry.anchors.now ++ map text_of others.entry.invalid.now) ++ map shown_at others.entry.outside.now ++ flat_map (text_at input.entry.front.now) (map result_at linked.now))) }
+    ensures { IfOk result (λ all. map string_bytes all.items ≡ unused (map string_bytes input.entry.ignores.now) (((map anchor_text others.entry.anchors.now ++ map text_of others.entry.invalid.now) ++ map shown_at others.entry.outside.now) ++ flat_map (text_at input.entry.front.now) (map result_at linked.now))) }
 {
     let mut texts = anchor_texts(alloc, others.anchors)?;
     push_invalid(others.invalid, &mut texts)?;
-    let mut urls = shown_outside(alloc, others.outside)?;
-    push_missing(input.front, linked, &mut urls)?;
-    let all = unused(alloc, input.ignores, texts.as_slice(), urls.as_slice())?;
+    push_outside(others.outside, &mut texts)?;
+    push_missing(input.front, linked, &mut texts)?;
+    let all = unused(alloc, input.ignores, texts.as_slice())?;
     Ok(all)
 }
 
 /// Returns the text of each anchor, as it is printed.
 fn anchor_texts(alloc: Global, anchors: &[MissingAnchor]) -> Result<Vec<&str>, NoMemory>
-    ensures { IfOk result (λ texts. pointed texts.items ≡ map part_text anchors.now) }
+    ensures { IfOk result (λ texts. pointed texts.items ≡ map anchor_text anchors.now) }
 {
     let mut texts = Vec::new(alloc);
     for anchor in anchors {
@@ -400,15 +400,14 @@ fn push_invalid<'a>(invalid: &[InvalidText<'a>], texts: &mut Vec<&'a str>) -> Re
     Ok(())
 }
 
-/// Returns the URLs outside the site, as they are printed.
-fn shown_outside<'a>(alloc: Global, outside: &'a [Outside<'_>]) -> Result<Vec<&'a str>, NoMemory>
-    ensures { IfOk result (λ texts. pointed texts.items ≡ map shown_at outside.now) }
+/// Appends the URLs outside the site, as they are printed.
+fn push_outside<'a>(outside: &'a [Outside<'_>], texts: &mut Vec<&'a str>) -> Result<(), NoMemory>
+    ensures { OnOk result (pointed texts.new.items ≡ pointed texts.old.items ++ map shown_at outside.now) }
 {
-    let mut texts = Vec::new(alloc);
     for one in outside {
         texts.push(one.text.as_str())?;
     }
-    Ok(texts)
+    Ok(())
 }
 
 /// Appends the missing pages, as they are printed.

@@ -4,7 +4,7 @@ ghost use Rattle.std.specs.Cmp.Lexicographic.{slice_cmp};
 ghost use Rattle.std.specs.List.{list_any};
 ghost use Rattle.std.specs.Ordering.{nat_cmp};
 ghost use Rattle.site_files.specs.declared.files.SiteFiles.{SiteFiles};
-ghost use Rattle.site_check.specs.Ignored.{not_ignored, parts_in};
+ghost use Rattle.site_check.specs.Ignored.{not_ignored, anchors_in};
 ghost use Rattle.site_check.specs.Invalid.{AreTexts, invalid_at, invalid_in, invalid_rows_in, invalid_with, link_text, link_texts, next_text, once, rises, row_kind, row_of, text_of, texts_if, texts_in};
 ghost use Rattle.site_check.specs.Leaving.{leaving_in};
 ghost use Rattle.site_check.specs.Names.{AreNamed};
@@ -262,7 +262,7 @@ pub(crate) fn invalid_rows(
 ) -> Result<Vec<Broken>, NoMemory>
     ensures rows { IfOk result (λ all. rows_in all.items ≡ []) }
     ensures names { IfOk result (λ all. (front : List ℕ) (files : SiteFiles) → AreNamed front files all.items) }
-    ensures parts { IfOk result (λ all. parts_in all.items ≡ []) }
+    ensures anchors { IfOk result (λ all. anchors_in all.items ≡ []) }
     ensures invalid { IfOk result (λ all. invalid_rows_in all.items ≡ map row_of (not_ignored (map string_bytes ignores.now) (map text_of texts.now))) }
     ensures leaving { IfOk result (λ all. leaving_in all.items ≡ []) }
 {
@@ -283,7 +283,7 @@ fn push_row(
 ) -> Result<(), NoMemory>
     ensures rows { OnOk result (rows_in all.new.items ≡ rows_in all.old.items) }
     ensures names { OnOk result ((front : List ℕ) (files : SiteFiles) → AreNamed front files all.old.items → AreNamed front files all.new.items) }
-    ensures parts { OnOk result (parts_in all.new.items ≡ parts_in all.old.items) }
+    ensures anchors { OnOk result (anchors_in all.new.items ≡ anchors_in all.old.items) }
     ensures invalid { OnOk result (invalid_rows_in all.new.items ≡ invalid_rows_in all.old.items ++ map row_of (not_ignored (map string_bytes ignores.now) (text_of text.entry ∷ []))) }
     ensures leaving { OnOk result (leaving_in all.new.items ≡ leaving_in all.old.items) }
 {

@@ -4,7 +4,7 @@ ghost use Rattle.std.specs.List.{flat_map};
 ghost use Rattle.crawl_sources.specs.Tallies.{pointed};
 ghost use Rattle.site_files.specs.declared.files.SiteFiles.{SiteFiles};
 ghost use Rattle.site_check.specs.Broken.{begins, linked, linked_at};
-ghost use Rattle.site_check.specs.Ignored.{parts_in};
+ghost use Rattle.site_check.specs.Ignored.{anchors_in};
 ghost use Rattle.site_check.specs.Invalid.{invalid_rows_in};
 ghost use Rattle.site_check.specs.Leaving.{is_outside, leaving_in, outside_at, outside_of, outside_row, outside_text, path_from, row_at, steps_up};
 ghost use Rattle.site_check.specs.Names.{AreNamed};
@@ -226,7 +226,7 @@ pub(crate) fn outside_rows(
 ) -> Result<Vec<Broken>, NoMemory>
     ensures rows { IfOk result (λ all. rows_in all.items ≡ []) }
     ensures names { IfOk result (λ all. (front : List ℕ) (files : SiteFiles) → AreNamed front files all.items) }
-    ensures parts { IfOk result (λ all. parts_in all.items ≡ []) }
+    ensures anchors { IfOk result (λ all. anchors_in all.items ≡ []) }
     ensures invalid { IfOk result (λ all. invalid_rows_in all.items ≡ []) }
     ensures leaving { IfOk result (λ all. leaving_in all.items ≡ flat_map (row_at (map string_bytes input.entry.ignores.now)) (map outside_at outside.now)) }
 {
@@ -250,7 +250,7 @@ fn push_row(
     requires { is_leaving kind ≡ true }
     ensures rows { OnOk result (rows_in all.new.items ≡ rows_in all.old.items) }
     ensures names { OnOk result ((front : List ℕ) (files : SiteFiles) → AreNamed front files all.old.items → AreNamed front files all.new.items) }
-    ensures parts { OnOk result (parts_in all.new.items ≡ parts_in all.old.items) }
+    ensures anchors { OnOk result (anchors_in all.new.items ≡ anchors_in all.old.items) }
     ensures invalid { OnOk result (invalid_rows_in all.new.items ≡ invalid_rows_in all.old.items) }
     ensures leaving { OnOk result (leaving_in all.new.items ≡ leaving_in all.old.items ++ row_at (map string_bytes ignores.now) (outside_at one.now)) }
 {

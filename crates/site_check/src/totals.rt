@@ -1,7 +1,7 @@
 //! The totals of a check.
 ghost use Rattle.std.specs.Prelude.{◌≡◌, if◌then◌else◌, IfOk, count_by, length, max};
 ghost use Rattle.site_check.specs.Aliases.{is_alias_page, is_in, is_own_page};
-ghost use Rattle.site_check.specs.Totals.{capped, is_invalid, is_leaving, is_missing, is_page, is_part, link_count, links_in, part_count, place_count, row_links, totals_by, totals_of, url_count};
+ghost use Rattle.site_check.specs.Totals.{capped, is_invalid, is_leaving, is_missing, is_page, is_anchor, link_count, links_in, anchor_count, place_count, row_links, totals_by, totals_of, url_count};
 
 use crate::aliases::{AliasUrls, alias_urls};
 use check_report::{Broken, Kind, Redirect, Totals};
@@ -139,7 +139,7 @@ struct RowCounts {
 fn row_counts(broken: &[Broken]) -> RowCounts
     ensures broken_links { result.broken_links ≡ place_count is_missing broken.now }
     ensures urls { result.urls ≡ url_count broken.now }
-    ensures anchors { result.anchors ≡ part_count broken.now }
+    ensures anchors { result.anchors ≡ anchor_count broken.now }
     ensures invalid_links { result.invalid_links ≡ row_links is_invalid broken.now }
     ensures leaving_links { result.leaving_links ≡ row_links is_leaving broken.now }
 {
@@ -151,7 +151,7 @@ fn row_counts(broken: &[Broken]) -> RowCounts
     for one in broken {
         let kind = one.kind;
         urls += number_of(is_page(kind));
-        anchors += number_of(is_part(kind));
+        anchors += number_of(is_anchor(kind));
         broken_links = broken_links.saturating_add(places_if(is_missing(kind), one));
         invalid_links = invalid_links.saturating_add(row_links_if(is_invalid(kind), one));
         leaving_links = leaving_links.saturating_add(row_links_if(is_leaving(kind), one));
@@ -191,7 +191,7 @@ fn row_links_if(is_counted: bool, one: &Broken) -> u64
 fn is_missing(kind: Kind) -> bool
     ensures { result ≡ is_missing kind }
 {
-    is_page(kind) || is_part(kind)
+    is_page(kind) || is_anchor(kind)
 }
 
 /// Whether the row is that of a missing page.
@@ -202,8 +202,8 @@ fn is_page(kind: Kind) -> bool
 }
 
 /// Whether the row is that of a missing anchor.
-fn is_part(kind: Kind) -> bool
-    ensures { result ≡ is_part kind }
+fn is_anchor(kind: Kind) -> bool
+    ensures { result ≡ is_anchor kind }
 {
     matches!(kind, Kind::NoAnchor)
 }

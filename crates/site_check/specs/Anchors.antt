@@ -2,5 +2,5 @@
 use Rattle.std.specs.Prelude.{ℕ, List, string_bytes}
 use Rattle.site_check.specs.declared.missing_anchors.MissingAnchor.{MissingAnchor}
 
-abbrev pub part_text : MissingAnchor → List ℕ
-part_text part = string_bytes part.text
+abbrev pub anchor_text : MissingAnchor → List ℕ
+anchor_text part = string_bytes part.text
