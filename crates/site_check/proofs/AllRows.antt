@@ -1,5 +1,5 @@
 -- The rows of the results that found no page are those of all results.
-use Rattle.site_check.proofs.Prelude.{common_steps, ◌≡◌, ◌∙◌, ℕ, Bool, true, false, not, List, [], ◌∷◌, ◌++◌, map, filter, refl, sym, ap, arith, cases_Bool, flat_map, Page, PageResult, Linked, is_unfound, linked, linked_at, result_at, rows_at, rows_with, broken_of, ways_at, ways_with, redirects_of, missing_texts, text_at, SiteFiles, leaving_of, outside_at, outside_of, outside_row, outside_texts, row_at, shown_at}
+use Rattle.site_check.proofs.Prelude.{common_steps, ◌≡◌, ◌∙◌, ℕ, Bool, true, false, not, List, [], ◌∷◌, ◌++◌, map, filter, refl, sym, ap, arith, cases_Bool, flat_map, Page, PageResult, Linked, is_unfound, linked, linked_at, result_at, rows_at, rows_with, broken_of, ways_at, ways_with, redirects_of, missing_texts, text_at, SiteFiles, leaving_of, outside_at, outside_linked, outside_of, outside_row, outside_texts, row_at, shown_at}
 use Rattle.crawl_pages.proofs.StableSort.{filter-kept, filter-dropped}
 use Rattle.crawl_pages.specs.Pages.{is_found, is_missing}
 use Rattle.site_check.specs.Broken.{Row}
@@ -64,18 +64,14 @@ mapped : {X Y Z : Type 0} (g : Y → Z) (h : X → Y) (xs : List X) → map g (m
 mapped g h [] = refl
 mapped g h (x ∷ xs) = ap (λ l. g (h x) ∷ l) (mapped g h xs)
 
--- these are the results outside the site, as they are shown
-abbrev pub AreOutside : Bool → SiteFiles → List PageResult → List PageResult → List Outside → Type 0
-AreOutside rooted files results found outside = map outside_at outside ≡ map (outside_row rooted files) (map (linked results) (outside_of files found))
-
-pub leaving_of_all : (entries : List (List ℕ)) (rooted : Bool) (files : SiteFiles) (results found : List PageResult) (outside : List Outside) → AreOutside rooted files results found outside →
+pub leaving_of_all : (entries : List (List ℕ)) (rooted : Bool) (files : SiteFiles) (results found : List PageResult) (outside : List Outside) → map outside_at outside ≡ outside_linked rooted files results found →
     flat_map (row_at entries) (map outside_at outside) ≡ leaving_of entries rooted files results found
 leaving_of_all entries rooted files results found outside are =
     let out = outside_of files found in
     ap (flat_map (row_at entries)) are ∙ flat_mapped (row_at entries) (outside_row rooted files) (map (linked results) out)
     ∙ flat_mapped (λ l. row_at entries (outside_row rooted files l)) (linked results) out
 
-pub outside_texts_of_all : (rooted : Bool) (files : SiteFiles) (results found : List PageResult) (outside : List Outside) → AreOutside rooted files results found outside →
+pub outside_texts_of_all : (rooted : Bool) (files : SiteFiles) (results found : List PageResult) (outside : List Outside) → map outside_at outside ≡ outside_linked rooted files results found →
     outside_texts rooted files found ≡ map shown_at outside
 outside_texts_of_all rooted files results found outside are =
     let text : Row → List ℕ = λ w. w.text in

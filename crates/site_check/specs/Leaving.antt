@@ -65,10 +65,14 @@ leaving_in all = flat_map leaving_row_in all
 abbrev pub outside_row : Bool → SiteFiles → Linked → Row
 outside_row rooted files l = record { text = outside_text rooted files l.result.url; pages = l.pages }
 
+-- those of the results outside the site, in order, each with the number of results that link to it
+abbrev pub outside_linked : Bool → SiteFiles → List PageResult → List PageResult → List Row
+outside_linked rooted files results found = map (outside_row rooted files) (map (linked results) (outside_of files found))
+
 abbrev pub row_at : List (List ℕ) → Row → List Row
 row_at entries row = row_for entries row.text row.pages
 
--- the rows of the results outside the site, in order, each with the number of results that link to it, without those that an entry matches
+-- the rows of these results, without those that an entry matches
 abbrev pub leaving_of : List (List ℕ) → Bool → SiteFiles → List PageResult → List PageResult → List Row
 leaving_of entries rooted files results found = flat_map (λ r. row_at entries (outside_row rooted files (linked results r))) (outside_of files found)
 

@@ -1,14 +1,14 @@
 //! Checks the results of a crawl of a site's saved web.
-ghost use Rattle.std.specs.Prelude.{◌≡◌, ◌==◌, ◌++◌, ℕ, List, IfOk, OnOk, map, not, string_bytes, length, flat_map};
+ghost use Rattle.std.specs.Prelude.{◌≡◌, ◌==◌, ◌++◌, ℕ, List, [], true, IfOk, OnOk, map, not, string_bytes, length, flat_map};
 ghost use Rattle.check_report.specs.Text.{is_broken};
 ghost use Rattle.crawl_sources.specs.Tallies.{pointed};
 ghost use Rattle.crawl_pages.specs.declared.page.PageResult.{PageResult};
 ghost use Rattle.site_files.specs.declared.files.SiteFiles.{SiteFiles};
-ghost use Rattle.site_check.specs.Broken.{broken_of, linked, linked_at, redirects_of, result_at, rows_with, ways_with};
+ghost use Rattle.site_check.specs.Broken.{broken_of, linked_at, redirects_of, result_at, rows_with, ways_with};
 ghost use Rattle.site_check.specs.Ignored.{AreUnused, missing_texts, not_ignored, anchors_in, text_at, unused};
 ghost use Rattle.site_check.specs.Invalid.{AreInvalid, AreTexts, invalid_rows_in, row_of, text_of, texts_if};
 ghost use Rattle.site_check.specs.Leads.{indices_in, leads_from, number_in, targets_of};
-ghost use Rattle.site_check.specs.Leaving.{leaving_in, leaving_of, outside_at, outside_of, outside_row, outside_texts, row_at, shown_at};
+ghost use Rattle.site_check.specs.Leaving.{leaving_in, leaving_of, outside_at, outside_linked, outside_texts, row_at, shown_at};
 ghost use Rattle.site_check.specs.Names.{AreNamed};
 ghost use Rattle.site_check.specs.Anchors.{anchor_text};
 ghost use Rattle.site_check.specs.Told.{rows_in, way_of};
@@ -163,7 +163,7 @@ fn sought_by<'p, R: Threads + Sync>(
     linked: &[Linked<'p>],
 ) -> Result<BrokenLinks<'p>, NoMemory>
     ensures invalid { IfOk result (λ sought. AreTexts (texts_if input.entry.invalid input.entry.places.now site.entry.pages.results.now) (map text_of sought.invalid.items)) }
-    ensures outside { IfOk result (λ sought. map outside_at sought.outside.items ≡ map (outside_row input.entry.rooted site.entry.files.now) (map (linked site.entry.pages.results.now) (outside_of site.entry.files.now input.entry.found.now))) }
+    ensures outside { IfOk result (λ sought. map outside_at sought.outside.items ≡ outside_linked input.entry.rooted site.entry.files.now site.entry.pages.results.now input.entry.found.now) }
 {
     let threads = site.files.threads().max(1);
     let (leads, lacked) = join(

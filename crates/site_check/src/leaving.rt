@@ -3,10 +3,10 @@ ghost use Rattle.std.specs.Prelude.{◌≡◌, ◌∷◌, ◌++◌, ◌<◌, ℕ
 ghost use Rattle.std.specs.List.{flat_map};
 ghost use Rattle.crawl_sources.specs.Tallies.{pointed};
 ghost use Rattle.site_files.specs.declared.files.SiteFiles.{SiteFiles};
-ghost use Rattle.site_check.specs.Broken.{begins, linked, linked_at};
+ghost use Rattle.site_check.specs.Broken.{begins, linked_at};
 ghost use Rattle.site_check.specs.Ignored.{anchors_in};
 ghost use Rattle.site_check.specs.Invalid.{invalid_rows_in};
-ghost use Rattle.site_check.specs.Leaving.{is_outside, leaving_in, outside_at, outside_of, outside_row, outside_text, path_from, row_at, steps_up};
+ghost use Rattle.site_check.specs.Leaving.{is_outside, leaving_in, outside_at, outside_linked, outside_of, outside_row, outside_text, path_from, row_at, steps_up};
 ghost use Rattle.site_check.specs.Names.{AreNamed};
 ghost use Rattle.site_check.specs.Told.{rows_in};
 ghost use Rattle.site_check.specs.Totals.{is_leaving};
@@ -43,7 +43,7 @@ pub(crate) fn outside_urls<'a, R: Threads + Sync>(
     input: CheckInput<'a>,
     site: Site<'a, '_>,
 ) -> Result<Vec<Outside<'a>>, NoMemory>
-    ensures { IfOk result (λ all. map outside_at all.items ≡ map (outside_row input.entry.rooted site.entry.files.now) (map (linked site.entry.pages.results.now) (outside_of site.entry.files.now input.entry.found.now))) }
+    ensures { IfOk result (λ all. map outside_at all.items ≡ outside_linked input.entry.rooted site.entry.files.now site.entry.pages.results.now input.entry.found.now) }
 {
     let found = outside_results(alloc, site.files, input.found)?;
     if found.is_empty() {

@@ -68,41 +68,63 @@ pub(crate) fn missing_anchors(
     leads: &mut Vec<Lead>,
 ) -> Result<Vec<MissingAnchor>, NoMemory> {
     let mut anchors = Vec::new(alloc);
-    let mut rest = links;
+    let mut begin: usize = 0;
     for _ in 0..links.len() {
-        let Some(first) = rest.first() else {
+        let end = anchor_end(links, begin);
+        if end <= begin {
             break;
-        };
-        let (own, more) = split_anchor(*first, rest);
-        let text = anchor_text(alloc, input.front, first.anchor)?;
-        if !is_ignored(input.ignores, text.as_str()) {
-            push_leads(own, before.saturating_add(anchors.len()), leads)?;
         }
-        let pages = page_count(own);
-        anchors.push(MissingAnchor { text, pages })?;
-        rest = more;
+        let own = links.get(begin..end).unwrap_or(&[]);
+        let number = before.saturating_add(anchors.len());
+        let anchor = missing_anchor(alloc, input, own, number, leads)?;
+        anchors.push(anchor)?;
+        begin = end;
     }
     Ok(anchors)
 }
 
-/// The links to the anchor of the first one, and those to the anchors after it.
-fn split_anchor<'s, 'a>(
-    first: MissingAnchorLink<'a>,
-    links: &'s [MissingAnchorLink<'a>],
-) -> (&'s [MissingAnchorLink<'a>], &'s [MissingAnchorLink<'a>]) {
-    let count = links
+/// The index after the last link that leads to the same anchor as the link at this index.
+fn anchor_end(links: &[MissingAnchorLink<'_>], begin: usize) -> usize {
+    let behind = links.get(begin..).unwrap_or(&[]);
+    let Some(first) = behind.first() else {
+        return begin;
+    };
+    let count = behind
         .iter()
         .position(|link| !link.anchor.order(&first.anchor).is_eq())
-        .unwrap_or(links.len());
-    links.split_at(count.min(links.len()))
+        .unwrap_or(behind.len());
+    begin.saturating_add(count)
 }
 
-/// The text of an anchor, as it is printed.
-fn anchor_text(alloc: Global, front: &str, anchor: Anchor<'_>) -> Result<String, NoMemory> {
-    let mut text = String::from_str(alloc, shown(front, anchor.url.as_str()))?;
-    text.push('#')?;
-    let fragment = String::from_utf8_lossy(alloc, anchor.fragment)?;
-    text.push_str(fragment.as_str())?;
+/// The anchor of these links. Appends them to `leads`, as links to the target with this number, if no entry matches the anchor.
+fn missing_anchor(
+    alloc: Global,
+    input: CheckInput<'_>,
+    links: &[MissingAnchorLink<'_>],
+    number: usize,
+    leads: &mut Vec<Lead>,
+) -> Result<MissingAnchor, NoMemory> {
+    let text = anchor_text(alloc, input.front, links)?;
+    if !is_ignored(input.ignores, text.as_str()) {
+        push_leads(links, number, leads)?;
+    }
+    let pages = page_count(links);
+    Ok(MissingAnchor { text, pages })
+}
+
+/// The text of the anchor to which these links lead, as it is printed.
+fn anchor_text(
+    alloc: Global,
+    front: &str,
+    links: &[MissingAnchorLink<'_>],
+) -> Result<String, NoMemory> {
+    let mut text = String::new(alloc);
+    if let Some(link) = links.first() {
+        text.push_str(shown(front, link.anchor.url.as_str()))?;
+        text.push('#')?;
+        let fragment = String::from_utf8_lossy(alloc, link.anchor.fragment)?;
+        text.push_str(fragment.as_str())?;
+    }
     Ok(text)
 }
 
