@@ -18,3 +18,8 @@ no_front front url lacks =
           (sym (take-append-drop (length front) url) ∙ ap (λ t. t ++ drop (length front) url) ((bytes_eq-Decides (take (length front) url) front).0 with)))
       | inr without ↦ sym (cond-false _ _ _ without)
     ]
+
+-- what references point to passes if they do
+pub any_pointed : {X : Type 0} (p : X → Bool) (xs : List (Bor X)) → list_any p (pointed xs) ≡ list_any (λ x. p x.now) xs
+any_pointed p [] = refl
+any_pointed p (x ∷ xs) = ap (λ b. p x.now || b) (any_pointed p xs)

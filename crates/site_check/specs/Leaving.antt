@@ -4,6 +4,7 @@ use Rattle.std.specs.List.{flat_map}
 use Rattle.check_report.specs.declared.value.Broken.{Broken}
 use Rattle.check_report.specs.declared.value.Kind.{Kind}
 use Rattle.check_report.specs.declared.value.Kind.TheVariants.{Leaves, OutsideBase}
+use Rattle.crawl_pages.specs.Pages.{is_missing}
 use Rattle.crawl_pages.specs.declared.page.PageResult.{PageResult}
 use Rattle.site_check.specs.Broken.{Linked, Row, begins, linked, row_for}
 use Rattle.site_check.specs.declared.leaving.Outside.{Outside}
@@ -18,8 +19,12 @@ is_on_host files url = begins (string_bytes files.site.origin ++ 47 ∷ []) url
 abbrev pub is_outside : SiteFiles → List ℕ → Bool
 is_outside files url = is_on_host files url && not (begins (string_bytes files.site.top) url)
 
+-- and there is no page: a page at such a URL is one below the top, whose URL is spelled in another way
+abbrev pub is_left : SiteFiles → PageResult → Bool
+is_left files r = is_missing r.page && is_outside files r.url
+
 abbrev pub outside_of : SiteFiles → List PageResult → List PageResult
-outside_of files found = filter (λ r. is_outside files r.url) found
+outside_of files found = filter (is_left files) found
 
 -- ---- how they are shown
 

@@ -103,8 +103,8 @@ pub fn check_site<'f, R: Threads + Sync, B: FileBytes + Sync>(
     // The rows of invalid links are those of the texts of such links in found pages, each text once and in ascending order, without
     // those that an entry matches, if the check lists invalid links.
     ensures invalid { IfOk result (λ checked. AreInvalid (map string_bytes input.entry.ignores.now) (texts_if input.entry.invalid input.entry.places.now results.now) (invalid_rows_in checked.broken.items)) }
-    // The rows of links that lead out of the site are those of the results on the site's host that are not below its top, in order,
-    // each with the number of results that link to it, without those that an entry matches.
+    // The rows of links that lead out of the site are those of the missing results on the site's host that are not below its top, in
+    // order, each with the number of results that link to it, without those that an entry matches.
     ensures leaving { IfOk result (λ checked. leaving_in checked.broken.items ≡ leaving_of (map string_bytes input.entry.ignores.now) input.entry.rooted files.now results.now input.entry.found.now) }
     // The unused entries are those that match no missing page, no missing anchor, no invalid link and no link that leads out of the site.
     ensures ignores { IfOk result (λ checked. AreUnused input.entry.front.now (map string_bytes input.entry.ignores.now) results.now (texts_if input.entry.invalid input.entry.places.now results.now) (outside_texts input.entry.rooted files.now input.entry.found.now) (anchors_in checked.broken.items) (map string_bytes checked.unused_ignores.items)) }
@@ -192,7 +192,6 @@ fn sought_by<'p, R: Threads + Sync>(
 }
 
 /// The links to missing pages that are not ignored, directly or by a redirect.
-#[tactic(auto, using(crate::proofs::LeadsFound::no_leads, crate::proofs::LeadsFound::none_at))]
 fn page_leads<'p, R: Threads + Sync>(
     rt: &R,
     alloc: Global,

@@ -6,7 +6,7 @@ ghost use Rattle.site_files.specs.declared.files.SiteFiles.{SiteFiles};
 ghost use Rattle.site_check.specs.Broken.{begins, linked_at};
 ghost use Rattle.site_check.specs.Ignored.{anchors_in};
 ghost use Rattle.site_check.specs.Invalid.{invalid_rows_in};
-ghost use Rattle.site_check.specs.Leaving.{is_outside, leaving_in, outside_at, outside_linked, outside_of, outside_row, outside_text, path_from, row_at, steps_up};
+ghost use Rattle.site_check.specs.Leaving.{is_left, is_outside, leaving_in, outside_at, outside_linked, outside_of, outside_row, outside_text, path_from, row_at, steps_up};
 ghost use Rattle.site_check.specs.Names.{AreNamed};
 ghost use Rattle.site_check.specs.Told.{rows_in};
 ghost use Rattle.site_check.specs.Totals.{is_leaving};
@@ -35,7 +35,7 @@ pub(crate) struct Outside<'a> {
     pub(crate) text: String,
 }
 
-/// The results on the site's host that are not below its top, in order, each with how many of the site's results link to its URL.
+/// The missing results on the site's host that are not below its top, in order, each with how many of the site's results link to its URL.
 #[tactic(auto, using(crate::proofs::Outsides::none_outside))]
 pub(crate) fn outside_urls<'a, R: Threads + Sync>(
     rt: &R,
@@ -54,7 +54,7 @@ pub(crate) fn outside_urls<'a, R: Threads + Sync>(
     with_texts(alloc, site.files, input.rooted, linked.as_slice())
 }
 
-/// The results on the site's host that are not below its top, in order.
+/// The missing results on the site's host that are not below its top, in order.
 fn outside_results<'a>(
     alloc: Global,
     files: &SiteFiles<'_>,
@@ -64,11 +64,18 @@ fn outside_results<'a>(
 {
     let mut all = Vec::new(alloc);
     for one in results {
-        if is_outside(files, one.url.as_str()) {
+        if is_left(files, one) {
             all.push(one)?;
         }
     }
     Ok(all)
+}
+
+/// Whether a result is outside the site. A page at such a URL is one below the top, whose URL is spelled in another way.
+fn is_left(files: &SiteFiles<'_>, one: &PageResult) -> bool
+    ensures { result ≡ is_left files.now one.now }
+{
+    one.page.is_missing() && is_outside(files, one.url.as_str())
 }
 
 /// Whether a URL is on the site's host, and not below its top.
