@@ -130,7 +130,7 @@ fn push_places(
     all: &mut Vec<TargetPlace>,
 ) -> Result<(), NoMemory> {
     let indices = indices_of(alloc, leads)?;
-    let places = text_places(alloc, body, indices.as_slice())?;
+    let places = text_places(alloc, body, false, indices.as_slice())?;
     for (lead, place) in leads.iter().zip(places.iter()) {
         let place = place_in(alloc, name, *place)?;
         let number = lead.number;

@@ -1,6 +1,6 @@
--- The kinds of files that can have links, by their names.
+-- The kinds of files that can have links, by their names or media types.
 use Rattle.std.specs.Prelude.{ℕ, ◌==◌, Bool, true, false, not, ◌||◌, ◌&&◌, List, codes, bytes_eq, Option, Some, None, if◌then◌else◌}
-use Rattle.std.specs.List.{list_all, list_any, slice_split}
+use Rattle.std.specs.List.{before_first, list_all, list_any, slice_split}
 use Rattle.std.specs.Option.{option_map_or}
 use Rattle.std.specs.Str.{str_eq_ignore_ascii_case}
 use Rattle.url.specs.Input.{rsplit_once}
@@ -57,6 +57,24 @@ kind_by suffix =
 -- the kind of the file with this path
 abbrev pub kind_of : List ℕ → Option FileKind
 kind_of path = option_map_or kind_by (suffix_of path) (Some Unknown)
+
+-- ---- media types, in any case
+
+abbrev pub is_semicolon : ℕ → Bool
+is_semicolon b = b == 59
+
+-- the kind of a file with this media type, which has no parameters
+abbrev pub kind_by_type : List ℕ → Option FileKind
+kind_by_type name =
+    if str_eq_ignore_ascii_case name (codes "text/html") then Some Html
+    else if str_eq_ignore_ascii_case name (codes "application/xhtml+xml") then Some Xml
+    else if str_eq_ignore_ascii_case name (codes "image/svg+xml") then Some Svg
+    else if str_eq_ignore_ascii_case name (codes "text/css") then Some Style
+    else None
+
+-- parameters come after a semicolon
+abbrev pub kind_of_type : List ℕ → Option FileKind
+kind_of_type text = kind_by_type (before_first is_semicolon text)
 
 -- ---- which files are read
 

@@ -6,13 +6,14 @@ ghost use Rattle.site_files.specs.Files.{IsOfFiles};
 ghost use Rattle.site_files.specs.Entries.{Finds, IsTable, cmp_urls, texts};
 ghost use Rattle.site_files.specs.Kinds.{is_document, is_page, is_style};
 ghost use Rattle.site_files.specs.Links.{IsLinked};
-ghost use Rattle.site_files.specs.Files.{IsOrdered, document_at, document_of, kind_at, name_at, page_file, page_of, pages_of, server_of, site_file};
+ghost use Rattle.site_files.specs.Files.{IsOrdered, IsOfNames, document_at, document_of, file_kind, kind_at, line_kind, name_at, named_kind, page_file, page_of, pages_of, server_of, site_file};
 
 use crate::alias::FolderLink;
 use crate::error::SiteError;
 use crate::kinds::{FileKind, kind_of};
 use crate::notes::Note;
 use crate::site::{Entry, Rules, Site, Source, split_name};
+use crate::site_list::ListedUrl;
 use crawl_keys::CanonUrl;
 use std::alloc::{AllocError, Global};
 
@@ -61,10 +62,12 @@ impl SiteFile<'_> {
 #[derive(Drop)]
 pub struct SiteFiles<'a> {
     pub(crate) site: Site,
-    names: &'a [String],
+    pub(crate) names: &'a [String],
     pub(crate) rules: &'a Rules,
-    /// The files without a page, because another file has the same URL.
-    doubles: Vec<Note>,
+    /// What the list of the site has, by the indices of names, if there is a list.
+    pub(crate) listed: Option<&'a [ListedUrl]>,
+    /// The notes about files and listed URLs without a page.
+    pub(crate) doubles: Vec<Note>,
 }
 
 impl<'a> SiteFiles<'a> {
@@ -75,6 +78,7 @@ impl<'a> SiteFiles<'a> {
     pub fn new(alloc: Global, input: SiteNames<'a>) -> Result<SiteFiles<'a>, SiteError>
         ensures error { IfErr result IsOfFiles }
         ensures top { IfOk result (λ files. IsTop input.entry.base.now (string_bytes files.site.top)) }
+        ensures names { IfOk result (IsOfNames input.entry.names.now input.entry.rules.now) }
         ensures url { IfOk result (λ files. files.site.top_url ≡ string_bytes files.site.top) }
         ensures table { IfOk result (λ files. IsTable (server_of files) (texts input.entry.names.now) files.site.entries.items) }
         ensures links { IfOk result (λ files. IsLinked (string_bytes files.site.top) input.entry.links.now files.site.linked.links.items) }
@@ -92,11 +96,12 @@ impl<'a> SiteFiles<'a> {
             site,
             names,
             rules,
+            listed: None,
             doubles,
         })
     }
 
-    /// Adds the notes about the files without a page.
+    /// Adds the notes about the files and listed URLs without a page.
     pub fn copy_doubles(&self, notes: &mut Vec<Note>) -> Result<(), AllocError> {
         for note in &self.doubles {
             notes.push(note.copy()?)?;
@@ -177,20 +182,29 @@ impl<'a> SiteFiles<'a> {
         ensures { option_map (λ file. site_file file.index file.kind file.name.now) result ≡ document_of self.now index }
     {
         let name = self.name(index)?;
-        let kind = self.kind_at(name)?;
+        let kind = self.kind_at(index, name)?;
         Some(SiteFile { index, name, kind })
     }
 
-    /// The kind of the file with this name, if the links of such a file are read.
-    fn kind_at(&self, name: &str) -> Option<FileKind>
-        ensures { result ≡ kind_at self.now name.now }
+    /// The kind of the file with this index and name, if links of such a file are read.
+    fn kind_at(&self, index: usize, name: &str) -> Option<FileKind>
+        ensures { result ≡ kind_at self.now index name.now }
     {
-        let (path, _) = split_name(name, self.rules.queries);
-        let kind = kind_of(path.as_bytes())?;
+        let kind = self.file_kind(index, name)?;
         if is_style(kind) && !self.rules.styles {
             None
         } else {
             Some(kind)
+        }
+    }
+
+    /// The kind of the file with this index and name: by its type in the list or, without a list, by its name.
+    fn file_kind(&self, index: usize, name: &str) -> Option<FileKind>
+        ensures { result ≡ file_kind self.now.rules.now self.now.listed index name.now }
+    {
+        match self.listed {
+            Some(urls) => line_kind(urls, index),
+            None => named_kind(self.rules, name),
         }
     }
 
@@ -244,6 +258,24 @@ impl<'a> SiteFiles<'a> {
     pub fn threads(&self) -> usize {
         self.rules.threads
     }
+}
+
+/// The kind of the file in the line with this index.
+fn line_kind(urls: &[ListedUrl], index: usize) -> Option<FileKind>
+    ensures { result ≡ line_kind urls.now index }
+{
+    match urls.get(index) {
+        Some(one) => one.content.kind(),
+        None => None,
+    }
+}
+
+/// The kind of a file with this name.
+fn named_kind(rules: &Rules, name: &str) -> Option<FileKind>
+    ensures { result ≡ named_kind rules.now name.now }
+{
+    let (path, _) = split_name(name, rules.queries);
+    kind_of(path.as_bytes())
 }
 
 /// Whether the file is a style sheet.

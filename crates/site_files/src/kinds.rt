@@ -1,7 +1,7 @@
-//! The kind of a file, by its name.
+//! The kind of a file, by its name or its media type.
 ghost use Rattle.std.specs.Prelude.{◌≡◌, option_map};
-ghost use Rattle.std.specs.List.{list_all};
-ghost use Rattle.site_files.specs.Kinds.{is_among, is_dot, is_html, is_other, is_packed, is_xhtml, kind_by, kind_of, suffix_of};
+ghost use Rattle.std.specs.List.{before_first, list_all};
+ghost use Rattle.site_files.specs.Kinds.{is_among, is_dot, is_html, is_other, is_packed, is_semicolon, is_xhtml, kind_by, kind_of, kind_of_type, suffix_of};
 ghost use Rattle.url.specs.Input.{rsplit_once};
 
 /// The kind of a file that can have links.
@@ -91,6 +91,34 @@ fn is_among(suffix: &[u8], suffixes: &str) -> bool
     suffixes
         .split(' ')
         .any(|one| suffix.eq_ignore_ascii_case(one.as_bytes()))
+}
+
+/// The kind of a file with this media type, which may have parameters, or `None` if it has no links. Case does not matter.
+pub(crate) fn kind_of_type(text: &str) -> Option<FileKind>
+    ensures { result ≡ kind_of_type text.now }
+{
+    let name = media_type(text);
+    if name.eq_ignore_ascii_case("text/html") {
+        Some(FileKind::Html)
+    } else if name.eq_ignore_ascii_case("application/xhtml+xml") {
+        Some(FileKind::Xml)
+    } else if name.eq_ignore_ascii_case("image/svg+xml") {
+        Some(FileKind::Svg)
+    } else if name.eq_ignore_ascii_case("text/css") {
+        Some(FileKind::Style)
+    } else {
+        None
+    }
+}
+
+/// A media type without its parameters.
+fn media_type(text: &str) -> &str
+    ensures { result.now ≡ before_first is_semicolon text.now }
+{
+    match text.split_once(';') {
+        Some((name, _)) => name,
+        None => text,
+    }
 }
 
 /// What comes after the last dot of a file's name, if something other than dots comes before it.

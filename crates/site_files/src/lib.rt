@@ -10,8 +10,10 @@ mod files;
 mod folder;
 mod kinds;
 pub mod laws;
+mod listed;
 mod notes;
 mod site;
+mod site_list;
 mod spellings;
 mod walk;
 
@@ -23,5 +25,6 @@ pub use files::{SiteFile, SiteFiles, SiteNames};
 pub use kinds::FileKind;
 pub use notes::{Left, Note};
 pub use site::Rules;
+pub use site_list::{ListError, SiteList, read_site_list};
 pub use spellings::before_query;
 pub use walk::{FolderNames, folder_names};

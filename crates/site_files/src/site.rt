@@ -134,9 +134,11 @@ impl Site {
     }
 
     /// One without pages, whose top has this URL.
-    fn at(alloc: Global, base: &str) -> Result<Site, SiteError>
+    #[tactic(auto, using(crate::proofs::OtherNames::linked))]
+    pub(crate) fn at(alloc: Global, base: &str) -> Result<Site, SiteError>
         ensures error { IfErr result IsOfFiles }
         ensures top { IfOk result (λ site. IsTop base.now (string_bytes site.top)) }
+        ensures links { IfOk result (λ site. IsLinked (string_bytes site.top) [] site.linked.links.items) }
         ensures url { IfOk result (λ site. site.top_url ≡ string_bytes site.top) }
     {
         let page = url_at(alloc, base)?;
@@ -398,7 +400,7 @@ fn add(url: &str, source: Source, entries: &mut Vec<Entry>) -> Result<(), SiteEr
 }
 
 /// The pages in the order of their URLs. Of those with one URL, the first stays the first.
-fn in_order(entries: Vec<Entry>) -> Result<Vec<Entry>, AllocError>
+pub(crate) fn in_order(entries: Vec<Entry>) -> Result<Vec<Entry>, AllocError>
     ensures { IfOk result (λ ordered. IsInOrder entries.items ordered.items) }
 {
     let mut ordered = entries;
@@ -407,7 +409,7 @@ fn in_order(entries: Vec<Entry>) -> Result<Vec<Entry>, AllocError>
 }
 
 /// The first page of each URL, of pages in the order of their URLs.
-fn without_doubles(entries: Vec<Entry>) -> Vec<Entry>
+pub(crate) fn without_doubles(entries: Vec<Entry>) -> Vec<Entry>
     requires { IsSorted cmp_urls entries.items }
     ensures { IsOnce entries.items result.items }
 {
