@@ -4,7 +4,7 @@ use crate::site_pages::Site;
 use check_report::Place;
 use crawl_pages::NoMemory;
 use document_links::{TextPlace, text_places};
-use site_files::{Body, FileBytes, SiteFile};
+use site_files::{Body, FileBytes, FileKind, SiteFile};
 use std::alloc::Global;
 use std::mem;
 use std::sync::atomic::{AtomicUsize, Ordering};
@@ -108,7 +108,7 @@ pub(crate) fn every_place<B: FileBytes>(
         if let Some(file) = file_of(site, *leads) {
             body.clear();
             if bytes.read(file, &mut body)?.is_none() {
-                push_places(alloc, *leads, file.name, body.as_slice(), &mut all)?;
+                push_places(alloc, *leads, file, body.as_slice(), &mut all)?;
             }
         }
     }
@@ -121,18 +121,19 @@ fn file_of<'f>(site: Site<'_, 'f>, leads: &[Lead]) -> Option<SiteFile<'f>> {
     site.files.document(site.files.find(one.url.as_str())?)
 }
 
-/// Appends the locations of these links in the contents of the file with this name.
+/// Appends the locations of these links in the contents of this file.
 fn push_places(
     alloc: Global,
     leads: &[Lead],
-    name: &str,
+    file: SiteFile<'_>,
     body: &[u8],
     all: &mut Vec<TargetPlace>,
 ) -> Result<(), NoMemory> {
     let indices = indices_of(alloc, leads)?;
-    let places = text_places(alloc, body, false, indices.as_slice())?;
+    let is_style_sheet = file.kind == FileKind::Style;
+    let places = text_places(alloc, body, is_style_sheet, indices.as_slice())?;
     for (lead, place) in leads.iter().zip(places.iter()) {
-        let place = place_in(alloc, name, *place)?;
+        let place = place_in(alloc, file.name, *place)?;
         let number = lead.number;
         all.push(TargetPlace { number, place })?;
     }
