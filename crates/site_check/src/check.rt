@@ -84,7 +84,7 @@ impl Checked {
 ///
 /// # Errors
 /// Out of memory.
-#[tactic(auto, using(crate::proofs::AllRows::rows_of_all, crate::proofs::AllRows::ways_of_all, crate::proofs::AllRows::texts_of_all, crate::proofs::AllRows::leaving_of_all, crate::proofs::AllRows::outside_texts_of_all, crate::proofs::Verdicts::verdict_of_rows))]
+#[tactic(auto, using(crate::proofs::AllRows::rows_of_all, crate::proofs::AllRows::ways_of_all, crate::proofs::AllRows::texts_of_all, crate::proofs::AllRows::leaving_of_all, crate::proofs::AllRows::outside_texts_of_all))]
 pub fn check_site<'f, R: Threads + Sync, B: FileBytes + Sync>(
     rt: &R,
     alloc: Global,

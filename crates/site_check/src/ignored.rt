@@ -111,7 +111,6 @@ pub(crate) fn unused(
 }
 
 /// Whether the entry matches one of these texts.
-#[tactic(auto, using(crate::proofs::Fronts::any_pointed))]
 fn is_used(entry: &str, texts: &[&str]) -> bool
     ensures { result ≡ list_any (begins entry.now) (pointed texts.now) }
 {
