@@ -1,7 +1,6 @@
 -- A text that begins with another.
 use Rattle.site_check.proofs.Prelude.{common_steps, ◌≡◌, ◌∙◌, ℕ, Bool, true, ◌||◌, List, [], ◌∷◌, ◌++◌, length, take, drop, cond, refl, sym, ap, inl, inr, arith, cases_Bool, cond-true, cond-false, take-append-drop, bytes_eq-Decides, Bor, list_any, pointed, begins}
 use Rattle.std.proofs.Math.Seq.{take-append_seam}
-use Rattle.std.proofs.lemmas.List.Folds.{list_any-append}
 
 begins_with : (front url rest : List ℕ) → url ≡ front ++ rest → begins front url ≡ true
 begins_with front url rest e = grind (arith, common_steps, bytes_eq-Decides, take-append_seam)

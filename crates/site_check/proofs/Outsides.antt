@@ -1,7 +1,6 @@
 -- URLs outside a site, and their paths from its top.
-use Rattle.site_check.proofs.Prelude.{common_steps, ◌≡◌, ◌∙◌, ℕ, suc, ◌<◌, ◌+◌, Bool, true, false, cond, List, [], ◌∷◌, ◌++◌, length, map, drop, take, get_or, refl, sym, ap, inl, inr, arith, append_assoc, cases_Bool, cond-true, cond-false, take-append-drop, bytes_eq-Decides, Bor, PageResult, begins, linked, pointed, SiteFiles}
+use Rattle.site_check.proofs.Prelude.{common_steps, ◌≡◌, ◌∙◌, ℕ, suc, ◌<◌, Bool, true, false, List, [], ◌∷◌, ◌++◌, length, map, drop, take, get_or, refl, sym, ap, inl, inr, arith, append_assoc, cases_Bool, cond-true, cond-false, take-append-drop, bytes_eq-Decides, Bor, PageResult, begins, linked, pointed, SiteFiles}
 use Rattle.std.proofs.Common.{codes, ◌≢◌, eqb, eq-eqb, eqb-true, ne_eqb}
-use Rattle.std.proofs.Math.Seq.{take-append_seam}
 use Rattle.site_check.specs.Leaving.{outside_row, path_after, path_from, steps_up}
 
 -- ---- on the host

@@ -1,5 +1,5 @@
 -- By the totals of a check something is broken if and only if there is a row.
-use Rattle.site_check.proofs.Prelude.{common_steps, ◌≡◌, ◌∙◌, ℕ, ◌+◌, Bool, true, not, ◌||◌, cond, List, [], ◌∷◌, length, ap, refl, arith, PageResult, capped, is_alias, is_invalid, is_leaving, is_missing, is_page, is_anchor, place_count, row_links, totals_by, totals_of, url_count}
+use Rattle.site_check.proofs.Prelude.{common_steps, ◌≡◌, ◌∙◌, ℕ, ◌+◌, Bool, true, not, ◌||◌, cond, List, [], ◌∷◌, length, ap, arith, PageResult, capped, is_alias, is_invalid, is_leaving, is_page, is_anchor, totals_by, totals_of}
 use Rattle.std.proofs.Common.{◌==◌, lt-ltb, max, nat_lt}
 use Rattle.check_report.specs.Text.{is_broken}
 use Rattle.check_report.specs.declared.value.Broken.{Broken}
@@ -7,7 +7,6 @@ use Rattle.check_report.specs.declared.value.Kind.{Kind}
 use Rattle.check_report.specs.declared.value.Kind.TheVariants.{NoPage, NoAnchor, NotUrl, UnknownScheme, LocalFile, Leaves, OutsideBase}
 use Rattle.check_report.specs.declared.value.Redirect.{Redirect}
 use Rattle.check_report.specs.declared.value.Totals.{Totals}
-use Rattle.site_check.specs.Totals.{anchor_count}
 use Rattle.site_files.specs.declared.alias.Alias.{Alias}
 
 -- a count of at least one is not 0 at its limit either

@@ -1,5 +1,5 @@
-use Rattle.site_check.proofs.Prelude.{◌≡◌, ◌∙◌, ◌<◌, ◌∷◌, Some, None, true, false, length, ap, sym, arith, length-append, bytes_eq, bytes_eq-Decides}
-use Rattle.std.proofs.Common.{◌≢◌, rules, true≢false}
+use Rattle.site_check.proofs.Prelude.{◌≡◌, ◌∙◌, ◌∷◌, Some, None, true, false, length, ap, sym, arith, length-append, bytes_eq, bytes_eq-Decides}
+use Rattle.std.proofs.Common.{rules, true≢false}
 use Rattle.std.proofs.lemmas.Str.Pattern.{split_parts}
 use Rattle.site_check.proofs.Outsides.{path_below, path_differs, path_of_top, path_of_url}
 use Rattle.site_check.proofs.leaving.shared_folder.Goals as goal
