@@ -18,7 +18,7 @@ use std::io::{self, Read, Seek, Write};
 /// # Errors
 /// `CannotRead`; `CannotMakeNew` if the new file exists or cannot be created; `CannotWriteNew`, `NoMemory`. An error leaves no new
 /// file.
-pub fn compact<R: Files, F: Read + Seek>(
+pub fn compact_opened<R: Files, F: Read + Seek>(
     rt: &R,
     alloc: Global,
     session: &mut Session,
@@ -49,7 +49,7 @@ fn compact_synced<F: Read + Seek, O: Write + OpenFile>(
 }
 
 /// Returns how a compaction ends, from the results of the writes and of the sync.
-fn finish(written: Result<(), LogFault>, synced: io::Result<()>) -> Result<(), LogFault>
+pub fn finish(written: Result<(), LogFault>, synced: io::Result<()>) -> Result<(), LogFault>
     ensures { IfOk result (λ _. IsOk written × IsOk synced) }
 {
     written?;

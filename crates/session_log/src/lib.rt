@@ -7,6 +7,7 @@
 //! - [`list`] returns the URLs of a log, which another process may be using.
 #![tactic(auto)]
 
+mod compact_plan;
 mod compacting;
 mod fault;
 mod frame;
@@ -18,6 +19,7 @@ mod log_settings;
 mod new_log;
 mod opening;
 mod plan;
+mod rebuilding;
 mod resuming;
 mod window;
 
@@ -26,11 +28,12 @@ pub mod testing {
     pub use crate::lock_file::NoLocks;
 }
 
-pub use compacting::compact;
+pub use compact_plan::{CompactPlan, NamedSettings};
 pub use fault::{LogFault, LoggedFault, Setting};
 pub use listing::{ListKind, ListPlan, list};
 pub use lock_file::LockFile;
 pub use log_file::Log;
 pub use opening::{OpenedLog, open_session};
 pub use plan::{LogPlan, SessionPlan};
+pub use rebuilding::compact;
 pub use resuming::{resume, serve_logged};

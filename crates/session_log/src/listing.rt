@@ -125,7 +125,7 @@ fn plan_of(part: Option<(u32, u32)>, header: &Header) -> Option<SessionPlan>
 }
 
 /// Returns the filter with the suffixes of a log.
-fn filter_of(alloc: Global, suffixes: &[&str]) -> Result<Filter, LogFault>
+pub fn filter_of(alloc: Global, suffixes: &[&str]) -> Result<Filter, LogFault>
     ensures filter { IfOk result (λ filter. filter_of (map (λ suffix. suffix.now) suffixes.now) ≡ Ok filter) }
     ensures fault { IfErr result IsReadFault }
 {

@@ -139,7 +139,7 @@ fn open_log<R: Files, L: LockFile<R::File>>(
     let Some(identity) = identity_of(rt, alloc, plan.session.part, &mut file)? else {
         return Err(unlike(alloc, &mut file, &plan.session)?);
     };
-    let first = first_line_of(alloc, plan, identity.as_str())?;
+    let first = first_line_of(alloc, &plan.session, identity.as_str())?;
     let Some(head) = measure(alloc, &mut file, first.as_bytes())? else {
         return Err(unlike(alloc, &mut file, &plan.session)?);
     };
@@ -301,8 +301,11 @@ fn text_of_digits(alloc: Global, digits: &[u8]) -> Result<Option<String>, AllocE
 }
 
 /// Returns the first line of a log with checksums, with its LF.
-fn first_line_of(alloc: Global, plan: &LogPlan, identity: &str) -> Result<String, AllocError> {
-    let session = &plan.session;
+pub fn first_line_of(
+    alloc: Global,
+    session: &SessionPlan,
+    identity: &str,
+) -> Result<String, AllocError> {
     let header = Header {
         workers: session.workers,
         max: session.max,
