@@ -1,9 +1,12 @@
 //! The settings of a log that is compacted, and of the new log.
-ghost use Rattle.std.specs.Prelude.{◌≡◌, IfErr, IfOk};
+ghost use Rattle.std.specs.Prelude.{◌≡◌, ◌≢◌, ⊥, None, IfErr, IfOk, MatchOption, if◌then◌else◌};
+ghost use Rattle.session_log.specs.Compaction.{IsWanted, fixed_apart, other_queues, suffixes_of};
 ghost use Rattle.session_log.specs.Plans.{IsSessionPlan};
+ghost use Rattle.session_log.specs.declared.fault.LogFault.TheVariants.{NoMemory, OtherSettings};
 
 use crate::fault::{LogFault, Setting};
-use crate::log_settings::{first_line_in, is_part, part_apart, split_flag};
+use crate::listing::plan_of;
+use crate::log_settings::{first_line_in, part_apart, split_flag};
 use crate::opening::read_head;
 use crate::plan::{LogPlan, SessionPlan};
 use crawl_session::{READ_SIZE, read_settings, read_start};
@@ -62,47 +65,73 @@ impl CompactPlan {
     /// Returns the settings of the new log, by those of the log.
     ///
     /// # Errors
-    /// `OtherSettings` if the log is one of a part, and the new one is to be another part's, or to have another number of queues: its
+    /// `OtherSettings` if the log is that of a part, and the new one is to be another part's, or to have another number of queues: its
     /// URLs would belong to other parts. `NoMemory`.
+    #[tactic(auto, using(crate::proofs::Rebuilds::wanted_limits))]
     pub(crate) fn wanted(&self, own: &SessionPlan) -> Result<SessionPlan, LogFault>
         requires given { IsSessionPlan self.now.log.session }
         requires own { IsSessionPlan own.now }
-        ensures { IfOk result IsSessionPlan }
+        ensures limits { IfOk result IsSessionPlan }
+        ensures wanted { IfOk result (λ wanted. IsWanted self.now.named self.now.log.session own.now wanted) }
+        ensures kept { IfOk result (λ _. fixed_apart self.now.named self.now.log.session own.now ≡ None) }
+        ensures refused { IfErr result (λ fault. fault ≢ NoMemory → MatchOption (fixed_apart self.now.named self.now.log.session own.now) ⊥ (λ setting. fault ≡ OtherSettings setting)) }
     {
+        if let Some(setting) = self.fixed_apart(own) {
+            return Err(LogFault::OtherSettings(setting));
+        }
         let given = &self.log.session;
-        if self.named.part {
-            if let Some(setting) = part_apart(own.part, given.part) {
-                return Err(LogFault::OtherSettings(setting));
-            }
-        }
-        let workers = if self.named.workers {
-            given.workers
-        } else {
-            own.workers
-        };
-        if let Some((number, parts)) = own.part {
-            if workers != own.workers {
-                return Err(LogFault::OtherSettings(Setting::Part(number, parts)));
-            }
-        }
         let within = if self.named.within {
             copy_within(&given.within)?
         } else {
             copy_within(&own.within)?
         };
         Ok(SessionPlan {
-            workers,
+            workers: self.workers(own),
             max: if self.named.max { given.max } else { own.max },
             within,
             part: own.part,
         })
+    }
+
+    /// Returns the number of workers of the new log, by that of the log.
+    fn workers(&self, own: &SessionPlan) -> u32
+        ensures { result ≡ (if self.now.named.workers then self.now.log.session.workers else own.now.workers) }
+    {
+        if self.named.workers {
+            self.log.session.workers
+        } else {
+            own.workers
+        }
+    }
+
+    /// Returns the first setting of the log that the new one cannot have otherwise, but is to have otherwise: its part, or if it has one,
+    /// its number of workers.
+    fn fixed_apart(&self, own: &SessionPlan) -> Option<Setting>
+        ensures { result ≡ fixed_apart self.now.named self.now.log.session own.now }
+    {
+        let part = if self.named.part {
+            part_apart(own.part, self.log.session.part)
+        } else {
+            None
+        };
+        part.or(other_queues(own.part, own.workers, self.workers(own)))
+    }
+}
+
+/// Returns the part of a log, if it is to have another number of queues.
+fn other_queues(part: Option<(u32, u32)>, own: u32, workers: u32) -> Option<Setting>
+    ensures { result ≡ other_queues part own workers }
+{
+    match part {
+        Some((number, parts)) if own != workers => Some(Setting::Part(number, parts)),
+        _ => None,
     }
 }
 
 impl SessionPlan {
     /// Returns a copy.
     fn copy(&self) -> Result<SessionPlan, AllocError>
-        ensures same { IfOk result (λ copy. (copy.workers ≡ self.now.workers) × (copy.max ≡ self.now.max) × (copy.part ≡ self.now.part)) }
+        ensures same { IfOk result (λ copy. (copy.workers ≡ self.now.workers) × ((copy.max ≡ self.now.max) × (copy.part ≡ self.now.part))) }
     {
         Ok(SessionPlan {
             workers: self.workers,
@@ -112,7 +141,7 @@ impl SessionPlan {
         })
     }
 
-    /// Whether both plans are of the same part, if any, and have the same other settings.
+    /// Whether both plans have the same settings.
     pub(crate) fn is_like(&self, other: &SessionPlan) -> bool {
         self.workers == other.workers
             && self.max == other.max
@@ -122,7 +151,9 @@ impl SessionPlan {
 }
 
 /// Returns a copy of a suffix, if there is one.
-fn copy_within(within: &Option<String>) -> Result<Option<String>, AllocError> {
+fn copy_within(within: &Option<String>) -> Result<Option<String>, AllocError>
+    ensures { IfOk result (λ copy. suffixes_of copy ≡ suffixes_of within.now) }
+{
     match within {
         Some(suffix) => Ok(Some(suffix.clone()?)),
         None => Ok(None),
@@ -138,9 +169,9 @@ fn plan_of_line(alloc: Global, line: &str) -> Result<SessionPlan, LogFault>
     let Some((header, suffixes)) = read_settings(alloc, settings)? else {
         return Err(LogFault::NotALog);
     };
-    if !is_part(part, header.workers) {
+    let Some(plan) = plan_of(part, &header) else {
         return Err(LogFault::NotALog);
-    }
+    };
     if suffixes.len() > 1 {
         return Err(LogFault::OtherSettings(Setting::Within));
     }
@@ -148,10 +179,5 @@ fn plan_of_line(alloc: Global, line: &str) -> Result<SessionPlan, LogFault>
         Some(suffix) => Some(String::from_str(alloc, suffix)?),
         None => None,
     };
-    Ok(SessionPlan {
-        workers: header.workers,
-        max: header.max,
-        within,
-        part,
-    })
+    Ok(SessionPlan { within, ..plan })
 }

@@ -29,11 +29,11 @@ pub mod testing {
 }
 
 pub use compact_plan::{CompactPlan, NamedSettings};
+pub use compacting::compact;
 pub use fault::{LogFault, LoggedFault, Setting};
 pub use listing::{ListKind, ListPlan, list};
 pub use lock_file::LockFile;
 pub use log_file::Log;
 pub use opening::{OpenedLog, open_session};
 pub use plan::{LogPlan, SessionPlan};
-pub use rebuilding::compact;
 pub use resuming::{resume, serve_logged};

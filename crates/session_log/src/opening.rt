@@ -1,6 +1,8 @@
 //! Opens the file of a log.
-ghost use Rattle.std.specs.Prelude.{◌≡◌, ℕ, List, IfErr, IfOk};
+ghost use Rattle.std.specs.Prelude.{◌≡◌, ℕ, List, string_bytes, IfErr, IfOk};
 ghost use Rattle.crawl_session.specs.Frontiers.{Shows, start};
+ghost use Rattle.crawl_session.specs.Logs.{settings_line};
+ghost use Rattle.session_log.specs.Compaction.{first_line, part_start, suffixes_of};
 ghost use Rattle.session_log.specs.LogFile.{IsReadFault, IsUseFault};
 ghost use Rattle.session_log.specs.Plans.{IsSessionPlan, queues_of, settings_of};
 
@@ -11,7 +13,7 @@ use crate::log_settings::{SUMS, fault_of_head};
 use crate::plan::{LogPlan, SessionPlan};
 use crawl_keys::Filter;
 use crawl_replay::Header;
-use crawl_session::{LogSum, READ_SIZE, Session, settings_line, start_text, whole_len};
+use crawl_session::{LogSum, READ_SIZE, Session, hex_digit, settings_line, start_text, whole_len};
 use std::alloc::{AllocError, Global};
 use std::fs::{self, Files, OpenFile, OpenOptions};
 use std::io::{self, Read, Seek, SeekFrom};
@@ -275,17 +277,9 @@ fn drawn_digits<R: Files>(rt: &R) -> Result<[u8; DIGITS], LogFault> {
         return Err(LogFault::CannotRead);
     }
     for byte in drawn.iter_mut() {
-        *byte = digit(*byte);
+        *byte = hex_digit(u64::from(*byte));
     }
     Ok(drawn)
-}
-
-/// Returns the hexadecimal digit of the low four bits.
-fn digit(byte: u8) -> u8 {
-    match byte & 15 {
-        low @ 0..=9 => b'0' + low,
-        low => b'a' + (low - 10),
-    }
 }
 
 /// Returns the text of these digits, or `None` if one is not hexadecimal.
@@ -300,28 +294,44 @@ fn text_of_digits(alloc: Global, digits: &[u8]) -> Result<Option<String>, AllocE
     Ok(Some(text))
 }
 
-/// Returns the first line of a log with checksums, with its LF.
+/// Returns the first line of a log with checksums, with its LF. The log of a part has this identity.
 pub fn first_line_of(
     alloc: Global,
-    session: &SessionPlan,
+    plan: &SessionPlan,
     identity: &str,
-) -> Result<String, AllocError> {
-    let header = Header {
-        workers: session.workers,
-        max: session.max,
-    };
-    let mut line = match session.part {
-        Some(part) => start_text(alloc, Some(part), Some(identity))?,
-        None => String::new(alloc),
-    };
-    let settings = match &session.within {
-        Some(suffix) => settings_line(alloc, &header, &[suffix.as_str()])?,
-        None => settings_line(alloc, &header, &[])?,
-    };
+) -> Result<String, AllocError>
+    ensures { IfOk result (λ line. string_bytes line ≡ first_line plan.now identity.now) }
+{
+    let mut line = part_start(alloc, plan.part, identity)?;
+    let settings = settings_text(alloc, plan)?;
     line.push_str(settings.as_str())?;
     line.push_str(SUMS)?;
-    line.push('\n')?;
+    line.push_str("\n")?;
     Ok(line)
+}
+
+/// Returns what the first line of a part's log has before the settings, or an empty text if the log is not one of a part.
+fn part_start(alloc: Global, part: Option<(u32, u32)>, identity: &str) -> Result<String, AllocError>
+    ensures { IfOk result (λ text. string_bytes text ≡ part_start part identity.now) }
+{
+    match part {
+        Some(part) => start_text(alloc, Some(part), Some(identity)),
+        None => Ok(String::new(alloc)),
+    }
+}
+
+/// Returns the settings in the first line of a log.
+fn settings_text(alloc: Global, plan: &SessionPlan) -> Result<String, AllocError>
+    ensures { IfOk result (λ text. string_bytes text ≡ settings_line plan.now.workers plan.now.max (suffixes_of plan.now.within)) }
+{
+    let header = Header {
+        workers: plan.workers,
+        max: plan.max,
+    };
+    match &plan.within {
+        Some(suffix) => settings_line(alloc, &header, &[suffix.as_str()]),
+        None => settings_line(alloc, &header, &[]),
+    }
 }
 
 /// Returns the lengths of a log that begins with this line, or with the same line of a log without checksums. If the first line is
