@@ -1,6 +1,6 @@
 -- The log of other settings: what is read of the old one, the text of the new one, and its pieces.
 use Rattle.session_log.proofs.Prelude.{◌≡◌, ℕ, ◌-◌, ◌≤◌, Bool, true, List, [], ◌∷◌, ◌++◌, append-nil, append_assoc, Option, None, Some, refl, sym, ap, subst, ◌∙◌, arith}
-use Rattle.std.specs.Prelude.{◌*◌, ◌<◌, ◌==◌, false, if◌then◌else◌, min, Ok}
+use Rattle.std.specs.Prelude.{◌*◌, ◌<◌, ◌^◌, ◌==◌, false, if◌then◌else◌, min, Ok}
 use Rattle.std.proofs.Math.Nat.{min-eq_left, mul_comm}
 use Rattle.std.proofs.lemmas.Nat.{mul-le}
 use Rattle.std.proofs.lemmas.Bool.{eqb-true}

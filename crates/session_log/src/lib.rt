@@ -10,6 +10,7 @@
 mod compact_plan;
 mod compacting;
 mod fault;
+mod file_node;
 mod frame;
 mod lines;
 mod listing;

@@ -7,6 +7,7 @@ ghost use Rattle.session_log.specs.LogFile.{IsReadFault, IsUseFault};
 ghost use Rattle.session_log.specs.Plans.{IsSessionPlan, queues_of, settings_of};
 
 use crate::fault::LogFault;
+use crate::file_node::FileNode;
 use crate::lines::checked_sum;
 use crate::lock_file::LockFile;
 use crate::log_settings::{SUMS, fault_of_head};
@@ -17,7 +18,6 @@ use crawl_session::{LogSum, READ_SIZE, Session, hex_digit, settings_line, start_
 use std::alloc::{AllocError, Global};
 use std::fs::{self, Files, OpenFile, OpenOptions};
 use std::io::{self, Read, Seek, SeekFrom};
-use std::os::unix::fs::MetadataExt;
 use std::time::Duration;
 
 /// How often a log may be replaced by another file until it is locked.
@@ -37,6 +37,8 @@ const START_LEN: usize = 8;
 pub struct OpenedLog<F> {
     /// The file.
     pub(crate) file: F,
+    /// What it is to the system.
+    pub(crate) node: FileNode,
     /// The first line of a log with checksums and these settings, with its LF.
     pub(crate) first: String,
     /// The length of the first line of the file, which may be that of a log without checksums; 0 if it is not whole.
@@ -136,7 +138,7 @@ fn open_log<R: Files, L: LockFile<R::File>>(
     plan: &LogPlan,
     makes: bool,
 ) -> Result<OpenedLog<R::File>, LogFault> {
-    let mut file = open_file(rt, locks, plan, makes)?;
+    let (mut file, node) = open_file(rt, locks, plan, makes)?;
     check_start(alloc, &mut file)?;
     let Some(identity) = identity_of(rt, alloc, plan.session.part, &mut file)? else {
         return Err(unlike(alloc, &mut file, &plan.session)?);
@@ -148,6 +150,7 @@ fn open_log<R: Files, L: LockFile<R::File>>(
     let sum = head.sum_of(alloc, &mut file)?;
     Ok(OpenedLog {
         file,
+        node,
         first,
         start: head.start,
         sum,
@@ -157,8 +160,8 @@ fn open_log<R: Files, L: LockFile<R::File>>(
     })
 }
 
-/// Opens and locks the file that has the name of the log when it is locked. If another file has the name then, that is opened,
-/// within the same time.
+/// Opens and locks the file that has the name of the log when it is locked, and also returns what it is to the system. If another
+/// file has the name then, that is opened, within the same time.
 ///
 /// # Errors
 /// `CannotOpen`; `InUse`, also if the name leads to another file each time.
@@ -167,7 +170,7 @@ fn open_file<R: Files, L: LockFile<R::File>>(
     locks: &L,
     plan: &LogPlan,
     makes: bool,
-) -> Result<R::File, LogFault> {
+) -> Result<(R::File, FileNode), LogFault> {
     let name = plan.file.as_str();
     let mut limit = Duration::from_secs(plan.wait);
     for _opening in 0..OPENING_LIMIT {
@@ -184,19 +187,21 @@ fn open_file<R: Files, L: LockFile<R::File>>(
             Ok(None) => return Err(LogFault::InUse),
             Err(_) => return Err(LogFault::CannotOpen),
         }
-        if has_name(rt, &file, name) {
-            return Ok(file);
+        if let Some(node) = named_node(rt, &file, name) {
+            return Ok((file, node));
         }
     }
     Err(LogFault::InUse)
 }
 
-/// Returns whether the name leads to this file.
-fn has_name<R: Files>(rt: &R, file: &R::File, name: &str) -> bool {
-    let (Ok(own), Ok(named)) = (file.metadata(), fs::metadata(rt, name)) else {
-        return false;
-    };
-    own.dev() == named.dev() && own.ino() == named.ino()
+/// Returns what the file is to the system, if the name leads to it.
+fn named_node<R: Files>(rt: &R, file: &R::File, name: &str) -> Option<FileNode> {
+    let node = FileNode::of(&file.metadata().ok()?);
+    if FileNode::of(&fs::metadata(rt, name).ok()?) == node {
+        Some(node)
+    } else {
+        None
+    }
 }
 
 /// Checks that the file begins like a log, whatever its options, or is shorter.
