@@ -237,9 +237,8 @@ fn serve_of(alloc: Global, found: &ArgMatches<'_>) -> Result<Plan, PlanError>
     ensures limits { IfOk result IsWithinLimits }
     ensures shown { IfErr result IsShown }
 {
-    let session = session_of(alloc, found)?;
     let Some(file) = value_of(alloc, found, "log")? else {
-        return Ok(Plan::Serve(session));
+        return Ok(Plan::Serve(session_of(alloc, found)?));
     };
     if let Some(kind) = found.get_str("list") {
         return list_of(alloc, found, file, kind);
@@ -248,7 +247,7 @@ fn serve_of(alloc: Global, found: &ArgMatches<'_>) -> Result<Plan, PlanError>
         return Err(misread(alloc));
     };
     let log = LogPlan {
-        session,
+        session: session_of(alloc, found)?,
         file,
         sync: found.get_flag("sync"),
         wait,
