@@ -82,7 +82,7 @@ def changed(trial: Trial, draw: Random, old: Words, given: Words, name: str) -> 
         expect(status == 1 and told == f"mercator: log {log}: more unfinished URLs than --max-pending allows\n", f"{status}, {told!r}")
         expect(not new.exists(), "a new log without room")
         return "refused"
-    note = f"mercator: log {log}: left out by --within: {len(left_out)} URLs, {unfinished} of them unfinished\n" if left_out else ""
+    note = f"mercator: log {log}: URLs left out by --within: {len(left_out)} ({unfinished} unfinished)\n" if left_out else ""
     expect((status, told) == (0, note), f"{status}, {told!r}, expected {note!r}")
     written = [read(line) for line in requests_of(new.read_bytes())]
     expect(written == lines, f"other lines: {written[:9]!r}, expected {lines[:9]!r}")

@@ -172,7 +172,7 @@ fn left_out_line(alloc: Global, name: &str, left_out: &LeftOut) -> Result<String
     let mut line = String::new(alloc);
     writeln!(
         line,
-        "mercator: log {file}: left out by --within: {all} URLs, {unfinished} of them unfinished"
+        "mercator: log {file}: URLs left out by --within: {all} ({unfinished} unfinished)"
     )?;
     Ok(line)
 }
