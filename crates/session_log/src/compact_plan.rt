@@ -79,16 +79,10 @@ impl CompactPlan {
         if let Some(setting) = self.fixed_apart(own) {
             return Err(LogFault::OtherSettings(setting));
         }
-        let given = &self.log.session;
-        let within = if self.named.within {
-            copy_within(&given.within)?
-        } else {
-            copy_within(&own.within)?
-        };
         Ok(SessionPlan {
             workers: self.workers(own),
-            max: if self.named.max { given.max } else { own.max },
-            within,
+            max: self.max(own),
+            within: self.within(own)?,
             part: own.part,
         })
     }
@@ -101,6 +95,28 @@ impl CompactPlan {
             self.log.session.workers
         } else {
             own.workers
+        }
+    }
+
+    /// Returns the limit of URLs that are not done in the new log, by that of the log.
+    fn max(&self, own: &SessionPlan) -> u64
+        ensures { result ≡ (if self.now.named.max then self.now.log.session.max else own.now.max) }
+    {
+        if self.named.max {
+            self.log.session.max
+        } else {
+            own.max
+        }
+    }
+
+    /// Returns the suffix of the new log, by that of the log.
+    fn within(&self, own: &SessionPlan) -> Result<Option<String>, AllocError>
+        ensures { IfOk result (λ within. suffixes_of within ≡ (if self.now.named.within then suffixes_of self.now.log.session.within else suffixes_of own.now.within)) }
+    {
+        if self.named.within {
+            copy_within(&self.log.session.within)
+        } else {
+            copy_within(&own.within)
         }
     }
 
