@@ -65,8 +65,8 @@ rebuilt_text had plan identity filter old new queue text left_out filtered shown
       filter = filter;
       filtered = filtered;
       fits = sym (ap (λ (g : Given). g.fits) same) ∙ came.0;
-      text = writes.written ∙ came.1.0 ∙ ap (λ (g : Given). lines_text g.lines) same;
-      left_out = came.1.1.0 ∙ ap (λ (g : Given). g.left_out) same;
+      lines = writes.written ∙ came.1.0 ∙ ap (λ (g : Given). lines_text g.lines) same;
+      counted = came.1.1.0 ∙ ap (λ (g : Given). g.left_out) same;
     }
 
 -- ---- pieces

@@ -112,8 +112,8 @@ pub record IsRebuiltText (had : Inventory) (plan : SessionPlan) (identity text :
   pub filter : List (List ℕ)
   pub filtered : filter_of (suffixes_of plan.within) ≡ Ok filter
   pub fits : (rebuilt_log plan filter identity had).fits ≡ true
-  pub text : text ≡ lines_text (rebuilt_log plan filter identity had).lines
-  pub left_out : left_out ≡ (rebuilt_log plan filter identity had).left_out
+  pub lines : text ≡ lines_text (rebuilt_log plan filter identity had).lines
+  pub counted : left_out ≡ (rebuilt_log plan filter identity had).left_out
 
 -- a writer gained this text in pieces
 pub record InPieces (text : List ℕ) (old new : Summing) : Type 0 where

@@ -1,5 +1,5 @@
 //! The settings of a log that is compacted, and of the new log.
-ghost use Rattle.std.specs.Prelude.{◌≡◌, ◌≢◌, ⊥, None, IfErr, IfOk, MatchOption, if◌then◌else◌};
+ghost use Rattle.std.specs.Prelude.{◌≡◌, ◌≢◌, None, IfErr, IfOk, MatchOption, if◌then◌else◌};
 ghost use Rattle.session_log.specs.Compaction.{IsWanted, fixed_apart, other_queues, suffixes_of};
 ghost use Rattle.session_log.specs.Plans.{IsSessionPlan};
 ghost use Rattle.session_log.specs.declared.fault.LogFault.TheVariants.{NoMemory, OtherSettings};

@@ -99,7 +99,6 @@ fn finish(written: Result<LeftOut, LogFault>, synced: io::Result<()>) -> Result<
 }
 
 /// Writes the first line of the log, and the requests that are needed. It leaves out no URL.
-#[tactic(auto, using(crate::proofs::Logs::compacted_first, crate::proofs::Logs::gained_one))]
 fn compact_to<F: Read + Seek, O: Write>(
     alloc: Global,
     session: &mut Session,

@@ -21,7 +21,6 @@ use std::io::{Read, Seek, Write};
 ///
 /// # Errors
 /// `CannotRead`; `NoRoom`, `LongUrl`; `CannotWriteNew`, `NoMemory`.
-#[tactic(auto, using(crate::proofs::Rebuilds::is_rebuilt))]
 pub fn rebuild_to<F: Read + Seek, O: Write>(
     alloc: Global,
     session: &mut Session,
@@ -43,7 +42,7 @@ pub fn rebuild_to<F: Read + Seek, O: Write>(
 }
 
 /// Reads the URLs of a session that is given these lines. Fails with `CannotRead` also if a line is too long for the reader.
-#[tactic(auto, using(crate::proofs::Rebuilds::reads_none, crate::proofs::Rebuilds::reads_more, crate::proofs::Rebuilds::reads_urls))]
+#[tactic(auto, using(crate::proofs::Rebuilds::reads_none, crate::proofs::Rebuilds::reads_urls))]
 fn read_urls<F: Read + Seek>(
     alloc: Global,
     session: &mut Session,
@@ -105,7 +104,7 @@ fn first_queue(plan: &SessionPlan) -> u32
 }
 
 /// Appends whole lines, in pieces that a reader of the log can hold, each with its checksum.
-#[tactic(auto, using(crate::proofs::Rebuilds::pieces_none, crate::proofs::Rebuilds::pieces_more, crate::proofs::Rebuilds::pieces_all))]
+#[tactic(auto, using(crate::proofs::Rebuilds::pieces_none, crate::proofs::Rebuilds::pieces_all))]
 fn append_pieces<O: Write>(new: &mut NewLog<O>, text: &[u8]) -> Result<(), LogFault>
     ensures { OnOk result (InPieces text.now (summing new.old.frame.sum (O.contents new.old.file)) (summing new.new.frame.sum (O.contents new.new.file))) }
 {
