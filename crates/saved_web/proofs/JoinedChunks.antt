@@ -1,4 +1,4 @@
--- Two parts of a saved web, each read after the header, and joined.
+-- Two chunks of a saved web, each read after the header, and joined.
 use Rattle.saved_web.proofs.Prelude.{◌≡◌, ℕ, ◌+◌, ◌<◌, ◌==◌, Bool, true, false, ◌||◌, List, [], ◌∷◌, ◌++◌, length, Option, Some, None, IfSome, is_some, Result, Ok, Err, refl, sym, ap, subst, ◌∙◌, arith, append_assoc, append-nil, length-append, ne_eqb, if◌then◌else◌, list_any, cons_option, option_or, option_map_or, bytes_eq, lines, cond-true, cond-false, or_parts, or_right, map-append, filter_map-append, list_any-append, bytes_eq-Decides, KnownPages, known_page, SoundAfter, PageRead, urls, has, AreRead, AreReadBehind, IsHeader, Before, page_fault, under_fault, said_fault, text_fault, line_fault, under_last_page, before, fault_after, line_of_text, line_of, says_page, url_said, is_page, is_page_at, page_url, TooLong, NotText, Line}
 use Rattle.crawl_keys.specs.declared.error.KeyError.{KeyError}
 use Rattle.saved_web.proofs.MovedPages.{said_passes}
@@ -44,7 +44,7 @@ text_again b d long utf8 line first later said passes = grind arith
 line_again : (b d : Before) (line : List ℕ) → (b.number == 1) ≡ false → (d.number == 1) ≡ false → Passes b d (line_of line) → line_fault b line ≡ None → line_fault d line ≡ None
 line_again b d line first later k passes = grind (arith, text_again, said_again)
 
--- ---- the lines of a part, after only the header and after the part before
+-- ---- the lines of a chunk, after only the header and after the chunk before
 
 no_page_at : (header url : List ℕ) → line_of header ≡ says.Other → is_page_at url header ≡ false
 no_page_at header url other = ap (λ said. option_map_or (λ own. bytes_eq own url) (url_said said) false) other
@@ -77,7 +77,7 @@ sound_append earlier [] ys first later = subst (λ e. SoundAfter fault_after e y
 sound_append earlier (x ∷ xs) ys first later =
     (first.0, sound_append (earlier ++ x ∷ []) xs ys first.1 (subst (λ e. SoundAfter fault_after e ys) (sym (append_assoc earlier (x ∷ []) xs)) later))
 
--- ---- a part begins with no link of the page before
+-- ---- a chunk begins with no link of the page before
 
 abbrev Begins : List (List ℕ) → Type 0
 Begins lines = (link_texts lines ≡ []) × (moved_text lines ≡ None)
@@ -140,7 +140,7 @@ found_in_both header front back ps qs url other p q begins None is =
     let alone : page_of (header ∷ back) url ≡ page_of back url = ap (page_behind url) (cond-false _ _ _ (no_page_at header url other)) in
     known_later ps qs url none ∙ q.found url ∙ alone ∙ sym both
 
--- ---- two parts
+-- ---- two chunks
 
 pub joined : (second : Bool) (header : List ℕ) (front back : List (List ℕ)) (ps qs : KnownPages) → IsHeader second header → AreRead (header ∷ front) ps → AreRead (header ∷ back) qs → ((url : List ℕ) → has qs url ≡ true → has ps url ≡ false) → AreRead (header ∷ front ++ back) (ps ++ qs)
 joined second header front back ps qs h p q apart =
@@ -156,7 +156,7 @@ joined second header front back ps qs h p q apart =
       found = λ url. found_in_both header front back ps qs url other p q (unlinked (header ∷ []) back (omega arith) none q.sound.1) (lines_behind (header ∷ front) url) refl;
     }
 
--- what is read of two parts is read of both together
+-- what is read of two chunks is read of both together
 pub both_read : (second : Bool) (all front back : List (List ℕ)) (ps qs : KnownPages) (both : Option KnownPages) → all ≡ front ++ back → AreReadBehind second front ps → AreReadBehind second back qs → IfSome both (λ web. web ≡ ps ++ qs) → IfSome both (λ _. (url : List ℕ) → has qs url ≡ true → has ps url ≡ false) → IfSome both (AreReadBehind second all)
 both_read second all front back ps qs None split first later whole apart = tt
 both_read second all front back ps qs (Some web) split first later whole apart = λ header h.
