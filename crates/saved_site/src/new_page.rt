@@ -66,7 +66,7 @@ fn file_document(
     room: &mut RawLinks,
 ) -> Result<Document, AllocError> {
     match (task.document(files), body) {
-        (Some(file), Some(body)) if file.is_document || is_document(body) => {
+        (Some(file), Some(body)) if file.is_document() || is_document(body) => {
             read_document(alloc, body, &task.url, options_at(files, &task.url), room)
         }
         _ => Ok(Document::empty(alloc)),

@@ -20,6 +20,8 @@ pub use below::is_below;
 pub use body::{Body, FileBytes, InMemory};
 pub use error::SiteError;
 pub use files::{SiteFile, SiteFiles, SiteNames};
+pub use kinds::FileKind;
 pub use notes::{Left, Note};
 pub use site::Rules;
+pub use spellings::before_query;
 pub use walk::{FolderNames, folder_names};

@@ -33,6 +33,10 @@ pub struct Rules {
     pub anchors: bool,
     /// Whether the positions of links are kept.
     pub places: bool,
+    /// Whether the links of style sheets, and those of styles in documents, are read.
+    pub styles: bool,
+    /// Whether an absolute path is below the folder, as in a check without BASE.
+    pub rooted: bool,
     /// Whether symbolic links that lead out of the folder are followed.
     pub follow: bool,
     /// The number of threads that make pages; 0 means 1.
@@ -100,6 +104,7 @@ impl Site {
     ) -> Result<Site, SiteError>
         ensures error { IfErr result IsOfFiles }
         ensures top { IfOk result (λ site. IsTop base.now (string_bytes site.top)) }
+        ensures url { IfOk result (λ site. site.top_url ≡ string_bytes site.top) }
         ensures table { IfOk result (λ site. IsTable (server_at rules.now site) (texts names.now) site.entries.items) }
         ensures links { IfOk result (λ site. IsLinked (string_bytes site.top) links.now site.linked.links.items) }
     {
@@ -132,6 +137,7 @@ impl Site {
     fn at(alloc: Global, base: &str) -> Result<Site, SiteError>
         ensures error { IfErr result IsOfFiles }
         ensures top { IfOk result (λ site. IsTop base.now (string_bytes site.top)) }
+        ensures url { IfOk result (λ site. site.top_url ≡ string_bytes site.top) }
     {
         let page = url_at(alloc, base)?;
         let Some((origin, path)) = split_origin(page.as_str()) else {
@@ -462,6 +468,7 @@ fn url_at(alloc: Global, text: &str) -> Result<CanonUrl, SiteError>
 fn top_at(alloc: Global, page: &CanonUrl, text: &str) -> Result<CanonUrl, SiteError>
     ensures error { IfErr result IsOfFiles }
     ensures top { IfOk result (λ _. (base : List ℕ) → canonical base ≡ Ok page.now → IsTop base text.now) }
+    ensures url { IfOk result (λ url. url ≡ text.now) }
 {
     let url = url_at(alloc, text)?;
     let is_top = is_top(alloc, page.as_str(), &url, text)?;
