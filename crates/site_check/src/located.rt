@@ -4,7 +4,7 @@ use crate::site_pages::Site;
 use check_report::Place;
 use crawl_pages::NoMemory;
 use document_links::{TextPlace, text_places};
-use site_files::{Body, FileBytes, FileKind, SiteFile};
+use site_files::{Body, FileBytes, SiteFile};
 use std::alloc::Global;
 use std::mem;
 use std::sync::atomic::{AtomicUsize, Ordering};
@@ -115,15 +115,10 @@ pub(crate) fn every_place<B: FileBytes>(
     Ok(all)
 }
 
-/// The file of the page that has these links.
+/// The file of the page that has these links, if it can have links.
 fn file_of<'f>(site: Site<'_, 'f>, leads: &[Lead]) -> Option<SiteFile<'f>> {
     let one = site.pages.results.get(leads.first()?.source)?;
-    let index = site.files.file_of(one.url.as_str())?;
-    Some(SiteFile {
-        index,
-        name: site.files.name(index)?,
-        kind: FileKind::Html,
-    })
+    site.files.document(site.files.find(one.url.as_str())?)
 }
 
 /// Appends the locations of these links in the contents of the file with this name.
