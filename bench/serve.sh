@@ -9,6 +9,7 @@
 # It measures
 # - offers of new and of seen URLs, sent ahead of their answers;
 # - offers one by one, each after the answer to the previous one, and the limits that the pipes and the system set;
+# - URLs that are taken and put back by `later`, in instructions;
 # - bytes of memory per URL, and the memory for a line of 10^9 bytes;
 # - offers by the Python client, and for comparison the alternatives of a crawler in Python: a set and a queue with URLs that
 #   urllib.parse normalized, and Scrapy's own scheduler with its fingerprints;
@@ -92,8 +93,10 @@ awaited "with a client that polls for the answer" "$client" polled "$few" "${ser
 "$made/serve_client" print "$counted" > "$made/new"
 : > "$made/none"
 cat "$made/new" "$made/new" > "$made/seen"
-if none=$(instructions "$made/none") && new=$(instructions "$made/new") && seen=$(instructions "$made/seen"); then
+{ cat "$made/new" && awk -v count="$counted" 'BEGIN { for (i = 0; i < count; i++) print "next 0\nlater 0" }'; } > "$made/later"
+if none=$(instructions "$made/none") && new=$(instructions "$made/new") && seen=$(instructions "$made/seen") && later=$(instructions "$made/later"); then
     echo "instructions per new offer: $(((new - none) / counted)), per seen offer: $(((seen - new) / counted))"
+    echo "instructions per URL that is taken and put back: $(((later - new) / counted))"
 else
     echo "callgrind cannot run this program, so its instructions are not counted"
 fi

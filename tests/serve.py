@@ -26,7 +26,7 @@ from functools import partial
 from pathlib import Path
 from typing import Callable, Tuple
 
-from serving import clients, compactions, crawlers, crawls, lists, logs, sessions, used_logs
+from serving import changed_settings, clients, compactions, crawlers, crawls, lists, logs, sessions, used_logs
 from serving.trial import Trial, run_all
 
 PARTS: Tuple[Callable[[Trial], None], ...] = (
@@ -34,6 +34,7 @@ PARTS: Tuple[Callable[[Trial], None], ...] = (
     sessions.stopped_between, sessions.dying_client, sessions.closed_output, sessions.memory,
     sessions.long_line,
     logs.killed_sessions, logs.refused_logs, logs.changed_logs, logs.damaged_logs, logs.full_disk, logs.compacted_logs, compactions.stopped_compactions,
+    changed_settings.changed_settings,
     logs.logs_of_parts, lists.lists, used_logs.waiting, used_logs.replaced_while_waiting, used_logs.changed_while_running,
     clients.client_values, clients.long_base, clients.client_ends, clients.interrupted_call,
     clients.interrupted_close, clients.closing_handler, clients.forked_process, clients.client_small_pipes,

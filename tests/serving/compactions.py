@@ -10,13 +10,14 @@ import signal
 import subprocess
 import time
 from pathlib import Path
-from typing import Callable, Optional, Set, Tuple, Union
+from typing import Callable, Optional, Sequence, Set, Tuple, Union
 
 from serving.logs import refuses, small_disk
 from serving.sums import requests_of
 from serving.trial import SECONDS, Serve, Skipped, Trial, expect
 
 WORDS = ("--workers", "3")
+OTHERS = ("--workers", "5")
 OFFERS = 6_000  # a compaction of as many takes long enough to be stopped
 LIMIT = 65_536  # the largest file that a limited process can write; the compacted log is larger
 TRIES = 20
@@ -35,9 +36,16 @@ def stopped_compactions(trial: Trial) -> None:
     whole = new.read_bytes()
     expect(len(requests_of(whole)) == OFFERS and names(folder) == {"a.log", "new.log"}, "the first new log")
     new.unlink()
-    limited(trial, log, new)
-    killed(trial, log, new, whole)
-    overtaken(trial, log, new)
+    limited(trial, log, new, WORDS)
+    killed(trial, log, new, WORDS, whole)
+    overtaken(trial, log, new, WORDS)
+    expect(ended(compaction(trial, log, new, OTHERS)) == (0, ""), "the first compaction with other settings fails")
+    other = new.read_bytes()
+    expect(len(requests_of(other)) == OFFERS and other != whole, "the first new log with other settings")
+    new.unlink()
+    limited(trial, log, new, OTHERS)
+    killed(trial, log, new, OTHERS, other)
+    overtaken(trial, log, new, OTHERS)
     full(trial, log)
     synced(trial, log, new)
     named(trial, log, new, whole)
@@ -54,12 +62,11 @@ def large_log(trial: Trial, log: Path, host: str) -> Path:
 
 
 def compaction(
-    trial: Trial, log: Path, new: Union[str, Path], *, limit: Optional[Callable[[], None]] = None
+    trial: Trial, log: Path, new: Union[str, Path], words: Sequence[str] = WORDS, *, limit: Optional[Callable[[], None]] = None
 ) -> subprocess.Popen[bytes]:
-    """Start a compaction in the folder of the log. The new process first calls `limit`."""
-    words = [trial.program, "serve", *WORDS, "--log", str(log), "--compact", str(new)]
+    """Start a compaction with these settings in the folder of the log. The new process first calls `limit`."""
     return subprocess.Popen(
-        words, stdin=subprocess.DEVNULL, stdout=subprocess.DEVNULL, stderr=subprocess.PIPE,
+        [trial.program, "serve", *words, "--log", str(log), "--compact", str(new)], stdin=subprocess.DEVNULL, stdout=subprocess.DEVNULL, stderr=subprocess.PIPE,
         cwd=log.parent, preexec_fn=limit,
     )
 
@@ -86,22 +93,22 @@ def limit_writes() -> None:
     signal.signal(signal.SIGXFSZ, signal.SIG_IGN)
 
 
-def limited(trial: Trial, log: Path, new: Path) -> None:
+def limited(trial: Trial, log: Path, new: Path, words: Sequence[str]) -> None:
     """A compaction that is killed at a write, or whose write fails, leaves no new log."""
     before = names(log.parent)
-    status, errors = ended(compaction(trial, log, new, limit=limit_writes))
+    status, errors = ended(compaction(trial, log, new, words, limit=limit_writes))
     expect((status, errors) == (1, f"mercator: log {log}: cannot write the new log"), f"{status}, {errors!r}")
     expect(names(log.parent) == before, f"a failed write leaves {names(log.parent) - before}")
-    status, errors = ended(compaction(trial, log, new, limit=limit_files))
+    status, errors = ended(compaction(trial, log, new, words, limit=limit_files))
     expect(status == -signal.SIGXFSZ, f"a write above the limit: status {status}, {errors!r}")
     expect(not new.exists(), "a compaction that was killed at a write leaves a new log")
 
 
-def stopped(trial: Trial, log: Path, new: Path) -> subprocess.Popen[bytes]:
+def stopped(trial: Trial, log: Path, new: Path, words: Sequence[str]) -> subprocess.Popen[bytes]:
     """Start a compaction, and stop it when it has created a file and before the new log exists."""
     before = names(log.parent)
     for _ in range(TRIES):
-        process = compaction(trial, log, new)
+        process = compaction(trial, log, new, words)
         while process.poll() is None and names(log.parent) == before:
             pass
         process.send_signal(signal.SIGSTOP)
@@ -113,11 +120,11 @@ def stopped(trial: Trial, log: Path, new: Path) -> subprocess.Popen[bytes]:
     raise Skipped(f"no compaction could be stopped in {TRIES} tries")
 
 
-def killed(trial: Trial, log: Path, new: Path, whole: bytes) -> None:
+def killed(trial: Trial, log: Path, new: Path, words: Sequence[str], whole: bytes) -> None:
     """A compaction that is killed at any moment leaves no new log, or a whole one, and the next compaction succeeds."""
     draw = trial.draw("killed compactions")
     for _ in range(5):
-        process = stopped(trial, log, new)
+        process = stopped(trial, log, new, words)
         process.send_signal(signal.SIGCONT)
         time.sleep(draw.random() / 10)
         process.kill()
@@ -126,16 +133,16 @@ def killed(trial: Trial, log: Path, new: Path, whole: bytes) -> None:
             expect(new.read_bytes() == whole, "a killed compaction leaves a new log that is not whole")
             new.unlink()
     left = names(log.parent) - {log.name}
-    expect(ended(compaction(trial, log, new)) == (0, ""), "the compaction after killed ones fails")
+    expect(ended(compaction(trial, log, new, words)) == (0, ""), "the compaction after killed ones fails")
     expect(new.read_bytes() == whole, "the new log after killed compactions is not whole")
     expect(names(log.parent) == {log.name, new.name} | left, "a compaction changes which files killed ones left")
     for name in left | {new.name}:
         (log.parent / name).unlink()
 
 
-def overtaken(trial: Trial, log: Path, new: Path) -> None:
+def overtaken(trial: Trial, log: Path, new: Path, words: Sequence[str]) -> None:
     """A file that is created with the name of the new log, while that is written, is not replaced."""
-    process = stopped(trial, log, new)
+    process = stopped(trial, log, new, words)
     new.write_bytes(b"other")
     process.send_signal(signal.SIGCONT)
     status, errors = ended(process)

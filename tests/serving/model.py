@@ -108,9 +108,12 @@ class Session:
         self.closed = self.closed or self.count() == 0
         return "closed" if self.closed else f"pending {self.count()}"
 
+    def url_of(self, text: str) -> drawn.Url:
+        return drawn.url_of(text)
+
     def offer(self, text: str, base: Optional[str] = None) -> str:
         try:
-            url = drawn.url_of(text) if base is None else drawn.url_of(text, drawn.url_of(base))
+            url = self.url_of(text) if base is None else drawn.url_of(text, self.url_of(base))
         except drawn.NotUrl:
             return "not a URL"
         except drawn.NotHttp:

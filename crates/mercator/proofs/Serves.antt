@@ -131,8 +131,8 @@ in_use fault five = grind (arith, in_use_why, in_use_crawl)
 pub tells_in_use : (plan : Plan) (fault : Fault) (old new : Option (List ℕ)) → HasLog plan → status_of_fault fault ≡ 5 → Begins old new (told_lines plan fault) → TellsInUse plan old new
 tells_in_use (asks.ServeLog plan) fault old new has five told =
     subst (λ t. Begins old new t) (append-nil _) (subst (λ f. Begins old new (told_lines (asks.ServeLog plan) f)) (in_use fault five) told)
-tells_in_use (asks.Compact log file) fault old new has five told =
-    subst (λ t. Begins old new t) (append-nil _) (subst (λ f. Begins old new (told_lines (asks.Compact log file) f)) (in_use fault five) told)
+tells_in_use (asks.Compact asked) fault old new has five told =
+    subst (λ t. Begins old new t) (append-nil _) (subst (λ f. Begins old new (told_lines (asks.Compact asked) f)) (in_use fault five) told)
 tells_in_use plan fault old new has five told = absurd has
 
 -- the line of an error is printed after what a session with a log may have printed

@@ -6,6 +6,7 @@ use Rattle.crawl_frontier.specs.ErrorTexts.{frontier_error_text}
 use Rattle.crawl_frontier.specs.declared.error.FinishError.{FinishError}
 use Rattle.crawl_frontier.specs.declared.error.FinishError.TheVariants as finish
 use Rattle.crawl_keys.specs.CanonicalText.{message}
+use Rattle.crawl_session.specs.declared.rebuild.LeftOut.{LeftOut}
 use Rattle.crawl_workers.specs.ErrorTexts.{run_error_text}
 use Rattle.saved_pages.specs.declared.error.WebError.{WebError}
 use Rattle.saved_pages.specs.declared.error.WebError.TheVariants as web
@@ -144,6 +145,11 @@ more_lines file fault = []
 -- a line about something with this name
 abbrev pub note_line : List ℕ → List ℕ → List ℕ
 note_line name words = codes "mercator: " ++ shown name ++ codes ": " ++ words ++ 10 ∷ []
+
+-- the line that reports how many URLs of this log a narrower suffix leaves out
+abbrev pub left_out_line : List ℕ → LeftOut → List ℕ
+left_out_line file left =
+    (codes "mercator: log " ++ shown file ++ codes ": URLs left out by --within: " ++ decimal left.all ++ codes " (" ++ decimal left.unfinished ++ codes " unfinished)") ++ 10 ∷ []
 
 -- the line that reports that the last line of this log had no end, and was removed
 abbrev pub torn_line : List ℕ → List ℕ

@@ -45,7 +45,7 @@ IsWithinLimits (asks.Replay file) = Unit {0}
 IsWithinLimits (asks.Serve asked) = IsSessionPlan asked
 IsWithinLimits (asks.ServeLog asked) = IsSessionPlan asked.session
 IsWithinLimits (asks.List list) = Unit {0}
-IsWithinLimits (asks.Compact log new) = IsSessionPlan log.session
+IsWithinLimits (asks.Compact asked) = IsSessionPlan asked.log.session
 
 -- a text of several lines has no hidden character, which could control a terminal
 abbrev pub IsVisible : List ℕ → Type 0
@@ -80,7 +80,7 @@ file_of (asks.Replay file) = string_bytes file
 file_of (asks.Serve asked) = codes "-"
 file_of (asks.ServeLog asked) = codes "-"
 file_of (asks.List list) = string_bytes list.file
-file_of (asks.Compact log new) = []
+file_of (asks.Compact asked) = []
 
 -- the name of the list if there is one, else FILE
 abbrev pub listed_or : Option (String Global) → List ℕ → List ℕ
@@ -93,7 +93,7 @@ abbrev pub told_file : Plan → Fault → List ℕ
 told_file (asks.Crawl workers max queues file seeds options) fault.CannotReadSeeds = listed_or options.listed (string_bytes file)
 told_file (asks.Check options ignores) fault.CannotReadIgnores = listed_or ignores (string_bytes options.site.folder)
 told_file (asks.ServeLog asked) (fault.Log why) = string_bytes asked.file
-told_file (asks.Compact log new) (fault.Log why) = string_bytes log.file
+told_file (asks.Compact asked) (fault.Log why) = string_bytes asked.log.file
 told_file plan fault = file_of plan
 
 -- the suffixes of the filter of a crawl
@@ -120,11 +120,12 @@ reads_input (asks.Replay file) = is_input (string_bytes file)
 reads_input (asks.Serve asked) = not (is_bad_suffix asked.within)
 reads_input (asks.ServeLog asked) = not (is_bad_suffix asked.session.within)
 reads_input (asks.List list) = false
-reads_input (asks.Compact log new) = false
+reads_input (asks.Compact asked) = false
 
 -- the command may print notices if it succeeds: a session with a log, or a command for a folder
 abbrev pub has_notices : Plan → Bool
 has_notices (asks.ServeLog asked) = true
+has_notices (asks.Compact asked) = true
 has_notices (asks.Site options) = true
 has_notices (asks.Check options ignores) = true
 has_notices plan = false

@@ -4,7 +4,7 @@ use Rattle.std.specs.Io.KnownBytes.{Appends}
 use Rattle.std.specs.declared.alloc.Global.{Global}
 use Rattle.crawl_keys.specs.CanonicalText.{canonical}
 use Rattle.mercator.specs.Ending.{Begins}
-use Rattle.mercator.specs.FaultText.{fault_line, more_lines, torn_line}
+use Rattle.mercator.specs.FaultText.{fault_line, left_out_line, more_lines, torn_line}
 use Rattle.mercator.specs.Faults.{status_of_fault}
 use Rattle.mercator.specs.KeyLine.{IsKeyLine}
 use Rattle.mercator.specs.Limits.{most_input_bytes}
@@ -24,6 +24,7 @@ use Rattle.saved_site.specs.Meaning.{IsSiteWeb}
 use Rattle.session_log.specs.Plans.{queues_of}
 use Rattle.session_log.specs.Plans as session
 use Rattle.session_log.specs.Lists.{IsListed}
+use Rattle.crawl_session.specs.declared.rebuild.LeftOut.{LeftOut}
 use Rattle.session_log.specs.declared.fault.LogFault.TheVariants as unlogged
 use Rattle.session_log.specs.declared.plan.SessionPlan.{SessionPlan}
 use Rattle.mercator.specs.WebCrawl.{CrawlPlan, IsBegun, IsCrawlText, IsUnbegun}
@@ -95,7 +96,7 @@ IsTold (asks.Replay file) input text = OfFile (known_bytes (string_bytes file) i
 IsTold (asks.Serve asked) input text = (is_bad_suffix asked.within ≡ false) × IsAnswered asked input text
 IsTold (asks.ServeLog asked) input text = (is_bad_suffix asked.session.within ≡ false) × GoesOn asked.session input text
 IsTold (asks.List list) input text = IsListed list text
-IsTold (asks.Compact log new) input text = (is_bad_suffix log.session.within ≡ false) × (text ≡ [])
+IsTold (asks.Compact asked) input text = (is_bad_suffix asked.log.session.within ≡ false) × (text ≡ [])
 
 -- the text is the report of a check that found something broken
 abbrev pub IsBroken : Plan → List ℕ → Type 0
@@ -173,7 +174,7 @@ Fails (asks.Replay file) input fault = FailsReplay (string_bytes file) input fau
 Fails (asks.Serve asked) input fault = FailsSession asked.within fault
 Fails (asks.ServeLog asked) input fault = FailsLog asked.session.within fault
 Fails (asks.List list) input fault = FailsList fault
-Fails (asks.Compact log new) input fault = FailsLog log.session.within fault
+Fails (asks.Compact asked) input fault = FailsLog asked.log.session.within fault
 
 -- the command cannot have an output: the suffix is bad; the FILE is known and no script; the URL has no canonical URL; or, for all
 -- bytes that the files of a crawl can have, there is no saved web, a seed has no canonical URL, or there is no seed
@@ -187,7 +188,7 @@ CannotTell (asks.Replay file) input = IsSomeAnd (known_bytes (string_bytes file)
 CannotTell (asks.Serve asked) input = is_bad_suffix asked.within ≡ true
 CannotTell (asks.ServeLog asked) input = is_bad_suffix asked.session.within ≡ true
 CannotTell (asks.List list) input = ⊥
-CannotTell (asks.Compact log new) input = is_bad_suffix log.session.within ≡ true
+CannotTell (asks.Compact asked) input = is_bad_suffix asked.log.session.within ≡ true
 
 -- only a crawl can be incomplete: one of a saved web, from at least one seed, whose seeds have canonical URLs; or that of a check
 abbrev pub MayLose : Plan → Option (List ℕ) → Type 0
@@ -222,11 +223,13 @@ EndsBy plan input fault Unwritten = (Fails plan input fault × Unwritten) ⊎ ((
 -- for a folder, any notices
 abbrev pub MayNote : Plan → Option (List ℕ) → Option (List ℕ) → Type 0
 MayNote (asks.ServeLog asked) old new = Begins old new (torn_line (string_bytes asked.file))
+MayNote (asks.Compact asked) old new = (left : LeftOut) × Begins old new (left_out_line (string_bytes asked.log.file) left)
 MayNote plan old new = Unit {0}
 
 -- the writer for errors gained the line, up to where it failed, after the notices
 abbrev pub TellsFault : Plan → Option (List ℕ) → Option (List ℕ) → List ℕ → Type 0
 TellsFault (asks.ServeLog asked) old new line = (middle : Option (List ℕ)) × MayNote (asks.ServeLog asked) old middle × Begins middle new line
+TellsFault (asks.Compact asked) old new line = (middle : Option (List ℕ)) × MayNote (asks.Compact asked) old middle × Begins middle new line
 TellsFault (asks.Site options) old new line = (middle : Option (List ℕ)) × Begins middle new line
 TellsFault (asks.Check options ignores) old new line = (middle : Option (List ℕ)) × Begins middle new line
 TellsFault plan old new line = Begins old new line
@@ -269,13 +272,13 @@ TellsWords unplanned.NoMemory old new = ⊥
 -- the plan has a log
 abbrev pub HasLog : Plan → Type 0
 HasLog (asks.ServeLog asked) = Unit {0}
-HasLog (asks.Compact log new) = Unit {0}
+HasLog (asks.Compact asked) = Unit {0}
 HasLog plan = ⊥
 
 -- another program uses the log of the plan: the writer for errors gained the line that says so, up to where it failed
 abbrev pub TellsInUse : Plan → Option (List ℕ) → Option (List ℕ) → Type 0
 TellsInUse (asks.ServeLog asked) old new = Begins old new (fault_line (string_bytes asked.file) (wrong.Log unlogged.InUse))
-TellsInUse (asks.Compact log file) old new = Begins old new (fault_line (string_bytes log.file) (wrong.Log unlogged.InUse))
+TellsInUse (asks.Compact asked) old new = Begins old new (fault_line (string_bytes asked.log.file) (wrong.Log unlogged.InUse))
 TellsInUse plan old new = ⊥
 
 -- arguments led to no plan, and the writer for errors gained the reason: help could not be written, or there was no memory and

@@ -259,8 +259,8 @@ fn run<
             list_log(platform.rt, alloc, list, out)?;
             Ok(false)
         }
-        Plan::Compact { log, new } => {
-            compact_log(platform, alloc, log, new)?;
+        Plan::Compact(asked) => {
+            compact_log(platform, alloc, asked, err)?;
             Ok(false)
         }
     }

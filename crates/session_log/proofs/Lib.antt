@@ -1,2 +1,3 @@
 pub mod Prelude
 mod Logs
+mod Rebuilds

@@ -72,7 +72,7 @@ pieces-append sum (piece ∷ ps) qs =
     ∙ sym (append_assoc text more (framed_pieces (sum_with (sum_with sum text) more) qs))
     ∙ ap (λ s. (text ++ more) ++ framed_pieces s qs) (sym (sum_append sum text more))
 
-gained_both : (ps qs : List (List ℕ)) (old mid new : Summing) → Gained ps old mid → Gained qs mid new → Gained (ps ++ qs) old new
+pub gained_both : (ps qs : List (List ℕ)) (old mid new : Summing) → Gained ps old mid → Gained qs mid new → Gained (ps ++ qs) old new
 gained_both ps qs old mid new one two =
     let first = framed_pieces old.sum ps in
     let parts : framed_pieces old.sum (ps ++ qs) ≡ first ++ framed_pieces mid.sum qs = pieces-append old.sum ps qs ∙ ap (λ s. first ++ framed_pieces s qs) (sym one.sum) in
@@ -99,7 +99,7 @@ gained_one piece old new gained sum =
       sum = sum ∙ ap (sum_with old.sum) (sym (append-nil text));
     }
 
-gained_none : (out : Summing) → Gained [] out out
+pub gained_none : (out : Summing) → Gained [] out out
 gained_none out = record { gained = Appends-nil out.contents; sum = sum_nil out.sum }
 
 -- no line was given yet

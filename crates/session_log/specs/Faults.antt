@@ -1,5 +1,7 @@
 -- The errors of a log: their exit statuses and texts.
 use Rattle.std.specs.Prelude.{ℕ, List, ◌++◌, codes, decimal}
+use Rattle.crawl_session.specs.declared.rebuild.RebuildError.{RebuildError}
+use Rattle.crawl_session.specs.declared.rebuild.RebuildError.TheVariants as rebuild
 use Rattle.session_log.specs.declared.fault.LogFault.{LogFault}
 use Rattle.session_log.specs.declared.fault.LogFault.TheVariants as unlogged
 use Rattle.session_log.specs.declared.fault.Setting.{Setting}
@@ -29,6 +31,15 @@ log_text (unlogged.OtherSettings setting) = setting_text setting
 log_text (unlogged.Damaged right wrong) = codes "damaged between lines " ++ decimal right ++ codes " and " ++ decimal wrong
 log_text unlogged.CannotWrite = codes "cannot write"
 log_text unlogged.Changed = codes "changed by another program"
+log_text unlogged.NoRoom = codes "more unfinished URLs than --max-pending allows"
+log_text unlogged.LongUrl = codes "has a URL that is too long for an offer"
 log_text unlogged.CannotMakeNew = codes "cannot create the new log, which must not exist"
 log_text unlogged.CannotWriteNew = codes "cannot write the new log"
 log_text unlogged.NoMemory = codes "out of memory"
+
+-- why no log with other settings was written; it is written to memory first, so a failed write is the same as no memory
+abbrev pub of_rebuild : RebuildError → LogFault
+of_rebuild rebuild.Full = unlogged.NoRoom
+of_rebuild rebuild.Unfit = unlogged.LongUrl
+of_rebuild rebuild.CannotWrite = unlogged.NoMemory
+of_rebuild rebuild.NoMemory = unlogged.NoMemory

@@ -1,46 +1,69 @@
-//! The compacted log of a session, in a new file.
-ghost use Rattle.std.specs.Prelude.{◌∷◌, [], IfOk, IsOk, OnOk, string_bytes};
-ghost use Rattle.session_log.specs.Compaction.{Compacted, IsCompacted, summing};
+//! The compacted log of a session, in a new file, with the same settings or with other ones.
+ghost use Rattle.std.specs.Prelude.{◌≡◌, ◌∷◌, [], Ok, IfOk, IsOk, OnOk, string_bytes};
+ghost use Rattle.session_log.specs.Compaction.{Compacted, IsCompacted, IsRebuilt, summing};
+ghost use Rattle.session_log.specs.Plans.{IsSessionPlan};
 
+use crate::compact_plan::CompactPlan;
 use crate::fault::LogFault;
 use crate::lines::LineReader;
+use crate::lock_file::LockFile;
 use crate::new_log::{NewLog, create_partial, publish};
-use crate::opening::OpenedLog;
-use crawl_session::{Compactor, Session};
+use crate::opening::{OpenedLog, open_session};
+use crate::plan::SessionPlan;
+use crate::rebuilding::{filter_within, rebuild_to};
+use crawl_session::{Compactor, LeftOut, Session};
 use std::alloc::Global;
 use std::fs::{self, Files, OpenFile};
 use std::io::{self, Read, Seek, Write};
 
-/// Writes a compacted copy of the log, with only the requests that are needed, to a new file. The log does not change. The new
-/// file gets its name when it is whole and synced to disk. If the program is killed, the new file is whole or does not exist, but
-/// a file with its temporary name may remain.
+/// Writes a compacted copy of the log to a new file. With the settings of the log, the copy has only the requests that are needed. With
+/// other settings, it has the same URLs done and not done. The log does not change. The new file gets its name when it is whole and
+/// synced to disk. If the program is killed, the new file is whole or does not exist, but a file with its temporary name may remain.
+///
+/// Returns how many URLs the new log leaves out, because its suffix does not allow them.
 ///
 /// # Errors
-/// `CannotRead`; `CannotMakeNew` if the new file exists or cannot be created; `CannotWriteNew`, `NoMemory`. An error leaves no new
-/// file.
-pub fn compact<R: Files, F: Read + Seek>(
+/// `CannotOpen`, `InUse`; `NotALog`; `OtherSettings` if the log is that of another part, or of a part with another number of queues;
+/// `Damaged`; `CannotMakeNew` if the new file exists or cannot be created; `CannotRead`; `NoRoom` if the new settings allow fewer URLs
+/// that are not done; `LongUrl`; `CannotWriteNew`, `NoMemory`. An error leaves no new file.
+pub fn compact<R: Files, L: LockFile<R::File>>(
     rt: &R,
+    locks: &L,
     alloc: Global,
-    session: &mut Session,
-    log: &mut OpenedLog<F>,
-    new: &str,
-) -> Result<(), LogFault> {
-    let (partial, file) = create_partial(rt, alloc, new)?;
-    let mut written = NewLog::new(alloc, file);
-    if let Err(fault) = compact_synced(alloc, session, log, &mut written) {
-        let _ = fs::remove_file(rt, partial.as_str());
-        return Err(fault);
+    plan: &CompactPlan,
+) -> Result<LeftOut, LogFault>
+    requires { IsSessionPlan plan.now.log.session }
+{
+    let own = plan.own(rt, alloc)?;
+    let wanted = plan.wanted(&own.session)?;
+    let filter = filter_within(alloc, &own.session.within)?;
+    let (mut log, mut session) = open_session(rt, locks, alloc, &own, filter, false)?;
+    let (partial, file) = create_partial(rt, alloc, plan.new.as_str())?;
+    let mut new = NewLog::new(alloc, file);
+    let written = if own.session.is_like(&wanted) {
+        compact_synced(alloc, &mut session, &mut log, &mut new)
+    } else {
+        rebuild_synced(alloc, &mut session, &mut log, &wanted, &mut new)
+    };
+    match written {
+        Ok(left_out) => {
+            publish(rt, partial.as_str(), plan.new.as_str())?;
+            Ok(left_out)
+        }
+        Err(fault) => {
+            let _ = fs::remove_file(rt, partial.as_str());
+            Err(fault)
+        }
     }
-    publish(rt, partial.as_str(), new)
 }
 
-/// Writes the compacted log, and syncs it to disk.
+/// Writes the compacted log, and syncs it to disk. It leaves out no URL.
 fn compact_synced<F: Read + Seek, O: Write + OpenFile>(
     alloc: Global,
     session: &mut Session,
     log: &mut OpenedLog<F>,
     new: &mut NewLog<O>,
-) -> Result<(), LogFault>
+) -> Result<LeftOut, LogFault>
     ensures compacted { OnOk result (IsCompacted session.old (string_bytes log.old.first ∷ []) new.old.frame.sum (O.contents new.old.file) (O.contents new.new.file)) }
 {
     let written = compact_to(alloc, session, log, new);
@@ -48,30 +71,47 @@ fn compact_synced<F: Read + Seek, O: Write + OpenFile>(
     finish(written, synced)
 }
 
-/// Returns how a compaction ends, from the results of the writes and of the sync.
-fn finish(written: Result<(), LogFault>, synced: io::Result<()>) -> Result<(), LogFault>
-    ensures { IfOk result (λ _. IsOk written × IsOk synced) }
+/// Writes the log of other settings, and syncs it to disk. Returns how many URLs it leaves out.
+fn rebuild_synced<F: Read + Seek, O: Write + OpenFile>(
+    alloc: Global,
+    session: &mut Session,
+    log: &mut OpenedLog<F>,
+    wanted: &SessionPlan,
+    new: &mut NewLog<O>,
+) -> Result<LeftOut, LogFault>
+    requires { IsSessionPlan wanted.now }
+    ensures rebuilt { IfOk result (λ left_out. IsRebuilt session.old wanted.now (string_bytes log.old.identity) left_out new.old.frame.sum (O.contents new.old.file) (O.contents new.new.file)) }
 {
-    written?;
+    let written = rebuild_to(alloc, session, log, wanted, new);
+    let synced = new.file.sync_all();
+    finish(written, synced)
+}
+
+/// Returns how a compaction ends, from the results of the writes and of the sync.
+fn finish(written: Result<LeftOut, LogFault>, synced: io::Result<()>) -> Result<LeftOut, LogFault>
+    ensures { IfOk result (λ left_out. (written ≡ Ok left_out) × IsOk synced) }
+{
+    let left_out = written?;
     match synced {
-        Ok(()) => Ok(()),
+        Ok(()) => Ok(left_out),
         Err(_) => Err(LogFault::CannotWriteNew),
     }
 }
 
-/// Writes the first line of the log, and the requests that are needed.
+/// Writes the first line of the log, and the requests that are needed. It leaves out no URL.
 #[tactic(auto, using(crate::proofs::Logs::compacted_first, crate::proofs::Logs::gained_one))]
 fn compact_to<F: Read + Seek, O: Write>(
     alloc: Global,
     session: &mut Session,
     log: &mut OpenedLog<F>,
     new: &mut NewLog<O>,
-) -> Result<(), LogFault>
+) -> Result<LeftOut, LogFault>
     ensures compacted { OnOk result (IsCompacted session.old (string_bytes log.old.first ∷ []) new.old.frame.sum (O.contents new.old.file) (O.contents new.new.file)) }
 {
     new.append(log.first.as_bytes())?;
     let mut lines = LineReader::new(alloc, &mut log.file, log.start, log.whole)?;
-    compact_lines(alloc, session, &mut lines, new)
+    compact_lines(alloc, session, &mut lines, new)?;
+    Ok(LeftOut::none())
 }
 
 /// Runs these lines, and writes those that are needed. Fails with `CannotRead` also if a line is too long for the reader.

@@ -25,6 +25,10 @@ pub enum LogFault {
     CannotWrite,
     /// Another process changed, moved or removed the file since it was opened.
     Changed,
+    /// The settings of the new log allow fewer URLs that are not done.
+    NoRoom,
+    /// A URL is too long to be offered to the new log.
+    LongUrl,
     /// The file for the compacted log exists already, or cannot be created.
     CannotMakeNew,
     /// A write to the file for the compacted log failed.
@@ -102,6 +106,8 @@ impl fmt::Display for LogFault {
             }
             LogFault::CannotWrite => f.write_str("cannot write"),
             LogFault::Changed => f.write_str("changed by another program"),
+            LogFault::NoRoom => f.write_str("more unfinished URLs than --max-pending allows"),
+            LogFault::LongUrl => f.write_str("has a URL that is too long for an offer"),
             LogFault::CannotMakeNew => {
                 f.write_str("cannot create the new log, which must not exist")
             }

@@ -7,8 +7,10 @@
 //! - [`list`] returns the URLs of a log, which another process may be using.
 #![tactic(auto)]
 
+mod compact_plan;
 mod compacting;
 mod fault;
+mod file_node;
 mod frame;
 mod lines;
 mod listing;
@@ -18,6 +20,7 @@ mod log_settings;
 mod new_log;
 mod opening;
 mod plan;
+mod rebuilding;
 mod resuming;
 mod window;
 
@@ -26,6 +29,7 @@ pub mod testing {
     pub use crate::lock_file::NoLocks;
 }
 
+pub use compact_plan::{CompactPlan, NamedSettings};
 pub use compacting::compact;
 pub use fault::{LogFault, LoggedFault, Setting};
 pub use listing::{ListKind, ListPlan, list};

@@ -108,7 +108,7 @@ fn session_of_line(alloc: Global, line: &str) -> Result<(Session, bool), LogFaul
 
 /// Returns the plan of a log with this part and these numbers, if all parts together do not have too many queues. It names no
 /// suffix: the filter of the log may have several.
-fn plan_of(part: Option<(u32, u32)>, header: &Header) -> Option<SessionPlan>
+pub fn plan_of(part: Option<(u32, u32)>, header: &Header) -> Option<SessionPlan>
     requires { AreLimits header.now.workers header.now.max }
     ensures limits { IfSome result IsSessionPlan }
     ensures same { IfSome result (λ plan. (plan.part ≡ part) × (plan.workers ≡ header.now.workers) × (plan.max ≡ header.now.max)) }
@@ -125,7 +125,7 @@ fn plan_of(part: Option<(u32, u32)>, header: &Header) -> Option<SessionPlan>
 }
 
 /// Returns the filter with the suffixes of a log.
-fn filter_of(alloc: Global, suffixes: &[&str]) -> Result<Filter, LogFault>
+pub fn filter_of(alloc: Global, suffixes: &[&str]) -> Result<Filter, LogFault>
     ensures filter { IfOk result (λ filter. filter_of (map (λ suffix. suffix.now) suffixes.now) ≡ Ok filter) }
     ensures fault { IfErr result IsReadFault }
 {

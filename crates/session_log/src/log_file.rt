@@ -6,6 +6,7 @@ ghost use Rattle.std.specs.Io.KnownBytes.{Appends, IsAtEnd, Keeps, ReadConsumes,
 ghost use Rattle.session_log.specs.LogFile.{fault_of_break, framed, has_sync, items, line_end, line_len, may_be_sync, may_sync, noted, sum_with};
 
 use crate::fault::{AppendError, LogFault, LoggedFault};
+use crate::file_node::FileNode;
 use crate::frame::Frame;
 use crate::window::Window;
 use crawl_session::{HELD_LIMIT, LogSum, ServeError, whole_len};
@@ -13,7 +14,6 @@ use memchr::memchr;
 use std::alloc::{AllocError, Global};
 use std::fs::{self, Files, OpenFile};
 use std::io::{self, ErrorKind, Read, Write};
-use std::os::unix::fs::MetadataExt;
 use text_lines::first_line;
 
 /// The name of a log, and the file that it led to.
@@ -21,34 +21,23 @@ use text_lines::first_line;
 pub struct LogPlace<'p, R> {
     rt: &'p R,
     name: String,
-    /// The device of the file and its number there. A file that is not a regular one has none.
-    node: Option<(u64, u64)>,
+    node: FileNode,
 }
 
 impl<'p, R: Files> LogPlace<'p, R> {
     /// The file of a log with this name.
-    pub(crate) fn new<F: OpenFile>(
-        rt: &'p R,
-        name: String,
-        file: &F,
-    ) -> io::Result<LogPlace<'p, R>> {
-        let found = file.metadata()?;
-        let node = if found.is_file() {
-            Some((found.dev(), found.ino()))
-        } else {
-            None
-        };
-        Ok(LogPlace { rt, name, node })
+    pub(crate) fn new(rt: &'p R, name: String, node: FileNode) -> LogPlace<'p, R> {
+        LogPlace { rt, name, node }
     }
 
     /// Returns whether the name still leads to the file, and the file has this length. The length of a file that is not a regular
     /// one says nothing.
     fn has(&self, len: u64) -> bool {
-        let Some((dev, ino)) = self.node else {
+        if !self.node.is_regular {
             return true;
-        };
+        }
         match fs::metadata(self.rt, self.name.as_str()) {
-            Ok(found) => found.dev() == dev && found.ino() == ino && found.len() == len,
+            Ok(found) => FileNode::of(&found) == self.node && found.len() == len,
             Err(_) => false,
         }
     }
@@ -128,7 +117,7 @@ impl<'p, F: Write + OpenFile, R: Files> Log<'p, F, R> {
         let before = self.len;
         let asked = may_sync(self.unfinished, bytes);
         self.note(bytes)?;
-        if asked {
+        if asked && !self.synced {
             self.sync_from(before)?;
         }
         Ok(())

@@ -95,7 +95,7 @@ fn setting_apart(
 }
 
 /// Returns the part of a log, if it is not that of the plan.
-fn part_apart(part: Option<(u32, u32)>, plan: Option<(u32, u32)>) -> Option<Setting>
+pub fn part_apart(part: Option<(u32, u32)>, plan: Option<(u32, u32)>) -> Option<Setting>
     ensures { result ≡ part_apart part plan }
 {
     match (part, plan) {

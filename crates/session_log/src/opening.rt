@@ -1,21 +1,23 @@
 //! Opens the file of a log.
-ghost use Rattle.std.specs.Prelude.{◌≡◌, ℕ, List, IfErr, IfOk};
+ghost use Rattle.std.specs.Prelude.{◌≡◌, ℕ, List, string_bytes, IfErr, IfOk};
 ghost use Rattle.crawl_session.specs.Frontiers.{Shows, start};
+ghost use Rattle.crawl_session.specs.Logs.{settings_line};
+ghost use Rattle.session_log.specs.Compaction.{first_line, part_start, suffixes_of};
 ghost use Rattle.session_log.specs.LogFile.{IsReadFault, IsUseFault};
 ghost use Rattle.session_log.specs.Plans.{IsSessionPlan, queues_of, settings_of};
 
 use crate::fault::LogFault;
+use crate::file_node::FileNode;
 use crate::lines::checked_sum;
 use crate::lock_file::LockFile;
 use crate::log_settings::{SUMS, fault_of_head};
 use crate::plan::{LogPlan, SessionPlan};
 use crawl_keys::Filter;
 use crawl_replay::Header;
-use crawl_session::{LogSum, READ_SIZE, Session, settings_line, start_text, whole_len};
+use crawl_session::{LogSum, READ_SIZE, Session, hex_digit, settings_line, start_text, whole_len};
 use std::alloc::{AllocError, Global};
 use std::fs::{self, Files, OpenFile, OpenOptions};
 use std::io::{self, Read, Seek, SeekFrom};
-use std::os::unix::fs::MetadataExt;
 use std::time::Duration;
 
 /// How often a log may be replaced by another file until it is locked.
@@ -35,6 +37,8 @@ const START_LEN: usize = 8;
 pub struct OpenedLog<F> {
     /// The file.
     pub(crate) file: F,
+    /// What it is to the system.
+    pub(crate) node: FileNode,
     /// The first line of a log with checksums and these settings, with its LF.
     pub(crate) first: String,
     /// The length of the first line of the file, which may be that of a log without checksums; 0 if it is not whole.
@@ -134,18 +138,19 @@ fn open_log<R: Files, L: LockFile<R::File>>(
     plan: &LogPlan,
     makes: bool,
 ) -> Result<OpenedLog<R::File>, LogFault> {
-    let mut file = open_file(rt, locks, plan, makes)?;
+    let (mut file, node) = open_file(rt, locks, plan, makes)?;
     check_start(alloc, &mut file)?;
     let Some(identity) = identity_of(rt, alloc, plan.session.part, &mut file)? else {
         return Err(unlike(alloc, &mut file, &plan.session)?);
     };
-    let first = first_line_of(alloc, plan, identity.as_str())?;
+    let first = first_line_of(alloc, &plan.session, identity.as_str())?;
     let Some(head) = measure(alloc, &mut file, first.as_bytes())? else {
         return Err(unlike(alloc, &mut file, &plan.session)?);
     };
     let sum = head.sum_of(alloc, &mut file)?;
     Ok(OpenedLog {
         file,
+        node,
         first,
         start: head.start,
         sum,
@@ -155,8 +160,8 @@ fn open_log<R: Files, L: LockFile<R::File>>(
     })
 }
 
-/// Opens and locks the file that has the name of the log when it is locked. If another file has the name then, that is opened,
-/// within the same time.
+/// Opens and locks the file that has the name of the log when it is locked, and also returns what it is to the system. If another
+/// file has the name then, that is opened, within the same time.
 ///
 /// # Errors
 /// `CannotOpen`; `InUse`, also if the name leads to another file each time.
@@ -165,7 +170,7 @@ fn open_file<R: Files, L: LockFile<R::File>>(
     locks: &L,
     plan: &LogPlan,
     makes: bool,
-) -> Result<R::File, LogFault> {
+) -> Result<(R::File, FileNode), LogFault> {
     let name = plan.file.as_str();
     let mut limit = Duration::from_secs(plan.wait);
     for _opening in 0..OPENING_LIMIT {
@@ -182,19 +187,21 @@ fn open_file<R: Files, L: LockFile<R::File>>(
             Ok(None) => return Err(LogFault::InUse),
             Err(_) => return Err(LogFault::CannotOpen),
         }
-        if has_name(rt, &file, name) {
-            return Ok(file);
+        if let Some(node) = named_node(rt, &file, name) {
+            return Ok((file, node));
         }
     }
     Err(LogFault::InUse)
 }
 
-/// Returns whether the name leads to this file.
-fn has_name<R: Files>(rt: &R, file: &R::File, name: &str) -> bool {
-    let (Ok(own), Ok(named)) = (file.metadata(), fs::metadata(rt, name)) else {
-        return false;
-    };
-    own.dev() == named.dev() && own.ino() == named.ino()
+/// Returns what the file is to the system, if the name leads to it.
+fn named_node<R: Files>(rt: &R, file: &R::File, name: &str) -> Option<FileNode> {
+    let node = FileNode::of(&file.metadata().ok()?);
+    if FileNode::of(&fs::metadata(rt, name).ok()?) == node {
+        Some(node)
+    } else {
+        None
+    }
 }
 
 /// Checks that the file begins like a log, whatever its options, or is shorter.
@@ -275,17 +282,9 @@ fn drawn_digits<R: Files>(rt: &R) -> Result<[u8; DIGITS], LogFault> {
         return Err(LogFault::CannotRead);
     }
     for byte in drawn.iter_mut() {
-        *byte = digit(*byte);
+        *byte = hex_digit(u64::from(*byte));
     }
     Ok(drawn)
-}
-
-/// Returns the hexadecimal digit of the low four bits.
-fn digit(byte: u8) -> u8 {
-    match byte & 15 {
-        low @ 0..=9 => b'0' + low,
-        low => b'a' + (low - 10),
-    }
 }
 
 /// Returns the text of these digits, or `None` if one is not hexadecimal.
@@ -300,25 +299,44 @@ fn text_of_digits(alloc: Global, digits: &[u8]) -> Result<Option<String>, AllocE
     Ok(Some(text))
 }
 
-/// Returns the first line of a log with checksums, with its LF.
-fn first_line_of(alloc: Global, plan: &LogPlan, identity: &str) -> Result<String, AllocError> {
-    let session = &plan.session;
-    let header = Header {
-        workers: session.workers,
-        max: session.max,
-    };
-    let mut line = match session.part {
-        Some(part) => start_text(alloc, Some(part), Some(identity))?,
-        None => String::new(alloc),
-    };
-    let settings = match &session.within {
-        Some(suffix) => settings_line(alloc, &header, &[suffix.as_str()])?,
-        None => settings_line(alloc, &header, &[])?,
-    };
+/// Returns the first line of a log with checksums, with its LF. The log of a part has this identity.
+pub fn first_line_of(
+    alloc: Global,
+    plan: &SessionPlan,
+    identity: &str,
+) -> Result<String, AllocError>
+    ensures { IfOk result (λ line. string_bytes line ≡ first_line plan.now identity.now) }
+{
+    let mut line = part_start(alloc, plan.part, identity)?;
+    let settings = settings_text(alloc, plan)?;
     line.push_str(settings.as_str())?;
     line.push_str(SUMS)?;
-    line.push('\n')?;
+    line.push_str("\n")?;
     Ok(line)
+}
+
+/// Returns what the first line of a part's log has before the settings, or an empty text if the log is not one of a part.
+fn part_start(alloc: Global, part: Option<(u32, u32)>, identity: &str) -> Result<String, AllocError>
+    ensures { IfOk result (λ text. string_bytes text ≡ part_start part identity.now) }
+{
+    match part {
+        Some(part) => start_text(alloc, Some(part), Some(identity)),
+        None => Ok(String::new(alloc)),
+    }
+}
+
+/// Returns the settings in the first line of a log.
+fn settings_text(alloc: Global, plan: &SessionPlan) -> Result<String, AllocError>
+    ensures { IfOk result (λ text. string_bytes text ≡ settings_line plan.now.workers plan.now.max (suffixes_of plan.now.within)) }
+{
+    let header = Header {
+        workers: plan.workers,
+        max: plan.max,
+    };
+    match &plan.within {
+        Some(suffix) => settings_line(alloc, &header, &[suffix.as_str()]),
+        None => settings_line(alloc, &header, &[]),
+    }
 }
 
 /// Returns the lengths of a log that begins with this line, or with the same line of a log without checksums. If the first line is

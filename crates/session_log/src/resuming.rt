@@ -30,6 +30,7 @@ pub fn resume<'p, R: Files, F: Read + Seek + Write + OpenFile + Drop>(
 {
     let OpenedLog {
         mut file,
+        node,
         first,
         start,
         sum,
@@ -38,7 +39,7 @@ pub fn resume<'p, R: Files, F: Read + Seek + Write + OpenFile + Drop>(
         len: _,
     } = opened;
     rerun_file(alloc, session, &mut file, start)?;
-    let place = LogPlace::new(rt, plan.file.clone()?, &file)?;
+    let place = LogPlace::new(rt, plan.file.clone()?, node);
     let mut log = Log::new(alloc, file, place, whole, sum, plan.sync);
     if start == 0 {
         log.append(first.as_bytes())?;

@@ -5,7 +5,7 @@ ghost use Rattle.mercator.specs.Plans.{IsWithinLimits, explains, file_of, listed
 use crate::commands::fault::Fault;
 use crawl_report::Parts;
 use mercator_site::{CheckForm, CheckOptions, ReportOptions, SiteOptions};
-use session_log::{ListPlan, LogPlan, SessionPlan};
+use session_log::{CompactPlan, ListPlan, LogPlan, SessionPlan};
 
 /// What the arguments of a command line ask for.
 ///
@@ -69,12 +69,7 @@ pub enum Plan {
     /// `serve --log --list`: print the URLs of the log, or their numbers, without serving.
     List(ListPlan),
     /// `serve --log --compact`: write a compacted copy of the log to a new file, without serving.
-    Compact {
-        /// The log, and the session that it belongs to.
-        log: LogPlan,
-        /// The name of the new file.
-        new: String,
-    },
+    Compact(CompactPlan),
 }
 
 /// The other options of a crawl.
@@ -117,7 +112,7 @@ impl Plan {
             Plan::Key { .. } => "",
             Plan::Serve(_) | Plan::ServeLog(_) => "-",
             Plan::List(list) => list.file.as_str(),
-            Plan::Compact { .. } => "",
+            Plan::Compact(_) => "",
         }
     }
 
@@ -164,7 +159,8 @@ impl Plan {
             (Plan::Check { options, ignores }, Fault::CannotReadIgnores) => {
                 listed_or(ignores, options.site.folder.as_str())
             }
-            (Plan::ServeLog(log) | Plan::Compact { log, .. }, Fault::Log(_)) => log.file.as_str(),
+            (Plan::ServeLog(log), Fault::Log(_)) => log.file.as_str(),
+            (Plan::Compact(asked), Fault::Log(_)) => asked.log.file.as_str(),
             _ => self.file(),
         }
     }

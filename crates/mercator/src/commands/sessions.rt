@@ -6,7 +6,7 @@ ghost use Rattle.crawl_session.specs.Logs.{Reruns};
 ghost use Rattle.session_log.specs.LogFile.{IsUseFault};
 ghost use Rattle.session_log.specs.Plans.{IsSessionPlan, queues_of};
 ghost use Rattle.mercator.specs.Ending.{Begins};
-ghost use Rattle.mercator.specs.FaultText.{torn_line};
+ghost use Rattle.mercator.specs.FaultText.{left_out_line, torn_line};
 ghost use Rattle.mercator.specs.Faults.{of_logged, of_session, status_of_fault};
 ghost use Rattle.mercator.specs.Plans.{is_bad_suffix};
 ghost use Rattle.mercator.specs.Told.{EndsBy, Fails, FailsLog, Gains, settings_of};
@@ -16,10 +16,10 @@ use crate::commands::fault::Fault;
 use crate::commands::platform::Platform;
 use crate::commands::web_crawl::filter_of;
 use crate::commands::writing::{begin, end};
-use crawl_session::{ServeError, Session, serve};
+use crawl_session::{LeftOut, ServeError, Session, serve};
 use session_log::{
-    ListPlan, LockFile, Log, LogFault, LogPlan, LoggedFault, OpenedLog, SessionPlan, compact, list,
-    resume, serve_logged,
+    CompactPlan, ListPlan, LockFile, Log, LogFault, LogPlan, LoggedFault, OpenedLog, SessionPlan,
+    compact, list, resume, serve_logged,
 };
 use shown_text::shown;
 use std::alloc::{AllocError, Global};
@@ -106,27 +106,75 @@ pub fn serve_log<R: Files, L: LockFile<R::File>, V, I: Read, O: Write, E: Write>
     Ok(())
 }
 
-/// Writes a compacted copy of the log, with only the requests that are needed, to a new file. The log does not change.
+/// Writes a compacted copy of the log to a new file: only the requests that are needed, or with other settings, the same URLs. The log
+/// does not change. Reports how many URLs a narrower suffix leaves out.
 ///
 /// # Errors
-/// `BadSuffix`. `Log` if the log cannot be used, or if the new file exists or cannot be written. `NoMemory`. An error leaves no
-/// new file.
-pub fn compact_log<R: Files, L: LockFile<R::File>, V>(
+/// `BadSuffix`. `Log` if the log cannot be used, if the URLs that are not done are more than the new settings allow, or if the new file
+/// exists or cannot be written. `NoMemory`. An error leaves no new file.
+pub fn compact_log<R: Files, L: LockFile<R::File>, V, E: Write>(
     platform: &Platform<'_, R, L, V>,
     alloc: Global,
-    plan: &LogPlan,
-    new: &String,
+    plan: &CompactPlan,
+    err: &mut E,
 ) -> Result<(), Fault>
-    requires { IsSessionPlan plan.now.session }
-    ensures done { IfOk result (λ _. (input out : Option (List ℕ)) → Gains (asks.Compact plan.now new.now) input out out) }
-    ensures fault { IfErr result (λ fault. (input : Option (List ℕ)) → Fails (asks.Compact plan.now new.now) input fault) }
-    ensures refused { is_bad_suffix plan.now.session.within ≡ true → IsErr result }
+    requires { IsSessionPlan plan.now.log.session }
+    ensures done { IfOk result (λ _. (input out : Option (List ℕ)) → Gains (asks.Compact plan.now) input out out) }
+    ensures fault { IfErr result (λ fault. (input : Option (List ℕ)) → Fails (asks.Compact plan.now) input fault) }
+    ensures refused { is_bad_suffix plan.now.log.session.within ≡ true → IsErr result }
     ensures complete { IfErr result (λ fault. status_of_fault fault ≡ 2 → ⊥) }
-    ensures suffix { is_bad_suffix plan.now.session.within ≡ true → IfErr result (λ fault. status_of_fault fault ≡ 1) }
+    ensures suffix { is_bad_suffix plan.now.log.session.within ≡ true → IfErr result (λ fault. status_of_fault fault ≡ 1) }
+    ensures in_use { IfErr result (λ fault. status_of_fault fault ≡ 5 → err.new ≡ err.old) }
+    ensures noted { (left : LeftOut) × Begins (E.contents err.old) (E.contents err.new) (left_out_line (string_bytes plan.now.log.file) left) }
 {
-    let (mut log, mut session) = open_session(platform, alloc, plan, false)?;
-    compact(platform.rt, alloc, &mut session, &mut log, new.as_str())?;
+    let left_out = compact_plan(platform, alloc, plan)?;
+    note_left_out(alloc, plan.log.file.as_str(), &left_out, err);
     Ok(())
+}
+
+/// Writes the new log, and returns how many URLs it leaves out. A bad suffix opens no log.
+///
+/// # Errors
+/// Those of [`compact_log`].
+#[tactic(auto, using(crate::proofs::PlanTexts::filter_is, std::proofs::lemmas::Result::err_from_is_err_and, crate::proofs::Serves::log_fails))]
+fn compact_plan<R: Files, L: LockFile<R::File>, V>(
+    platform: &Platform<'_, R, L, V>,
+    alloc: Global,
+    plan: &CompactPlan,
+) -> Result<LeftOut, Fault>
+    requires { IsSessionPlan plan.now.log.session }
+    ensures suffix { IfOk result (λ _. is_bad_suffix plan.now.log.session.within ≡ false) }
+    ensures fault { IfErr result (FailsLog plan.now.log.session.within) }
+{
+    let _filter = filter_of(alloc, &plan.log.session.within)?;
+    Ok(compact(platform.rt, platform.locks, alloc, plan)?)
+}
+
+/// Reports how many URLs a narrower suffix leaves out, if any. The new log is there, so no memory for the line is no error.
+fn note_left_out<E: Write>(alloc: Global, name: &str, left_out: &LeftOut, err: &mut E)
+    ensures noted { Begins (E.contents err.old) (E.contents err.new) (left_out_line name.now left_out.now) }
+{
+    if left_out.all == 0 {
+        return;
+    }
+    if let Ok(line) = left_out_line(alloc, name, left_out) {
+        begin(err, line.as_bytes());
+    }
+}
+
+/// Returns the line that reports how many URLs a narrower suffix leaves out. Hidden characters of the log's name are escaped.
+fn left_out_line(alloc: Global, name: &str, left_out: &LeftOut) -> Result<String, AllocError>
+    ensures { IfOk result (λ line. string_bytes line ≡ left_out_line name.now left_out.now) }
+{
+    let file = shown(alloc, name)?;
+    let all = left_out.all;
+    let unfinished = left_out.unfinished;
+    let mut line = String::new(alloc);
+    writeln!(
+        line,
+        "mercator: log {file}: URLs left out by --within: {all} ({unfinished} unfinished)"
+    )?;
+    Ok(line)
 }
 
 /// Writes the list of a log, which another program may be using.

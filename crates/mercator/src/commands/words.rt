@@ -13,11 +13,12 @@ use crate::commands::planned::{CrawlOptions, Plan};
 use crate::commands::report_words::parts_of;
 use clap::ArgMatches;
 use clap::error::ErrorKind;
+use clap::parser::ValueSource;
 use crawl_core::QUEUE_LIMIT;
 use crawl_limits::{PENDING_LIMIT, WORKER_LIMIT};
 use crawl_replay::number32;
 use crawl_session::ListForm;
-use session_log::{ListKind, ListPlan, LogPlan, SessionPlan};
+use session_log::{CompactPlan, ListKind, ListPlan, LogPlan, NamedSettings, SessionPlan};
 use shown_text::laws::shown_text_has_no_hidden_character;
 use shown_text::shown_lines;
 use std::alloc::{AllocError, AllocFailed, Global};
@@ -236,9 +237,8 @@ fn serve_of(alloc: Global, found: &ArgMatches<'_>) -> Result<Plan, PlanError>
     ensures limits { IfOk result IsWithinLimits }
     ensures shown { IfErr result IsShown }
 {
-    let session = session_of(alloc, found)?;
     let Some(file) = value_of(alloc, found, "log")? else {
-        return Ok(Plan::Serve(session));
+        return Ok(Plan::Serve(session_of(alloc, found)?));
     };
     if let Some(kind) = found.get_str("list") {
         return list_of(alloc, found, file, kind);
@@ -247,15 +247,34 @@ fn serve_of(alloc: Global, found: &ArgMatches<'_>) -> Result<Plan, PlanError>
         return Err(misread(alloc));
     };
     let log = LogPlan {
-        session,
+        session: session_of(alloc, found)?,
         file,
         sync: found.get_flag("sync"),
         wait,
     };
     match value_of(alloc, found, "compact")? {
         None => Ok(Plan::ServeLog(log)),
-        Some(new) => Ok(Plan::Compact { log, new }),
+        Some(new) => Ok(Plan::Compact(CompactPlan {
+            log,
+            named: named_settings(found),
+            new,
+        })),
     }
+}
+
+/// Returns which settings of a session the command line names.
+fn named_settings(found: &ArgMatches<'_>) -> NamedSettings {
+    NamedSettings {
+        workers: is_named(found, "workers"),
+        max: is_named(found, "max-pending"),
+        within: is_named(found, "within"),
+        part: is_named(found, "part"),
+    }
+}
+
+/// Whether the command line has the option, so that its value is not the default.
+fn is_named(found: &ArgMatches<'_>, name: &str) -> bool {
+    found.value_source(name) == Some(ValueSource::CommandLine)
 }
 
 /// Returns the plan of `serve --list` for this log.
