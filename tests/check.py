@@ -36,7 +36,7 @@ import drawn
 from checking import drawing, forms, loading, samples, twins
 from checking.documents import TOOL
 from checking.known import KNOWN, Known, To, Zeros
-from checking.model import FLAGS, INDEX_FILES, Model, Moved, Row, Settings, Site, is_short
+from checking.model import FLAGS, INDEX_FILES, NOWHERE, Model, Moved, Row, Settings, Site, is_short
 from checking.tags import document_tags
 from checking.webs import Converter, first_difference, model_fault
 
@@ -47,6 +47,7 @@ EVERY = 8  # one of this number of random folders has its other forms compared
 # What 1,000 random folders must have at least LEAST times
 KINDS = "brokenpage brokenanchor placepage placeanchor worst redirect unreached external unused with_aliases error".split()
 KINDS += [kind + reason for kind in ("invalid", "invalid_place") for reason in ("not_url", "unknown_scheme", "local_file")]
+KINDS += [kind + reason for kind in ("leaving", "leaving_place") for reason in ("above_folder", "outside_base")]
 LEAST = 5
 
 
@@ -58,7 +59,8 @@ def host_options(settings: Settings) -> List[str]:
 
 def site_options(settings: Settings) -> List[str]:
     """The options for the pages of a folder."""
-    return host_options(settings) + [f"--{name}" for name in ("exact", "follow", "queries") if getattr(settings, name)]
+    words = host_options(settings) + [f"--{name}" for name in ("exact", "follow", "queries") if getattr(settings, name)]
+    return words + ([] if settings.styles else ["--no-styles"])
 
 
 def arguments(settings: Settings, folder: str, scratch: str, form: str = "--json") -> List[str]:
@@ -72,7 +74,7 @@ def arguments(settings: Settings, folder: str, scratch: str, form: str = "--json
         entries = Path(scratch, "ignores")
         entries.write_text("# known\n\n" + "\n".join(settings.ignores) + "\n", "utf-8")
         words += ["--ignore", str(entries)]
-    return [*words, folder, settings.base]
+    return [*words, folder, *([] if settings.is_rooted() else [settings.base])]
 
 
 def run(program: str, words: List[str]) -> "subprocess.CompletedProcess[bytes]":
@@ -84,18 +86,23 @@ def run(program: str, words: List[str]) -> "subprocess.CompletedProcess[bytes]":
 
 
 def printed_rows(program: str, settings: Settings, folder: str) -> List[Row]:
-    """The rows that the program prints, or its error. Its exit status must be 4 if there are broken or invalid links, and 0 if not."""
+    """The rows that the program prints, or its error. Its exit status must be 4 if a link is broken or invalid or leaves, and 0 if not."""
     with tempfile.TemporaryDirectory() as scratch:
         done = run(program, arguments(settings, folder, scratch))
     if done.returncode == 1 and not done.stdout:
         return [{"kind": "error", "message": done.stderr.decode(errors="replace").splitlines()[-1]}]
     rows = [json.loads(line) for line in done.stdout.splitlines()]
-    status = 4 if any(row["kind"] in ("broken", "invalid") for row in rows) else 0
+    status = status_of(rows)
     if done.returncode != status or not rows:
         return [{"kind": "status", "actual": done.returncode, "expected": status, "message": done.stderr.decode(errors="replace")}]
     for row in rows:
         row.pop("base", None)
     return rows
+
+
+def status_of(rows: List[Row]) -> int:
+    """The exit status of a check with these rows."""
+    return 4 if any(row["kind"] in ("broken", "invalid", "leaving") for row in rows) else 0
 
 
 def difference(actual: List[Row], expected: List[Row]) -> Optional[str]:
@@ -137,8 +144,8 @@ class Series:
 
 
 def broken_links(rows: List[Row]) -> List[str]:
-    """The broken and invalid links, in the form of known.py."""
-    places = [row for row in rows if row["kind"] in ("place", "invalid_place")]
+    """The broken, invalid and leaving links, in the form of known.py."""
+    places = [row for row in rows if row["kind"] in ("place", "invalid_place", "leaving_place")]
     found = [f"{row['target']} {row['file']}:{row['line']}:{row['column']}" for row in places]
     placed = {row["target"] for row in places}
     return sorted(found + [row["target"] for row in rows if row["kind"] == "broken" and row["target"] not in placed])
@@ -179,7 +186,8 @@ def known_faults(program: Optional[str], number: int) -> Faults:
     with tempfile.TemporaryDirectory() as scratch:
         folder = write_known(known, Path(scratch, "site"))
         settings = Settings(BASE)._replace(**dict(known.settings))
-        faults = [(f"{known.name}, model", known_fault(known, Model(folder, settings._replace(front=BASE)).rows()))]
+        shown = settings if settings.front else settings._replace(front=BASE)
+        faults = [(f"{known.name}, model", known_fault(known, Model(folder, shown).rows()))]
         if program:
             faults.append((known.name, difference(printed_rows(program, settings, folder), Model(folder, settings).rows())))
         return faults
@@ -212,14 +220,19 @@ def compare_folder(series: Series, program: str, folder: str, settings: Settings
 
 
 def random_settings(draw: Random) -> Settings:
-    """Random settings for a check."""
-    base = draw.choice((BASE, BASE, BASE + "manual/"))
-    ignores = draw.choice([(), (), (base + "gone",), (base + "a", "x", base + "sub/#")])
-    seeds = draw.choice([(), (), (), ("sub/",), ("#x", "a.html?b", "gone/../b.html"), ("?", "index.html", "%61.html?x", "a?y"), ("./", "s%75b")])
+    """Random settings for a check. Without BASE, targets are paths."""
+    base = draw.choice((BASE, BASE, BASE + "manual/", NOWHERE))
+    front = base if base == NOWHERE else ""
+    shown = base[len(front):]
+    ignores = draw.choice([(), (), (shown + "gone", "../"), (shown + "a", "x", shown + "sub/#", BASE + "gone")])
+    seeds = draw.choice([
+        (), (), (), ("sub/",), ("#x", "a.html?b", "gone/../b.html"), ("?", "index.html", "%61.html?x", "a?y"), ("./", "s%75b"),
+        ("/a.html",) if front else (),
+    ])
     flags: Dict[str, Any] = {flag.setting: flag.value(draw.random() < flag.share) for flag in FLAGS}
     host = drawing.random_host(draw)
     flags.update(exact=host.exact, fallback=host.fallback, indices=host.index_files or INDEX_FILES)
-    return Settings(base, ignores=ignores, seeds=seeds, workers=draw.choice((1, 1, 2, 4, 64)))._replace(**flags)
+    return Settings(base, front, ignores, seeds=seeds, workers=draw.choice((1, 1, 2, 4, 64)))._replace(**flags)
 
 
 class Drawn(NamedTuple):
@@ -239,7 +252,7 @@ def draw_number(seed: int, number: int, above: str) -> Drawn:
     settings = random_settings(draw)
     if draw.random() < 0.8:
         site = Site(str(folder), settings)
-        found = [seed for seed in settings.seeds if site.response(str(drawn.url_of(seed, site.base)))]
+        found = [seed for seed in settings.seeds if site.response(site.start_of(seed))]
         settings = settings._replace(seeds=tuple(found))
     return Drawn(str(folder), settings, drawing.random_options(draw))
 

@@ -1,13 +1,14 @@
-"""The saved web of a folder, by tools/site_to_web.py with another tokenizer and the known differences of the program."""
+"""The saved web of a folder, by tools/site_to_web.py with other readers of documents and style sheets and the known differences of the program."""
 
 from __future__ import annotations
 
 import io
+import os
 from typing import Any, Dict, Iterator, List, Optional, Tuple
 
 import drawn
 from checking import loading
-from checking.documents import character, read_tags, with_query_in
+from checking.documents import character, document_of, form_of, read_tags, with_query_in
 from checking.model import Alias, Found, Model, Moved, url_of
 
 DIFFERENCES = """\
@@ -22,13 +23,14 @@ KNOWN = {"utf_8": "utf-8", "u8": "utf-8", "windows-1252": "cp1252", "1252": "cp1
 class Reader:
     """Reads a document with the model's tokenizer, in place of the reader of site_to_web.py."""
 
-    def __init__(self, _: bool) -> None:
+    def __init__(self, styles: bool) -> None:
         self.links: List[str] = []
         self.base: Optional[str] = None
+        self.styles = styles
 
     def feed(self, text: str) -> None:
         """Reads the whole text of a document."""
-        links, self.base, _ = read_tags(text)
+        links, self.base, _ = read_tags(text, styles=self.styles)
         self.links = [link.text for link in links]
 
     def close(self) -> None:
@@ -49,6 +51,8 @@ class Converter:
         self.tool.with_query_in = with_query_in
         self.tool.entries_below = self.utf_8_entries
         self.tool.with_base = self.with_base
+        self.links = self.tool.Folder.links
+        self.tool.Folder.links = lambda folder, name, url: self.links_of_file(folder, name, url)
 
     def known_names(self, body: bytes, charset: Optional[str]) -> Iterator[str]:
         """The names of the document's encodings, as far as the program knows them."""
@@ -69,6 +73,19 @@ class Converter:
             fixed.append(text)
         return fixed
 
+    def links_of_file(self, folder: Any, name: bytes, url: str) -> List[str]:
+        """The links of a file. The model reads style sheets, and documents in XML, which the converter does not know."""
+        form = form_of(self.tool.split_name(name, folder.queries)[0], folder.web.styles)
+        if form not in ("xml", "css"):
+            return list(self.links(folder, name, url))
+        path = os.path.join(folder.folder, name)
+        if not 0 < os.path.getsize(path) <= self.tool.FILE_LIMIT:
+            return []
+        with open(path, "rb") as file:
+            document = document_of(file.read(), form, folder.web.styles)
+        links = [with_query_in(self.tool.cleaned(link.text), document.charset) for link in document.links]
+        return links if document.base is None else self.with_base(links, document.base, self.tool.url_of(url))
+
     def utf_8_entries(self, *arguments: Any) -> Any:
         """The files and folders whose names are UTF-8."""
         names = self.entries(*arguments)
@@ -77,7 +94,8 @@ class Converter:
     def web(self, folder: str, options: List[str], base: str) -> bytes:
         """The saved web of a folder."""
         parser = self.tool.command_line()
-        settings = parser.parse_args(["--quiet", *options, folder, base])
+        styles = [] if "--no-styles" in options else ["--styles"]
+        settings = parser.parse_args(["--quiet", *styles, *(word for word in options if word != "--no-styles"), folder, base])
         web = self.tool.Web(settings)
         self.tool.Folder(folder, self.tool.base_of(base, parser), settings, web).write()
         out = io.BytesIO()
