@@ -5,9 +5,10 @@ The model (tests/checking/) has its own tokenizer, server, search and anchors, w
 small folders with known results, the shipped site, each FOLDER, and random folders: odd names, links in many spellings, base
 elements, encodings, redirects, and symbolic links. Without a FOLDER it takes the documentation folders that are installed
 (DOCUMENTATION in tests/checking/loading.py). The saved webs of random folders are compared with those of tools/site_to_web.py
-with the model's tokenizer. In every eighth random folder, the other forms of the report are compared, too. With --model, only the
-model is tested: with the known results, the pages that the converter finds, the answers of Python's static server, and the
-definitions of a server that the proofs cite (tests/checking/twins.py).
+with the model's tokenizer. Of each random folder, a random list of its pages is checked, too, with --index. In every eighth random
+folder, the other forms of the report are compared. With --model, only the model is tested: with the known results, the pages that
+the converter finds, the answers of Python's static server, and the definitions of a server that the proofs cite
+(tests/checking/twins.py).
 
 A random folder depends only on the seed and its number. The first folders that differ are kept, and their paths are printed.
 With at least 1,000 random folders, each kind of row must occur at least 5 times; otherwise the test fails. The environment
@@ -29,11 +30,11 @@ from concurrent.futures import ProcessPoolExecutor
 from functools import lru_cache, partial
 from pathlib import Path
 from random import Random
-from typing import Any, Dict, List, NamedTuple, Optional, Tuple
+from typing import Any, Dict, List, NamedTuple, Optional, Sequence, Tuple
 from urllib.parse import quote, unquote_to_bytes
 
 import drawn
-from checking import drawing, forms, loading, samples, twins
+from checking import archives, drawing, forms, loading, samples, twins
 from checking.documents import TOOL
 from checking.known import KNOWN, Known, To, Zeros
 from checking.model import FLAGS, INDEX_FILES, NOWHERE, Model, Moved, Row, Settings, Site, is_short
@@ -85,10 +86,10 @@ def run(program: str, words: List[str]) -> "subprocess.CompletedProcess[bytes]":
         return subprocess.CompletedProcess(words, -1, b"", f"it did not end within {SECONDS} s".encode())
 
 
-def printed_rows(program: str, settings: Settings, folder: str) -> List[Row]:
+def printed_rows(program: str, settings: Settings, folder: str, more: Sequence[str] = ()) -> List[Row]:
     """The rows that the program prints, or its error. Its exit status must be 4 if a link is broken or invalid or leaves, and 0 if not."""
     with tempfile.TemporaryDirectory() as scratch:
-        done = run(program, arguments(settings, folder, scratch))
+        done = run(program, [*arguments(settings, folder, scratch), *more])
     if done.returncode == 1 and not done.stdout:
         return [{"kind": "error", "message": done.stderr.decode(errors="replace").splitlines()[-1]}]
     rows = [json.loads(line) for line in done.stdout.splitlines()]
@@ -291,6 +292,16 @@ def form_fault(program: str, settings: Settings, folder: str, rows: List[Row]) -
     return forms.page_fault(done.stdout, rows)
 
 
+def list_fault(program: str, draw: Random, folder: str, settings: Settings) -> Optional[str]:
+    """An error in the check of a random list of a folder's pages."""
+    listed = archives.draw_list(draw, folder, settings)
+    expected = archives.expected_rows(folder, listed)
+    with tempfile.TemporaryDirectory() as scratch:
+        index = Path(scratch, "index.txt")
+        index.write_bytes(listed.text)
+        return difference(printed_rows(program, listed.settings, folder, ["--index", str(index)]), expected)
+
+
 def compare_number(program: str, seed: int, number: int) -> Outcome:
     """Compares the random folder with this number."""
     with tempfile.TemporaryDirectory() as above:
@@ -299,6 +310,7 @@ def compare_number(program: str, seed: int, number: int) -> Outcome:
         try:
             faults.append((f"site {' '.join(options)}", web_fault(program, folder, options)))
             rows = Model(folder, settings).rows()
+            faults.append((f"check --index {settings}", list_fault(program, Random(f"list {seed} {number}"), folder, settings)))
         except drawn.NotPlain:
             return Outcome(number, faults, Counter(), True)
         faults.append((f"check {settings}", difference(printed_rows(program, settings, folder), rows)))
