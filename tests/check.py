@@ -4,8 +4,8 @@
 The model (tests/checking/) has its own tokenizer, server, search and anchors, written from the standards. The script compares
 small folders with known results, the shipped site, each FOLDER, and random folders: odd names, links in many spellings, base
 elements, encodings, redirects, and symbolic links. Without a FOLDER it takes the documentation folders that are installed
-(DOCUMENTATION in tests/checking/loading.py). The saved webs of random folders are compared with those of tools/site_to_web.py
-with the model's tokenizer. In every eighth random folder, the other forms of the report are compared, too. With --model, only the
+(DOCUMENTATION in tests/checking/loading.py). The saved webs of random folders are compared with those of the converter,
+tests/checking/converter.py, with the model's tokenizer. In every eighth random folder, the other forms of the report are compared, too. With --model, only the
 model is tested: with the known results, the pages that the converter finds, the answers of Python's static server, and the
 definitions of a server that the proofs cite (tests/checking/twins.py).
 
