@@ -4,11 +4,11 @@
 The model (tests/checking/) has its own tokenizer, server, search and anchors, written from the standards. The script compares
 small folders with known results, the shipped site, each FOLDER, and random folders: odd names, links in many spellings, base
 elements, encodings, redirects, and symbolic links. Without a FOLDER it takes the documentation folders that are installed
-(DOCUMENTATION in tests/checking/loading.py). The saved webs of random folders are compared with those of tools/site_to_web.py
-with the model's tokenizer. Of each random folder, a random list of its pages is checked, too, with --index. In every eighth random
-folder, the other forms of the report are compared. With --model, only the model is tested: with the known results, the pages that
-the converter finds, the answers of Python's static server, and the definitions of a server that the proofs cite
-(tests/checking/twins.py).
+(DOCUMENTATION in tests/checking/loading.py). The saved webs of random folders are compared with those of the converter,
+tests/checking/converter.py, with the model's tokenizer. Of each random folder, a random list of its pages is checked, too, with
+--index. In every eighth random folder, the other forms of the report are compared. With --model, only the model is tested: with
+the known results, the pages that the converter finds, the answers of Python's static server, and the definitions of a server that
+the proofs cite (tests/checking/twins.py).
 
 A random folder depends only on the seed and its number. The first folders that differ are kept, and their paths are printed.
 With at least 1,000 random folders, each kind of row must occur at least 5 times; otherwise the test fails. The environment

@@ -8,7 +8,7 @@ Documents with balanced SVG and MathML are compared with the elements of html5li
 
 The script makes a small program with a copy of `crates/html_links` in a temporary folder, and runs it by `rt try`. The
 model reads a document with html5lib's tokenizer (Debian's python3-html5lib), a refresh by the steps of the HTML
-Standard, and other values with the patterns of tools/site_to_web.py. All names of character references are compared
+Standard, and other values with the patterns of tests/checking/converter.py. All names of character references are compared
 with Python's table, with and without `;`, and followed by a digit, `=`, other characters, or nothing.
 
 The last line is `N passed, M failed`; the exit status is 1 if any failed.
@@ -121,8 +121,8 @@ REFRESH = re.compile(r"[\t\n\f\r ]*[0-9.]+(?=[;,\t\n\f\r ])[\t\n\f\r ]*[;,]?[\t\
 
 
 def load_tool() -> Any:
-    """Return tools/site_to_web.py as a module."""
-    spec = importlib.util.spec_from_file_location("site_to_web", TOP / "tools/site_to_web.py")
+    """Return tests/checking/converter.py as a module."""
+    spec = importlib.util.spec_from_file_location("converter", TOP / "tests/checking/converter.py")
     assert spec is not None and spec.loader is not None
     tool = importlib.util.module_from_spec(spec)
     spec.loader.exec_module(tool)
@@ -171,7 +171,7 @@ def tokens_of(text: str) -> Iterator[tuple[dict[str, Any], Context]]:
 
 
 class Reader(TOOL.LinkReader):  # type: ignore[misc, name-defined]
-    """The link reader of site_to_web.py, with html5lib's tokens."""
+    """The link reader of the converter, with html5lib's tokens."""
 
     links: list[str]
     in_style: Optional[str]

@@ -11,7 +11,7 @@ from urllib.parse import quote
 from checking import loading, sheets
 from checking.tags import Attribute, Tag, page_tags, sheet_of
 
-TOOL: Any = loading.script("site_to_web", "tools/site_to_web.py")
+TOOL: Any = loading.script("converter", "tests/checking/converter.py")
 REFRESH = re.compile(r"[\t\n\f\r ]*[0-9.]+(?=[;,\t\n\f\r ])[\t\n\f\r ]*[;,]?[\t\n\f\r ]*(.*)", re.DOTALL)
 MARKS = ((b"\xef\xbb\xbf", "utf-8"), (b"\xff\xfe", "utf-16-le"), (b"\xfe\xff", "utf-16-be"))
 # Names of windows-1252 in Python and in the Encoding Standard

@@ -1,14 +1,13 @@
-"""The saved web of a folder, by tools/site_to_web.py with other readers of documents and style sheets and the known differences of the program."""
+"""The saved web of a folder, by the converter with another tokenizer and the known differences of the program."""
 
 from __future__ import annotations
 
 import io
-import os
-from typing import Any, Dict, Iterator, List, Optional, Tuple
+from typing import Any, Dict, List, Optional, Tuple
 
 import drawn
 from checking import loading
-from checking.documents import character, document_of, form_of, read_tags, with_query_in
+from checking.documents import character, read_tags, style_links, with_query_in
 from checking.model import Alias, Found, Model, Moved, url_of
 
 DIFFERENCES = """\
@@ -21,16 +20,16 @@ KNOWN = {"utf_8": "utf-8", "u8": "utf-8", "windows-1252": "cp1252", "1252": "cp1
 
 
 class Reader:
-    """Reads a document with the model's tokenizer, in place of the reader of site_to_web.py."""
+    """Reads a document with the model's tokenizer, in place of the converter's reader."""
 
-    def __init__(self, styles: bool) -> None:
+    def __init__(self, styles: bool, xml: bool) -> None:
+        self.styles, self.xml = styles, xml
         self.links: List[str] = []
         self.base: Optional[str] = None
-        self.styles = styles
 
     def feed(self, text: str) -> None:
         """Reads the whole text of a document."""
-        links, self.base, _ = read_tags(text, styles=self.styles)
+        links, self.base, _ = read_tags(text, self.xml, self.styles)
         self.links = [link.text for link in links]
 
     def close(self) -> None:
@@ -41,26 +40,26 @@ class Converter:
     """The converter with this reader of documents."""
 
     def __init__(self, tool: Any = None, reader: Any = Reader) -> None:
-        self.tool: Any = tool or loading.script("site_to_web_model", "tools/site_to_web.py")
-        self.names, self.text, self.entries = self.tool.charset_names, self.tool.text_of, self.tool.entries_below
+        self.tool: Any = tool or loading.script("converter_model", "tests/checking/converter.py")
+        self.charset, self.text, self.entries = self.tool.charset_of, self.tool.text_of, self.tool.entries_below
         self.resolved = self.tool.with_base
         self.tool.LinkReader = reader
         self.tool.without_long_references = lambda text: text
-        self.tool.charset_names = self.known_names
+        self.tool.links_of_style = lambda text: [link.text for link in style_links(text, 0)]
+        self.tool.charset_of = self.known_charset
         self.tool.text_of = self.text_with_controls
         self.tool.with_query_in = with_query_in
         self.tool.entries_below = self.utf_8_entries
         self.tool.with_base = self.with_base
-        self.links = self.tool.Folder.links
-        self.tool.Folder.links = lambda folder, name, url: self.links_of_file(folder, name, url)
 
-    def known_names(self, body: bytes, charset: Optional[str]) -> Iterator[str]:
-        """The names of the document's encodings, as far as the program knows them."""
-        return (KNOWN.get(name, "unheard") for name in self.names(body, charset) if name)
+    def known_charset(self, body: bytes, kind: Optional[str]) -> str:
+        """The encoding that a document or a style sheet declares, if the program knows it."""
+        name = self.charset(body, kind)
+        return KNOWN.get(name, "unheard") if name else ""
 
-    def text_with_controls(self, body: bytes, charset: Optional[str]) -> Tuple[str, str]:
-        """A document's text and encoding, with the controls of windows-1252."""
-        text, name = self.text(body, charset)
+    def text_with_controls(self, body: bytes, kind: Optional[str]) -> Tuple[str, str]:
+        """The text and the encoding of a document or a style sheet, with the controls of windows-1252."""
+        text, name = self.text(body, kind)
         return ("".join(map(character, body)), name) if name == "cp1252" else (text, name)
 
     def with_base(self, links: List[str], base: str, url: Any) -> List[str]:
@@ -73,19 +72,6 @@ class Converter:
             fixed.append(text)
         return fixed
 
-    def links_of_file(self, folder: Any, name: bytes, url: str) -> List[str]:
-        """The links of a file. The model reads style sheets, and documents in XML, which the converter does not know."""
-        form = form_of(self.tool.split_name(name, folder.queries)[0], folder.web.styles)
-        if form not in ("xml", "css"):
-            return list(self.links(folder, name, url))
-        path = os.path.join(folder.folder, name)
-        if not 0 < os.path.getsize(path) <= self.tool.FILE_LIMIT:
-            return []
-        with open(path, "rb") as file:
-            document = document_of(file.read(), form, folder.web.styles)
-        links = [with_query_in(self.tool.cleaned(link.text), document.charset) for link in document.links]
-        return links if document.base is None else self.with_base(links, document.base, self.tool.url_of(url))
-
     def utf_8_entries(self, *arguments: Any) -> Any:
         """The files and folders whose names are UTF-8."""
         names = self.entries(*arguments)
@@ -94,8 +80,7 @@ class Converter:
     def web(self, folder: str, options: List[str], base: str) -> bytes:
         """The saved web of a folder."""
         parser = self.tool.command_line()
-        styles = [] if "--no-styles" in options else ["--styles"]
-        settings = parser.parse_args(["--quiet", *styles, *(word for word in options if word != "--no-styles"), folder, base])
+        settings = parser.parse_args(["--quiet", *options, folder, base])
         web = self.tool.Web(settings)
         self.tool.Folder(folder, self.tool.base_of(base, parser), settings, web).write()
         out = io.BytesIO()
