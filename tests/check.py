@@ -294,7 +294,8 @@ def form_fault(program: str, settings: Settings, folder: str, rows: List[Row]) -
 
 def list_fault(program: str, draw: Random, folder: str, settings: Settings) -> Optional[str]:
     """An error in the check of a random list of a folder's pages."""
-    listed = archives.draw_list(draw, folder, settings)
+    with_base = settings._replace(base=BASE, front="") if settings.is_rooted() else settings
+    listed = archives.draw_list(draw, folder, with_base)
     expected = archives.expected_rows(folder, listed)
     with tempfile.TemporaryDirectory() as scratch:
         index = Path(scratch, "index.txt")
