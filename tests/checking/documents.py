@@ -19,6 +19,7 @@ WINDOWS = {"cp1252", "windows-1252", "1252"}
 UTF_8 = {"utf-8", "utf_8", "u8"}
 # The forms of files by their names
 FORMS = {".html": "html", ".htm": "html", ".xhtml": "xml", ".xht": "xml", ".svg": "xml", ".css": "css"}
+PICTURES = (".svg",)  # the documents among these that are pictures: a check does not start at them
 # A style sheet names its encoding at its very beginning
 SHEET_CHARSET = re.compile(rb'@charset "([^"]*)";')
 UNKNOWN = "\x80"  # replaces bytes beyond ASCII in an unknown encoding; no character reference gives this character
@@ -239,9 +240,19 @@ def sheet_of_file(body: bytes) -> Document:
     return (in_ascii(sheet) if charset == "other" else sheet)._replace(charset="utf-8")
 
 
+def suffix_of(name: bytes) -> str:
+    """The suffix of a file's name in lower case, with its dot."""
+    return os.path.splitext(os.path.basename(os.fsdecode(name)))[1].lower()
+
+
+def is_page(name: bytes) -> bool:
+    """Whether a file is an HTML document by its name, in HTML or in XML."""
+    return form_of(name, False) in ("html", "xml") and suffix_of(name) not in PICTURES
+
+
 def form_of(name: bytes, styles: bool) -> Optional[str]:
     """The form of a file by its name: `html`, `xml`, `css`, or `` if its first bytes decide; None of a file without links."""
-    suffix = os.path.splitext(os.path.basename(os.fsdecode(name)))[1].lower()
+    suffix = suffix_of(name)
     if suffix in FORMS:
         return FORMS[suffix] if styles or FORMS[suffix] != "css" else None
     kind, packed = TOOL.kind_of(name)

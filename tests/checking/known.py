@@ -420,14 +420,17 @@ KNOWN = [
         total(pages=3, links=10, redirects=0, aliases=0),
     ),
     Known(
-        "documents in XML that no link leads to",
-        {"index.html": "", "a.xhtml": "<a href='gone'/>", "b.svg": "<a href='none'/>", "c.css": "a{b:url(no)}", "d.xml": "<a href='no'/>"},
-        ["gone a.xhtml:1:10", "none b.svg:1:10"],
-        (*total(pages=3, links=2, redirects=0, aliases=0), *unreached("a.xhtml", "b.svg", "c.css", "d.xml")),
+        "files in XML that no link leads to",
+        {
+            "index.html": "", "a.xhtml": "<a href='gone'/>", "a.XHT": "<a href='none'/>", "b.svg": "<a href='no'/>", "c.css": "a{b:url(no)}",
+            "d.xml": "<a href='no'/>",
+        },
+        ["gone a.xhtml:1:10", "none a.XHT:1:10"],
+        (*total(pages=3, links=2, redirects=0, aliases=0), *unreached("a.XHT", "a.xhtml", "b.svg", "c.css", "d.xml")),
         settings=(("unreached", True),),
     ),
-    Known("only an SVG file", {"p.svg": "<a href='gone'/>"}, ["gone p.svg:1:10"]),
-    Known("only a style sheet", {"s.css": "a{b:url(gone)}"}, [], ({"kind": "error"},)),
+    Known("only an SVG file and a style sheet", {"p.svg": "<a href='no'/>", "s.css": "a{b:url(no)}"}, [], ({"kind": "error"},)),
+    Known("a start that is an SVG file", {"p.svg": "<a href='gone'/>"}, ["gone p.svg:1:10"], settings=(("seeds", ("p.svg",)),)),
     Known(
         "links of style sheets",
         {

@@ -13,7 +13,7 @@ from typing import AbstractSet, Any, Dict, Iterator, List, NamedTuple, Optional,
 from urllib.parse import quote, unquote_to_bytes
 
 import drawn
-from checking.documents import TOOL, Document, document_of, form_of, known_schemes, with_query_in
+from checking.documents import TOOL, Document, document_of, form_of, is_page, known_schemes, with_query_in
 
 Row = Dict[str, Any]
 FRAGMENT = "\"<>`"  # percent-encoded in a fragment, in addition to controls, spaces and everything beyond ASCII
@@ -318,8 +318,8 @@ class Site:
         return path or str(drawn.url_of(seed, self.base))
 
     def own_documents(self) -> List[str]:
-        """The own URLs of the files that are documents by their names."""
-        return [url for name, url in self.own.items() if form_of(next(self.keys(name)).path, False) in ("html", "xml")]
+        """The own URLs of the files that are HTML documents by their names."""
+        return [url for name, url in self.own.items() if is_page(next(self.keys(name)).path)]
 
     def response(self, url: str) -> Response:
         """What a server returns for a URL."""
