@@ -46,7 +46,7 @@ SECONDS = 60  # the time limit of a run
 SHOWN, LONGEST = 5, 4000  # the number of differences that a series prints, and the most letters of one
 EVERY = 8  # one of this number of random folders has its other forms compared
 # What 1,000 random folders must have at least LEAST times
-KINDS = "brokenpage brokenanchor placepage placeanchor worst redirect unreached external unused with_aliases error".split()
+KINDS = "brokenpage brokenanchor placepage placeanchor worst redirect unreached external unused with_aliases error in_sheets in_xml".split()
 KINDS += [kind + reason for kind in ("invalid", "invalid_place") for reason in ("not_url", "unknown_scheme", "local_file")]
 KINDS += [kind + reason for kind in ("leaving", "leaving_place") for reason in ("above_folder", "outside_base")]
 LEAST = 5
@@ -319,6 +319,9 @@ def compare_number(program: str, seed: int, number: int) -> Outcome:
             faults.append((f"forms {settings}", form_fault(program, settings, folder, rows)))
         kinds = Counter(map(kind_of, rows))
         kinds["with_aliases"] += rows[0].get("aliases", 0) > 0
+        names = [row["file"].lower() for row in rows if row["kind"].endswith("place")]
+        kinds["in_sheets"] += sum(name.endswith(".css") for name in names)
+        kinds["in_xml"] += sum(name.endswith((".svg", ".xht", ".xhtml")) for name in names)
         return Outcome(number, faults, kinds, False)
 
 

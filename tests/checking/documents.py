@@ -191,7 +191,7 @@ def texts_of(tag: Tag, found: Dict[str, Attribute]) -> List[Link]:
 
 def style_links(sheet: str, at: int) -> List[Link]:
     """The links of a style sheet that begins at a position."""
-    return [Link(found.text, at + found.at) for found in sheets.urls_of(sheet) if found.text is not None]
+    return [Link(found.text, at + found.at) for found in sheets.urls_of(sheet)]
 
 
 def styles_of(tag: Tag, found: Dict[str, Attribute], text: str) -> List[Link]:

@@ -17,7 +17,7 @@ NAMES = """index.html index.html index.html a.html b.htm c d.txt e%20f.html g h.
 r;s.html t=u.html v@w.html x:y.html ~z.html %.html %zz.html A.HTML A.html %41.html %2541.html %61.html .html .hidden ...html caf\u00e9 y.css y.svg
 \u65e5\u672c.html 'q'.html "q".html <r>.html {s}.html |t|.html ^u.html `v`.html \\w.html x.xhtml y.svg z.css W.XHT .css u.svgz index.htm INDEX.HTML
 index.html? %69ndex.html index%2ehtml a.html.gz a.html?b ?b # %2e %2E%2e""".split()
-NAMES += ["\u0085.html", "a b.html", " .html", "a\tb.html", "a\nb.html", "\x01.html", "\x1b[31m.html", "\x7f.html", "\u202ex.html", "\u2028"]
+NAMES += ["y.css", "\u00fc.css", "y.svg", "\u0085.html", "a b.html", " .html", "a\tb.html", "a\nb.html", "\x01.html", "\x1b[31m.html", "\x7f.html", "\u202ex.html", "\u2028"]
 FOLDERS = ["", "", "", "sub/", "sub/deep/", "a.html.d/", "e f/", "%41/", "A/", "a/", "%61/", "\u00e4/", "q?r/", "h#/", "\x1b/", "sub/index.html/"]
 BASES = [
     "", "sub/", "/", "http://docs.test/sub/", "//other.test/x/", "mailto:x", "data:x", "x y", "?q", "#f", "https:g", "../..", "http://", "\u00fc/",
@@ -160,6 +160,8 @@ def random_file(draw: Random, documents: Any, names: List[str], name: str) -> by
     for _ in range(draw.randint(0, 12)):
         link = random_link(draw, names, place).replace('"', "&quot;")
         text += f'<a href="{link}">x</a>'
+    for sheet in (one for one in names if one.endswith(".css") and draw.random() < 0.4):
+        text += f'<link rel=stylesheet href="{path_to(draw, spelled(draw, sheet), place)}">'
     if draw.random() < 0.5:
         text += documents.drawn_document(draw, draw.random() < 0.5)
     encoding = draw.choice(["utf-8"] * 6 + ["cp1252", "latin-1", "utf-16-le", "utf-16-be", "utf-8-sig"])

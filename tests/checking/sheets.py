@@ -3,7 +3,7 @@
 from __future__ import annotations
 
 import re
-from typing import Iterator, List, NamedTuple, Optional
+from typing import Iterator, NamedTuple, Optional
 
 NEWLINE = r"(?:\r\n|[\n\r\f])"
 SPACES = re.compile(r"[ \t\n\r\f]*")
@@ -17,6 +17,13 @@ STRING_ENDS = {mark: re.compile(rf"(?:[^{mark}\\\n\r\f]|{ESCAPE}|\\{NEWLINE}|\\\
 URL = re.compile(rf"(?:[^\0-\x08\x0b\x0e-\x1f\x7f\"'()\\ \t\n\r\f]|\0|{ESCAPE})*", re.S)
 LINKS = re.compile(r"\\|url\(|@import", re.I)  # a sheet with links has one of these
 URL_REST = re.compile(rf"(?:[^)\\]|{ESCAPE}|\\)*", re.S)
+
+
+class Url(NamedTuple):
+    """The text of a link, and the position at which its value begins."""
+
+    text: str
+    at: int
 
 
 class Found(NamedTuple):
@@ -81,32 +88,31 @@ def url_at(text: str, at: int) -> Found:
     return Found(unescaped(text[begin:end]), begin, after + 1)
 
 
-def urls_of(sheet: str) -> Iterator[Found]:
+def urls_of(sheet: str) -> Iterator[Url]:
     """The texts of `url()` and `@import` in a style sheet that are not broken off, and not empty without quotes."""
     at = 0 if LINKS.search(sheet) else len(sheet)
     while at < len(sheet):
         string = string_at(sheet, at)
-        comment, word = COMMENT.match(sheet, at), WORD.match(sheet, at)
+        passed = COMMENT.match(sheet, at)
+        word = WORD.match(sheet, at)
         if string is not None:
             at = string.end
-        elif comment is not None:
-            at = comment.end()
+        elif passed is not None:
+            at = passed.end()
         elif word is None:
             at += 1
         else:
-            name = unescaped(word[0]).lower() if not word[0].startswith("#") else ""
-            found = None
             at = word.end()
-            if name == "url" and sheet.startswith("(", at):
-                found = url_at(sheet, at + 1)
-            elif name == "@import":
-                found = string_at(sheet, after_blanks(sheet, at))
+            found = named_url(sheet, word[0], at)
             if found is not None:
                 at = found.end
-                if found.text is not None and (found.text or sheet[found.at - 1:found.at] in ("'", '"')):
-                    yield found
+                if found.text or found.text == "" and sheet[found.at - 1] in STRING_ENDS:
+                    yield Url(found.text, found.at)
 
 
-def texts_of(sheet: str) -> List[str]:
-    """The texts of the links of a style sheet."""
-    return [found.text for found in urls_of(sheet) if found.text is not None]
+def named_url(sheet: str, word: str, at: int) -> Optional[Found]:
+    """The URL after a word that ends at a position, if that is `url(` or `@import`."""
+    name = unescaped(word).lower()
+    if name == "url" and not word.startswith("#") and sheet.startswith("(", at):
+        return url_at(sheet, at + 1)
+    return string_at(sheet, after_blanks(sheet, at)) if name == "@import" else None
