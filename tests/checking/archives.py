@@ -24,9 +24,13 @@ class Line(NamedTuple):
     kind: str
     name: str
 
+    def media_type(self) -> str:
+        """The media type in lower case, without its parameters."""
+        return self.kind.partition(";")[0].lower()
+
     def form(self) -> Optional[str]:
         """The form of the file, `` if its first bytes decide, and None if it has no links."""
-        return "" if self.kind == "-" else FORMS.get(self.kind.partition(";")[0].lower())
+        return "" if self.kind == "-" else FORMS.get(self.media_type())
 
     def text(self) -> str:
         """The line in the list."""
@@ -96,8 +100,8 @@ class ListedSite(Site):
         return sorted((url, url.encode()) for url, line in self.lines.items() if line.kind != "redirect")
 
     def own_documents(self) -> List[str]:
-        """The URLs of the documents by their types."""
-        return [url for url, line in self.lines.items() if line.form() in ("html", "xml")]
+        """The URLs of the documents by their types. An SVG file is a picture, at which no check starts."""
+        return [url for url, line in self.lines.items() if line.form() in ("html", "xml") and line.media_type() != "image/svg+xml"]
 
     def response(self, url: str) -> Response:
         """What the list has for a URL."""

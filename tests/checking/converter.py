@@ -34,7 +34,7 @@ import os
 import re
 import sys
 import tempfile
-from typing import BinaryIO, Callable, Iterable, Iterator, NamedTuple, NoReturn, Optional
+from typing import BinaryIO, Callable, Iterable, NamedTuple, NoReturn, Optional
 from urllib.parse import quote, unquote_to_bytes
 
 HEADER = b"savedweb 2\n"
