@@ -545,7 +545,7 @@ KNOWN = [
             "<a href=https://docs.test/x><a href=/projects/><a href=/%70roject/>",
         },
         [
-            "a index.html:1:52", "http://docs.test/%70roject/ index.html:1:164", "http://docs.test/project index.html:1:35",
+            "http://docs.test/%70roject/ index.html:1:164", "http://docs.test/project index.html:1:35", "project/a index.html:1:52",
             "http://docs.test/projects/ index.html:1:145", "http://docs.test/x index.html:1:20", "http://docs.test/x index.html:1:9",
         ],
         (
@@ -553,7 +553,7 @@ KNOWN = [
             {"kind": "leaving", "target": "http://docs.test/x", "reason": "outside_base", "pages": 1},
             {"kind": "external", "url": "http://docs.test:8080/x", "links": 1}, {"kind": "external", "url": "https://docs.test/x", "links": 1},
         ),
-        settings=(("base", "http://docs.test/project/"), ("front", "http://docs.test/project/"), ("external", True)),
+        settings=(("base", "http://docs.test/project/"), ("external", True)),
     ),
     Known(
         "links that leave and are ignored",

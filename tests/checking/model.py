@@ -143,6 +143,11 @@ def begins_path(text: str) -> bool:
     return text[:1] in ("/", "\\") and text[1:2] not in ("/", "\\")
 
 
+def shown_seed(seed: str, settings: "Settings") -> str:
+    """A seed in the message that it has no page. Without BASE, a dot is before one that begins with a slash."""
+    return "." + seed if settings.is_rooted() and begins_path(seed) else seed
+
+
 def in_folder(text: str, top: drawn.Url) -> Optional[str]:
     """The URL of a path that begins with a slash, as a path below the top. `..` does not lead above the top."""
     url = url_of(text, top._replace(path=("",)))
@@ -417,7 +422,7 @@ class Model:
         if not missing or not (self.settings.seeds or self.settings.reachable or not documents):
             return None
         if self.settings.seeds or self.settings.reachable:
-            return f"{missing[0]}: no such page to start at"
+            return f"{shown_seed(missing[0], self.settings)}: no such page to start at"
         return f"{os.fsdecode(self.site.folder)}: no HTML documents"
 
     def files_found(self) -> Set[bytes]:
@@ -642,9 +647,11 @@ class Model:
                 yield self.shown(url)
 
     def external(self) -> List[Row]:
-        """The rows of links to other sites."""
+        """The rows of links, and of redirects, to other sites."""
         own = origin_of(self.site.base)
-        urls = Counter(link.url for links in self.links.values() for link in links if not link.url.startswith(own))
+        found = [link.url for links in self.links.values() for link in links]
+        found += [response.url for response in self.responses.values() if isinstance(response, Moved)]
+        urls = Counter(url for url in found if not url.startswith(own))
         return [{"kind": "external", "url": url, "links": count} for url, count in sorted(urls.items(), key=lambda row: row[0].encode())]
 
     def unused(self) -> Iterator[Row]:
