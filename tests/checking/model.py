@@ -332,7 +332,7 @@ class Site:
         front = self.base.path[:-1]
         if request._replace(path=(), query="") != self.base._replace(path=(), query=""):
             return None
-        if request.path[:len(front)] != front:
+        if [unquote_to_bytes(name) for name in request.path[:len(front)]] != [unquote_to_bytes(name) for name in front]:
             return None
         path = self.path_of([unquote_to_bytes(part) for part in request.path[len(front):]])
         if path is None or not is_short("page", url):
@@ -405,6 +405,7 @@ class Model:
     def __init__(self, folder: str, settings: Settings, site: Optional[Site] = None) -> None:
         self.settings, self.site = settings, site or Site(folder, settings)
         self.responses: Dict[str, Response] = {}
+        self.others: Dict[str, Response] = {}  # of URLs of the site's origin that are not below the top
         self.links: Dict[str, List[Link]] = {}  # by the own URL of each file
         self.skipped: Counter[str] = Counter()  # by the own URL of each file, the links that are not http or https
         self.invalid: Dict[Tuple[str, str], Tuple[Set[str], Set[Place]]] = {}  # by text and reason: the pages with the link, and the locations
@@ -436,7 +437,11 @@ class Model:
             url = waiting.pop()
             if url not in self.responses and self.is_within(url):
                 self.responses[url] = self.site.response(url)
-                waiting += self.followed(url)
+                waiting += sorted(self.followed(url))
+            elif url not in self.others and not self.is_within(url) and url.startswith(origin_of(self.site.base)):
+                # The path of the top may have other escapes
+                response = self.others[url] = self.site.response(url)
+                waiting += [response.url] if isinstance(response, Moved) else [response.own] if isinstance(response, Alias) else []
 
     def is_within(self, url: str) -> bool:
         """Whether a URL is below the top."""
