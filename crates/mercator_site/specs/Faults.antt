@@ -1,5 +1,5 @@
 -- The errors of a check of a folder, and of its saved web.
-use Rattle.std.specs.Prelude.{◌≡◌, ℕ, Bool, true, false, List, map, string_bytes, Ok}
+use Rattle.std.specs.Prelude.{◌≡◌, ℕ, Bool, true, false, List, Ok}
 use Rattle.std.specs.Str.Lines.{lines}
 use Rattle.crawl_keys.specs.CanonicalText.{canonical}
 use Rattle.crawl_run.specs.Crawls.{CrawlFails, is_incomplete}
@@ -7,6 +7,7 @@ use Rattle.crawl_run.specs.declared.error.CrawlError.{CrawlError}
 use Rattle.crawl_run.specs.declared.error.CrawlError.TheVariants as crawl
 use Rattle.crawl_run.specs.declared.failure.CrawlFailure.{CrawlFailure}
 use Rattle.saved_pages.specs.WebFaults.{IsSound}
+use Rattle.mercator_site.specs.Asks.{seeds_of}
 use Rattle.mercator_site.specs.Checks.{AreStarts}
 use Rattle.mercator_site.specs.declared.options.CheckOptions.{CheckOptions}
 use Rattle.mercator_site.specs.declared.fault.SiteFault.{SiteFault}
@@ -59,4 +60,4 @@ pub record IsSiteIncomplete (options : CheckOptions) : Type 0 where
   pub top : List ℕ
   pub web : List ℕ
   pub made : IsSiteWeb web
-  pub crawl : IsTopIncomplete top web options.reachable (map string_bytes options.seeds.items) options.workers
+  pub crawl : IsTopIncomplete top web options.reachable (seeds_of options) options.workers

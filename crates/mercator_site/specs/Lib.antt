@@ -4,4 +4,5 @@ pub mod Ends
 pub mod External
 pub mod Faults
 pub mod Own
+pub mod Seeds
 pub mod Sources

@@ -1,6 +1,6 @@
 //! A folder's saved web, and the report of its check.
 ghost use Rattle.std.specs.Prelude.{◌≡◌, ℕ, List, [], IfErr, IfOk, if◌then◌else◌, map, string_bytes, false, true};
-ghost use Rattle.mercator_site.specs.Asks.{asks_in, asks_of};
+ghost use Rattle.mercator_site.specs.Asks.{asks_in, asks_with};
 ghost use Rattle.mercator_site.specs.Ends.{IsFolderCheck};
 ghost use Rattle.mercator_site.specs.Faults.{IsSiteIncomplete, is_unfinished};
 ghost use Rattle.saved_site.specs.Below.{IsWebAt};
@@ -11,6 +11,7 @@ use crate::check::{CheckReport, CheckSettings, report_of_pages};
 use crate::fault::SiteFault;
 use crate::notes::push_page_notes;
 use crate::options::{CheckOptions, SiteOptions};
+use crate::seeds::seed_links;
 use crate::start::check_starts;
 use saved_site::{OnDisk, Web, WebText, site_pages, site_web};
 use site_check::read_ignores;
@@ -62,11 +63,12 @@ fn push_index_files(alloc: Global, names: &mut Vec<String>) -> Result<(), AllocE
     Ok(())
 }
 
-/// The rules of a check: with the positions of links, and with anchors if they are checked.
+/// The rules of a check: with the positions of links, and with anchors if they are checked. Without BASE, the root is the top.
 fn check_rules(alloc: Global, options: &CheckOptions) -> Result<Rules, AllocError> {
     let mut rules = rules_of(alloc, &options.site)?;
     rules.anchors = options.anchors;
     rules.places = true;
+    rules.rooted = options.paths;
     Ok(rules)
 }
 
@@ -140,7 +142,8 @@ pub fn report_of_folder<R: Files<File: Send, Dir: Send> + Threads + Wait + Sync>
         rules: &rules,
     };
     let files = SiteFiles::new(alloc, input)?;
-    let settings = settings_of(options, files.top(), known.as_slice());
+    let seeds = seed_links(alloc, options.paths, options.seeds.as_slice())?;
+    let settings = settings_of(options, files.top(), seeds.as_slice(), known.as_slice());
     check_starts(alloc, &files, settings.seeds, settings.reachable)?;
     let bytes = OnDisk { rt, alloc, folder };
     let site = site_pages(rt, alloc, &files, settings.seeds, &bytes)?;
@@ -153,9 +156,10 @@ pub fn report_of_folder<R: Files<File: Send, Dir: Send> + Threads + Wait + Sync>
 fn settings_of<'a>(
     options: &'a CheckOptions,
     top: &'a str,
+    seeds: &'a [String],
     known: &'a [String],
 ) -> CheckSettings<'a>
-    ensures asks { asks_in result ≡ asks_of options.now result.front.now (map string_bytes known.now) }
+    ensures asks { asks_in result ≡ asks_with options.now (map string_bytes seeds.now) result.front.now (map string_bytes known.now) }
     ensures workers { result.workers ≡ options.now.workers }
     ensures front { result.front.now ≡ (if options.now.paths then top.now else []) }
     ensures name { result.name.now ≡ (if options.now.paths then string_bytes options.now.site.folder else top.now) }
@@ -165,9 +169,10 @@ fn settings_of<'a>(
         name: name_of(options, top),
         front: front_of(options.paths, top),
         ignores: known,
-        seeds: options.seeds.as_slice(),
+        seeds,
         reachable: options.reachable,
         invalid: options.invalid,
+        rooted: options.paths,
         report: options.report,
         folder: options.site.folder.as_str(),
     }

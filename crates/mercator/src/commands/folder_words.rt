@@ -9,8 +9,10 @@ use clap::{Arg, ArgAction, ArgGroup, ArgMatches, Command};
 use mercator_site::{CheckForm, CheckOptions, Lists, ReportOptions, SiteOptions};
 use std::alloc::{AllocError, Global};
 
-/// The URL of the top if no BASE is given.
-const LOCAL: &str = "http://localhost/";
+/// The URL of the top if no BASE is given. No site has this host, so no absolute URL leads there. The top is below many folders, so that
+/// a link above it also has a URL.
+const LOCAL: &str =
+    "http://folder.invalid/-/-/-/-/-/-/-/-/-/-/-/-/-/-/-/-/-/-/-/-/-/-/-/-/-/-/-/-/-/-/-/-/";
 
 const SITE_HELP: &str = "\
 A saved web is a text file of pages and their links, which 'mercator crawl' reads. A page is
@@ -65,7 +67,8 @@ fn push_check_args<'a>(alloc: Global, args: &mut Vec<Arg<'a>>) -> Result<(), All
     push(args, seed(alloc))?;
     push_folder_options(alloc, args)?;
     push(args, folder(alloc, "Folder to check"))?;
-    let help = "URL of the folder, http or https; without it the report shows paths";
+    let help =
+        "URL of the folder, http or https; without it / is the folder, and the report shows paths";
     push(args, base(alloc, help))
 }
 
