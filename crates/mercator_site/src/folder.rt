@@ -3,6 +3,7 @@ ghost use Rattle.std.specs.Prelude.{◌≡◌, ℕ, List, [], IfErr, IfOk, if◌
 ghost use Rattle.mercator_site.specs.Asks.{asks_in, asks_with};
 ghost use Rattle.mercator_site.specs.Ends.{IsFolderCheck};
 ghost use Rattle.mercator_site.specs.Faults.{IsSiteIncomplete, is_unfinished};
+ghost use Rattle.mercator_site.specs.Rules.{AreCheckRules, AreRules};
 ghost use Rattle.saved_site.specs.Below.{IsWebAt};
 ghost use Rattle.saved_site.specs.Meaning.{IsSiteWeb};
 ghost use Rattle.site_check.specs.Ignored.{entries_in};
@@ -28,7 +29,9 @@ const THREADS: usize = 4;
 const INDEX_FILES: &[&str] = &["index.html", "index.htm", "index.xhtml"];
 
 /// The rules by which names become pages, without anchors and positions.
-fn rules_of(alloc: Global, options: &SiteOptions) -> Result<Rules, AllocError> {
+fn rules_of(alloc: Global, options: &SiteOptions) -> Result<Rules, AllocError>
+    ensures { IfOk result (AreRules options.now) }
+{
     Ok(Rules {
         index_files: index_files(alloc, options.index_files.as_slice())?,
         html_fallback: options.html_fallback,
@@ -37,7 +40,7 @@ fn rules_of(alloc: Global, options: &SiteOptions) -> Result<Rules, AllocError> {
         follow: options.follow,
         anchors: false,
         places: false,
-        styles: false,
+        styles: options.styles,
         rooted: false,
         threads: THREADS,
     })
@@ -64,7 +67,9 @@ fn push_index_files(alloc: Global, names: &mut Vec<String>) -> Result<(), AllocE
 }
 
 /// The rules of a check: with the positions of links, and with anchors if they are checked. Without BASE, the root is the top.
-fn check_rules(alloc: Global, options: &CheckOptions) -> Result<Rules, AllocError> {
+fn check_rules(alloc: Global, options: &CheckOptions) -> Result<Rules, AllocError>
+    ensures { IfOk result (AreCheckRules options.now) }
+{
     let mut rules = rules_of(alloc, &options.site)?;
     rules.anchors = options.anchors;
     rules.places = true;

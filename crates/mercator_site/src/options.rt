@@ -48,6 +48,8 @@ pub struct SiteOptions {
     pub queries: bool,
     /// Whether symbolic links that lead out of the folder are followed.
     pub follow: bool,
+    /// Whether `url()` and `@import` in style sheets, style elements and style attributes are links.
+    pub styles: bool,
 }
 
 /// The settings of `check`, which reports the broken links of a folder.

@@ -166,6 +166,10 @@ const FOLDER_FLAGS: &[Flag] = &[
         name: "follow",
         help: "Follow symbolic links that lead out of FOLDER, which are otherwise listed and skipped",
     },
+    Flag {
+        name: "no-styles",
+        help: "Ignore url() and @import in style sheets, style elements and style attributes",
+    },
 ];
 
 /// The option `--seed`, which may be repeated. Its value is not empty.
@@ -206,6 +210,7 @@ pub fn site_options(
         exact: found.get_flag("exact"),
         queries: found.get_flag("queries"),
         follow: found.get_flag("follow"),
+        styles: !found.get_flag("no-styles"),
     })
 }
 
