@@ -15,15 +15,22 @@ use Rattle.mercator_site.specs.declared.fault.SiteFault.TheVariants as wrong
 use Rattle.saved_site.specs.Meaning.{IsSiteWeb}
 use Rattle.site_files.specs.declared.error.SiteError.{SiteError}
 use Rattle.site_files.specs.declared.error.SiteError.TheVariants as unmade
+use Rattle.site_files.specs.declared.site_list.ListError.{ListError}
+use Rattle.site_files.specs.declared.site_list.ListError.TheVariants as unlisted
 
 -- the error for each error of a part
 abbrev pub of_site : SiteError → SiteFault
 of_site unmade.BadBase = wrong.BadBase
 of_site unmade.NoFiles = wrong.NoFiles
-of_site unmade.NoneListed = wrong.NoFiles
+of_site unmade.NoneListed = wrong.NoneListed
 of_site unmade.TooLarge = wrong.TooLarge
 of_site unmade.NoMemory = wrong.NoMemory
 of_site (unmade.Io why) = wrong.CannotReadFolder
+
+-- the error for each error of a site list
+abbrev pub of_list : ListError → SiteFault
+of_list unlisted.NoMemory = wrong.NoMemory
+of_list error = wrong.List error
 
 -- the error for a crawl that failed so, because of this
 abbrev pub of_crawl_by : CrawlError → CrawlFailure → SiteFault

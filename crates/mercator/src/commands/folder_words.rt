@@ -2,7 +2,8 @@
 ghost use Rattle.std.specs.Prelude.{◌≡◌, IfOk};
 
 use crate::commands::arguments::{
-    Flag, Valued, command_with, option, push, push_flags, push_options, values_of, word, workers,
+    Flag, Valued, command_with, option, push, push_flags, push_options, value_of, values_of, word,
+    workers,
 };
 use clap::builder::ValueParser;
 use clap::{Arg, ArgAction, ArgGroup, ArgMatches, Command};
@@ -121,10 +122,28 @@ const KNOWN_OPTIONS: &[Valued] = &[Valued {
 
 /// How file names and URLs correspond, and how the folder is read.
 fn push_folder_options<'a>(alloc: Global, args: &mut Vec<Arg<'a>>) -> Result<(), AllocError> {
+    push(args, index(alloc)?)?;
     push(args, index_file(alloc))?;
     push(args, fallback(alloc)?)?;
     push_flags(alloc, args, FOLDER_FLAGS)
 }
+
+/// The option for a site list. It requires BASE, and has the exact URL of each file.
+fn index<'a>(alloc: Global) -> Result<Arg<'a>, AllocError> {
+    let index = option(
+        alloc,
+        "index",
+        "FILE",
+        "Read the URLs of the files in FOLDER from the site list FILE",
+    );
+    index
+        .value_parser(ValueParser::NonEmptyString)
+        .requires_arg("base")?
+        .conflicts_with_all(URL_OPTIONS)
+}
+
+/// The options that say how the names in a folder become URLs, and whether symbolic links are followed.
+const URL_OPTIONS: &[&str] = &["index-file", "fallback", "exact", "queries", "follow"];
 
 /// The option for the names of index files.
 fn index_file<'a>(alloc: Global) -> Arg<'a> {
@@ -205,6 +224,7 @@ pub fn site_options(
     Ok(SiteOptions {
         folder: String::from_str(alloc, found.get_str("folder").unwrap_or("."))?,
         base: String::from_str(alloc, base)?,
+        index: value_of(alloc, found, "index")?,
         index_files: values_of(alloc, found, "index-file")?,
         html_fallback: found.get_str("fallback").is_some(),
         exact: found.get_flag("exact"),

@@ -10,8 +10,8 @@ returns-in_err-report-clause-incomplete g c =
     let web = source.bytes in
     let options = c.args.options.now in
     let settings = c.settings_of-settings in
-    let begun = ap (map string_bytes) c.as_slice-4.ensures.value ∙ c.in_ok-seeds.ensures ∙ ap (λ ls. map (seed_link options.paths) (map string_bytes ls)) c.as_slice-3.ensures.value in
-    let asks = settings.ensures.asks ∙ ap (λ ss. asks_with options ss settings.result.front.now (map string_bytes c.as_slice-5.result.now)) begun in
+    let begun = ap (map string_bytes) c.as_slice-2.ensures.value ∙ c.in_ok-seeds.ensures ∙ ap (λ ls. map (seed_link options.paths) (map string_bytes ls)) c.as_slice.ensures.value in
+    let asks = settings.ensures.asks ∙ ap (λ ss. asks_with options ss settings.result.front.now (map string_bytes c.as_slice-3.result.now)) begun in
     let r = c.from_residual-in_err-report in
     let same = err_from_is_err_and r.result r.ensures.1 in
     rw (same.1, same.2) (λ two. record {
@@ -33,9 +33,9 @@ returns-clause-folder g c =
     let settings = c.settings_of-settings in
     let front = settings.result.front.now in
     let name = settings.result.name.now in
-    let begun = ap (map string_bytes) c.as_slice-4.ensures.value ∙ c.in_ok-seeds.ensures ∙ ap (λ ls. map (seed_link options.paths) (map string_bytes ls)) c.as_slice-3.ensures.value in
-    let read = ap (map string_bytes) c.as_slice-5.ensures.value ∙ c.in_ok-known.ensures in
-    let asks = settings.ensures.asks ∙ ap (λ ss. asks_with options ss front (map string_bytes c.as_slice-5.result.now)) begun ∙ ap (asks_of options front) read in
+    let begun = ap (map string_bytes) c.as_slice-2.ensures.value ∙ c.in_ok-seeds.ensures ∙ ap (λ ls. map (seed_link options.paths) (map string_bytes ls)) c.as_slice.ensures.value in
+    let read = ap (map string_bytes) c.as_slice-3.ensures.value ∙ c.in_ok-known.ensures in
+    let asks = settings.ensures.asks ∙ ap (λ ss. asks_with options ss front (map string_bytes c.as_slice-3.result.now)) begun ∙ ap (asks_of options front) read in
     let named = subst (λ (a : Asks). IsNamedCheck name top web c.in_ok-site.site.aliases.items a report.is_broken report.text.items) asks (c.in_ok-report.ensures.named web (source_of _ _ source)) in
     record {
       front = front;
