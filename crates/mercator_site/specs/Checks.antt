@@ -98,9 +98,9 @@ pub record IsReport (checked : Checked) (others : Option (List Row)) (name : Lis
   pub written : text ≡ printed_check asks.report.form contents found
 
 -- the text reports the missing pages and the redirects of such a crawl below the top, each with the number of pages that link
--- to it, the invalid links, if they are reported, the URLs of the site's host that are not below the top, and the entries that match
--- nothing. Its totals count the pages at the own URLs of files, their links, the pages at these aliases, and the rows. Something is
--- broken if there is a row of a missing page or anchor, of an invalid link, or of a link that leads out of the site
+-- to it, the invalid links, if they are reported, the missing pages on the site's host that are not below the top, and the entries
+-- that match nothing. Its totals count the pages at the own URLs of files, their links, the pages at these aliases, and the rows.
+-- Something is broken if there is a row of a missing page or anchor, of an invalid link, or of a link that leads out of the site
 pub record IsCheck (top web : List ℕ) (aliases : List Alias) (asks : Asks) (broken : Bool) (text : List ℕ) : Type 0 where
   pub pages : List PageResult
   pub crawled : IsTopCrawl top web asks.reachable asks.seeds pages
