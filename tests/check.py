@@ -4,10 +4,11 @@
 The model (tests/checking/) has its own tokenizer, server, search and anchors, written from the standards. The script compares
 small folders with known results, the shipped site, each FOLDER, and random folders: odd names, links in many spellings, base
 elements, encodings, redirects, and symbolic links. Without a FOLDER it takes the documentation folders that are installed
-(DOCUMENTATION in tests/checking/loading.py). The saved webs of random folders are compared with those of tools/site_to_web.py
-with the model's tokenizer. In every eighth random folder, the other forms of the report are compared, too. With --model, only the
-model is tested: with the known results, the pages that the converter finds, the answers of Python's static server, and the
-definitions of a server that the proofs cite (tests/checking/twins.py).
+(DOCUMENTATION in tests/checking/loading.py). The saved webs of random folders are compared with those of the converter,
+tests/checking/converter.py, with the model's tokenizer. Of each random folder, a random list of its pages is checked, too, with
+--index. In every eighth random folder, the other forms of the report are compared. With --model, only the model is tested: with
+the known results, the pages that the converter finds, the answers of Python's static server, and the definitions of a server that
+the proofs cite (tests/checking/twins.py).
 
 A random folder depends only on the seed and its number. The first folders that differ are kept, and their paths are printed.
 With at least 1,000 random folders, each kind of row must occur at least 5 times; otherwise the test fails. The environment
@@ -29,14 +30,14 @@ from concurrent.futures import ProcessPoolExecutor
 from functools import lru_cache, partial
 from pathlib import Path
 from random import Random
-from typing import Any, Dict, List, NamedTuple, Optional, Tuple
+from typing import Any, Dict, List, NamedTuple, Optional, Sequence, Tuple
 from urllib.parse import quote, unquote_to_bytes
 
 import drawn
-from checking import drawing, forms, loading, samples, twins
+from checking import archives, drawing, forms, loading, samples, twins
 from checking.documents import TOOL
 from checking.known import KNOWN, Known, To, Zeros
-from checking.model import FLAGS, INDEX_FILES, Model, Moved, Row, Settings, Site, is_short
+from checking.model import FLAGS, INDEX_FILES, NOWHERE, Model, Moved, Row, Settings, Site, is_short
 from checking.tags import document_tags
 from checking.webs import Converter, first_difference, model_fault
 
@@ -45,8 +46,9 @@ SECONDS = 60  # the time limit of a run
 SHOWN, LONGEST = 5, 4000  # the number of differences that a series prints, and the most letters of one
 EVERY = 8  # one of this number of random folders has its other forms compared
 # What 1,000 random folders must have at least LEAST times
-KINDS = "brokenpage brokenanchor placepage placeanchor worst redirect unreached external unused with_aliases error".split()
+KINDS = "brokenpage brokenanchor placepage placeanchor worst redirect unreached external unused with_aliases error in_sheets in_xml".split()
 KINDS += [kind + reason for kind in ("invalid", "invalid_place") for reason in ("not_url", "unknown_scheme", "local_file")]
+KINDS += [kind + reason for kind in ("leaving", "leaving_place") for reason in ("above_folder", "outside_base")]
 LEAST = 5
 
 
@@ -58,7 +60,8 @@ def host_options(settings: Settings) -> List[str]:
 
 def site_options(settings: Settings) -> List[str]:
     """The options for the pages of a folder."""
-    return host_options(settings) + [f"--{name}" for name in ("exact", "follow", "queries") if getattr(settings, name)]
+    words = host_options(settings) + [f"--{name}" for name in ("exact", "follow", "queries") if getattr(settings, name)]
+    return words + ([] if settings.styles else ["--no-styles"])
 
 
 def arguments(settings: Settings, folder: str, scratch: str, form: str = "--json") -> List[str]:
@@ -72,7 +75,7 @@ def arguments(settings: Settings, folder: str, scratch: str, form: str = "--json
         entries = Path(scratch, "ignores")
         entries.write_text("# known\n\n" + "\n".join(settings.ignores) + "\n", "utf-8")
         words += ["--ignore", str(entries)]
-    return [*words, folder, settings.base]
+    return [*words, folder, *([] if settings.is_rooted() else [settings.base])]
 
 
 def run(program: str, words: List[str]) -> "subprocess.CompletedProcess[bytes]":
@@ -83,19 +86,24 @@ def run(program: str, words: List[str]) -> "subprocess.CompletedProcess[bytes]":
         return subprocess.CompletedProcess(words, -1, b"", f"it did not end within {SECONDS} s".encode())
 
 
-def printed_rows(program: str, settings: Settings, folder: str) -> List[Row]:
-    """The rows that the program prints, or its error. Its exit status must be 4 if there are broken or invalid links, and 0 if not."""
+def printed_rows(program: str, settings: Settings, folder: str, more: Sequence[str] = ()) -> List[Row]:
+    """The rows that the program prints, or its error. Its exit status must be 4 if a link is broken or invalid or leaves, and 0 if not."""
     with tempfile.TemporaryDirectory() as scratch:
-        done = run(program, arguments(settings, folder, scratch))
+        done = run(program, [*arguments(settings, folder, scratch), *more])
     if done.returncode == 1 and not done.stdout:
         return [{"kind": "error", "message": done.stderr.decode(errors="replace").splitlines()[-1]}]
     rows = [json.loads(line) for line in done.stdout.splitlines()]
-    status = 4 if any(row["kind"] in ("broken", "invalid") for row in rows) else 0
+    status = status_of(rows)
     if done.returncode != status or not rows:
         return [{"kind": "status", "actual": done.returncode, "expected": status, "message": done.stderr.decode(errors="replace")}]
     for row in rows:
         row.pop("base", None)
     return rows
+
+
+def status_of(rows: List[Row]) -> int:
+    """The exit status of a check with these rows."""
+    return 4 if any(row["kind"] in ("broken", "invalid", "leaving") for row in rows) else 0
 
 
 def difference(actual: List[Row], expected: List[Row]) -> Optional[str]:
@@ -137,8 +145,8 @@ class Series:
 
 
 def broken_links(rows: List[Row]) -> List[str]:
-    """The broken and invalid links, in the form of known.py."""
-    places = [row for row in rows if row["kind"] in ("place", "invalid_place")]
+    """The broken, invalid and leaving links, in the form of known.py."""
+    places = [row for row in rows if row["kind"] in ("place", "invalid_place", "leaving_place")]
     found = [f"{row['target']} {row['file']}:{row['line']}:{row['column']}" for row in places]
     placed = {row["target"] for row in places}
     return sorted(found + [row["target"] for row in rows if row["kind"] == "broken" and row["target"] not in placed])
@@ -179,7 +187,8 @@ def known_faults(program: Optional[str], number: int) -> Faults:
     with tempfile.TemporaryDirectory() as scratch:
         folder = write_known(known, Path(scratch, "site"))
         settings = Settings(BASE)._replace(**dict(known.settings))
-        faults = [(f"{known.name}, model", known_fault(known, Model(folder, settings._replace(front=BASE)).rows()))]
+        shown = settings if settings.front else settings._replace(front=BASE)
+        faults = [(f"{known.name}, model", known_fault(known, Model(folder, shown).rows()))]
         if program:
             faults.append((known.name, difference(printed_rows(program, settings, folder), Model(folder, settings).rows())))
         return faults
@@ -212,14 +221,19 @@ def compare_folder(series: Series, program: str, folder: str, settings: Settings
 
 
 def random_settings(draw: Random) -> Settings:
-    """Random settings for a check."""
-    base = draw.choice((BASE, BASE, BASE + "manual/"))
-    ignores = draw.choice([(), (), (base + "gone",), (base + "a", "x", base + "sub/#")])
-    seeds = draw.choice([(), (), (), ("sub/",), ("#x", "a.html?b", "gone/../b.html"), ("?", "index.html", "%61.html?x", "a?y"), ("./", "s%75b")])
+    """Random settings for a check. Without BASE, targets are paths."""
+    base = draw.choice((BASE, BASE, BASE + "manual/", NOWHERE))
+    front = base if base == NOWHERE else ""
+    shown = base[len(front):]
+    ignores = draw.choice([(), (), (shown + "gone", "../"), (shown + "a", "x", shown + "sub/#", BASE + "gone")])
+    seeds = draw.choice([
+        (), (), (), ("sub/",), ("#x", "a.html?b", "gone/../b.html"), ("?", "index.html", "%61.html?x", "a?y"), ("./", "s%75b"),
+        ("/a.html",) if front else (),
+    ])
     flags: Dict[str, Any] = {flag.setting: flag.value(draw.random() < flag.share) for flag in FLAGS}
     host = drawing.random_host(draw)
     flags.update(exact=host.exact, fallback=host.fallback, indices=host.index_files or INDEX_FILES)
-    return Settings(base, ignores=ignores, seeds=seeds, workers=draw.choice((1, 1, 2, 4, 64)))._replace(**flags)
+    return Settings(base, front, ignores, seeds=seeds, workers=draw.choice((1, 1, 2, 4, 64)))._replace(**flags)
 
 
 class Drawn(NamedTuple):
@@ -239,7 +253,7 @@ def draw_number(seed: int, number: int, above: str) -> Drawn:
     settings = random_settings(draw)
     if draw.random() < 0.8:
         site = Site(str(folder), settings)
-        found = [seed for seed in settings.seeds if site.response(str(drawn.url_of(seed, site.base)))]
+        found = [seed for seed in settings.seeds if site.response(site.start_of(seed))]
         settings = settings._replace(seeds=tuple(found))
     return Drawn(str(folder), settings, drawing.random_options(draw))
 
@@ -278,6 +292,17 @@ def form_fault(program: str, settings: Settings, folder: str, rows: List[Row]) -
     return forms.page_fault(done.stdout, rows)
 
 
+def list_fault(program: str, draw: Random, folder: str, settings: Settings) -> Optional[str]:
+    """An error in the check of a random list of a folder's pages."""
+    with_base = settings._replace(base=BASE, front="") if settings.is_rooted() else settings
+    listed = archives.draw_list(draw, folder, with_base)
+    expected = archives.expected_rows(folder, listed)
+    with tempfile.TemporaryDirectory() as scratch:
+        index = Path(scratch, "index.txt")
+        index.write_bytes(listed.text)
+        return difference(printed_rows(program, listed.settings, folder, ["--index", str(index)]), expected)
+
+
 def compare_number(program: str, seed: int, number: int) -> Outcome:
     """Compares the random folder with this number."""
     with tempfile.TemporaryDirectory() as above:
@@ -286,6 +311,7 @@ def compare_number(program: str, seed: int, number: int) -> Outcome:
         try:
             faults.append((f"site {' '.join(options)}", web_fault(program, folder, options)))
             rows = Model(folder, settings).rows()
+            faults.append((f"check --index {settings}", list_fault(program, Random(f"list {seed} {number}"), folder, settings)))
         except drawn.NotPlain:
             return Outcome(number, faults, Counter(), True)
         faults.append((f"check {settings}", difference(printed_rows(program, settings, folder), rows)))
@@ -293,6 +319,9 @@ def compare_number(program: str, seed: int, number: int) -> Outcome:
             faults.append((f"forms {settings}", form_fault(program, settings, folder, rows)))
         kinds = Counter(map(kind_of, rows))
         kinds["with_aliases"] += rows[0].get("aliases", 0) > 0
+        names = [row["file"].lower() for row in rows if row["kind"].endswith("place")]
+        kinds["in_sheets"] += sum(name.endswith(".css") for name in names)
+        kinds["in_xml"] += sum(name.endswith((".svg", ".xht", ".xhtml")) for name in names)
         return Outcome(number, faults, kinds, False)
 
 

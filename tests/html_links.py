@@ -4,11 +4,12 @@
 Usage: html_links.py [COUNT [SEED]]
 COUNT is the number of documents [default: 2000], SEED the seed of the random choices [default: 1].
 
-Documents with balanced SVG and MathML are compared with the elements of html5lib's tree, too.
+Documents with balanced SVG and MathML are compared with the elements of html5lib's tree, too. All of these documents are
+also read as XML, and compared with the tokenizer of tests/checking/tags.py.
 
 The script makes a small program with a copy of `crates/html_links` in a temporary folder, and runs it by `rt try`. The
 model reads a document with html5lib's tokenizer (Debian's python3-html5lib), a refresh by the steps of the HTML
-Standard, and other values with the patterns of tools/site_to_web.py. All names of character references are compared
+Standard, and other values with the patterns of tests/checking/converter.py. All names of character references are compared
 with Python's table, with and without `;`, and followed by a digit, `=`, other characters, or nothing.
 
 The last line is `N passed, M failed`; the exit status is 1 if any failed.
@@ -31,11 +32,13 @@ import html5lib
 from html5lib import _tokenizer
 from html5lib.constants import namespaces, tokenTypes
 
+from checking.documents import read_tags
 from checking.tags import Attribute, Context, Tag
 
 TOP = pathlib.Path(__file__).resolve().parents[1]
 BETWEEN = "\x1d"  # ends a document, and the links of a document
 BEHIND = "\x1e"  # ends a link
+IN_XML = "\x1c"  # begins a document that is read as XML, without styles
 
 TAGS = """a area audio body embed frame image img input link object source table td th track use video base meta p div
 svg math option br a img link meta a img source template template input button iframe param param meta tr thead tbody tfoot""".split()
@@ -105,7 +108,11 @@ fn main(rt: HostRuntime) -> io::Result<()> {
     let mut all = Vec::new(rt.alloc());
     for document in documents.as_slice().split(|byte| *byte == 0x1d) {
         let mut texts = Texts(rt.alloc(), Vec::new(rt.alloc()));
-        read_places(rt.alloc(), Syntax::Html, document, true, &mut texts)?;
+        if document.starts_with(b"\\x1c") {
+            read_places(rt.alloc(), Syntax::Xhtml, document, false, &mut texts)?;
+        } else {
+            read_places(rt.alloc(), Syntax::Html, document, true, &mut texts)?;
+        }
         for text in &texts.1 {
             all.extend_from_slice(text.as_slice())?;
             all.extend_from_slice(b"\\x1e")?;
@@ -121,8 +128,8 @@ REFRESH = re.compile(r"[\t\n\f\r ]*[0-9.]+(?=[;,\t\n\f\r ])[\t\n\f\r ]*[;,]?[\t\
 
 
 def load_tool() -> Any:
-    """Return tools/site_to_web.py as a module."""
-    spec = importlib.util.spec_from_file_location("site_to_web", TOP / "tools/site_to_web.py")
+    """Return tests/checking/converter.py as a module."""
+    spec = importlib.util.spec_from_file_location("converter", TOP / "tests/checking/converter.py")
     assert spec is not None and spec.loader is not None
     tool = importlib.util.module_from_spec(spec)
     spec.loader.exec_module(tool)
@@ -171,7 +178,7 @@ def tokens_of(text: str) -> Iterator[tuple[dict[str, Any], Context]]:
 
 
 class Reader(TOOL.LinkReader):  # type: ignore[misc, name-defined]
-    """The link reader of site_to_web.py, with html5lib's tokens."""
+    """The link reader of the converter, with html5lib's tokens."""
 
     links: list[str]
     in_style: Optional[str]
@@ -338,6 +345,11 @@ def drawn_document(draw: random.Random, wild: bool) -> str:
     return "".join(parts).replace("\r", "")
 
 
+def xml_links(text: str) -> list[str]:
+    """Return the links of a document in XML."""
+    return [link.text for link in read_tags(text, xml=True)[0]]
+
+
 def named_values() -> list[tuple[str, str]]:
     """Return values with each name of Python's table, and with unknown names, and the decoded texts."""
     table = html.entities.html5
@@ -385,8 +397,9 @@ def main() -> int:
     rows = named_values()
     wants = ["".join(link + BEHIND for link in Reader(True).read(document)) for document in documents]
     wants += ["".join(link + BEHIND for link in tree_links(document)) for document in foreign]
+    wants += ["".join(link + BEHIND for link in xml_links(document)) for document in documents + foreign]
     wants += [text + BEHIND for _, text in rows]
-    documents += foreign + [f'<a href="{value}">' for value, _ in rows]
+    documents += foreign + [IN_XML + document for document in documents + foreign] + [f'<a href="{value}">' for value, _ in rows]
     given = crate_links(documents)
     count = len(documents)
     passed, failed = 0, []

@@ -12,7 +12,7 @@ cd "$(dirname "$0")/.." || exit 1
 # shellcheck source=tests/parts.sh
 . tests/parts.sh
 
-parts=(format documents definitions character_names mercator_tests crawl_run_tests crawl_gate_tests crawl_text_tests frontier cases command_line manual_page drawn check serve service bell_model site_to_web)
+parts=(format documents definitions character_names mercator_tests crawl_run_tests crawl_gate_tests crawl_text_tests frontier cases command_line manual_page drawn check serve service bell_model converter warc)
 kept=tests/out/quick
 # A test of crawl_text_tests that no time limit fits. tests/run.sh runs it.
 too_long=tests::indices::finds_what_a_plain_search_finds
@@ -34,14 +34,15 @@ command_of() {
     serve) words=(tests/serve.py --lines 2000 --part drawn_sessions --part drawn_parts --part all_at_once --part byte_by_byte --part compacted_logs --part lists --part stopped_compactions) ;;
     service) words=(tests/service.py --part owners --part waits --part metrics --part killed_crawlers) ;;
     bell_model) words=(tests/bell_model.py) ;;
-    site_to_web) words=(tests/site_to_web.py) ;;
+    converter) words=(tests/converter.py) ;;
+    warc) words=(tests/warc.py) ;;
     esac
 }
 
 # programs PART: the crates of the programs that it needs.
 programs() {
     case $1 in
-    cases | command_line | manual_page | drawn | check | serve | service) echo mercator_cli ;;
+    cases | command_line | manual_page | drawn | check | serve | service | warc) echo mercator_cli ;;
     frontier) echo mercator_cli library_calls ;;
     esac
 }

@@ -6,8 +6,9 @@ of five generators that are installed (tests/checking/generators.py). With a NAM
 are compared. A package is downloaded by `apt-get download` and unpacked into the cache, and not installed: together they have
 250 MB, and 1.2 GB unpacked. A package that cannot be downloaded, and a generator that is not installed, is named and skipped.
 
-Of each site, all rows of `mercator check --json` are compared with the model's, finding by finding. Then `mercator site` makes
-its saved web, and the report of `mercator crawl --sources` with 1 and with 4 workers is compared with that of the model's search.
+Of each site, all rows of `mercator check --json` are compared with the model's, finding by finding. The documentation of a
+package is checked without BASE. Then `mercator site` makes the site's saved web, and the report of `mercator crawl --sources` with
+1 and with 4 workers is compared with that of the model's search.
 The findings of a generated site must be the broken links that its sources have.
 
 With --sample, random findings of each site are printed in a form that a person can judge: the text of the link, and notes such as
@@ -32,13 +33,13 @@ from pathlib import Path
 from random import Random
 from typing import Any, Dict, Iterator, List, NamedTuple, Optional, Tuple
 
-from check import arguments, site_options
+from check import arguments, site_options, status_of
 from checking import generators, loading, samples
-from checking.model import Model, Moved, Response, Row, Settings
+from checking.model import NOWHERE, Model, Moved, Response, Row, Settings
 from checking.samples import Finding
 from checking.sites import Site
 
-BASE = "http://docs.test/"
+BASE = "http://docs.test/"  # of the saved web of a site that is checked without BASE
 SHOWN = 5  # the most differences of a site that are printed
 SECONDS = 600  # the time limit of a command
 
@@ -70,7 +71,7 @@ def packages(cache: Path, names: List[str]) -> Iterator[Site]:
         if fault:
             print(f"{package}: skipped, {fault}", flush=True)
             continue
-        yield Site(package, str(cache / package / folder), BASE, () if starts == ["./"] else tuple(starts))
+        yield Site(package, str(cache / package / folder), NOWHERE, () if starts == ["./"] else tuple(starts))
 
 
 def fetch(cache: Path, package: str) -> Optional[str]:
@@ -98,7 +99,8 @@ def run(words: List[str], given: Optional[bytes] = None) -> "subprocess.Complete
 
 def settings_of(site: Site) -> Settings:
     """The settings of a site's check."""
-    return Settings(site.base, unreached=True, external=True, seeds=site.starts, fallback=site.fallback)
+    front = site.base if site.base == NOWHERE else ""
+    return Settings(site.base, front, unreached=True, external=True, seeds=site.starts, fallback=site.fallback)
 
 
 def rows_of(program: str, site: Site) -> List[Row]:
@@ -107,7 +109,7 @@ def rows_of(program: str, site: Site) -> List[Row]:
     rows = [json.loads(line) for line in done.stdout.splitlines()]
     for row in rows:
         row.pop("base", None)
-    status = 4 if any(row["kind"] == "broken" for row in rows) else 0
+    status = status_of(rows)
     return rows if done.returncode == status else [{"kind": "status", "actual": done.returncode, "expected": status}, *rows]
 
 
@@ -145,35 +147,42 @@ def report_of(model: Model) -> List[str]:
 
 def crawl_differences(program: str, site: Site) -> List[str]:
     """How the crawls of a site's saved web from its starts differ from the model's search from these."""
-    web = run([program, "site", *site_options(settings_of(site)), site.folder, site.base])
+    base = BASE if site.base == NOWHERE else site.base
+    settings = settings_of(site)._replace(base=base, front="", reachable=True)
+    web = run([program, "site", *site_options(settings), site.folder, base])
     if web.returncode:
         return [f"site: exit status {web.returncode}, {web.stderr.decode(errors='replace')}"]
-    expected, found = report_of(Model(site.folder, settings_of(site)._replace(reachable=True))), []
+    expected, found = report_of(Model(site.folder, settings)), []
     for workers in ("1", "4"):
-        words = [program, "crawl", "--sources", "--workers", workers, "-", *(site.base + start for start in site.starts or ("",))]
+        words = [program, "crawl", "--sources", "--workers", workers, "-", *(base + start for start in site.starts or ("",))]
         actual = run(words, web.stdout).stdout.decode().splitlines()
         found += [f"crawl with {workers} workers: {one}" for one in differences(actual, expected)]
     return found
 
 
 def findings_of(rows: List[Row], base: str) -> List[Finding]:
-    """The broken links of a site."""
-    places = [row for row in rows if row["kind"] == "place"]
-    return [Finding(row["file"], row["line"], row["column"], row["target"][len(base):], row["missing"]) for row in places]
+    """The broken, invalid and leaving links of a site."""
+    return [finding_of(row, base) for row in rows if row["kind"] in ("place", "invalid_place", "leaving_place")]
+
+
+def finding_of(row: Row, base: str) -> Finding:
+    """The finding of a location. The target of a broken link has no base."""
+    target = row["target"][len(base):] if row["kind"] == "place" and base != NOWHERE else row["target"]
+    return Finding(row["file"], row["line"], row["column"], target, row.get("missing", ""), row.get("reason", ""))
 
 
 def planted_fault(site: Site, findings: List[Finding]) -> List[str]:
     """How the findings of a generated site differ from the broken links in its sources."""
     if site.broken is None:
         return []
-    targets = {finding.target for finding in findings}
+    targets = {finding.target for finding in findings if finding.missing}
     extra, lacking = sorted(targets - site.broken), sorted(site.broken - targets)
     return [f"not in the sources: {target}" for target in extra] + [f"not found: {target}" for target in lacking]
 
 
 def sampled(site: Site, findings: List[Finding], options: Options) -> List[str]:
     """How many findings have each note, and random findings in a form that a person can judge."""
-    prefix = "/" + site.base.split("/", 3)[3]
+    prefix = "/" if site.base == NOWHERE else "/" + site.base.split("/", 3)[3]
     chosen = sorted(Random(f"{options.seed} {site.name}").sample(findings, min(options.sample, len(findings))))
     with samples.server(site.folder, prefix) as connection:
         folder = samples.Folder(site.folder, prefix, connection)
@@ -190,7 +199,7 @@ def compare(options: Options, site: Site) -> Outcome:
     findings = findings_of(rows, site.base)
     faults = differences(rows, expected) + planted_fault(site, findings) + crawl_differences(options.program, site)
     total: Dict[str, int] = rows[0]
-    counts = ", ".join(f"{total.get(name)} {name}" for name in ("pages", "links", "missing_pages", "missing_anchors"))
+    counts = ", ".join(f"{total.get(name)} {name}" for name in ("pages", "links", "missing_pages", "missing_anchors", "invalid", "leaving"))
     text = [f"{site.name}: {counts}, {len(findings)} findings, {len(faults)} differences"]
     text += faults[:SHOWN] + (sampled(site, findings, options) if options.sample else [])
     return Outcome(site.name, "\n".join(text), bool(faults))

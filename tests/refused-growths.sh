@@ -34,4 +34,5 @@ printf '%s\n' 'offer http://a.test/' 'link http://a.test/ b' 'offer HTTP://A.tes
     'next 0' 'done 0' 'next 0' x > "$scratch/requests"
 printf '%s\n' 'within a.test workers 2 max 9' 'offer http://a.test/' 'offer http://a.test/b' 'next 1' 'later 1' > "$scratch/log"
 echo downloads.html > "$scratch/known"
+printf 'http://site.test/%s\n' ' text/html index.html' 'use - guide/use.html' 'use - guide/use.html' 'old redirect use' > "$scratch/list"
 python3 tests/refused_growths.py "$program" "$scratch" "$what"

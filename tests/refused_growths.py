@@ -1,8 +1,8 @@
 """Run programs with failing memory allocations, for tests/refused-growths.sh, which describes the tests.
 
 Usage: refused_growths.py PROGRAM SCRATCH commands|tests
-SCRATCH is a folder with refuse.so, which is built from tests/refused_growths.c, and the inputs pages.web, requests, log and
-known.
+SCRATCH is a folder with refuse.so, which is built from tests/refused_growths.c, and the inputs pages.web, requests, log,
+known and list.
 """
 
 from __future__ import annotations
@@ -25,7 +25,7 @@ SITE = f"{DATA}/site.web"
 
 FAULT = re.compile(
     rb"mercator: (out of memory|cannot read [^\n]*|cannot write|bad suffix|(seed \d+|URL): [a-z A-Z]+"
-    rb"|(saved web|script|seeds): (line \d+: )?[a-zA-Z -]+8?|incomplete(: [a-z0-9 ]+)?|BASE: [a-zA-Z ]+)\n"
+    rb"|(saved web|script|seeds|index): (line \d+: )?[a-zA-Z -]+8?|incomplete(: [a-z0-9 ]+)?|BASE: [a-zA-Z ]+)\n"
 )
 
 
@@ -69,6 +69,7 @@ def commands_with(scratch: str) -> tuple[Command, ...]:
         ]),
         Command(["check", "--json", "--seed", "news/", f"{DATA}/site", "http://site.test/"]),
         Command(["check", "--html", f"{DATA}/site"]),
+        Command(["check", "--index", f"{scratch}/list", f"{DATA}/site", "http://site.test/"]),
         Command(["check", "--annotations", "--no-anchors", "--exact", f"{DATA}/site"]),
         Command(["site", f"{DATA}/site", "http://site.test/"]),
         Command(["serve", "--workers", "1"], f"{scratch}/requests"),

@@ -30,7 +30,7 @@ part tests/serve.py --program crates/mercator_cli/out/mercator_cli --lines 2000 
 part tests/bell_model.py
 part tests/command-line.sh
 part tests/manual_page.py
-part tests/site_to_web.py
+part tests/converter.py
 part docs/check.py
 part docs/definitions.py --check
 part tools/character_names.py --check

@@ -3,7 +3,7 @@
 
 The environment variable PROGRAM names the program to test; the default is the one built in crates/mercator_cli. The script
 compares the shipped site, random documents with elements that contain only text, and each FOLDER byte for byte with the output
-of the converter, tools/site_to_web.py. Without a FOLDER it takes the documentation folders that are installed
+of the converter, tests/checking/converter.py. Without a FOLDER it takes the documentation folders that are installed
 (DOCUMENTATION in tests/checking/loading.py).
 
 With --drawn it also compares random folders whose documents have broken markup. For these the converter reads documents with
@@ -23,7 +23,7 @@ import sys
 import tempfile
 from typing import Any
 
-from checking import drawing, loading
+from checking import drawing, loading, webs
 from checking.webs import DIFFERENCES, Converter, first_difference
 
 BASE = "http://docs.test/"
@@ -39,7 +39,7 @@ def web_of(program: str, folder: str, options: list[str]) -> bytes:
 
 def compare_folder(program: str, folder: str) -> bool:
     """Compares the saved web of a folder with the output of the unchanged converter."""
-    command = [sys.executable, str(loading.ROOT / "tools/site_to_web.py"), "--quiet", folder, BASE]
+    command = [sys.executable, str(loading.ROOT / "tests/checking/converter.py"), "--quiet", folder, BASE]
     expected = subprocess.run(command, capture_output=True, check=True).stdout
     actual = web_of(program, folder, [])
     print(f"{folder}: {len(actual)} bytes, {first_difference(actual, expected) or 'the same'}")
@@ -80,15 +80,26 @@ def html5lib_converter(links: Any) -> Converter:
         base: str | None
 
         def feed(self, data: str) -> None:
-            self.read(data)
+            if not self.xml:
+                self.read(data)
+                return
+            # html5lib's tokenizer does not read XML
+            reader = webs.Reader(self.styles, True)
+            reader.feed(data)
+            self.links, self.base = reader.links, reader.base
 
-        def flush(self, style: Any) -> None:
-            """Ignores styles."""
+        def read_in(self, context: Any, token: dict[str, Any], found: dict[str, str]) -> None:
+            kept = {name: found[name] for name in found if self.styles or name != "style"}
+            super().read_in(context, token, kept)
 
-        def read_tag(self, tag: str, found: dict[str, str], tokens: Any) -> None:
+        def read_tag(self, tag: str, found: dict[str, str], is_foreign: bool = False) -> None:
             if tag == "base" and self.base is None:
                 self.base = found.get("href")
-            super().read_tag(tag, {name: found[name] for name in found if name != "style"}, tokens)
+            super().read_tag(tag, found, is_foreign)
+
+        def flush(self, style: str | None) -> None:
+            if self.styles:
+                super().flush(style)
 
         def close(self) -> None:
             """Does nothing, since nothing is buffered."""

@@ -1,21 +1,27 @@
-"""The links and ids of a document, each link with the line and column of its value."""
+"""The links and ids of a document, each link with the line and column of its value, and the links of a style sheet."""
 
 from __future__ import annotations
 
+import os
 import re
 from bisect import bisect_right
 from typing import Any, Dict, FrozenSet, List, NamedTuple, Optional, Set, Tuple
 from urllib.parse import quote
 
-from checking import loading
+from checking import loading, sheets
 from checking.tags import Attribute, Tag, page_tags, sheet_of
 
-TOOL: Any = loading.script("site_to_web", "tools/site_to_web.py")
+TOOL: Any = loading.script("converter", "tests/checking/converter.py")
 REFRESH = re.compile(r"[\t\n\f\r ]*[0-9.]+(?=[;,\t\n\f\r ])[\t\n\f\r ]*[;,]?[\t\n\f\r ]*(.*)", re.DOTALL)
 MARKS = ((b"\xef\xbb\xbf", "utf-8"), (b"\xff\xfe", "utf-16-le"), (b"\xfe\xff", "utf-16-be"))
 # Names of windows-1252 in Python and in the Encoding Standard
 WINDOWS = {"cp1252", "windows-1252", "1252"}
 UTF_8 = {"utf-8", "utf_8", "u8"}
+# The forms of files by their names
+FORMS = {".html": "html", ".htm": "html", ".xhtml": "xml", ".xht": "xml", ".svg": "xml", ".css": "css"}
+PICTURES = (".svg",)  # the documents among these that are pictures: a check does not start at them
+# A style sheet names its encoding at its very beginning
+SHEET_CHARSET = re.compile(rb'@charset "([^"]*)";')
 UNKNOWN = "\x80"  # replaces bytes beyond ASCII in an unknown encoding; no character reference gives this character
 
 
@@ -27,7 +33,7 @@ class Link(NamedTuple):
 class Document(NamedTuple):
     links: Tuple[Link, ...]
     base: Optional[str]
-    ids: Optional[FrozenSet[str]]  # None if some id is not known
+    ids: Optional[FrozenSet[str]]  # None if some id is not known, or of a style sheet
     lines: "Lines"
     charset: str
 
@@ -66,24 +72,52 @@ ASCII = {byte: UNKNOWN for byte in range(128, 256)}
 
 
 def text_of(body: bytes) -> Tuple[str, str]:
-    """A document's text and encoding, by its byte order mark, its head, or as UTF-8 or windows-1252.
+    """A document's text and encoding: by its byte order mark, by its head, as UTF-8 or as windows-1252.
 
     In any other encoding only ASCII is read.
     """
-    for mark, name in MARKS:
-        if body.startswith(mark):
-            return body[len(mark):].decode(name, "replace"), "utf-8"
-    names: List[str] = list(filter(None, TOOL.charset_names(body, None)))
-    for name in names:
-        if name in UTF_8:
-            return body.decode("utf-8", "replace"), "utf-8"
-        if name in WINDOWS:
-            return body.decode("latin-1").translate(CHARACTERS), "windows-1252"
+    read = marked_text(body) or named_text(body, encoding_named(TOOL.declared(body[:TOOL.START_LENGTH])))
+    if read is not None:
+        return read
     try:
         return body.decode("utf-8"), "utf-8"
     except UnicodeError:
-        # In another encoding only ASCII is known
-        return body.decode("latin-1").translate(ASCII if names else CHARACTERS), "other" if names else "windows-1252"
+        return body.decode("latin-1").translate(CHARACTERS), "windows-1252"
+
+
+def sheet_text(body: bytes) -> Tuple[str, str]:
+    """A style sheet's text and encoding, by CSS Syntax: by its byte order mark, by `@charset`, or as UTF-8."""
+    charset = SHEET_CHARSET.match(body[:1024])
+    read = marked_text(body) or named_text(body, encoding_named(charset[1].decode("latin-1") if charset else ""))
+    return read or (body.decode("utf-8", "replace"), "utf-8")
+
+
+def encoding_named(label: str) -> str:
+    """The name of the encoding with a label. UTF-16 means UTF-8, since its bytes could not have said so."""
+    label = label.strip(TOOL.EDGE).lower()
+    if label in TOOL.UTF8_NAMES or label.startswith("utf-16"):
+        return "utf-8"
+    return "windows-1252" if label in TOOL.WINDOWS_NAMES else label
+
+
+def marked_text(body: bytes) -> Optional[Tuple[str, str]]:
+    """The text and the encoding of bytes that begin with a byte order mark."""
+    for mark, name in MARKS:
+        if body.startswith(mark):
+            return body[len(mark):].decode(name, "replace"), "utf-8"
+    return None
+
+
+def named_text(body: bytes, name: str) -> Optional[Tuple[str, str]]:
+    """The text and the encoding by the name of an encoding, if there is one. Of an unknown one only ASCII is read, unless the bytes are UTF-8."""
+    if name in UTF_8:
+        return body.decode("utf-8", "replace"), "utf-8"
+    if name in WINDOWS:
+        return body.decode("latin-1").translate(CHARACTERS), "windows-1252"
+    try:
+        return (body.decode("utf-8"), "utf-8") if name else None
+    except UnicodeError:
+        return body.decode("latin-1").translate(ASCII), "other"
 
 
 def is_absolute(link: str) -> bool:
@@ -157,8 +191,7 @@ def texts_of(tag: Tag, found: Dict[str, Attribute]) -> List[Link]:
 
 def style_links(sheet: str, at: int) -> List[Link]:
     """The links of a style sheet that begins at a position."""
-    found = [one for one in TOOL.STYLE_TEXT.finditer(sheet) if one[0][0] in "@uU"]
-    return [Link(one[one.lastindex], at + one.start(one.lastindex)) for one in found]
+    return [Link(found.text, at + found.at) for found in sheets.urls_of(sheet)]
 
 
 def styles_of(tag: Tag, found: Dict[str, Attribute], text: str) -> List[Link]:
@@ -190,9 +223,37 @@ def read_tags(text: str, xml: bool = False, styles: bool = False) -> Tuple[List[
     return links, base, ids
 
 
-def document_of(body: bytes) -> Document:
-    """Reads a document."""
+def document_of(body: bytes, form: str = "html", styles: bool = True) -> Document:
+    """Reads a document of a form, `html`, `xml` or `css`."""
+    if form == "css":
+        return sheet_of_file(body)
     text, charset = text_of(body)
-    links, base, ids = read_tags(text)
+    links, base, ids = read_tags(text, form == "xml", styles)
     document = Document(tuple(links), base, frozenset(ids), Lines(text), charset)
     return in_ascii(document) if charset == "other" else document
+
+
+def sheet_of_file(body: bytes) -> Document:
+    """Reads a style sheet. It has no anchors, and the queries of its links are in UTF-8 in any encoding."""
+    text, charset = sheet_text(body)
+    sheet = Document(tuple(style_links(text, 0)), None, None, Lines(text), charset)
+    return (in_ascii(sheet) if charset == "other" else sheet)._replace(charset="utf-8")
+
+
+def suffix_of(name: bytes) -> str:
+    """The suffix of a file's name in lower case, with its dot."""
+    return os.path.splitext(os.path.basename(os.fsdecode(name)))[1].lower()
+
+
+def is_page(name: bytes) -> bool:
+    """Whether a file is an HTML document by its name, in HTML or in XML."""
+    return form_of(name, False) in ("html", "xml") and suffix_of(name) not in PICTURES
+
+
+def form_of(name: bytes, styles: bool) -> Optional[str]:
+    """The form of a file by its name: `html`, `xml`, `css`, or `` if its first bytes decide; None of a file without links."""
+    suffix = suffix_of(name)
+    if suffix in FORMS:
+        return FORMS[suffix] if styles or FORMS[suffix] != "css" else None
+    kind, packed = TOOL.kind_of(name)
+    return None if kind or packed else ""

@@ -14,10 +14,10 @@ from typing import Any, List, NamedTuple, Tuple
 from urllib.parse import quote as escaped
 
 NAMES = """index.html index.html index.html a.html b.htm c d.txt e%20f.html g h.html \u00fc.html i?j.html k#l.html m+n.html [o].html p&q.html
-r;s.html t=u.html v@w.html x:y.html ~z.html %.html %zz.html A.HTML A.html %41.html %2541.html %61.html .html .hidden ...html caf\u00e9
-\u65e5\u672c.html 'q'.html "q".html <r>.html {s}.html |t|.html ^u.html `v`.html \\w.html x.xhtml y.svg z.css index.htm INDEX.HTML
+r;s.html t=u.html v@w.html x:y.html ~z.html %.html %zz.html A.HTML A.html %41.html %2541.html %61.html .html .hidden ...html caf\u00e9 y.css y.svg
+\u65e5\u672c.html 'q'.html "q".html <r>.html {s}.html |t|.html ^u.html `v`.html \\w.html x.xhtml y.svg z.css W.XHT .css u.svgz index.htm INDEX.HTML
 index.html? %69ndex.html index%2ehtml a.html.gz a.html?b ?b # %2e %2E%2e""".split()
-NAMES += ["\u0085.html", "a b.html", " .html", "a\tb.html", "a\nb.html", "\x01.html", "\x1b[31m.html", "\x7f.html", "\u202ex.html", "\u2028"]
+NAMES += ["y.css", "\u00fc.css", "y.svg", "\u0085.html", "a b.html", " .html", "a\tb.html", "a\nb.html", "\x01.html", "\x1b[31m.html", "\x7f.html", "\u202ex.html", "\u2028"]
 FOLDERS = ["", "", "", "sub/", "sub/deep/", "a.html.d/", "e f/", "%41/", "A/", "a/", "%61/", "\u00e4/", "q?r/", "h#/", "\x1b/", "sub/index.html/"]
 BASES = [
     "", "sub/", "/", "http://docs.test/sub/", "//other.test/x/", "mailto:x", "data:x", "x y", "?q", "#f", "https:g", "../..", "http://", "\u00fc/",
@@ -40,7 +40,8 @@ FOREIGN = [
     " ", "\n x \t", "javascript:x", "data:," + "y" * 5000, "x#" + "z" * 5000, "mailto:\u00e9" + "\u00fc" * 3000, "%", "%f", "a\tb\nc", "http://[::1]/",
     "http:x", "&#128;", "//docs.test/sub", "http://docs.test/sub", "/sub?x", "e%20f?a%20b", "http://docs.test", "https://docs.test/", "/m%61nual/",
     "/manual", "/manual/a.html", "//", "http://[x/", "//x:70000/", "https://a b/?\u00fc", "http://[x#" + "z" * 5000, "http://[" + "z" * 5000, "htp://x", "Htp:x",
-    "file:///x", "c:\\x", "x:" + "\u00fc" * 3000, "xy:" + "z" * 5000 + "#x", "xy:#" + "z" * 5000, "ftp:x", "TEL:1",
+    "/", "/../x", "/%2e./sub/../a.html", "\\a.html", "\\/x", "/a\n.html", "../" * 40 + "x", "../" * 9 + "-/../x", "..//x?q=/-/", "../..#x", "file:///x",
+    "c:\\x", "x:" + "\u00fc" * 3000, "xy:" + "z" * 5000 + "#x", "xy:#" + "z" * 5000, "ftp:x", "TEL:1",
 ]
 FRAGMENTS = [
     "", "x", "x", "y", "X", "\u00fc", "%C3%BC", "%c3%bc", "a b", "a%20b", "a+b", "top", "TOP", "%74op", "top%20", ":~:text=x",
@@ -56,7 +57,12 @@ PIECES = [
     "<title><a href=gone2.html></title>", "<textarea id=x><p id=in></textarea>", "<style>@import 'gone.css'</style>", "\n", "\n\n", "\r\n", "text",
     "<base target=x>", "<a name=x name=y>", "<b name=y>", "<p ID=x>", "<p id=x id=y>", "<a/id=y/href=gone3.html>", "</a href=gone4.html id=y>",
     "<svg><a xlink:href=gone5.svg></svg>", "<img srcset='gone6.png 1x, gone7.png 2x' src=gone8.png>", "<meta http-equiv=refresh content='0;url=gone9.html'>",
-    "<template><a href=gone31.html><p id=x></template>", "<template id=y>", "</template>", "<template shadowrootmode=open><a href=gone32.html></template>",
+    "<style>@import url(gone41.css);p{background:url( 'gone42.png' )}</style>", "<p style='background:url(gone43.png)' title=x>", "<b style=\"src:url('#x')\">",
+    "<p style='a:url(&quot;gone44.png&quot;) /* url(no) */'>", "<svg><style>/**/@IMPORT/**/'gone45.css'</style><use href='y.svg#x'/><use href=y.svg#z>",
+    "<style>/* url(no1) */ p{content:'url(no2)'} @import/**/\"gone46.css\";</style>", "<template><style>@import 'gone47.css'</style></template>",
+    "<link rel=stylesheet href=z.css>", "<link rel=stylesheet href='y.css#x'>", "<title/><a href=gone48.html>", "<script/><a href=gone49.html>", "<a id=x/>",
+    "<a href=../../gone50.html><a href='/gone51.html#x'>", "<a href='\\gone52.html'><a href='../gone53.html?/'>", "<img src=../../../gone54.png>",
+    "<template/><a href=gone55.html>", "<template><a href=gone31.html><p id=x></template>", "<template id=y>", "</template>", "<template shadowrootmode=open><a href=gone32.html></template>",
     "<input src=gone33.png><input type=image src=gone34.png formaction=gone35.html>", "<meta name=twitter:image content=gone36.png>",
     "<button formaction='gone37.html'>", "<img longdesc=gone38.html src=gone39.png><param name=movie value='gone40'>",
     "<link rel=preconnect href=gone10.css>", "<a href='gone11.html", "<p title=\"", "<a href=\n\n  'gone12.html'>", "\u00fc<a href=gone13.html>",
@@ -143,6 +149,8 @@ class Documents:
 
 def random_file(draw: Random, documents: Any, names: List[str], name: str) -> bytes:
     """The bytes of a random file with this name."""
+    if name.endswith(".css"):
+        return random_sheet(draw, names, name[:name.rfind("/") + 1])
     if draw.random() < 0.1:
         return draw.choice([b"", b"plain", bytes(draw.randrange(256) for _ in range(200)), b"<html", b"\xef\xbb\xbf<html>"])
     text = draw.choice(HEADS) + draw.choice(DECLARED)
@@ -152,11 +160,31 @@ def random_file(draw: Random, documents: Any, names: List[str], name: str) -> by
     for _ in range(draw.randint(0, 12)):
         link = random_link(draw, names, place).replace('"', "&quot;")
         text += f'<a href="{link}">x</a>'
+    for sheet in (one for one in names if one.endswith(".css") and draw.random() < 0.4):
+        text += f'<link rel=stylesheet href="{path_to(draw, spelled(draw, sheet), place)}">'
     if draw.random() < 0.5:
         text += documents.drawn_document(draw, draw.random() < 0.5)
     encoding = draw.choice(["utf-8"] * 6 + ["cp1252", "latin-1", "utf-16-le", "utf-16-be", "utf-8-sig"])
     mark = {"utf-16-le": b"\xff\xfe", "utf-16-be": b"\xfe\xff"}.get(encoding, b"")
     return mark + text.encode(encoding, "replace") + (b"\xff\x81" if draw.random() < 0.05 else b"")
+
+
+# In a style sheet, around a link, and elsewhere
+SHEET_LINKS = ["url({})", "url( '{}' )", 'URL("{}"', "@import '{}';", '@import/* x */ "{}" screen;', "@import url({}) print;", "a{{b:url({}),url(gone1.png)}}"]
+SHEET_PIECES = [
+    "/* url(no3) */", "content:'url(no4)'", 'content:"@import";', "@import;'no5'", "\n", "\r\n", "a{color:#fff}", "\u00fc{}", "<!-- -->", "/* \n", "*/", "}",
+    "@media print{", "url(#x)", "url(y.svg#z)", "url(data:,x)", "@font-face{src:url(gone2.eot?#iefix)}", "@imports 'no9'",
+]
+
+
+def random_sheet(draw: Random, names: List[str], place: str) -> bytes:
+    """The bytes of a random style sheet in the folder `place`, without broken strings and URLs, escapes, and functions that end in `url`."""
+    text = draw.choice(["", "", "", '@charset "utf-8";', '@charset "L1";', '@charset "koi8-r";', '@charset "utf-16";', "@charset 'l1';"])
+    for _ in range(draw.randint(0, 8)):
+        link = "".join(one for one in random_link(draw, names, place) if one not in "\\'\"() \x7f" and one >= " ")
+        text += draw.choice([draw.choice(SHEET_LINKS).format(link), draw.choice(SHEET_PIECES), draw.choice(SHEET_PIECES)])
+    encoding = draw.choice(["utf-8"] * 5 + ["cp1252", "utf-16-le", "utf-8-sig"])
+    return {"utf-16-le": b"\xff\xfe"}.get(encoding, b"") + text.encode(encoding, "replace") + (b"\xff" if draw.random() < 0.05 else b"")
 
 
 def write(path: Path, content: bytes) -> None:

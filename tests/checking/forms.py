@@ -75,12 +75,15 @@ class Lines(HTMLParser):
             self.texts[self.part] = self.texts.get(self.part, "") + data
 
 
-REASONS = {"not_url": "not a URL", "unknown_scheme": "unknown scheme", "local_file": "local file"}
+REASONS = {
+    "not_url": "not a URL", "unknown_scheme": "unknown scheme", "local_file": "local file",
+    "above_folder": "leaves the folder", "outside_base": "outside BASE",
+}
 
 
 def wrong(row: Row) -> str:
     """What is wrong with a target, and the page that is suggested."""
-    if row["kind"] == "invalid":
+    if "reason" in row:
         return REASONS[row["reason"]]
     same = f" (did you mean {row['same_name']}?)" if row["same_name"] else ""
     return f"no such {row['missing']}{same}"
@@ -103,9 +106,9 @@ def line_of(row: Row) -> Tuple[str, str]:
     """The section of the page that has a row, and the row's line there."""
     row = {key: shown(value) if isinstance(value, str) else value for key, value in row.items()}
     kind = row["kind"]
-    if kind in ("broken", "invalid"):
+    if kind in ("broken", "invalid", "leaving"):
         return "broken", f"{row['target']}\t{wrong(row)}"
-    if kind in ("place", "invalid_place"):
+    if kind in ("place", "invalid_place", "leaving_place"):
         return "broken", f"\t{row['file']}:{row['line']}:{row['column']}"
     if kind == "worst":
         return kind, f"{row['file']}\t{row['links']}"
@@ -119,7 +122,10 @@ def line_of(row: Row) -> Tuple[str, str]:
 
 def heading(total: Row) -> str:
     """The text of the heading: the first of these counts that is not 0, or the first one."""
-    counts = [(total["broken"], "broken link"), (total["missing_pages"], "missing page"), (total["invalid"], "invalid link")]
+    counts = [
+        (total["broken"], "broken link"), (total["missing_pages"], "missing page"), (total["invalid"], "invalid link"),
+        (total["leaving"], "leaving link"),
+    ]
     count, noun = next((one for one in counts if one[0]), counts[0])
     return f"<b>{count}</b> {noun}{'' if count == 1 else 's'}</h1>"
 

@@ -5,6 +5,7 @@ from __future__ import annotations
 from typing import Any, Dict, List, NamedTuple, Tuple, Union
 
 from checking.documents import known_schemes
+from checking.model import NOWHERE
 
 
 class To(NamedTuple):
@@ -24,7 +25,7 @@ class Known(NamedTuple):
 
     name: str
     files: Dict[str, Union[str, bytes, To, Zeros]]
-    # The broken and invalid links: TARGET FILE:LINE:COLUMN, or only TARGET if no link leads to it; an anchor has a `#`
+    # The broken, invalid and leaving links: TARGET FILE:LINE:COLUMN, or only TARGET if no link leads to it; an anchor has a `#`
     broken: List[str]
     rows: Tuple[Dict[str, Any], ...] = ()  # some members of some rows
     settings: Tuple[Tuple[str, Any], ...] = ()  # some settings of the check
@@ -48,6 +49,8 @@ def error(text: str) -> Tuple[Dict[str, Any]]:
 INDICES = (("indices", ("home.html", "index.htm")),)
 FALLBACK = (("fallback", True),)
 FOLLOW = (("follow", True),)
+NO_BASE = (("base", NOWHERE), ("front", NOWHERE), ("external", True))
+NO_STYLES = (("styles", False),)
 # A site with documents that the top does not lead to. Two of them lead to each other
 ORPHANS: Dict[str, Union[str, bytes, To, Zeros]] = {
     "index.html": "<a href=a.html>", "a.html": "", "404.html": "<a href=gone>", "d/b.html": "<a href=c.html>",
@@ -111,7 +114,11 @@ KNOWN = [
     Known("anchors of the same page", {"index.html": "<a href=#x><a href='#y'><p id=x>"}, ["./#y index.html:1:21"]),
     Known("an anchor of one page is not one of another", {"index.html": "<p id=x><a href=a.html#x>", "a.html": ""}, ["a.html#x index.html:1:17"]),
     Known("an anchor of a folder", {"index.html": "<a href=f#x><a href=f#y>", "f/index.html": "<p id=x>"}, ["f/#y index.html:1:21"]),
-    Known("any anchor of a file that is not a document", {"index.html": "<a href=a.pdf#page=2><img src=b.svg#x>", "a.pdf": "", "b.svg": ""}, []),
+    Known(
+        "any anchor of a file that is not a document",
+        {"index.html": "<a href=a.pdf#page=2><img src=b.png#x><img src=b.svgz#x><link href=c.css#x>", "a.pdf": "", "b.png": "", "b.svgz": "", "c.css": ""},
+        [],
+    ),
     Known(
         "two spellings of each nested folder",
         {"a/" * depth + "index.html": "<a href=a/><a href=%61/>" if depth < 22 else "" for depth in range(23)},
@@ -391,6 +398,169 @@ KNOWN = [
         ["gone index.html:1:36"],
         ({"kind": "total", "links": 3, "broken": 1, "invalid": 0}, {"kind": "unused", "name": "htp:"}),
         settings=(("invalid", False), ("ignores", ("htp:",))),
+    ),
+    Known(
+        "tags that close themselves in XHTML",
+        {
+            "index.html": "<a href=x.xhtml#a><a href=x.xhtml#b><a href=y.XHT#a><a href=z.html#a>",
+            "x.xhtml": "<title/><p id='a'/><script/><a href='gone.html'/><style/><![CDATA[<a href='no'>]]>\n<textarea><p id='c'/></textarea>",
+            "y.XHT": "<html><title/><p id=a />", "z.html": "<title/><p id=a><a href=no>",
+        },
+        ["gone.html x.xhtml:1:38", "x.xhtml#b index.html:1:27", "z.html#a index.html:1:61"],
+        total(pages=4, links=5, redirects=0, aliases=0),
+    ),
+    Known(
+        "links and anchors of SVG files",
+        {
+            "index.html": "<svg><use href='p.svg#x'/><use xlink:href=p.svg#y /></svg><img src=p.svg><img src=d/Q.SVG#x>",
+            "p.svg": "<?xml version='1.0'?><svg xmlns='x' id='x'><a href='gone'><title>t</title></a><use href='#x'/><g xlink:href='#z'/></svg>",
+            "d/Q.SVG": "<svg><image href='../p.svg#x' xlink:href='none.png'/><font href='gone' id='X'/></svg>",
+        },
+        ["d/Q.SVG#x index.html:1:83", "d/gone d/Q.SVG:1:66", "d/none.png d/Q.SVG:1:43", "gone p.svg:1:53", "p.svg#y index.html:1:43", "p.svg#z p.svg:1:110"],
+        total(pages=3, links=10, redirects=0, aliases=0),
+    ),
+    Known(
+        "files in XML that no link leads to",
+        {
+            "index.html": "", "a.xhtml": "<a href='gone'/>", "a.XHT": "<a href='none'/>", "b.svg": "<a href='no'/>", "c.css": "a{b:url(no)}",
+            "d.xml": "<a href='no'/>",
+        },
+        ["gone a.xhtml:1:10", "none a.XHT:1:10"],
+        (*total(pages=3, links=2, redirects=0, aliases=0), *unreached("a.XHT", "a.xhtml", "b.svg", "c.css", "d.xml")),
+        settings=(("unreached", True),),
+    ),
+    Known("only an SVG file and a style sheet", {"p.svg": "<a href='no'/>", "s.css": "a{b:url(no)}"}, [], ({"kind": "error"},)),
+    Known("a start that is an SVG file", {"p.svg": "<a href='gone'/>"}, ["gone p.svg:1:10"], settings=(("seeds", ("p.svg",)),)),
+    Known(
+        "links of style sheets",
+        {
+            "index.html": "<link rel=stylesheet href=s/a.css>\n<link rel=stylesheet href='s/a.css?v=2'>",
+            "s/a.css": "@import 'b.css';\n@IMPORT/**/url( \"c.css\" ) print;\na{b:url(../x.png),URL( '../gone.png')}/* url(no) */\na::after{content:'url(no)'}",
+            "s/b.css": "a{b:url(d.png);c:url(data:,x)}@font-face{src:url(f.eot?#iefix),url('f.svg#y')}", "x.png": "", "s/f.eot": "",
+            "s/f.svg": "<font id='x'/>",
+        },
+        ["gone.png s/a.css:3:25", "s/c.css s/a.css:2:18", "s/d.png s/b.css:1:9"],
+        total(pages=6, links=10, redirects=0, aliases=2),
+    ),
+    Known(
+        "no links of styles",
+        {"index.html": "<link href=a.css><style>a{b:url(no)}</style><p style='a:url(no)'><a href=gone>", "a.css": "a{b:url(no)}"},
+        ["gone index.html:1:74"],
+        total(pages=2, links=2, redirects=0, aliases=0),
+        settings=NO_STYLES,
+    ),
+    Known(
+        "what only a style uses is used",
+        {"index.html": "<style>@import url(a.css)</style>", "a.css": "a{b:url('p.png')}", "p.png": "", "q.png": ""},
+        [],
+        (*total(pages=3, links=2, redirects=0, aliases=0), *unreached("q.png")),
+        settings=(("unreached", True),),
+    ),
+    Known(
+        "links of styles in a document",
+        {
+            "index.html": "<base href=d/>\n<style>@import 'a.css';\n/* url(no) */ p{q:url(b.png)}</style>\n<p id=x style='a:url( c.png )' title=url(no)>\n"
+            "<p style='a:url(&quot;d.png&quot;),url(e.png)'>\n<svg><style>@import/**/\"f.css\";<b/>url(no)</style></svg><style/>@import 'g.css';</style>",
+            "d/b.png": "",
+        },
+        [
+            "d/a.css index.html:2:17", "d/c.png index.html:4:23", "d/d.png index.html:5:11", "d/e.png index.html:5:11", "d/f.css index.html:6:25",
+            "d/g.css index.html:6:74",
+        ],
+        total(pages=2, links=7, redirects=0, aliases=0),
+    ),
+    Known(
+        "an anchor in a style",
+        {"index.html": "<style>p{q:url(#x);r:url(#y)}</style><p id=x style='s:url(a.svg#z)'>", "a.svg": "<svg/>"},
+        ["./#y index.html:1:26", "a.svg#z index.html:1:59"],
+    ),
+    Known(
+        "the encoding of a style sheet",
+        {
+            "index.html": "<link href=a.css><link href=b.css><link href=c.css><link href=d.css>", "a.css": "a{b:url(\u00e4?\u00e4)}".encode(),
+            "b.css": b'@charset "latin1";a{b:url(\xe4?\xe4)}', "c.css": b'@charset "koi8-r";a{b:url(\xe4),url(c#\xe4)}', "d.css": b"a{b:url(\xe4)}",
+        },
+        ["%C3%A4?%C3%A4 a.css:1:9", "%C3%A4?%C3%A4 b.css:1:27", "%EF%BF%BD d.css:1:9", "c c.css:1:34"],
+    ),
+    Known(
+        "links that leave the folder",
+        {
+            "index.html": "<a href=../x.html#y><a href='..\\'><a href='../../doc/x.css'><img src=./../x.html><a href='d/../../x.html'>",
+            "d/a.html": "<base href=/d/>\n<a href=../../../z?q=/-/><a href=../><a href=../../doc/x.css><a href='../../doc/'>",
+        },
+        [
+            "../ index.html:1:30", "../../doc/x.css index.html:1:44", "../../z?q=/-/ d/a.html:2:9", "../doc/ d/a.html:2:71", "../doc/x.css d/a.html:2:46",
+            "../x.html index.html:1:91", "../x.html index.html:1:70", "../x.html index.html:1:9",
+        ],
+        (
+            {"kind": "total", "pages": 2, "links": 9, "broken": 0, "missing_pages": 0, "invalid": 0, "leaving": 8, "external": 0},
+            {"kind": "leaving", "target": "../x.html", "reason": "above_folder", "pages": 1},
+            {"kind": "leaving_place", "target": "../x.html", "reason": "above_folder", "file": "index.html", "line": 1, "column": 9},
+            {"kind": "worst", "file": "index.html", "links": 5},
+        ),
+        settings=NO_BASE,
+    ),
+    Known(
+        "paths that begin with a slash, without BASE",
+        {
+            "d/index.html": "<a href=/d/a.html><a href='\\d\\a.html'><a href=/../d/a.html><a href=/gone><a href='/d/%2E%2e/../../none'>\n"
+            "<a href=' /d/\na.html#y'><a href=/><a href=/d><a href=//d/><a href='/\\d'><a href=/?x><a href=/./>",
+            "d/a.html": "<p id=x>", "index.html": "",
+        },
+        ["d/a.html#y d/index.html:2:10", "gone d/index.html:1:68", "none d/index.html:1:83"],
+        (
+            *total(pages=3, links=12, redirects=1, aliases=1),
+            {"kind": "external", "url": "http://d/", "links": 2},
+        ),
+        settings=NO_BASE,
+    ),
+    Known(
+        "a base on another host, without BASE",
+        {"index.html": "<base href=//other.test/x/><a href=/y><a href=z><a href=../../w><a href=http://localhost/a>"},
+        [],
+        (
+            {"kind": "total", "links": 4, "leaving": 0, "broken": 0}, {"kind": "external", "url": "http://localhost/a", "links": 1},
+            {"kind": "external", "url": "http://other.test/w", "links": 1}, {"kind": "external", "url": "http://other.test/x/z", "links": 1},
+            {"kind": "external", "url": "http://other.test/y", "links": 1},
+        ),
+        settings=NO_BASE,
+    ),
+    Known(
+        "a base above the folder",
+        {"d/index.html": "<base href=../../e/><a href=x><a href=/d/><a href=../d/>"},
+        ["../d/ d/index.html:1:51", "../e/x d/index.html:1:29"],
+        settings=NO_BASE,
+    ),
+    Known("forty folders above", {"index.html": "<a href=" + 40 * "../" + "x>"}, [32 * "../" + "x index.html:1:9"], settings=NO_BASE),
+    Known(
+        "a start that begins with a slash, without BASE",
+        {"d/a.html": "<a href=b>", "b.html": "<a href=no>"},
+        ["d/b d/a.html:1:9"],
+        settings=(*NO_BASE, ("seeds", ("/d/a.html",)), ("reachable", True)),
+    ),
+    Known(
+        "links outside BASE",
+        {
+            "index.html": "<a href=/x><a href=../x#y><a href=/project><a href=http://docs.test:80/project/a><a href=//docs.test:8080/x>"
+            "<a href=https://docs.test/x><a href=/projects/><a href=/%70roject/>",
+        },
+        [
+            "http://docs.test/%70roject/ index.html:1:164", "http://docs.test/project index.html:1:35", "project/a index.html:1:52",
+            "http://docs.test/projects/ index.html:1:145", "http://docs.test/x index.html:1:20", "http://docs.test/x index.html:1:9",
+        ],
+        (
+            {"kind": "total", "links": 8, "broken": 1, "leaving": 5, "external": 2},
+            {"kind": "leaving", "target": "http://docs.test/x", "reason": "outside_base", "pages": 1},
+            {"kind": "external", "url": "http://docs.test:8080/x", "links": 1}, {"kind": "external", "url": "https://docs.test/x", "links": 1},
+        ),
+        settings=(("base", "http://docs.test/project/"), ("external", True)),
+    ),
+    Known(
+        "links that leave and are ignored",
+        {"index.html": "<a href=../../doc/a><a href=../../doc/b><a href=../c>"},
+        ["../c index.html:1:49"],
+        ({"kind": "total", "leaving": 1}, {"kind": "unused", "name": "../d"}),
+        settings=(*NO_BASE, ("ignores", ("../../doc/", "../d"))),
     ),
     Known("a seed without a page", {"index.html": ""}, [], error("x.html: no such page to start at"), settings=(("seeds", ("./", "x.html")),)),
 ]

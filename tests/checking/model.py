@@ -13,7 +13,7 @@ from typing import AbstractSet, Any, Dict, Iterator, List, NamedTuple, Optional,
 from urllib.parse import quote, unquote_to_bytes
 
 import drawn
-from checking.documents import TOOL, Document, document_of, known_schemes, with_query_in
+from checking.documents import TOOL, Document, document_of, form_of, is_page, known_schemes, with_query_in
 
 Row = Dict[str, Any]
 FRAGMENT = "\"<>`"  # percent-encoded in a fragment, in addition to controls, spaces and everything beyond ASCII
@@ -52,6 +52,14 @@ class Place(NamedTuple):
     column: int
 
 
+class Base(NamedTuple):
+    """What the links of a page are resolved against."""
+
+    url: drawn.Url
+    is_given: bool  # by a `base` element
+    front: str  # goes before a link without a scheme: the scheme of a `base` element, if that is neither http nor https
+
+
 class Link(NamedTuple):
     """A link of a page: its target and its location."""
 
@@ -64,11 +72,14 @@ INDEX_FILES = ("index.html", "index.htm", "index.xhtml")
 
 SCHEMES = frozenset(known_schemes())
 
+# The top of a folder whose URL is not known: a host of its own, and more folders than a link leads up
+NOWHERE = "http://folder.invalid/" + 32 * "-/"
+
 
 class Settings(NamedTuple):
     """The settings of a check."""
 
-    base: str
+    base: str  # NOWHERE if no BASE is given
     front: str = ""  # the prefix that is removed from URLs in the report
     ignores: Tuple[str, ...] = ()
     anchors: bool = True
@@ -80,9 +91,14 @@ class Settings(NamedTuple):
     seeds: Tuple[str, ...] = ()  # links on the top at which the search starts
     reachable: bool = False  # whether only what the search reaches is checked
     invalid: bool = True  # whether links are reported that are no URL, have an unknown scheme or name a local file
+    styles: bool = True  # whether the links of style sheets, and of styles in documents, are read
     workers: int = 1  # which makes no difference
     indices: Tuple[str, ...] = INDEX_FILES  # the names of index files; in each folder the first one counts
     fallback: bool = False  # a file is also found without its suffix .html
+
+    def is_rooted(self) -> bool:
+        """Whether no BASE is given. Then a path that begins with a slash is a path in the folder."""
+        return self.base == NOWHERE
 
 
 class Flag(NamedTuple):
@@ -106,6 +122,7 @@ FLAGS = (
     Flag("queries", "--queries", 0.15),
     Flag("reachable", "--reachable", 0.3),
     Flag("invalid", "--no-invalid", 0.2),
+    Flag("styles", "--no-styles", 0.15),
 )
 
 
@@ -121,6 +138,22 @@ def url_of(text: str, base: drawn.Url) -> Optional[str]:
     return resolved(text, base if text[0] == "?" else base._replace(path=(*base.path[:-1], ""), query=""))
 
 
+def begins_path(text: str) -> bool:
+    """Whether a text without what a URL parser drops begins with exactly one slash, or a backslash, which is one."""
+    return text[:1] in ("/", "\\") and text[1:2] not in ("/", "\\")
+
+
+def shown_seed(seed: str, settings: "Settings") -> str:
+    """A seed in the message that it has no page. Without BASE, a dot is before one that begins with a slash."""
+    return "." + seed if settings.is_rooted() and begins_path(seed) else seed
+
+
+def in_folder(text: str, top: drawn.Url) -> Optional[str]:
+    """The URL of a path that begins with a slash, as a path below the top. `..` does not lead above the top."""
+    url = url_of(text, top._replace(path=("",)))
+    return None if url is None else str(top) + url[len(str(top._replace(path=("",)))):]
+
+
 @lru_cache(maxsize=1 << 18)
 def resolved(text: str, base: drawn.Url) -> Optional[str]:
     """The URL of a text without a fragment."""
@@ -130,6 +163,11 @@ def resolved(text: str, base: drawn.Url) -> Optional[str]:
     # The current URL Standard escapes this character, and drawn.py rejects it
     url = drawn.url_or_none(path.replace("^", "%5E") + mark + query, base)
     return None if url is None else str(url)
+
+
+def origin_of(url: drawn.Url) -> str:
+    """The scheme, host and port of a URL, and the slash after them."""
+    return str(url._replace(path=("",), query=""))
 
 
 def is_short(word: str, text: str) -> bool:
@@ -181,6 +219,12 @@ def in_bytes(row: Tuple[Tuple[str, str], object]) -> Tuple[bytes, bytes]:
 def in_order(places: Set[Place]) -> List[Place]:
     """The locations by file, line and column."""
     return sorted(places, key=lambda place: (place.file.encode(), place.line, place.column))
+
+
+def links_in(rows: List[Row]) -> int:
+    """The number of links in the rows of targets and of their locations. A target without a location, to which only redirects lead, counts as one."""
+    placed = {row["target"] for row in rows if "file" in row}
+    return sum("file" in row or row["target"] not in placed for row in rows)
 
 
 class Names(NamedTuple):
@@ -272,10 +316,15 @@ class Site:
         """The pages in order: each file, and each folder with an index file."""
         return sorted((self.url(key), name) for key, name in self.files.items())
 
+    def start_of(self, seed: str) -> str:
+        """The URL of a link on the top."""
+        text = TOOL.cleaned(seed)
+        path = in_folder(text, self.base) if self.settings.is_rooted() and begins_path(text) else None
+        return path or str(drawn.url_of(seed, self.base))
+
     def own_documents(self) -> List[str]:
         """The own URLs of the files that are HTML documents by their names."""
-        suffixes = {name: os.path.splitext(os.path.basename(next(self.keys(name)).path))[1].lower() for name in self.own}
-        return [self.own[name] for name, suffix in suffixes.items() if suffix in (b".html", b".htm")]
+        return [url for name, url in self.own.items() if is_page(next(self.keys(name)).path)]
 
     def response(self, url: str) -> Response:
         """What a server returns for a URL."""
@@ -283,7 +332,7 @@ class Site:
         front = self.base.path[:-1]
         if request._replace(path=(), query="") != self.base._replace(path=(), query=""):
             return None
-        if request.path[:len(front)] != front:
+        if [unquote_to_bytes(name) for name in request.path[:len(front)]] != [unquote_to_bytes(name) for name in front]:
             return None
         path = self.path_of([unquote_to_bytes(part) for part in request.path[len(front):]])
         if path is None or not is_short("page", url):
@@ -331,29 +380,36 @@ class Site:
         return self.documents[name]
 
     def read(self, name: bytes) -> Optional[Document]:
-        """Reads the document in a file."""
-        kind, packed = TOOL.kind_of(next(self.keys(name)).path)
+        """Reads the document or the style sheet in a file."""
+        form = form_of(next(self.keys(name)).path, self.settings.styles)
         path = os.path.join(self.folder, name)
         size = os.path.getsize(path)
-        if packed or size > FILE_LIMIT:
+        if form is None or size > FILE_LIMIT:
             return None
         body = b""
         if size:
             with open(path, "rb") as file:
                 body = file.read()
-        return document_of(body) if TOOL.is_document(kind, body) else None
+        if form == "" and not TOOL.is_document(None, body):
+            return None
+        return document_of(body, form or "html", self.settings.styles)
+
+    def file_of(self, name: bytes) -> str:
+        """The name of a file as the report has it."""
+        return os.fsdecode(name)
 
 
 class Model:
     """A search from the top of a folder and from its documents, and the broken links that it finds."""
 
-    def __init__(self, folder: str, settings: Settings) -> None:
-        self.settings, self.site = settings, Site(folder, settings)
+    def __init__(self, folder: str, settings: Settings, site: Optional[Site] = None) -> None:
+        self.settings, self.site = settings, site or Site(folder, settings)
         self.responses: Dict[str, Response] = {}
+        self.others: Dict[str, Response] = {}  # of URLs of the site's origin that are not below the top
         self.links: Dict[str, List[Link]] = {}  # by the own URL of each file
         self.skipped: Counter[str] = Counter()  # by the own URL of each file, the links that are not http or https
         self.invalid: Dict[Tuple[str, str], Tuple[Set[str], Set[Place]]] = {}  # by text and reason: the pages with the link, and the locations
-        starts = [str(drawn.url_of(seed, self.site.base)) for seed in settings.seeds or [""]]
+        starts = [self.site.start_of(seed) for seed in settings.seeds or [""]]
         documents = [] if settings.reachable else self.site.own_documents()
         self.fault = self.start_fault(starts, documents)
         if settings.seeds or settings.reachable or self.site.response(starts[0]):
@@ -367,7 +423,7 @@ class Model:
         if not missing or not (self.settings.seeds or self.settings.reachable or not documents):
             return None
         if self.settings.seeds or self.settings.reachable:
-            return f"{missing[0]}: no such page to start at"
+            return f"{shown_seed(missing[0], self.settings)}: no such page to start at"
         return f"{os.fsdecode(self.site.folder)}: no HTML documents"
 
     def files_found(self) -> Set[bytes]:
@@ -381,7 +437,11 @@ class Model:
             url = waiting.pop()
             if url not in self.responses and self.is_within(url):
                 self.responses[url] = self.site.response(url)
-                waiting += self.followed(url)
+                waiting += sorted(self.followed(url))
+            elif url not in self.others and not self.is_within(url) and url.startswith(origin_of(self.site.base)):
+                # The path of the top may have other escapes
+                response = self.others[url] = self.site.response(url)
+                waiting += [response.url] if isinstance(response, Moved) else [response.own] if isinstance(response, Alias) else []
 
     def is_within(self, url: str) -> bool:
         """Whether a URL is below the top."""
@@ -397,37 +457,45 @@ class Model:
         if response is None:
             return set()
         document = self.site.document(response.name)
-        self.links[url] = [] if document is None else list(self.links_of(document, url, os.fsdecode(response.name)))
+        self.links[url] = [] if document is None else list(self.links_of(document, url, self.site.file_of(response.name)))
         return {link.url for link in self.links[url]}
 
     def links_of(self, document: Document, url: str, name: str) -> Iterator[Link]:
         """The links of a page with their targets."""
-        page = base = drawn.url_of(url)
-        front = ""  # goes before a link without a scheme
-        has_base = False
-        if document.base is not None:
-            try:
-                base = drawn.url_of(document.base, page)
-                has_base = True
-            except drawn.NotUrl:
-                pass
-            except drawn.NotHttp:
-                scheme = TOOL.scheme_of(TOOL.cleaned(document.base))
-                front = "" if scheme in ("data", "javascript") else f"{scheme}:"
+        page = Base(drawn.url_of(url), False, "")
+        base = page if document.base is None else self.base_of(TOOL.cleaned(document.base), page)
         for link in document.links:
             text = with_query_in(TOOL.cleaned(link.text), document.charset)
-            target = url_of(text if TOOL.scheme_of(text) else front + text, base)
+            target = self.target_of(text, base)
             if target is None:
-                line = written(text if TOOL.scheme_of(text) else front + text)
+                line = written(text if TOOL.scheme_of(text) else base.front + text)
                 self.skipped[url] += line is not None
-                reason = invalid_reason(text) if line and (TOOL.scheme_of(text) or not front) else None
+                reason = invalid_reason(text) if line and (TOOL.scheme_of(text) or not base.front) else None
                 if line and reason:
                     pages, places = self.invalid.setdefault((line, reason), (set(), set()))
                     pages.add(url)
                     places.add(Place(name, *document.lines.place(link.at)))
-            elif is_short("link", target if has_base else text.partition("#")[0]):
+            elif is_short("link", target if base.is_given else text.partition("#")[0]):
                 fragment = None if document.ids is None else fragment_of(link.text)
                 yield Link(target, fragment, Place(name, *document.lines.place(link.at)))
+
+    def base_of(self, text: str, page: "Base") -> "Base":
+        """The base of a page with a `base` element that has this text."""
+        path = in_folder(text, self.site.base) if self.settings.is_rooted() and begins_path(text) else None
+        try:
+            return Base(drawn.url_of(path or text, page.url), True, "")
+        except drawn.NotUrl:
+            return page
+        except drawn.NotHttp:
+            scheme = TOOL.scheme_of(text)
+            return page if scheme in ("data", "javascript") else page._replace(front=f"{scheme}:")
+
+    def target_of(self, text: str, base: "Base") -> Optional[str]:
+        """The URL to which a text leads, or None if it is not http or https."""
+        top = self.site.base
+        if self.settings.is_rooted() and begins_path(text) and not base.front and origin_of(base.url) == origin_of(top):
+            return in_folder(text, top)
+        return url_of(text if TOOL.scheme_of(text) else base.front + text, base.url)
 
     def rows(self) -> List[Row]:
         """The rows that the program prints as JSON, or its error."""
@@ -436,7 +504,8 @@ class Model:
         linking = self.linking()
         broken = [*self.missing_pages(linking), *(self.missing_anchors() if self.settings.anchors else ())]
         invalid = list(self.invalid_links()) if self.settings.invalid else []
-        places = [row for row in [*broken, *invalid] if "file" in row]
+        leaving = list(self.leaving_links(linking))
+        places = [row for row in [*broken, *invalid, *leaving] if "file" in row]
         redirects = [
             {"kind": "redirect", "page": self.shown(url), "to": self.shown(response.url), "pages": len(linking[url])}
             for url, response in sorted(self.responses.items()) if isinstance(response, Moved) and linking.get(url)
@@ -450,13 +519,13 @@ class Model:
             "kind": "total", "pages": len(self.links), "redirects": len(redirects), **counts,
             "aliases": sum(isinstance(response, Alias) for response in self.responses.values()),
             "links": sum(self.skipped.values()) + sum(map(len, self.links.values())),
-            "broken": sum(row["kind"] == "place" for row in broken), "invalid": sum(row["kind"] == "invalid_place" for row in invalid),
+            "broken": sum(row["kind"] == "place" for row in broken), "invalid": links_in(invalid), "leaving": links_in(leaving),
             "missing_pages": sum(row["kind"] == "broken" and row["missing"] == "page" for row in broken),
             "missing_anchors": sum(row["kind"] == "broken" and row["missing"] == "anchor" for row in broken),
         }
         worst = [{"kind": "worst", "file": file, "links": count} for file, count in files[:MOST_FILES]]
         names = [{"kind": "unreached", "name": name} for name in unreached]
-        return [total, *broken, *invalid, *worst, *redirects, *names, *external, *self.unused()]
+        return [total, *broken, *invalid, *leaving, *worst, *redirects, *names, *external, *self.unused()]
 
     def linking(self) -> Dict[str, Set[str]]:
         """The pages that link to each URL. A redirect or an alias counts as a link to its target."""
@@ -471,6 +540,39 @@ class Model:
                 linking.setdefault(response.own, set()).add(page)
         return linking
 
+    def leaving_urls(self, linking: Dict[str, Set[str]]) -> List[str]:
+        """The URLs of the site's origin that are not below the top and to which pages link, in order."""
+        origin = origin_of(self.site.base)
+        return sorted((url for url in linking if url.startswith(origin) and not self.is_within(url)), key=str.encode)
+
+    def leaving_links(self, linking: Dict[str, Set[str]]) -> Iterator[Row]:
+        """The rows of links that leave the site, and of their locations."""
+        places = self.places()
+        for url in self.leaving_urls(linking):
+            target = self.shown_outside(url)
+            if not self.is_ignored(target):
+                shown = {"target": target, "reason": "above_folder" if self.settings.is_rooted() else "outside_base"}
+                yield {"kind": "leaving", **shown, "pages": len(linking[url])}
+                for place in in_order(places.get(url, set())):
+                    yield {"kind": "leaving_place", **shown, **place._asdict()}
+
+    def shown_outside(self, url: str) -> str:
+        """A URL that is not below the top as the report prints it: without BASE, as a path from the top."""
+        if not self.settings.is_rooted():
+            return url
+        top, path = self.site.base.path[:-1], tuple(url[len(origin_of(self.site.base)):].split("/"))
+        shared = next(count for count in range(len(top), -1, -1) if top[:count] == path[:count] and count < len(path))
+        return "../" * (len(top) - shared) + "/".join(path[shared:])
+
+    def places(self) -> Dict[str, Set[Place]]:
+        """The locations of links to each URL, and of links to redirects to it."""
+        ends = {url: response.url for url, response in self.responses.items() if isinstance(response, Moved)}
+        places: Dict[str, Set[Place]] = {}
+        for links in self.links.values():
+            for link in links:
+                places.setdefault(ends.get(link.url, link.url), set()).add(link.place)
+        return places
+
     def shown(self, url: str) -> str:
         """A URL as the report prints it."""
         return (url[len(self.settings.front):] or "./") if url.startswith(self.settings.front) else url
@@ -481,12 +583,7 @@ class Model:
 
     def missing_pages(self, linking: Dict[str, Set[str]]) -> Iterator[Row]:
         """The rows of missing pages, with the locations of links to them and to redirects to them."""
-        names = self.names()
-        ends = {url: response.url for url, response in self.responses.items() if isinstance(response, Moved)}
-        places: Dict[str, Set[Place]] = {}
-        for links in self.links.values():
-            for link in links:
-                places.setdefault(ends.get(link.url, link.url), set()).add(link.place)
+        names, places = self.names(), self.places()
         for url in sorted(url for url, response in self.responses.items() if response is None):
             if not self.is_ignored(self.shown(url)):
                 pages, found = linking.get(url, ()), places.get(url, set())
@@ -542,7 +639,7 @@ class Model:
 
     def names(self) -> Dict[str, Tuple[str, str]]:
         """The pages with a unique file name, by that name, and their files."""
-        pages = [(url, name.decode()) for url, name in self.site.pages() if last_of(url)]
+        pages = [(url, self.site.file_of(name)) for url, name in self.site.pages() if last_of(url)]
         counts = Counter(last_of(url) for url, _ in pages)
         return {last_of(url): (url, name) for url, name in pages if counts[last_of(url)] == 1}
 
@@ -555,13 +652,17 @@ class Model:
                 yield self.shown(url)
 
     def external(self) -> List[Row]:
-        """The rows of external links."""
-        urls = Counter(link.url for links in self.links.values() for link in links if not self.is_within(link.url))
+        """The rows of links, and of redirects, to other sites."""
+        own = origin_of(self.site.base)
+        found = [link.url for links in self.links.values() for link in links]
+        found += [response.url for response in self.responses.values() if isinstance(response, Moved)]
+        urls = Counter(url for url in found if not url.startswith(own))
         return [{"kind": "external", "url": url, "links": count} for url, count in sorted(urls.items(), key=lambda row: row[0].encode())]
 
     def unused(self) -> Iterator[Row]:
         """The rows of ignore entries that match nothing."""
         texts = [self.shown(url) for url, response in self.responses.items() if response is None]
+        texts += [self.shown_outside(url) for url in self.leaving_urls(self.linking())]
         if self.settings.invalid:
             texts += [text for text, _ in self.invalid]
         if self.settings.anchors:

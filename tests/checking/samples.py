@@ -13,7 +13,8 @@ from pathlib import Path
 from typing import Any, Dict, Iterator, List, NamedTuple, Optional
 from urllib.parse import quote, unquote, urlsplit
 
-from checking.documents import Document, document_of, text_of
+from checking.documents import Document, document_of, form_of, sheet_text, text_of
+from checking.forms import REASONS
 
 AROUND = 60  # the most characters that are shown on each side of a link's value
 SHOWN = 3  # the most other spellings that are shown
@@ -21,13 +22,14 @@ INDEXES = ("index.htm", "index.xhtml", "index.php", "index.shtml")
 
 
 class Finding(NamedTuple):
-    """A broken link: its location, its target without the base, and what is missing, `page` or `anchor`."""
+    """A broken, invalid or leaving link: its location, its target without the base, and what is missing, `page` or `anchor`, or the reason."""
 
     file: str
     line: int
     column: int
     target: str
     missing: str
+    reason: str
 
 
 class Handler(http.server.SimpleHTTPRequestHandler):
@@ -81,17 +83,20 @@ class Folder:
 
     def read_lines(self, file: str) -> List[str]:
         """The lines of a document."""
-        return text_of(Path(self.top, file).read_bytes())[0].split("\n")
+        body = Path(self.top, file).read_bytes()
+        text, _ = sheet_text(body) if form_of(os.fsencode(file), True) == "css" else text_of(body)
+        return text.split("\n")
 
     def read_document(self, file: str) -> Document:
         """The links and ids of a document."""
-        return document_of(Path(self.top, file).read_bytes())
+        return document_of(Path(self.top, file).read_bytes(), form_of(os.fsencode(file), True) or "html")
 
     def value(self, finding: Finding) -> str:
         """The value of the attribute at the location of a finding, as far as it is in this line."""
         line, at = self.lines(finding.file)[finding.line - 1], finding.column - 1
         mark = line[at - 1:at]
-        end = line.find(mark, at) if mark in ("'", '"') else min((i for i, c in enumerate(line) if i >= at and c in " \t>"), default=-1)
+        ends = " \t>)" if mark == "(" else " \t>"
+        end = line.find(mark, at) if mark in ("'", '"') else min((i for i, c in enumerate(line) if i >= at and c in ends), default=-1)
         return line[at:end if end >= 0 else len(line)]
 
     def excerpt(self, finding: Finding) -> str:
@@ -102,6 +107,8 @@ class Folder:
     def notes(self, finding: Finding) -> List[str]:
         """What is known of a finding, in words, the most telling first."""
         left = self.left(finding)
+        if finding.reason:
+            return [REASONS[finding.reason], *left]
         if finding.missing == "anchor":
             return left + self.anchor_notes(finding)
         return left + self.page_notes(finding.target)
@@ -174,8 +181,9 @@ def bare(name: str) -> str:
 
 def shown(folder: Folder, finding: Finding) -> str:
     """A finding in a form that a person can judge."""
+    wrong = REASONS[finding.reason] if finding.reason else f"no such {finding.missing}"
     return "\n".join([
-        f"{finding.file}:{finding.line}:{finding.column}: {finding.target}: no such {finding.missing}",
+        f"{finding.file}:{finding.line}:{finding.column}: {finding.target}: {wrong}",
         f"  {folder.excerpt(finding)}",
         *(f"  - {note}" for note in folder.notes(finding)),
     ])

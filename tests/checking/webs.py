@@ -1,13 +1,13 @@
-"""The saved web of a folder, by tools/site_to_web.py with another tokenizer and the known differences of the program."""
+"""The saved web of a folder, by the converter with another tokenizer and the known differences of the program."""
 
 from __future__ import annotations
 
 import io
-from typing import Any, Dict, Iterator, List, Optional, Tuple
+from typing import Any, Dict, List, Optional, Tuple
 
 import drawn
 from checking import loading
-from checking.documents import character, read_tags, with_query_in
+from checking.documents import character, read_tags, style_links, with_query_in
 from checking.model import Alias, Found, Model, Moved, url_of
 
 DIFFERENCES = """\
@@ -20,15 +20,16 @@ KNOWN = {"utf_8": "utf-8", "u8": "utf-8", "windows-1252": "cp1252", "1252": "cp1
 
 
 class Reader:
-    """Reads a document with the model's tokenizer, in place of the reader of site_to_web.py."""
+    """Reads a document with the model's tokenizer, in place of the converter's reader."""
 
-    def __init__(self, _: bool) -> None:
+    def __init__(self, styles: bool, xml: bool) -> None:
+        self.styles, self.xml = styles, xml
         self.links: List[str] = []
         self.base: Optional[str] = None
 
     def feed(self, text: str) -> None:
         """Reads the whole text of a document."""
-        links, self.base, _ = read_tags(text)
+        links, self.base, _ = read_tags(text, self.xml, self.styles)
         self.links = [link.text for link in links]
 
     def close(self) -> None:
@@ -39,24 +40,26 @@ class Converter:
     """The converter with this reader of documents."""
 
     def __init__(self, tool: Any = None, reader: Any = Reader) -> None:
-        self.tool: Any = tool or loading.script("site_to_web_model", "tools/site_to_web.py")
-        self.names, self.text, self.entries = self.tool.charset_names, self.tool.text_of, self.tool.entries_below
+        self.tool: Any = tool or loading.script("converter_model", "tests/checking/converter.py")
+        self.charset, self.text, self.entries = self.tool.charset_of, self.tool.text_of, self.tool.entries_below
         self.resolved = self.tool.with_base
         self.tool.LinkReader = reader
         self.tool.without_long_references = lambda text: text
-        self.tool.charset_names = self.known_names
+        self.tool.links_of_style = lambda text: [link.text for link in style_links(text, 0)]
+        self.tool.charset_of = self.known_charset
         self.tool.text_of = self.text_with_controls
         self.tool.with_query_in = with_query_in
         self.tool.entries_below = self.utf_8_entries
         self.tool.with_base = self.with_base
 
-    def known_names(self, body: bytes, charset: Optional[str]) -> Iterator[str]:
-        """The names of the document's encodings, as far as the program knows them."""
-        return (KNOWN.get(name, "unheard") for name in self.names(body, charset) if name)
+    def known_charset(self, body: bytes, kind: Optional[str]) -> str:
+        """The encoding that a document or a style sheet declares, if the program knows it."""
+        name = self.charset(body, kind)
+        return KNOWN.get(name, "unheard") if name else ""
 
-    def text_with_controls(self, body: bytes, charset: Optional[str]) -> Tuple[str, str]:
-        """A document's text and encoding, with the controls of windows-1252."""
-        text, name = self.text(body, charset)
+    def text_with_controls(self, body: bytes, kind: Optional[str]) -> Tuple[str, str]:
+        """The text and the encoding of a document or a style sheet, with the controls of windows-1252."""
+        text, name = self.text(body, kind)
         return ("".join(map(character, body)), name) if name == "cp1252" else (text, name)
 
     def with_base(self, links: List[str], base: str, url: Any) -> List[str]:

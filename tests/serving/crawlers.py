@@ -560,7 +560,7 @@ def found_in_saved_web(trial: Trial, site: Path, url: str) -> Dict[str, str]:
     with open(web, "wb") as file:
         subprocess.run(
             # The server follows symbolic links, too.
-            [sys.executable, str(ROOT / "tools/site_to_web.py"), "--follow", str(site), url],
+            [sys.executable, str(ROOT / "tests/checking/converter.py"), "--follow", str(site), url],
             stdout=file, stderr=subprocess.DEVNULL, timeout=LONG, check=True,
         )
     words = [trial.program, "crawl", "--within", "127.0.0.1", str(web), url]

@@ -23,6 +23,8 @@ use Rattle.crawl_replay.specs.declared.script.error.ScriptError.TheVariants as s
 use Rattle.mercator_site.specs.declared.fault.SiteFault.{SiteFault}
 use Rattle.mercator_site.specs.declared.fault.SiteFault.TheVariants as unsited
 use Rattle.session_log.specs.Faults.{log_text}
+use Rattle.site_files.specs.declared.site_list.ListError.{ListError}
+use Rattle.site_files.specs.declared.site_list.ListError.TheVariants as list
 use Rattle.shown_text.specs.Shown.{shown}
 
 -- what is wrong with a line
@@ -53,6 +55,16 @@ seeds_text (seeds.NotText number) = line_text number (codes "not UTF-8")
 seeds_text (seeds.NotUrl number) = line_text number (codes "not a URL")
 seeds_text (seeds.NotHttp number) = line_text number (codes "not http or https")
 seeds_text seeds.NoMemory = codes "out of memory"
+
+-- why bytes are not a site list
+abbrev pub list_text : ListError → List ℕ
+list_text (list.LineTooLong number) = line_text number (codes "line too long")
+list_text (list.NotText number) = line_text number (codes "not UTF-8")
+list_text (list.BadLine number) = line_text number (codes "bad line")
+list_text (list.NotUrl number) = line_text number (codes "not a URL")
+list_text (list.NotHttp number) = line_text number (codes "not http or https")
+list_text (list.BadFile number) = line_text number (codes "bad file name")
+list_text list.NoMemory = codes "out of memory"
 
 -- why bytes are not a script
 abbrev pub script_text : ScriptError → List ℕ
@@ -93,6 +105,8 @@ site_text file unsited.CannotReadFolder = codes "cannot read " ++ file
 site_text file unsited.BadBase = codes "BASE: must be an http or https URL without a query"
 site_text file unsited.BadHost = codes "BASE: the host may contain only letters, digits, - and ."
 site_text file unsited.NoFiles = file ++ codes ": no files"
+site_text file (unsited.List error) = codes "index: " ++ list_text error
+site_text file unsited.NoneListed = codes "index: no URL below BASE"
 site_text file unsited.BadSeed = codes "--seed: not a URL below BASE"
 site_text file (unsited.NoStart link) = string_bytes link ++ codes ": no such page to start at"
 site_text file unsited.NoDocuments = file ++ codes ": no HTML documents"
@@ -105,6 +119,7 @@ abbrev pub fault_text : List ℕ → Fault → List ℕ
 fault_text file wrong.CannotRead = codes "cannot read " ++ file
 fault_text file wrong.CannotReadSeeds = codes "cannot read " ++ file
 fault_text file wrong.CannotReadIgnores = codes "cannot read " ++ file
+fault_text file wrong.CannotReadIndex = codes "cannot read " ++ file
 fault_text file wrong.CannotWrite = codes "cannot write"
 fault_text file wrong.NoMemory = codes "out of memory"
 fault_text file wrong.BadSuffix = codes "bad suffix"

@@ -32,15 +32,10 @@ abbrev pub of_unread : Unread → Fault
 of_unread unread.NoMemory = wrong.NoMemory
 of_unread _ = wrong.CannotRead
 
--- for a file of seeds
-abbrev pub of_unread_seeds : Unread → Fault
-of_unread_seeds unread.NoMemory = wrong.NoMemory
-of_unread_seeds _ = wrong.CannotReadSeeds
-
--- for an ignore list
-abbrev pub of_unread_ignores : Unread → Fault
-of_unread_ignores unread.NoMemory = wrong.NoMemory
-of_unread_ignores _ = wrong.CannotReadIgnores
+-- for a file with an error of its own
+abbrev pub of_unread_file : Fault → Unread → Fault
+of_unread_file fault unread.NoMemory = wrong.NoMemory
+of_unread_file fault _ = fault
 
 abbrev pub of_seeds : SeedsFault → Fault
 of_seeds seeds.NoMemory = wrong.NoMemory

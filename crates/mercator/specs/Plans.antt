@@ -87,11 +87,13 @@ abbrev pub listed_or : Option (String Global) → List ℕ → List ℕ
 listed_or None file = file
 listed_or (Some listed) file = string_bytes listed
 
--- the file that an error of a plan is about: the file of seeds or the ignore list if that cannot be read, the log if that cannot be
--- used, else FILE
+-- the file that an error of a plan is about: the file of seeds, the ignore list or the site list if that cannot be read, the log if
+-- that cannot be used, else FILE
 abbrev pub told_file : Plan → Fault → List ℕ
 told_file (asks.Crawl workers max queues file seeds options) fault.CannotReadSeeds = listed_or options.listed (string_bytes file)
 told_file (asks.Check options ignores) fault.CannotReadIgnores = listed_or ignores (string_bytes options.site.folder)
+told_file (asks.Check options ignores) fault.CannotReadIndex = listed_or options.site.index (string_bytes options.site.folder)
+told_file (asks.Site options) fault.CannotReadIndex = listed_or options.index (string_bytes options.folder)
 told_file (asks.ServeLog asked) (fault.Log why) = string_bytes asked.file
 told_file (asks.Compact asked) (fault.Log why) = string_bytes asked.log.file
 told_file plan fault = file_of plan

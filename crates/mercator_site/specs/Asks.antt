@@ -1,5 +1,6 @@
 -- The settings of a check.
 use Rattle.std.specs.Prelude.{ℕ, Bool, List, map, string_bytes}
+use Rattle.mercator_site.specs.Seeds.{seed_link}
 use Rattle.mercator_site.specs.declared.options.CheckOptions.{CheckOptions}
 use Rattle.mercator_site.specs.declared.options.ReportOptions.{ReportOptions}
 use Rattle.mercator_site.specs.declared.check.CheckSettings.{CheckSettings}
@@ -14,6 +15,8 @@ pub record Asks : Type 0 where
   pub reachable : Bool
   -- whether invalid links are reported
   pub invalid : Bool
+  -- whether the URL of the folder is not known
+  pub rooted : Bool
   -- the prefix that is removed from each URL
   pub front : List ℕ
   -- the entries of the ignore list
@@ -27,18 +30,27 @@ asks_in s = record {
   seeds = map string_bytes s.seeds.now;
   reachable = s.reachable;
   invalid = s.invalid;
+  rooted = s.rooted;
   front = s.front.now;
   entries = map string_bytes s.ignores.now;
 }
 
--- the settings of a command line, with this prefix and the entries of a file
-abbrev pub asks_of : CheckOptions → List ℕ → List (List ℕ) → Asks
-asks_of options front entries = record {
+-- the links at which the search of a command line starts
+abbrev pub seeds_of : CheckOptions → List (List ℕ)
+seeds_of options = map (seed_link options.paths) (map string_bytes options.seeds.items)
+
+-- the settings of a command line, with these links, this prefix and the entries of a file
+abbrev pub asks_with : CheckOptions → List (List ℕ) → List ℕ → List (List ℕ) → Asks
+asks_with options seeds front entries = record {
   report = options.report;
   folder = string_bytes options.site.folder;
-  seeds = map string_bytes options.seeds.items;
+  seeds = seeds;
   reachable = options.reachable;
   invalid = options.invalid;
+  rooted = options.paths;
   front = front;
   entries = entries;
 }
+
+abbrev pub asks_of : CheckOptions → List ℕ → List (List ℕ) → Asks
+asks_of options front entries = asks_with options (seeds_of options) front entries

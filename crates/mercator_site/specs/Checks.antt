@@ -2,6 +2,7 @@
 use Rattle.std.specs.Prelude.{◌≡◌, ◌==◌, ℕ, Bool, true, false, not, ◌&&◌, List, [], ◌∷◌, ◌++◌, length, map, string_bytes, Ok, Option, Some, None, ⊤, All, option_map}
 use Rattle.std.specs.Str.Lines.{lines}
 use Rattle.check_report.specs.Printing.{printed_text, printed_json, printed_annotations, printed_page}
+use Rattle.check_report.specs.Text.{is_broken}
 use Rattle.check_report.specs.declared.value.Findings.{Findings}
 use Rattle.check_report.specs.declared.value.Contents.{Contents}
 use Rattle.crawl_keys.specs.CanonicalText.{canonical, resolve}
@@ -15,7 +16,7 @@ use Rattle.crawl_pages.specs.Pages.{is_missing}
 use Rattle.crawl_pages.specs.declared.page.Page.{Page}
 use Rattle.crawl_pages.specs.declared.page.PageResult.{PageResult}
 use Rattle.mercator_site.specs.Asks.{Asks}
-use Rattle.mercator_site.specs.External.{AreExternal, Row, row_of}
+use Rattle.mercator_site.specs.External.{AreExternal, Row, host_root, row_of}
 use Rattle.mercator_site.specs.Own.{AreOwn, own_of}
 use Rattle.mercator_site.specs.declared.options.CheckForm.{CheckForm}
 use Rattle.mercator_site.specs.declared.options.CheckForm.TheVariants as form
@@ -26,8 +27,9 @@ use Rattle.saved_site.specs.Meaning.{IsSiteWeb}
 use Rattle.site_check.specs.Broken.{broken_of, redirects_of}
 use Rattle.site_files.specs.declared.files.SiteFiles.{SiteFiles}
 use Rattle.site_files.specs.declared.alias.Alias.{Alias}
-use Rattle.site_check.specs.Ignored.{AreUnused, parts_in}
+use Rattle.site_check.specs.Ignored.{AreUnused, anchors_in}
 use Rattle.site_check.specs.Invalid.{AreInvalid, invalid_rows_in, texts_if}
+use Rattle.site_check.specs.Leaving.{leaving_in, leaving_of, outside_texts}
 use Rattle.site_check.specs.Names.{AreNamed}
 use Rattle.site_check.specs.Told.{rows_in, way_of}
 use Rattle.site_check.specs.Totals.{totals_of}
@@ -69,12 +71,12 @@ pub record IsTopCrawl (top web : List ℕ) (reachable : Bool) (links : List (Lis
   pub sound : IsSound (lines web)
   pub found : IsCrawl (page_of (lines web)) (allows (host_key url ∷ [])) (begun ++ documents) pages
 
--- these are the rows of the pages' external links, if they are listed
+-- these are the rows of the pages' links to other hosts than the one with this root, if they are listed
 abbrev pub AreOthersListed : Bool → List ℕ → List PageResult → Option (List Row) → Type 0
-AreOthersListed true top pages (Some rows) = AreExternal top pages rows
-AreOthersListed true top pages None = ⊥
-AreOthersListed false top pages (Some rows) = ⊥
-AreOthersListed false top pages None = ⊤
+AreOthersListed true root pages (Some rows) = AreExternal root pages rows
+AreOthersListed true root pages None = ⊥
+AreOthersListed false root pages (Some rows) = ⊥
+AreOthersListed false root pages None = ⊤
 
 -- the rows of external links in a report
 abbrev pub other_rows : Contents → Option (List Row)
@@ -88,7 +90,7 @@ pub record IsReport (checked : Checked) (others : Option (List Row)) (name : Lis
   pub rows : found.broken.now ≡ checked.broken.items
   pub ways : found.redirects.now ≡ checked.redirects.items
   pub unused : found.unused_ignores.now ≡ checked.unused_ignores.items
-  pub is_broken : broken ≡ not (length checked.broken.items == 0)
+  pub is_broken : broken ≡ is_broken checked.totals
   pub contents : Contents
   pub lists : contents.lists ≡ asks.report.lists
   pub folder : contents.folder.now ≡ asks.folder
@@ -96,9 +98,9 @@ pub record IsReport (checked : Checked) (others : Option (List Row)) (name : Lis
   pub written : text ≡ printed_check asks.report.form contents found
 
 -- the text reports the missing pages and the redirects of such a crawl below the top, each with the number of pages that link
--- to it, the invalid links, if they are reported, and the entries that match nothing. Its totals count the pages at the own
--- URLs of files, their links, the pages at these aliases, and the rows. Something is broken if there is a row of a missing page or
--- anchor, or of an invalid link
+-- to it, the invalid links, if they are reported, the missing pages on the site's host that are not below the top, and the entries
+-- that match nothing. Its totals count the pages at the own URLs of files, their links, the pages at these aliases, and the rows.
+-- Something is broken if there is a row of a missing page or anchor, of an invalid link, or of a link that leads out of the site
 pub record IsCheck (top web : List ℕ) (aliases : List Alias) (asks : Asks) (broken : Bool) (text : List ℕ) : Type 0 where
   pub pages : List PageResult
   pub crawled : IsTopCrawl top web asks.reachable asks.seeds pages
@@ -108,19 +110,20 @@ pub record IsCheck (top web : List ℕ) (aliases : List Alias) (asks : Asks) (br
   pub rows : rows_in found.broken.now ≡ broken_of asks.front asks.entries own
   pub ways : map way_of found.redirects.now ≡ redirects_of asks.front own
   pub totals : found.totals ≡ totals_of aliases own found.broken.now found.redirects.now
-  -- the suggested pages are pages of a site with this top
+  -- the suggested pages are pages of a site with this top, and external links lead to other hosts than the site's
   pub site : SiteFiles
   pub site_top : string_bytes site.site.top ≡ top
   pub names : AreNamed asks.front site found.broken.now
   -- what is known of the links of these pages
   pub places : List LinkPlaces
   pub invalid : AreInvalid asks.entries (texts_if asks.invalid places own) (invalid_rows_in found.broken.now)
-  pub unused : AreUnused asks.front asks.entries own (texts_if asks.invalid places own) (parts_in found.broken.now) (map string_bytes found.unused_ignores.now)
+  pub leaving : leaving_in found.broken.now ≡ leaving_of asks.entries asks.rooted site own pages
+  pub unused : AreUnused asks.front asks.entries own (texts_if asks.invalid places own) (outside_texts asks.rooted site pages) (anchors_in found.broken.now) (map string_bytes found.unused_ignores.now)
   pub is_broken : broken ≡ not (length found.broken.now == 0)
   pub contents : Contents
   pub lists : contents.lists ≡ asks.report.lists
   pub folder : contents.folder.now ≡ asks.folder
-  pub others : AreOthersListed asks.report.external crawled.url own (other_rows contents)
+  pub others : AreOthersListed asks.report.external (host_root site) own (other_rows contents)
   pub written : text ≡ printed_check asks.report.form contents found
 
 -- the same, and the site has this name in the text

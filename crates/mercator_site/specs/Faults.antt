@@ -1,5 +1,5 @@
 -- The errors of a check of a folder, and of its saved web.
-use Rattle.std.specs.Prelude.{◌≡◌, ℕ, Bool, true, false, List, map, string_bytes, Ok}
+use Rattle.std.specs.Prelude.{◌≡◌, ℕ, Bool, true, false, List, Ok}
 use Rattle.std.specs.Str.Lines.{lines}
 use Rattle.crawl_keys.specs.CanonicalText.{canonical}
 use Rattle.crawl_run.specs.Crawls.{CrawlFails, is_incomplete}
@@ -7,6 +7,7 @@ use Rattle.crawl_run.specs.declared.error.CrawlError.{CrawlError}
 use Rattle.crawl_run.specs.declared.error.CrawlError.TheVariants as crawl
 use Rattle.crawl_run.specs.declared.failure.CrawlFailure.{CrawlFailure}
 use Rattle.saved_pages.specs.WebFaults.{IsSound}
+use Rattle.mercator_site.specs.Asks.{seeds_of}
 use Rattle.mercator_site.specs.Checks.{AreStarts}
 use Rattle.mercator_site.specs.declared.options.CheckOptions.{CheckOptions}
 use Rattle.mercator_site.specs.declared.fault.SiteFault.{SiteFault}
@@ -14,15 +15,22 @@ use Rattle.mercator_site.specs.declared.fault.SiteFault.TheVariants as wrong
 use Rattle.saved_site.specs.Meaning.{IsSiteWeb}
 use Rattle.site_files.specs.declared.error.SiteError.{SiteError}
 use Rattle.site_files.specs.declared.error.SiteError.TheVariants as unmade
+use Rattle.site_files.specs.declared.site_list.ListError.{ListError}
+use Rattle.site_files.specs.declared.site_list.ListError.TheVariants as unlisted
 
 -- the error for each error of a part
 abbrev pub of_site : SiteError → SiteFault
 of_site unmade.BadBase = wrong.BadBase
 of_site unmade.NoFiles = wrong.NoFiles
-of_site unmade.NoneListed = wrong.NoFiles
+of_site unmade.NoneListed = wrong.NoneListed
 of_site unmade.TooLarge = wrong.TooLarge
 of_site unmade.NoMemory = wrong.NoMemory
 of_site (unmade.Io why) = wrong.CannotReadFolder
+
+-- the error for each error of a site list
+abbrev pub of_list : ListError → SiteFault
+of_list unlisted.NoMemory = wrong.NoMemory
+of_list error = wrong.List error
 
 -- the error for a crawl that failed so, because of this
 abbrev pub of_crawl_by : CrawlError → CrawlFailure → SiteFault
@@ -59,4 +67,4 @@ pub record IsSiteIncomplete (options : CheckOptions) : Type 0 where
   pub top : List ℕ
   pub web : List ℕ
   pub made : IsSiteWeb web
-  pub crawl : IsTopIncomplete top web options.reachable (map string_bytes options.seeds.items) options.workers
+  pub crawl : IsTopIncomplete top web options.reachable (seeds_of options) options.workers

@@ -4,4 +4,6 @@ pub mod Ends
 pub mod External
 pub mod Faults
 pub mod Own
+pub mod Rules
+pub mod Seeds
 pub mod Sources

@@ -3,7 +3,7 @@ ghost use Rattle.std.specs.Prelude.{◌≡◌, ℕ, List, IfErr, IfOk, map, Ok, 
 ghost use Rattle.crawl_keys.specs.CanonicalText.{canonical};
 ghost use Rattle.mercator_site.specs.Asks.{asks_in};
 ghost use Rattle.mercator_site.specs.Checks.{AreOthersListed, IsNamedCheck, IsNamedSiteCheck, IsReport, IsSiteCheckAt, IsTopCrawl};
-ghost use Rattle.mercator_site.specs.External.{row_of};
+ghost use Rattle.mercator_site.specs.External.{host_root, row_of};
 ghost use Rattle.mercator_site.specs.Faults.{IsTopIncomplete, IsUnfinished, is_unfinished};
 ghost use Rattle.mercator_site.specs.Sources.{IsSourceOf};
 ghost use Rattle.saved_site.specs.Linked.{page_at};
@@ -51,6 +51,8 @@ pub struct CheckSettings<'a> {
     pub reachable: bool,
     /// Whether links are reported that are no URL, have an unknown scheme or name a local file.
     pub invalid: bool,
+    /// Whether the URL of the folder is not known, so that a link that leads above the top is reported by its path from the top.
+    pub rooted: bool,
     pub report: ReportOptions,
     /// The folder that annotations put before the names of files; empty for files in memory.
     pub folder: &'a str,
@@ -122,8 +124,8 @@ pub fn report_of_pages<R: Threads + Wait + Sync, B: FileBytes + Sync>(
     let top = top_url(alloc, files.top())?;
     let crawls = crawl_site(rt, alloc, &site.pages, files, &top, settings)?;
     let results = own_results(&top, crawls.whole.result.pages());
-    let others = others_listed(alloc, settings.report.external, &top, results)?;
-    let input = input_of(&site, &crawls, results, settings);
+    let others = others_listed(alloc, settings.report.external, files, results)?;
+    let input = input_of(&site, &crawls, settings);
     let checked = check_site(rt, alloc, results, files, bytes, input)?;
     let report = report_of(alloc, &checked, &others, settings)?;
     // Not freed: the process exits soon, and the system frees everything faster.
@@ -175,13 +177,14 @@ fn crawl_reached<R: Threads + Wait + Sync>(
 fn input_of<'a>(
     site: &'a LinkedSite,
     crawls: &'a SiteCrawls,
-    results: &'a [PageResult],
     settings: CheckSettings<'a>,
 ) -> CheckInput<'a>
     ensures front { result.front.now ≡ settings.entry.front.now }
     ensures ignores { result.ignores.now ≡ settings.entry.ignores.now }
     ensures aliases { result.aliases.now ≡ site.now.aliases.items }
     ensures invalid { result.invalid ≡ settings.entry.invalid }
+    ensures found { result.found.now ≡ crawls.now.whole.result }
+    ensures rooted { result.rooted ≡ settings.entry.rooted }
 {
     CheckInput {
         front: settings.front,
@@ -190,8 +193,8 @@ fn input_of<'a>(
         anchors: site.anchors.as_slice(),
         places: site.places.as_slice(),
         invalid: settings.invalid,
-        found: results,
-        rooted: false,
+        found: crawls.whole.result.pages(),
+        rooted: settings.rooted,
         reached: reached_in(crawls, settings.report.lists.unreached),
     }
 }
@@ -232,15 +235,15 @@ fn report_of(
 fn others_listed(
     alloc: Global,
     listed: bool,
-    top: &CanonUrl,
+    files: &SiteFiles<'_>,
     pages: &[PageResult],
 ) -> Result<Option<Vec<External>>, AllocError>
-    ensures { IfOk result (λ others. AreOthersListed listed top.now pages.now (option_map (λ urls. map row_of urls.items) others)) }
+    ensures { IfOk result (λ others. AreOthersListed listed (host_root files.now) pages.now (option_map (λ urls. map row_of urls.items) others)) }
 {
     if !listed {
         return Ok(None);
     }
-    Ok(Some(external_links(alloc, top, pages)?))
+    Ok(Some(external_links(alloc, files, pages)?))
 }
 
 /// The external links as a slice, if they are listed.

@@ -1,56 +1,67 @@
 //! The external links of a site.
-ghost use Rattle.std.specs.Prelude.{◌≡◌, ◌≤◌, ◌++◌, ◌∷◌, [], OnOk, IfOk, map};
+ghost use Rattle.std.specs.Prelude.{◌≡◌, ◌≤◌, ◌++◌, ◌∷◌, [], OnOk, IfOk, map, string_bytes};
 ghost use Rattle.crawl_sources.specs.Tallies.{pointed};
-ghost use Rattle.mercator_site.specs.External.{AreExternal, outside, outside_links, row, row_of, runs, runs_from};
+ghost use Rattle.mercator_site.specs.External.{AreExternal, host_root, outside, outside_links, row, row_of, runs, runs_from};
 
-use crate::own::is_own;
+use crate::own::begins;
 use check_report::External;
 use crawl_keys::CanonUrl;
 use crawl_pages::{NoMemory, PageResult, links_of};
-use std::alloc::Global;
+use site_files::SiteFiles;
+use std::alloc::{AllocError, Global};
 
-/// The URLs outside the top that the pages link to, in byte order, each with the number of links. Two links in one page count as
+/// The URLs outside the site's host that the pages link to, in byte order, each with the number of links. Two links in one page count as
 /// two.
 ///
 /// # Errors
 /// Out of memory.
 pub(crate) fn external_links(
     alloc: Global,
-    top: &CanonUrl,
+    files: &SiteFiles<'_>,
     pages: &[PageResult],
 ) -> Result<Vec<External>, NoMemory>
-    ensures { IfOk result (λ all. AreExternal top.now pages.now (map row_of all.items)) }
+    ensures { IfOk result (λ all. AreExternal (host_root files.now) pages.now (map row_of all.items)) }
 {
-    let mut urls = outside_links(alloc, top, pages)?;
+    let root = host_root(alloc, files)?;
+    let mut urls = outside_links(alloc, root.as_str(), pages)?;
     urls.sort_by(|a, b| a.cmp(b))?;
     runs(alloc, urls.as_slice())
 }
 
-/// The links to URLs outside the top.
+/// The URL of the root of the site's host, with which the URLs of this scheme, host and port begin.
+fn host_root(alloc: Global, files: &SiteFiles<'_>) -> Result<String, AllocError>
+    ensures { IfOk result (λ root. string_bytes root ≡ host_root files.now) }
+{
+    let mut root = String::from_str(alloc, files.origin())?;
+    root.push_str("/")?;
+    Ok(root)
+}
+
+/// The links to URLs outside the host with this root.
 fn outside_links<'r>(
     alloc: Global,
-    top: &CanonUrl,
+    root: &str,
     pages: &'r [PageResult],
 ) -> Result<Vec<&'r CanonUrl>, NoMemory>
-    ensures { IfOk result (λ urls. pointed urls.items ≡ outside_links top.now pages.now) }
+    ensures { IfOk result (λ urls. pointed urls.items ≡ outside_links root.now pages.now) }
 {
     let mut urls = Vec::new(alloc);
     for one in pages {
-        push_outside(top, links_of(&one.page), &mut urls)?;
+        push_outside(root, links_of(&one.page), &mut urls)?;
     }
     Ok(urls)
 }
 
-/// Appends the links to URLs outside the top, in their order.
+/// Appends the links to URLs outside the host with this root, in their order.
 fn push_outside<'r>(
-    top: &CanonUrl,
+    root: &str,
     links: &'r [CanonUrl],
     urls: &mut Vec<&'r CanonUrl>,
 ) -> Result<(), NoMemory>
-    ensures { OnOk result (pointed urls.new.items ≡ pointed urls.old.items ++ outside top.now links.now) }
+    ensures { OnOk result (pointed urls.new.items ≡ pointed urls.old.items ++ outside root.now links.now) }
 {
     for link in links {
-        if !is_own(top, link) {
+        if !begins(root, link) {
             urls.push(link)?;
         }
     }

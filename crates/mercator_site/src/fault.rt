@@ -1,10 +1,10 @@
 //! The errors of a check of a folder, and of its saved web.
 ghost use Rattle.std.specs.Prelude.{◌≡◌, false};
-ghost use Rattle.mercator_site.specs.Faults.{is_unfinished, of_crawl, of_site};
+ghost use Rattle.mercator_site.specs.Faults.{is_unfinished, of_crawl, of_list, of_site};
 ghost use Rattle.mercator_site.specs.declared.fault.SiteFault.TheVariants as wrong;
 
 use crawl_run::{CrawlError, CrawlFailure};
-use site_files::SiteError;
+use site_files::{ListError, SiteError};
 use std::alloc::{AllocError, AllocFailed};
 
 /// Why a folder has no report, or no saved web.
@@ -18,6 +18,10 @@ pub enum SiteFault {
     BadHost,
     /// The folder has no files.
     NoFiles,
+    /// The site list is not valid. The reason is never that memory ran out.
+    List(ListError),
+    /// No URL of the site list is below BASE.
+    NoneListed,
     /// A seed is not a URL below BASE.
     BadSeed,
     /// There is no page at this link, which is a seed with its hidden characters escaped, or `./`, the top.
@@ -54,10 +58,22 @@ impl From<SiteError> for SiteFault {
     fn from(error: SiteError) -> SiteFault {
         match error {
             SiteError::BadBase => SiteFault::BadBase,
-            SiteError::NoFiles | SiteError::NoneListed => SiteFault::NoFiles,
+            SiteError::NoFiles => SiteFault::NoFiles,
+            SiteError::NoneListed => SiteFault::NoneListed,
             SiteError::TooLarge => SiteFault::TooLarge,
             SiteError::NoMemory => SiteFault::NoMemory,
             SiteError::Io(_) => SiteFault::CannotReadFolder,
+        }
+    }
+}
+
+impl From<ListError> for SiteFault {
+    ghost from_gives = { λ error fault. (fault ≡ of_list error) × (is_unfinished fault ≡ false) };
+
+    fn from(error: ListError) -> SiteFault {
+        match error {
+            ListError::NoMemory => SiteFault::NoMemory,
+            _ => SiteFault::List(error),
         }
     }
 }

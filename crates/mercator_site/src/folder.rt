@@ -1,20 +1,25 @@
 //! A folder's saved web, and the report of its check.
 ghost use Rattle.std.specs.Prelude.{◌≡◌, ℕ, List, [], IfErr, IfOk, if◌then◌else◌, map, string_bytes, false, true};
-ghost use Rattle.mercator_site.specs.Asks.{asks_in, asks_of};
+ghost use Rattle.mercator_site.specs.Asks.{asks_in, asks_with};
 ghost use Rattle.mercator_site.specs.Ends.{IsFolderCheck};
 ghost use Rattle.mercator_site.specs.Faults.{IsSiteIncomplete, is_unfinished};
+ghost use Rattle.mercator_site.specs.Rules.{AreCheckRules, AreRules};
 ghost use Rattle.saved_site.specs.Below.{IsWebAt};
 ghost use Rattle.saved_site.specs.Meaning.{IsSiteWeb};
 ghost use Rattle.site_check.specs.Ignored.{entries_in};
+ghost use Rattle.site_files.specs.Below.{IsTop};
 
 use crate::check::{CheckReport, CheckSettings, report_of_pages};
 use crate::fault::SiteFault;
 use crate::notes::push_page_notes;
 use crate::options::{CheckOptions, SiteOptions};
+use crate::seeds::seed_links;
 use crate::start::check_starts;
 use saved_site::{OnDisk, Web, WebText, site_pages, site_web};
 use site_check::read_ignores;
-use site_files::{FolderNames, Note, Rules, SiteFiles, SiteNames, folder_names};
+use site_files::{
+    FolderNames, Note, Rules, SiteFiles, SiteList, SiteNames, folder_names, read_site_list,
+};
 use std::alloc::{AllocError, Global};
 use std::fs::Files;
 use std::sync::Wait;
@@ -26,17 +31,19 @@ const THREADS: usize = 4;
 /// The names of index files, unless others are given.
 const INDEX_FILES: &[&str] = &["index.html", "index.htm", "index.xhtml"];
 
-/// The rules by which names become pages, without anchors and positions.
-fn rules_of(alloc: Global, options: &SiteOptions) -> Result<Rules, AllocError> {
+/// The rules by which names become pages, without anchors and positions. A site list has the exact URL of each page.
+fn rules_of(alloc: Global, options: &SiteOptions) -> Result<Rules, AllocError>
+    ensures { IfOk result (AreRules options.now) }
+{
     Ok(Rules {
         index_files: index_files(alloc, options.index_files.as_slice())?,
         html_fallback: options.html_fallback,
         queries: options.queries,
-        exact: options.exact,
+        exact: options.exact || options.index.is_some(),
         follow: options.follow,
         anchors: false,
         places: false,
-        styles: false,
+        styles: options.styles,
         rooted: false,
         threads: THREADS,
     })
@@ -62,22 +69,78 @@ fn push_index_files(alloc: Global, names: &mut Vec<String>) -> Result<(), AllocE
     Ok(())
 }
 
-/// The rules of a check: with the positions of links, and with anchors if they are checked.
-fn check_rules(alloc: Global, options: &CheckOptions) -> Result<Rules, AllocError> {
+/// The rules of a check: with the positions of links, and with anchors if they are checked. Without BASE, the root is the top.
+fn check_rules(alloc: Global, options: &CheckOptions) -> Result<Rules, AllocError>
+    ensures { IfOk result (AreCheckRules options.now) }
+{
     let mut rules = rules_of(alloc, &options.site)?;
     rules.anchors = options.anchors;
     rules.places = true;
+    rules.rooted = options.paths;
     Ok(rules)
 }
 
-/// Makes the saved web of a folder. Appends a note about everything that is skipped or changed.
+/// The names of a site's files: those in a folder, or those of a site list.
+#[derive(Drop)]
+enum Names {
+    Folder(FolderNames),
+    List(SiteList),
+}
+
+/// The names in a folder, or those in the bytes of a site list. Appends a note about each name in the folder that is skipped.
+fn names_of<R: Files<File: Send, Dir: Send> + Threads + Sync>(
+    rt: &R,
+    alloc: Global,
+    folder: &str,
+    rules: &Rules,
+    list: Option<&[u8]>,
+    notes: &mut Vec<Note>,
+) -> Result<Names, SiteFault>
+    ensures { IfErr result (λ fault. is_unfinished fault ≡ false) }
+{
+    if let Some(bytes) = list {
+        return Ok(Names::List(read_site_list(alloc, bytes)?));
+    }
+    let mut names = folder_names(rt, alloc, folder, rules)?;
+    notes.append(&mut names.notes)?;
+    Ok(Names::Folder(names))
+}
+
+/// The pages of a site with these names.
+fn files_of<'a>(
+    alloc: Global,
+    names: &'a Names,
+    base: &'a str,
+    rules: &'a Rules,
+) -> Result<SiteFiles<'a>, SiteFault>
+    ensures top { IfOk result (λ files. IsTop base.now (string_bytes files.site.top)) }
+    ensures plain { IfErr result (λ fault. is_unfinished fault ≡ false) }
+{
+    match names {
+        Names::Folder(found) => {
+            let input = SiteNames {
+                names: found.names.as_slice(),
+                links: found.links.as_slice(),
+                base,
+                rules,
+            };
+            Ok(SiteFiles::new(alloc, input)?)
+        }
+        Names::List(list) => Ok(SiteFiles::listed(alloc, list, base, rules)?),
+    }
+}
+
+/// Makes the saved web of a folder. `list` has the bytes of the site list, if the options name one. Appends a note about everything that
+/// is skipped or changed.
 ///
 /// # Errors
-/// `CannotReadFolder`, `BadBase`, `NoFiles`, `TooLarge`, `NoMemory`. The notes about the names of the folder stay after an error.
+/// `CannotReadFolder`, `List`, `BadBase`, `NoFiles`, `NoneListed`, `TooLarge`, `NoMemory`. The notes about the names of the folder stay
+/// after an error.
 pub fn web_of_folder<R: Files<File: Send, Dir: Send> + Threads + Sync>(
     rt: &R,
     alloc: Global,
     options: &SiteOptions,
+    list: Option<&[u8]>,
     notes: &mut Vec<Note>,
 ) -> Result<WebText, SiteFault>
     ensures web { IfOk result IsSiteWeb }
@@ -86,19 +149,8 @@ pub fn web_of_folder<R: Files<File: Send, Dir: Send> + Threads + Sync>(
 {
     let rules = rules_of(alloc, options)?;
     let folder = options.folder.as_str();
-    let FolderNames {
-        names,
-        links,
-        notes: mut found,
-    } = folder_names(rt, alloc, folder, &rules)?;
-    notes.append(&mut found)?;
-    let input = SiteNames {
-        names: names.as_slice(),
-        links: links.as_slice(),
-        base: options.base.as_str(),
-        rules: &rules,
-    };
-    let files = SiteFiles::new(alloc, input)?;
+    let names = names_of(rt, alloc, folder, &rules, list, notes)?;
+    let files = files_of(alloc, &names, options.base.as_str(), &rules)?;
     let bytes = OnDisk { rt, alloc, folder };
     let Web {
         text,
@@ -108,16 +160,17 @@ pub fn web_of_folder<R: Files<File: Send, Dir: Send> + Threads + Sync>(
     Ok(text)
 }
 
-/// Checks a folder. `ignores` has the bytes of an ignore list: the targets that equal or begin with one of its lines are ignored.
-/// Appends a note about everything that is skipped or changed.
+/// Checks a folder. `list` has the bytes of the site list, if the options name one. `ignores` has the bytes of an ignore list: the
+/// targets that equal or begin with one of its lines are ignored. Appends a note about everything that is skipped or changed.
 ///
 /// # Errors
-/// `CannotReadFolder`, `BadBase`, `NoFiles`, `BadSeed`, `NoStart`, `NoDocuments`, `TooLarge`, `BadHost`, `NoMemory`; `Crawl` if the
-/// crawl is incomplete. The notes about the names of the folder stay after an error.
+/// `CannotReadFolder`, `List`, `BadBase`, `NoFiles`, `NoneListed`, `BadSeed`, `NoStart`, `NoDocuments`, `TooLarge`, `BadHost`,
+/// `NoMemory`; `Crawl` if the crawl is incomplete. The notes about the names of the folder stay after an error.
 pub fn report_of_folder<R: Files<File: Send, Dir: Send> + Threads + Wait + Sync>(
     rt: &R,
     alloc: Global,
     options: &CheckOptions,
+    list: Option<&[u8]>,
     ignores: &[u8],
     notes: &mut Vec<Note>,
 ) -> Result<CheckReport, SiteFault>
@@ -127,20 +180,10 @@ pub fn report_of_folder<R: Files<File: Send, Dir: Send> + Threads + Wait + Sync>
     let known = read_ignores(alloc, ignores)?;
     let rules = check_rules(alloc, options)?;
     let folder = options.site.folder.as_str();
-    let FolderNames {
-        names,
-        links,
-        notes: mut found,
-    } = folder_names(rt, alloc, folder, &rules)?;
-    notes.append(&mut found)?;
-    let input = SiteNames {
-        names: names.as_slice(),
-        links: links.as_slice(),
-        base: options.site.base.as_str(),
-        rules: &rules,
-    };
-    let files = SiteFiles::new(alloc, input)?;
-    let settings = settings_of(options, files.top(), known.as_slice());
+    let names = names_of(rt, alloc, folder, &rules, list, notes)?;
+    let files = files_of(alloc, &names, options.site.base.as_str(), &rules)?;
+    let seeds = seed_links(alloc, options.paths, options.seeds.as_slice())?;
+    let settings = settings_of(options, files.top(), seeds.as_slice(), known.as_slice());
     check_starts(alloc, &files, settings.seeds, settings.reachable)?;
     let bytes = OnDisk { rt, alloc, folder };
     let site = site_pages(rt, alloc, &files, settings.seeds, &bytes)?;
@@ -153,9 +196,10 @@ pub fn report_of_folder<R: Files<File: Send, Dir: Send> + Threads + Wait + Sync>
 fn settings_of<'a>(
     options: &'a CheckOptions,
     top: &'a str,
+    seeds: &'a [String],
     known: &'a [String],
 ) -> CheckSettings<'a>
-    ensures asks { asks_in result ≡ asks_of options.now result.front.now (map string_bytes known.now) }
+    ensures asks { asks_in result ≡ asks_with options.now (map string_bytes seeds.now) result.front.now (map string_bytes known.now) }
     ensures workers { result.workers ≡ options.now.workers }
     ensures front { result.front.now ≡ (if options.now.paths then top.now else []) }
     ensures name { result.name.now ≡ (if options.now.paths then string_bytes options.now.site.folder else top.now) }
@@ -165,9 +209,10 @@ fn settings_of<'a>(
         name: name_of(options, top),
         front: front_of(options.paths, top),
         ignores: known,
-        seeds: options.seeds.as_slice(),
+        seeds,
         reachable: options.reachable,
         invalid: options.invalid,
+        rooted: options.paths,
         report: options.report,
         folder: options.site.folder.as_str(),
     }

@@ -10,6 +10,7 @@ mod notes;
 mod options;
 mod own;
 mod print;
+mod seeds;
 mod start;
 
 pub use check::{CheckReport, CheckSettings, Files, report_of_files, report_of_pages};

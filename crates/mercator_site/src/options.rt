@@ -38,6 +38,8 @@ pub struct SiteOptions {
     pub folder: String,
     /// The URL of the top of the folder.
     pub base: String,
+    /// The name of the site list, if there is one. It says which file or redirect each URL is.
+    pub index: Option<String>,
     /// The names of index files; if there are none, `index.html`, `index.htm` and `index.xhtml`.
     pub index_files: Vec<String>,
     /// Whether a path without a page is looked up again with `.html` added, unless it ends with a slash.
@@ -48,6 +50,8 @@ pub struct SiteOptions {
     pub queries: bool,
     /// Whether symbolic links that lead out of the folder are followed.
     pub follow: bool,
+    /// Whether `url()` and `@import` in style sheets, style elements and style attributes are links.
+    pub styles: bool,
 }
 
 /// The settings of `check`, which reports the broken links of a folder.

@@ -11,8 +11,14 @@ use crawl_pages::PageResult;
 pub(crate) fn is_own(top: &CanonUrl, url: &CanonUrl) -> bool
     ensures { result ≡ begins top.now url.now }
 {
-    let top = top.as_str().as_bytes();
-    url.as_str().as_bytes().starts_with(top)
+    begins(top.as_str(), url)
+}
+
+/// Whether the URL begins with this text.
+pub(crate) fn begins(front: &str, url: &CanonUrl) -> bool
+    ensures { result ≡ begins front.now url.now }
+{
+    url.as_str().as_bytes().starts_with(front.as_bytes())
 }
 
 /// The results of the site's own URLs. Results are in the order of their URLs, so these are consecutive.

@@ -7,7 +7,6 @@ ghost use Rattle.mercator_site.specs.Own.{AreOwn};
 ghost use Rattle.saved_site.specs.Linked.{page_at};
 ghost use Rattle.site_files.specs.Below.{begins};
 
-use crate::crawl::top_url;
 use crate::fault::SiteFault;
 use crate::own::is_own;
 use crawl_keys::{CanonUrl, KeyError, resolve};
@@ -30,16 +29,16 @@ pub(crate) fn check_starts(
 ) -> Result<(), SiteFault>
     ensures plain { IfErr result (λ fault. is_unfinished fault ≡ false) }
 {
-    let top = top_url(alloc, files.top())?;
-    check_links(alloc, &top, files, links)?;
+    let top = files.top_url();
+    check_links(alloc, top, files, links)?;
     if !links.is_empty() || files.find(top.as_str()).is_some() {
         Ok(())
     } else if reachable {
         Err(SiteFault::NoStart(String::from_str(alloc, "./")?))
-    } else if own_documents(alloc, &top, files)?.is_empty() {
-        Err(SiteFault::NoDocuments)
-    } else {
+    } else if has_document(files) {
         Ok(())
+    } else {
+        Err(SiteFault::NoDocuments)
     }
 }
 
@@ -164,7 +163,8 @@ pub(crate) fn documents(
     own_documents(alloc, top, files)
 }
 
-/// The own URLs of the files that are HTML documents by their names. All are below the top, which is looked at since it is promised.
+/// The own URLs of the files that are HTML documents. All are below the top, which is tested because the contract promises it of any
+/// site.
 fn own_documents(
     alloc: Global,
     top: &CanonUrl,
@@ -193,7 +193,12 @@ fn push_own(top: &CanonUrl, url: &CanonUrl, urls: &mut Vec<CanonUrl>) -> Result<
     Ok(())
 }
 
-/// The URL of the page with this number, if the page is an HTML document by its name and this is its own URL.
+/// Whether a page is an HTML document at its own URL.
+fn has_document(files: &SiteFiles<'_>) -> bool {
+    (0..files.page_count()).any(|number| document_at(files, number).is_some())
+}
+
+/// The URL of the page with this number, if the page is an HTML document and this is its own URL.
 fn document_at<'a>(files: &'a SiteFiles<'_>, number: usize) -> Option<&'a CanonUrl> {
     let url = files.url(number)?;
     if files.document(number)?.is_page() && files.own_url(number)? == url {

@@ -30,6 +30,8 @@ pub enum Fault {
     CannotReadSeeds,
     /// The ignore list cannot be read or exceeds a limit.
     CannotReadIgnores,
+    /// The site list cannot be read or exceeds a limit.
+    CannotReadIndex,
     /// The input is not a script.
     Script(ScriptError),
     /// The input is not a saved web.
@@ -85,22 +87,12 @@ impl Fault {
         }
     }
 
-    /// Returns the error about a file of seeds that was not read to its end.
-    pub fn of_unread_seeds(why: Unread) -> Fault
-        ensures { result ≡ spec.of_unread_seeds why }
+    /// Returns the error about a file that was not read to its end: `fault`, unless memory ran out.
+    pub fn of_unread_file(why: Unread, fault: Fault) -> Fault
+        ensures { result ≡ spec.of_unread_file fault why }
     {
         match why {
-            Unread::Failed | Unread::Beyond => Fault::CannotReadSeeds,
-            Unread::NoMemory => Fault::NoMemory,
-        }
-    }
-
-    /// Returns the error about an ignore list that was not read to its end.
-    pub fn of_unread_ignores(why: Unread) -> Fault
-        ensures { result ≡ spec.of_unread_ignores why }
-    {
-        match why {
-            Unread::Failed | Unread::Beyond => Fault::CannotReadIgnores,
+            Unread::Failed | Unread::Beyond => fault,
             Unread::NoMemory => Fault::NoMemory,
         }
     }

@@ -1,6 +1,6 @@
 //! The texts of errors.
 ghost use Rattle.std.specs.Prelude.{◌≡◌, ◌++◌, Some, codes};
-ghost use Rattle.mercator.specs.FaultText.{fault_text, line_text, words_text, web_text, seeds_text, script_text, crawl_text, finish_text, cert_text, site_text};
+ghost use Rattle.mercator.specs.FaultText.{fault_text, line_text, words_text, web_text, seeds_text, list_text, script_text, crawl_text, finish_text, cert_text, site_text};
 
 use crate::commands::fault::Fault;
 use crawl_certificate::CertError;
@@ -10,6 +10,7 @@ use crawl_run::CrawlError;
 use crawl_sources::SeedsFault;
 use mercator_site::SiteFault;
 use saved_web::WebError;
+use site_files::ListError;
 use std::fmt;
 use std::fmt::Display;
 
@@ -27,7 +28,10 @@ impl fmt::Display for FaultText<'_> {
 
     fn fmt<W: fmt::Write>(&self, f: &mut fmt::Formatter<W>) -> fmt::Result {
         match self.fault {
-            Fault::CannotRead | Fault::CannotReadSeeds | Fault::CannotReadIgnores => {
+            Fault::CannotRead
+            | Fault::CannotReadSeeds
+            | Fault::CannotReadIgnores
+            | Fault::CannotReadIndex => {
                 let file = self.file;
                 write!(f, "cannot read {file}")
             }
@@ -154,6 +158,21 @@ fn seeds_words(fault: SeedsFault) -> Words
     }
 }
 
+/// What is wrong with a site list.
+fn list_words(error: ListError) -> Words
+    ensures { words_text result.line result.words.now ≡ list_text error }
+{
+    match error {
+        ListError::LineTooLong(number) => at(number, "line too long"),
+        ListError::NotText(number) => at(number, "not UTF-8"),
+        ListError::BadLine(number) => at(number, "bad line"),
+        ListError::NotUrl(number) => at(number, "not a URL"),
+        ListError::NotHttp(number) => at(number, "not http or https"),
+        ListError::BadFile(number) => at(number, "bad file name"),
+        ListError::NoMemory => alone("out of memory"),
+    }
+}
+
 /// What is wrong with a script.
 fn script_words(fault: ScriptError) -> Words
     ensures { words_text result.line result.words.now ≡ script_text fault }
@@ -241,6 +260,12 @@ impl fmt::Display for SiteText<'_> {
                 f.write_str("BASE: the host may contain only letters, digits, - and .")
             }
             SiteFault::NoFiles => write!(f, "{file}: no files"),
+            SiteFault::List(error) => About {
+                what: "index",
+                words: list_words(*error),
+            }
+            .fmt(f),
+            SiteFault::NoneListed => f.write_str("index: no URL below BASE"),
             SiteFault::BadSeed => f.write_str("--seed: not a URL below BASE"),
             SiteFault::NoStart(link) => write!(f, "{link}: no such page to start at"),
             SiteFault::NoDocuments => write!(f, "{file}: no HTML documents"),

@@ -1,5 +1,5 @@
 //! The commands for a folder: `site` and `check`.
-ghost use Rattle.std.specs.Prelude.{◌≡◌, ◌≤◌, ◌⊎◌, ℕ, List, Option, true, false, vec_len, IfOk, IfErr, IfSome, string_bytes};
+ghost use Rattle.std.specs.Prelude.{◌≡◌, ◌≤◌, ◌⊎◌, ℕ, List, Option, true, false, vec_len, IfOk, IfErr, IfSome, string_bytes, option_map};
 ghost use Rattle.mercator.specs.FaultText.{note_line};
 ghost use Rattle.mercator.specs.Faults.{status_of_fault};
 ghost use Rattle.mercator.specs.Limits.{most_input_bytes};
@@ -22,7 +22,7 @@ use std::thread::Threads;
 /// Prints the saved web of a folder, and the notes on `err`.
 ///
 /// # Errors
-/// `Site`, `CannotWrite`, `NoMemory`.
+/// `CannotReadIndex`, `Site`, `CannotWrite`, `NoMemory`.
 pub fn run_site<R: Files<File: Send, Dir: Send> + Threads + Sync, O: Write, E: Write>(
     rt: &R,
     alloc: Global,
@@ -34,8 +34,9 @@ pub fn run_site<R: Files<File: Send, Dir: Send> + Threads + Sync, O: Write, E: W
     ensures fault { (input : Option (List ℕ)) → IfErr result (λ fault. EndsBy (asks.Site options.now) input fault (out.new ≡ out.old)) }
     ensures plain { IfErr result (λ fault. status_of_fault fault ≡ 1) }
 {
+    let index = read_index(rt, alloc, &options.index)?;
     let mut notes = Vec::new(alloc);
-    let web = web_of_folder(rt, alloc, options, &mut notes);
+    let web = web_of_folder(rt, alloc, options, bytes_of(&index), &mut notes);
     print_notes(alloc, err, &notes)?;
     end_by_web(out, &web?)
 }
@@ -43,7 +44,7 @@ pub fn run_site<R: Files<File: Send, Dir: Send> + Threads + Sync, O: Write, E: W
 /// Checks a folder and prints the report, and the notes on `err`. Returns whether something is broken.
 ///
 /// # Errors
-/// `CannotReadIgnores`, `Site`, `Crawl` if the crawl is incomplete, `CannotWrite`, `NoMemory`.
+/// `CannotReadIgnores`, `CannotReadIndex`, `Site`, `Crawl` if the crawl is incomplete, `CannotWrite`, `NoMemory`.
 pub fn run_check<R: Files<File: Send, Dir: Send> + Threads + Wait + Sync, O: Write, E: Write>(
     rt: &R,
     alloc: Global,
@@ -58,8 +59,10 @@ pub fn run_check<R: Files<File: Send, Dir: Send> + Threads + Wait + Sync, O: Wri
     ensures no_log { IfErr result (λ fault. status_of_fault fault ≡ 5 → ⊥) }
 {
     let list = read_ignore_list(rt, alloc, ignores)?;
+    let index = read_index(rt, alloc, &options.site.index)?;
     let mut notes = Vec::new(alloc);
-    let report = report_of_folder(rt, alloc, options, list.as_slice(), &mut notes);
+    let urls = bytes_of(&index);
+    let report = report_of_folder(rt, alloc, options, urls, list.as_slice(), &mut notes);
     print_notes(alloc, err, &notes)?;
     let report = report?;
     end(out, report.text.as_slice())?;
@@ -81,7 +84,35 @@ fn read_ignore_list<R: Files>(
     };
     match read_named(rt, alloc, file) {
         Ok(bytes) => Ok(bytes),
-        Err(why) => Err(Fault::of_unread_ignores(why)),
+        Err(why) => Err(Fault::of_unread_file(why, Fault::CannotReadIgnores)),
+    }
+}
+
+/// Reads the site list, if there is one.
+fn read_index<R: Files>(
+    rt: &R,
+    alloc: Global,
+    index: &Option<String>,
+) -> Result<Option<Vec<u8>>, Fault>
+    ensures within { IfOk result (λ list. IfSome list (λ bytes. vec_len bytes ≤ most_input_bytes)) }
+    ensures plain { IfErr result (λ fault. status_of_fault fault ≡ 1) }
+{
+    let Some(file) = index else {
+        return Ok(None);
+    };
+    match read_named(rt, alloc, file) {
+        Ok(bytes) => Ok(Some(bytes)),
+        Err(why) => Err(Fault::of_unread_file(why, Fault::CannotReadIndex)),
+    }
+}
+
+/// The bytes of the site list, if there is one.
+fn bytes_of(index: &Option<Vec<u8>>) -> Option<&[u8]>
+    ensures { option_map (λ bytes. bytes.now) result ≡ option_map (λ bytes. bytes.items) index.now }
+{
+    match index {
+        Some(bytes) => Some(bytes.as_slice()),
+        None => None,
     }
 }
 

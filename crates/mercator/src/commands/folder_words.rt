@@ -2,15 +2,18 @@
 ghost use Rattle.std.specs.Prelude.{◌≡◌, IfOk};
 
 use crate::commands::arguments::{
-    Flag, Valued, command_with, option, push, push_flags, push_options, values_of, word, workers,
+    Flag, Valued, command_with, option, push, push_flags, push_options, value_of, values_of, word,
+    workers,
 };
 use clap::builder::ValueParser;
 use clap::{Arg, ArgAction, ArgGroup, ArgMatches, Command};
 use mercator_site::{CheckForm, CheckOptions, Lists, ReportOptions, SiteOptions};
 use std::alloc::{AllocError, Global};
 
-/// The URL of the top if no BASE is given.
-const LOCAL: &str = "http://localhost/";
+/// The URL of the top if no BASE is given. No site has this host, so no absolute URL leads there. The top is below many folders, so that
+/// a link above it also has a URL.
+const LOCAL: &str =
+    "http://folder.invalid/-/-/-/-/-/-/-/-/-/-/-/-/-/-/-/-/-/-/-/-/-/-/-/-/-/-/-/-/-/-/-/-/";
 
 const SITE_HELP: &str = "\
 A saved web is a text file of pages and their links, which 'mercator crawl' reads. A page is
@@ -65,7 +68,8 @@ fn push_check_args<'a>(alloc: Global, args: &mut Vec<Arg<'a>>) -> Result<(), All
     push(args, seed(alloc))?;
     push_folder_options(alloc, args)?;
     push(args, folder(alloc, "Folder to check"))?;
-    let help = "URL of the folder, http or https; without it the report shows paths";
+    let help =
+        "URL of the folder, http or https; without it / is the folder, and the report shows paths";
     push(args, base(alloc, help))
 }
 
@@ -118,10 +122,28 @@ const KNOWN_OPTIONS: &[Valued] = &[Valued {
 
 /// How file names and URLs correspond, and how the folder is read.
 fn push_folder_options<'a>(alloc: Global, args: &mut Vec<Arg<'a>>) -> Result<(), AllocError> {
+    push(args, index(alloc)?)?;
     push(args, index_file(alloc))?;
     push(args, fallback(alloc)?)?;
     push_flags(alloc, args, FOLDER_FLAGS)
 }
+
+/// The option for a site list. It requires BASE, and has the exact URL of each file.
+fn index<'a>(alloc: Global) -> Result<Arg<'a>, AllocError> {
+    let index = option(
+        alloc,
+        "index",
+        "FILE",
+        "Read the URLs of the files in FOLDER from the site list FILE",
+    );
+    index
+        .value_parser(ValueParser::NonEmptyString)
+        .requires_arg("base")?
+        .conflicts_with_all(URL_OPTIONS)
+}
+
+/// The options that say how the names in a folder become URLs, and whether symbolic links are followed.
+const URL_OPTIONS: &[&str] = &["index-file", "fallback", "exact", "queries", "follow"];
 
 /// The option for the names of index files.
 fn index_file<'a>(alloc: Global) -> Arg<'a> {
@@ -163,6 +185,10 @@ const FOLDER_FLAGS: &[Flag] = &[
         name: "follow",
         help: "Follow symbolic links that lead out of FOLDER, which are otherwise listed and skipped",
     },
+    Flag {
+        name: "no-styles",
+        help: "Ignore url() and @import in style sheets, style elements and style attributes",
+    },
 ];
 
 /// The option `--seed`, which may be repeated. Its value is not empty.
@@ -198,11 +224,13 @@ pub fn site_options(
     Ok(SiteOptions {
         folder: String::from_str(alloc, found.get_str("folder").unwrap_or("."))?,
         base: String::from_str(alloc, base)?,
+        index: value_of(alloc, found, "index")?,
         index_files: values_of(alloc, found, "index-file")?,
         html_fallback: found.get_str("fallback").is_some(),
         exact: found.get_flag("exact"),
         queries: found.get_flag("queries"),
         follow: found.get_flag("follow"),
+        styles: !found.get_flag("no-styles"),
     })
 }
 

@@ -147,8 +147,8 @@ impl Plan {
         }
     }
 
-    /// Returns the file that this error is about: the file of seeds or the ignore list if that cannot be read, the log if that
-    /// cannot be used, else FILE.
+    /// Returns the file that this error is about: the file of seeds, the ignore list or the site list if that cannot be read, the log
+    /// if that cannot be used, else FILE.
     pub fn told_file(&self, fault: &Fault) -> &str
         ensures { result.now ≡ told_file self.now fault.now }
     {
@@ -158,6 +158,12 @@ impl Plan {
             }
             (Plan::Check { options, ignores }, Fault::CannotReadIgnores) => {
                 listed_or(ignores, options.site.folder.as_str())
+            }
+            (Plan::Check { options, .. }, Fault::CannotReadIndex) => {
+                listed_or(&options.site.index, options.site.folder.as_str())
+            }
+            (Plan::Site(options), Fault::CannotReadIndex) => {
+                listed_or(&options.index, options.folder.as_str())
             }
             (Plan::ServeLog(log), Fault::Log(_)) => log.file.as_str(),
             (Plan::Compact(asked), Fault::Log(_)) => asked.log.file.as_str(),

@@ -49,7 +49,7 @@ fn read_list<R: Files, I: Read>(
     };
     match read_file(rt, alloc, file, input) {
         Ok(bytes) => Ok(bytes),
-        Err(why) => Err(Fault::of_unread_seeds(why)),
+        Err(why) => Err(Fault::of_unread_file(why, Fault::CannotReadSeeds)),
     }
 }
 

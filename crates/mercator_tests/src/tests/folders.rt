@@ -111,6 +111,7 @@ fn settings(none: &[String]) -> CheckSettings<'_> {
         ignores: none,
         seeds: none,
         invalid: true,
+        rooted: false,
         reachable: false,
         report: ReportOptions::default(),
         folder: "",

@@ -1,9 +1,9 @@
-use Rattle.mercator_site.proofs.Prelude.{ℕ, List, map, Ok, Vec, Global, refl, sym, ap, subst, ◌∙◌, ◌≡◌, ◌==◌, not, length, string_bytes, err_from_is_err_and, External, canonical, PageResult, AreOthersListed, IsTopCrawl, row_of, own_of}
+use Rattle.mercator_site.proofs.Prelude.{List, map, Ok, refl, sym, ap, subst, ◌∙◌, ◌≡◌, ◌==◌, not, length, string_bytes, err_from_is_err_and, canonical, PageResult, AreOthersListed, IsTopCrawl, host_root, own_of}
 use Rattle.std.proofs.Common.{true≢false}
-use Rattle.std.specs.Option.{option_map}
 use Rattle.site_check.specs.Broken.{broken_of, redirects_of}
-use Rattle.site_check.specs.Ignored.{AreUnused, parts_in}
+use Rattle.site_check.specs.Ignored.{AreUnused, anchors_in}
 use Rattle.site_check.specs.Invalid.{AreInvalid, invalid_rows_in, texts_if}
+use Rattle.site_check.specs.Leaving.{leaving_in, leaving_of, outside_texts}
 use Rattle.site_check.specs.Names.{AreNamed}
 use Rattle.site_check.specs.Told.{rows_in, way_of}
 use Rattle.site_check.specs.Totals.{totals_of}
@@ -21,9 +21,6 @@ returns-clause-named g c = λ web source.
     let C : List PageResult → Type 0 = λ ps. IsTopCrawl base web c.args.settings.reachable links ps in
     let crawl = subst C (sym c.pages.ensures) (c.in_ok-crawls.ensures.found base web canon source) in
     let same_top : c.in_ok-top.top ≡ crawl.url = same_url _ _ _ canon crawl.canon in
-    let others = option_map (λ (urls : Vec External Global). map row_of urls.items) c.in_ok-others.others in
-    let D : List ℕ → Type 0 = λ o. AreOthersListed external o pages others in
-    let d = subst D same_top c.in_ok-others.ensures in
     let front = c.args.settings.front.now in
     let entries = map string_bytes c.args.settings.ignores.now in
     let input = c.input_of-input.result in
@@ -33,6 +30,12 @@ returns-clause-named g c = λ web source.
     let asked = c.args.settings.invalid in
     let links = texts_if asked places pages in
     let same_links : texts_if input.invalid places pages ≡ links = ap (λ is. texts_if is places pages) c.input_of-input.ensures.invalid in
+    let files = c.args.files.now in
+    let rooted = c.args.settings.rooted in
+    let same_rooted = c.input_of-input.ensures.rooted in
+    let same_found : input.found.now ≡ all = c.input_of-input.ensures.found ∙ sym c.pages.ensures in
+    let outs = outside_texts rooted files all in
+    let same_outs : outside_texts input.rooted files input.found.now ≡ outs = ap (λ is. outside_texts is files input.found.now) same_rooted ∙ ap (outside_texts rooted files) same_found in
     let checked = c.in_ok-checked.checked in
     let report = c.in_ok-report.ensures in
     let aliases = c.args.site.aliases.items in
@@ -59,17 +62,21 @@ returns-clause-named g c = λ web source.
             subst (λ bs. AreInvalid entries links (invalid_rows_in bs)) (sym report.rows)
             (subst (λ es. AreInvalid es links (invalid_rows_in checked.broken.items)) same_entries
             (subst (λ ls. AreInvalid (map string_bytes input.ignores.now) ls (invalid_rows_in checked.broken.items)) same_links c.in_ok-checked.ensures.invalid));
+        leaving =
+            ap leaving_in report.rows ∙ c.in_ok-checked.ensures.leaving ∙ ap (λ es. leaving_of es input.rooted files pages input.found.now) same_entries
+            ∙ ap (λ is. leaving_of entries is files pages input.found.now) same_rooted ∙ ap (leaving_of entries rooted files pages) same_found;
         unused =
-            subst (λ us. AreUnused front entries pages links (parts_in report.found.broken.now) (map string_bytes us)) (sym report.unused)
-            (subst (λ bs. AreUnused front entries pages links (parts_in bs) (map string_bytes checked.unused_ignores.items)) (sym report.rows)
-            (subst (λ es. AreUnused front es pages links (parts_in checked.broken.items) (map string_bytes checked.unused_ignores.items)) same_entries
-            (subst (λ f. AreUnused f (map string_bytes input.ignores.now) pages links (parts_in checked.broken.items) (map string_bytes checked.unused_ignores.items)) same_front
-            (subst (λ ls. AreUnused input.front.now (map string_bytes input.ignores.now) pages ls (parts_in checked.broken.items) (map string_bytes checked.unused_ignores.items)) same_links c.in_ok-checked.ensures.ignores))));
-        is_broken = report.is_broken ∙ ap (λ bs. not (length bs == 0)) (sym report.rows);
+            subst (λ us. AreUnused front entries pages links outs (anchors_in report.found.broken.now) (map string_bytes us)) (sym report.unused)
+            (subst (λ bs. AreUnused front entries pages links outs (anchors_in bs) (map string_bytes checked.unused_ignores.items)) (sym report.rows)
+            (subst (λ es. AreUnused front es pages links outs (anchors_in checked.broken.items) (map string_bytes checked.unused_ignores.items)) same_entries
+            (subst (λ f. AreUnused f (map string_bytes input.ignores.now) pages links outs (anchors_in checked.broken.items) (map string_bytes checked.unused_ignores.items)) same_front
+            (subst (λ os. AreUnused input.front.now (map string_bytes input.ignores.now) pages links os (anchors_in checked.broken.items) (map string_bytes checked.unused_ignores.items)) same_outs
+            (subst (λ ls. AreUnused input.front.now (map string_bytes input.ignores.now) pages ls (outside_texts input.rooted files input.found.now) (anchors_in checked.broken.items) (map string_bytes checked.unused_ignores.items)) same_links c.in_ok-checked.ensures.ignores)))));
+        is_broken = report.is_broken ∙ c.in_ok-checked.ensures.verdict ∙ ap (λ bs. not (length bs == 0)) (sym report.rows);
         contents = report.contents;
         lists = report.lists;
         folder = report.folder;
-        others = subst (λ rows. AreOthersListed external crawl.url pages rows) (sym report.others_listed) d;
+        others = subst (λ rows. AreOthersListed external (host_root c.args.files.now) pages rows) (sym report.others_listed) c.in_ok-others.ensures;
         written = report.written;
       };
       base = report.base;

@@ -1,7 +1,7 @@
 #!/usr/bin/env python3
-"""Test tools/site_to_web.py. Only the standard library is needed.
+"""Test tests/checking/converter.py. Only the standard library is needed.
 
-The expected lines are written by hand, by the rules in the help of the tool. For the example site, they are also
+The expected lines are written by hand, by the rules in the help of the converter. For the example site, they are also
 compared with a server of the standard library. Each saved web is first checked by the rules of its format.
 """
 
@@ -9,7 +9,6 @@ from __future__ import annotations
 
 import contextlib
 import functools
-import gzip
 import http.client
 import http.server
 import importlib.util
@@ -19,15 +18,13 @@ import subprocess
 import sys
 import tempfile
 import threading
-import time
 import unittest
-import zlib
-from typing import Any, Callable, Iterator, NamedTuple, Optional, Sequence, Union
+from typing import Any, Callable, Iterator, NamedTuple, Optional, Union
 from unittest import mock
 from urllib.parse import urljoin, urlsplit
 
 ROOT = os.path.dirname(os.path.dirname(os.path.abspath(__file__)))
-TOOL = os.path.join(ROOT, "tools", "site_to_web.py")
+TOOL = os.path.join(ROOT, "tests", "checking", "converter.py")
 SITE = os.path.join(ROOT, "examples", "site")
 LINE_LIMIT = 4096
 LONGEST = 120
@@ -221,7 +218,7 @@ SHIPPED = {
     "/news/?from=top": ["link /news/"],
     "/news/index.html": ["link /news/"],
     "/old.html": ["link news/2025.html"],
-    "/style.css": [],
+    "/style.css": ["link images/paper.png"],
 }
 
 
@@ -501,7 +498,7 @@ class Folders(Converting):
         self.assertEqual(pages, {"http://a.test/?q": ["link x"], "http://a.test/index.html?q": ["link y"]})
 
     def test_images_are_pages_without_links(self) -> None:
-        for name in ("a.png", "b.jpg", "c.svg"):
+        for name in ("a.png", "b.jpg", "c.svgz"):
             self.put("images/" + name, b'\x89<html><a href="x">')
         self.assertEqual(
             self.converted(),
@@ -509,7 +506,7 @@ class Folders(Converting):
                 "http://a.test/images": ["moved /images/"],
                 "http://a.test/images/a.png": [],
                 "http://a.test/images/b.jpg": [],
-                "http://a.test/images/c.svg": [],
+                "http://a.test/images/c.svgz": [],
             },
         )
         self.assertIn("4 pages, 1 of them redirects and 0 aliases; 0 links;", self.notes)
@@ -520,6 +517,8 @@ class Folders(Converting):
             "a.html": 1,
             "a.HTM": 1,
             "a.xhtml": 1,
+            "a.SVG": 1,
+            "a.css": 0,
             "none": 1,
             "a.php": 1,
             "a.txt": 0,
@@ -532,6 +531,15 @@ class Folders(Converting):
                 self.assertEqual(len(self.converted()[f"http://a.test/{name}"]), found)
         self.put("words", "no document")
         self.assertEqual(self.converted()["http://a.test/words"], [])
+
+    def test_many_comments_are_skipped_fast_to_find_the_type_of_a_file(self) -> None:
+        comments = "<!---->" * 140
+        self.put("data", comments)
+        self.put("page", comments + "\n<!doctype html><a href=x>")
+        self.put("odd", "<?xml version=1?> <!-- a --> b --> <html><a href=y>")
+        self.assertEqual(
+            self.converted(), {"http://a.test/data": [], "http://a.test/odd": ["link y"], "http://a.test/page": ["link x"]}
+        )
 
     def test_a_symbolic_link_to_a_folder_gives_its_files_aliases(self) -> None:
         self.put("dir/x.html", "<a href=../other/up/dir/>")
@@ -580,7 +588,7 @@ class Folders(Converting):
             os.symlink(target, os.path.join(self.folder, name))
         inside = {"in": [], "in.html": ["link y"], "top": ["moved /top/"]}
         self.assertEqual(self.converted(), {f"http://a.test/{name}": lines for name, lines in inside.items()})
-        note = "site_to_web: skipped, a symbolic link that leads out of the folder (--follow follows it): {}\n"
+        note = "converter: skipped, a symbolic link that leads out of the folder (--follow follows it): {}\n"
         for name in ("device.html", "dir", "near", "through", "twice.html"):
             self.assertIn(note.format(name), self.notes)
         self.assertIn("skipped, neither a file nor a folder: gone.html\n", self.notes)
@@ -633,15 +641,14 @@ class Folders(Converting):
         os.mkdir(os.path.join(self.folder, "empty"))
         self.assert_error(1, self.folder, "http://a.test/", says="no files in")
         self.assert_error(1, self.folder + "x", "http://a.test/", says=": not a folder")
-        self.assert_error(3, self.folder, says="give FOLDER and BASE, or --warc FILE..")
-        self.assert_error(3, says="give FOLDER and BASE, or --warc FILE..")
-        self.assert_error(3, self.folder, "http://a.test/", "--warc", "x", says="give FOLDER and BASE")
-        self.assert_error(3, "--unheard", says="unrecognized arguments: --unheard")
+        self.assert_error(3, self.folder, says="the following arguments are required: BASE")
+        self.assert_error(3, says="the following arguments are required: FOLDER, BASE")
+        self.assert_error(3, self.folder, "http://a.test/", "--unheard", says="unrecognized arguments: --unheard")
 
     def test_help_is_not_an_error(self) -> None:
         done = run("--help")
         self.assertEqual((done.status, done.notes), (0, ""))
-        for words in ("usage: site_to_web.py", "exit status:", "--warc FILE", "4,096 bytes"):
+        for words in ("usage: converter.py", "exit status:", "4,096 bytes"):
             self.assertIn(words, done.out.decode())
         self.assertEqual(done.out.count(b"FOLDER BASE > WEB"), 1)
 
@@ -702,25 +709,46 @@ class Documents(Converting):
             "<noembed><a href=x></noembed><noframes/><a href=x></noframes><a href=y>": ["y"],
             "<a href=x><plaintext><a href=n></plaintext><a href=n>": ["x"],
             '<a href="?a=1&amp;b=2&copy=3&#38;c&lt;">': ["?a=1&b=2&copy=3&c<"],
-            '<div style="background: url(x)"><style>@import "y";</style>': [],
         }
         for document, expected in documents.items():
             with self.subTest(document):
                 self.assertEqual(self.links(document), [f"link {text}" for text in expected])
 
-    def test_styles_are_read_with_the_option(self) -> None:
+    def test_styles_are_not_read_with_the_option(self) -> None:
         document = '<div style="background: url(x)"><style>@import "y"; /* url(n) */</style><a href="z">'
-        self.assertEqual(self.links(document, "--styles"), ["link x", "link y", "link z"])
+        self.assertEqual(self.links(document), ["link x", "link y", "link z"])
+        self.assertEqual(self.links(document, "--no-styles"), ["link z"])
         document = """<style>@import"a";@import/*'n'*/'b';@imports 'n';c:url(d/*e);f:'/*';g:url(h) "url(n)"</style>"""
-        self.assertEqual(self.links(document, "--styles"), ["link a", "link b", "link d/*e", "link h"])
+        self.assertEqual(self.links(document), ["link a", "link b", "link d/*e", "link h"])
         self.put("s.css", '@import "t.css"; a { background: url( "u v.png" ) }')
-        self.assertEqual(self.converted("--styles")["http://a.test/s.css"], ["link t.css", "link u v.png"])
-        self.assertEqual(self.converted()["http://a.test/s.css"], [])
+        self.assertEqual(self.converted()["http://a.test/s.css"], ["link t.css", "link u v.png"])
+        self.assertEqual(self.converted("--no-styles")["http://a.test/s.css"], [])
 
-    def test_once_keeps_the_first_of_equal_texts(self) -> None:
-        document = '<a href="x"><a href="y"><a href="x"><a href="x#f">'
-        self.assertEqual(self.links(document), ["link x", "link y", "link x", "link x#f"])
-        self.assertEqual(self.links(document, "--once"), ["link x", "link y", "link x#f"])
+    def test_the_encoding_of_a_style_sheet(self) -> None:
+        for sheet, expected in (
+            ("url(\u00fc?\u00fc)".encode(), ["\u00fc?\u00fc"]),
+            (b"url(\xfc)", ["\ufffd"]),
+            (b'@charset "latin1";url(\xfc?\xfc)', ["\u00fc?\u00fc"]),
+            (b' @charset "latin1";url(\xfc)', ["\ufffd"]),
+            (b'@charset "unheard";url(\xfc)url(a#\xfc)', ["a#"]),
+            ("\ufeffurl(\u00fc)".encode("utf-16-le"), ["\u00fc"]),
+        ):
+            self.put("s.css", sheet)
+            with self.subTest(sheet):
+                self.assertEqual(self.converted()["http://a.test/s.css"], [f"link {text}" for text in expected])
+
+    def test_documents_in_xml(self) -> None:
+        for document, expected in {
+            '<title/><a href="x"/><script/><b href="y"/>': ["x", "y"],
+            '<title><a href="x"/></title><style>url(y)</style><style/>url(n)': ["x", "y"],
+            '<svg href="n"><g xlink:href="x"><image href="y"/><![CDATA[<a href="n"/>]]></g></svg>': ["x", "y"],
+            '<template><a href="n"/></template><template/><a href="x"/>': ["x"],
+            '<base href="/d/"/><a href="x"/>': ["http://a.test/d/x"],
+        }.items():
+            for suffix in ("svg", "xhtml", "xht"):
+                self.put(f"x.{suffix}", document)
+                with self.subTest((document, suffix)):
+                    self.assertEqual(self.converted()[f"http://a.test/x.{suffix}"], [f"link {text}" for text in expected])
 
     def test_line_breaks_tabs_and_edges_are_removed(self) -> None:
         for document, expected in {
@@ -839,266 +867,19 @@ class Documents(Converting):
         self.assertNotIn("page.html", run("--quiet", self.folder, "http://a.test/").notes)
 
 
-# ---------------------------------------------------------------- web archives
-
-
-def record(kind: str, url: str, block: bytes, *headers: str) -> bytes:
-    """Return a record of a WARC."""
-    lines = ["WARC/1.0", f"WARC-Type: {kind}", f"WARC-Target-URI: {url}", *headers, f"Content-Length: {len(block)}"]
-    return "\r\n".join(lines).encode() + b"\r\n\r\n" + block + b"\r\n\r\n"
-
-
-def response(status: int, body: Content = b"", *headers: str, kind: str = "text/html") -> bytes:
-    """Return an HTTP response."""
-    body = body if isinstance(body, bytes) else body.encode()
-    lines = [f"HTTP/1.1 {status} Words", f"Content-Type: {kind}", *headers]
-    return "\r\n".join(lines).encode() + b"\r\n\r\n" + body
-
-
-def chunked(body: bytes) -> bytes:
-    """Return a body in chunks of seven bytes."""
-    parts = [body[place : place + 7] for place in range(0, len(body), 7)]
-    return b"".join(b"%x\r\n%s\r\n" % (len(part), part) for part in [*parts, b""])
-
-
-class WithArchives(Converting):
-    """A test with web archives."""
-
-    def archive(self, *records: bytes, packed: bool = False) -> str:
-        """Write a WARC of these records, each compressed if `packed`, and return its path."""
-        self.put("site.warc", b"".join(map(gzip.compress, records) if packed else records))
-        return os.path.join(self.folder, "site.warc")
-
-    def read(self, *records: bytes, options: Sequence[str] = ()) -> dict[str, list[str]]:
-        """Return the pages of a WARC of these records; they must be the same if it is compressed."""
-        plain = self.web(*options, "--warc", self.archive(*records))
-        self.assertEqual(self.web(*options, "--warc", self.archive(*records, packed=True)), plain)
-        return pages_of(plain)
-
-
-class Archives(WithArchives):
-    def test_pages_redirects_and_missing_ones(self) -> None:
-        pages = self.read(
-            record("warcinfo", "", b"software: none"),
-            record("request", "http://b.test/", b"GET / HTTP/1.1\r\n\r\n"),
-            record("response", "http://b.test/", response(200, '<a href="old"><a href="gone">')),
-            record("response", "<http://B.test:80/old#f>", response(301, "", "Location: /new?x=1")),
-            record("response", "http://b.test/new?x=1", response(200, '<a href="http://a.test/">')),
-            record("response", "http://b.test/gone", response(404, '<a href="x">')),
-            record("response", "http://b.test/picture", response(200, '<a href="x">', kind="image/png")),
-            record("resource", "http://a.test/", b'<a href="y">', "Content-Type: text/html; charset=utf-8"),
-            record("metadata", "http://a.test/meta", b"via: x"),
-            record("response", "dns:b.test", b"127.0.0.1"),
-            record("response", "ftp://b.test/", b"x"),
-        )
-        self.assertEqual(
-            pages,
-            {
-                "http://a.test/": ["link y"],
-                "http://b.test/": ["link old", "link gone"],
-                "http://b.test/new?x=1": ["link http://a.test/"],
-                "http://b.test/old": ["moved /new?x=1"],
-                "http://b.test/picture": [],
-            },
-        )
-        self.assertIn("responses that are not pages, status 404: 1\n", self.notes)
-        self.assertNotIn("status none", self.notes)
-        self.assertIn("records of URLs that are neither http nor https: 2\n", self.notes)
-
-    def test_each_status(self) -> None:
-        statuses: dict[int, Optional[list[str]]] = {
-            **dict.fromkeys((200, 203, 299), ["link x"]),
-            **dict.fromkeys((301, 302, 303, 307, 308), ["moved there"]),
-            **dict.fromkeys((100, 199, 300, 304, 305, 400, 401, 410, 500, 503), None),
-        }
-        pages = self.read(
-            *(
-                record("response", f"http://a.test/{status}", response(status, '<a href="x">', "Location: there"))
-                for status in statuses
-            )
-        )
-        for status, expected in statuses.items():
-            with self.subTest(status):
-                self.assertEqual(pages.get(f"http://a.test/{status}"), expected)
-
-    def test_a_redirect_without_a_target_is_not_a_page(self) -> None:
-        pages = self.read(record("response", "http://a.test/", response(301)))
-        self.assertEqual(pages, {})
-        self.assertIn("responses that are not pages, status 301: 1\n", self.notes)
-
-    def test_targets_of_redirects(self) -> None:
-        room = LINE_LIMIT - len("moved ")
-        for name, target, expected in (
-            ("another scheme", "mailto:m", ["moved mailto:m"]),
-            ("empty", "", ["moved "]),
-            ("as long as may be", "x" * room, ["moved " + "x" * room]),
-            ("without its fragment", "x" * room + "#f", ["moved " + "x" * room]),
-            ("too long", "x" * (room + 1), []),
-            ("over two lines", "a\r\n b", ["moved a b"]),
-            ("two of them", "a\r\nLocation: b\r\n c", ["moved a"]),
-        ):
-            with self.subTest(name):
-                pages = self.read(record("response", "http://a.test/", response(302, "", f"Location: {target}")))
-                self.assertEqual(pages, {"http://a.test/": expected})
-                self.assertEqual("target of the redirect skipped, it is too long" in self.notes, not expected)
-
-    def test_the_first_of_two_pages_with_the_same_url_counts(self) -> None:
-        pages = self.read(
-            record("response", "http://a.test", response(404)),
-            record("response", "http://a.test/", response(200, '<a href="first">')),
-            record("response", "http://A.test:80/#f", response(200, '<a href="second">')),
-            record("response", "http://a.test/", response(301, "", "Location: third")),
-        )
-        self.assertEqual(pages, {"http://a.test/": ["link first"]})
-        self.assertIn("page skipped, an earlier page has the same URL: 2\n", self.notes)
-
-    def test_revisits(self) -> None:
-        digest = "WARC-Payload-Digest: sha1:A"
-        pages = self.read(
-            record("response", "http://a.test/1", response(200, '<a href="x">'), digest),
-            record("response", "http://a.test/1b", response(200, '<base href="/b/"><a href="x">'), digest),
-            record("revisit", "http://a.test/2", response(200), digest),
-            record("revisit", "http://a.test/3", response(304), digest),
-            record("revisit", "http://a.test/4", b"", digest),
-            record("revisit", "http://a.test/5", response(302, "", "Location: y"), digest),
-            record("revisit", "http://a.test/6", response(404), digest),
-            record("revisit", "http://a.test/7", response(200), "WARC-Payload-Digest: sha1:B"),
-        )
-        below = dict.fromkeys([f"http://a.test/{number}" for number in range(1, 5)], ["link x"])
-        others = {"1b": ["link http://a.test/b/x"], "5": ["moved y"], "7": []}
-        self.assertEqual(pages, {**below, **{f"http://a.test/{name}": lines for name, lines in others.items()}})
-        self.assertIn("links skipped, the first record with this content is missing: http://a.test/7\n", self.notes)
-
-    def test_codings(self) -> None:
-        body = b'<!DOCTYPE html><a href="x">'
-        raw = zlib.compressobj(wbits=-15)
-        for name, headers, coded in (
-            ("gzip", ["Content-Encoding: gzip"], gzip.compress(body)),
-            ("gzip that is none", ["Content-Encoding: gzip"], body),
-            ("deflate", ["Content-Encoding: deflate"], zlib.compress(body)),
-            ("bare deflate", ["Content-Encoding: deflate"], raw.compress(body) + raw.flush()),
-            ("chunks", ["Transfer-Encoding: chunked"], chunked(body)),
-            ("chunks that are none", ["Transfer-Encoding: chunked"], body),
-            ("both", ["transfer-encoding: Chunked", "content-encoding: x-gzip"], chunked(gzip.compress(body))),
-            ("none", ["Content-Encoding: identity"], body),
-        ):
-            with self.subTest(name):
-                pages = self.read(record("response", "http://a.test/", response(200, coded, *headers)))
-                self.assertEqual(pages, {"http://a.test/": ["link x"]})
-        pages = self.read(record("response", "http://a.test/", response(200, body, "Content-Encoding: br")))
-        self.assertEqual(pages, {"http://a.test/": []})
-        note = "links skipped, the content coding is unknown or the body is invalid: http://a.test/\n"
-        self.assertIn(note, self.notes)
-
-    def test_the_content_type_of_the_server(self) -> None:
-        document = b'<a href="\xf6?\xf6">'
-        for kind, expected in {
-            "text/html": ["link \u00f6?%F6"],
-            "TEXT/HTML; Charset=ISO-8859-1": ["link \u00f6?%F6"],
-            'text/html; charset="koi8-r"': ["link \u0416?%F6"],
-            "application/xhtml+xml": ["link \u00f6?%F6"],
-            "text/plain": [],
-            "": [],
-        }.items():
-            with self.subTest(kind):
-                pages = self.read(record("response", "http://a.test/", response(200, document, kind=kind)))
-                self.assertEqual(pages, {"http://a.test/": expected})
-
-    def test_unsupported_hosts_are_skipped_and_reported(self) -> None:
-        hosts = ("\u00fc.test", "me@a.test", "[::1]", "a.test:65536", "1.2", "0x7f.1", "a..test", "a b", "xn--a")
-        pages = self.read(
-            *(record("response", f"http://{host}/", response(200)) for host in hosts),
-            record("response", "http://xn--tda.test:8080/", response(200)),
-        )
-        self.assertEqual(pages, {"http://xn--tda.test:8080/": []})
-        self.assertIn(f"page skipped, its host cannot be written in canonical form: {len(hosts)}\n", self.notes)
-
-    def test_pages_come_in_order_of_url_whatever_the_order_of_records(self) -> None:
-        records = [record("response", f"http://{host}.test/", response(200, f'<a href="{host}">')) for host in "cab"]
-        self.assertEqual(
-            self.web("--warc", self.archive(*records)), self.web("--warc", self.archive(*reversed(records)))
-        )
-
-    def test_errors_write_nothing(self) -> None:
-        good = record("response", "http://a.test/", response(200, '<a href="x">' * 100))
-        self.assert_error(1, "--warc", self.archive(good, good[:-200]), says="a WARC record is cut off")
-        self.assert_error(1, "--warc", self.archive(b"<html>"), says="not a WARC file: a record does not begin")
-        for length in ("", "Content-Length: x\r\n", f"Content-Length: {'9' * 5000}\r\n"):
-            path = self.archive(f"WARC/1.0\r\n{length}\r\n".encode())
-            self.assert_error(1, "--warc", path, says="a WARC record has no valid Content-Length")
-        packed = gzip.compress(good)
-        self.put("cut.gz", packed[: len(packed) // 2])
-        self.assert_error(1, "--warc", os.path.join(self.folder, "cut.gz"), says="cut.gz: ")
-        missing = os.path.join(self.folder, "none")
-        self.assert_error(1, "--warc", missing, says=f"{missing}: No such file or directory")
-
-    def test_an_empty_archive_gives_no_pages(self) -> None:
-        self.assertEqual(self.web("--warc", self.archive(b"")), ["savedweb 2"])
+# ---------------------------------------------------------------- limits
 
 
 def loaded() -> Any:
     """Return the tool as a module."""
-    spec = importlib.util.spec_from_file_location("site_to_web_tool", TOOL)
+    spec = importlib.util.spec_from_file_location("converter_tool", TOOL)
     assert spec is not None and spec.loader is not None
     tool = importlib.util.module_from_spec(spec)
     spec.loader.exec_module(tool)
     return tool
 
 
-class HostileInputs(WithArchives):
-    """Inputs that would take the tool hours if its time were not limited."""
-
-    def test_many_comments_are_skipped_fast_to_find_the_type_of_a_file(self) -> None:
-        comments = "<!---->" * 140
-        self.put("data", comments)
-        self.put("page", comments + "\n<!doctype html><a href=x>")
-        self.put("odd", "<?xml version=1?> <!-- a --> b --> <html><a href=y>")
-        self.assertEqual(
-            self.converted(), {"http://a.test/data": [], "http://a.test/odd": ["link y"], "http://a.test/page": ["link x"]}
-        )
-        block = response(200, comments, kind="").replace(b"Content-Type: \r\n", b"")
-        self.assertEqual(self.read(record("response", "http://a.test/", block)), {"http://a.test/": []})
-
-    def test_a_document_that_takes_too_long_loses_its_links_and_is_reported(self) -> None:
-        slow = {
-            "tags": "<a href=x>" + "<a " * 20_000,
-            "quotes": "<a href=x>" + '<a b="' * 10_000,
-            "punycode": "<meta charset=punycode><a href=x>-" + "a" * 400_000,
-        }
-        for name, document in {**slow, "plain": "<a href=x>"}.items():
-            self.put(f"{name}.html", document)
-        pages = self.converted()
-        self.assertEqual(pages["http://a.test/plain.html"], ["link x"])
-        for name in slow:
-            note = f"site_to_web: links skipped, finding them takes too much CPU time: http://a.test/{name}.html\n"
-            # Some versions of Python need little time for some of them
-            self.assertEqual(pages[f"http://a.test/{name}.html"], [] if note in self.notes else ["link x"])
-
-    def test_continuation_lines_are_joined_in_linear_time(self) -> None:
-        headers_of = loaded().headers_of
-        self.assertEqual(
-            headers_of([b" x", b"A: 1", b"\t2 ", b"b:", b" c", b"a: 3", b" 4", b"C: d"]), {"a": "1 2", "b": " c", "c": "d"}
-        )
-        begun = time.process_time()
-        self.assertEqual(headers_of([b"x: a", *[b" b"] * 1_000_000]), {"x": "a" + " b" * 1_000_000})
-        self.assertLess(time.process_time() - begun, 15)
-
-    def test_headers_are_limited(self) -> None:
-        long = "".join(f"X: {'a' * 60_000}\r\n" for _ in range(20)).rstrip()
-        for headers, links in ((long, None), (long[:1_000_000], ["link x"])):
-            block = response(200, "<a href=x>", headers)
-            pages = self.read(record("response", "http://a.test/", block), record("resource", "http://b.test/", b""))
-            with self.subTest(len(headers)):
-                self.assertEqual(pages.get("http://a.test/"), links)
-                self.assertEqual("responses that are not pages, status none: 1" in self.notes, links is None)
-        good = record("response", "http://a.test/", response(200, "<a href=x>"), long[:1_000_000])
-        self.assertEqual(self.read(good), {"http://a.test/": ["link x"]})
-        for packed in (False, True):
-            path = self.archive(record("response", "http://a.test/", response(200), long), packed=packed)
-            self.assert_error(1, "--warc", path, says="the headers of a WARC record have more than 1048576 bytes")
-
-
-class Limits(WithArchives):
+class Limits(Converting):
     """Tests with lower limits than the real ones, which would need much memory."""
 
     def run_with(self, limit: str, number: int, *words: str) -> Done:
@@ -1110,7 +891,7 @@ class Limits(WithArchives):
             patches.enter_context(mock.patch.object(tool, limit, number))
             patches.enter_context(mock.patch.object(sys, "stdout", out))
             patches.enter_context(mock.patch.object(sys, "stderr", notes))
-            patches.enter_context(mock.patch.object(sys, "argv", ["site_to_web.py", *words]))
+            patches.enter_context(mock.patch.object(sys, "argv", ["converter.py", *words]))
             try:
                 tool.main()
             except SystemExit as ended:
@@ -1137,24 +918,6 @@ class Limits(WithArchives):
             done = self.run_with("FILE_LIMIT", 100, self.folder, "http://a.test/")
         self.assertEqual(pages_of(checked_lines(done.out)), {"http://a.test/x.html": []})
         self.assertIn("links skipped, the file changed while it was read: http://a.test/x.html\n", done.notes)
-
-    def test_only_the_beginning_of_large_records_is_read(self) -> None:
-        document = '<a href="x">' + " " * 1000 + '<a href="y">'
-        packed = gzip.compress(document.encode())
-        cases: tuple[tuple[str, Content, list[str], str], ...] = (
-            ("record", document, [], "only the beginning of the record was read, it"),
-            ("document", packed, ["Content-Encoding: gzip"], "only the links at the beginning were read, the page"),
-        )
-        for name, body, headers, notes in cases:
-            block = response(200, body, *headers)
-            path = self.archive(record("response", "http://a.test/", block), record("resource", "http://b.test/", b""))
-            done = self.run_with("DOCUMENT_LIMIT", 500, "--warc", path)
-            with self.subTest(name):
-                self.assertEqual(
-                    pages_of(checked_lines(done.out)), {"http://a.test/": ["link x"], "http://b.test/": []}
-                )
-                self.assertIn(f"{notes} is too large: http://a.test/\n", done.notes)
-                self.assertNotIn("too large", run("--warc", path).notes)
 
 
 if __name__ == "__main__":

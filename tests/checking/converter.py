@@ -1,120 +1,51 @@
 #!/usr/bin/env python3
-"""Convert a folder of HTML files, or web archives (WARC), to a saved web, version 2.
+"""Convert a folder of HTML files to a saved web, version 2: a converter that is independent of the program.
 
-A saved web is a text file of pages and their links. A page is what a plain static server would return for a URL, and
-a link is what a browser would read in it; RULES, which `--help` prints, have the details. The saved web is collected
-in a temporary file and written to standard output when it is complete, with its pages in ascending byte order of URL.
-So the same site always gives the same bytes, and the links need not all be in memory.
+The tests compare its output with that of `mercator site` (tests/site.py, and tests/check.py with the model's tokenizer in place of
+the one here), and use its parts. It is one pass over the folder, written after docs/MANUAL.md:
 
-The script needs only the standard library.
+- Each file has one own URL, which is the page with its links. Any other URL for which a static server returns it is an alias, whose
+  page has one link, to the own URL. A folder without its slash is a redirect. `--help` lists the options that change this.
+- The text of a link is written as it is in the document, with its character references decoded, except that tabs, line breaks, and
+  spaces at both ends are removed; that the query is percent-encoded in the page's encoding; and that after `<base href>` the resolved
+  URL is written or, if the base has another scheme, that scheme before a relative link. Of a document in an encoding that Python does
+  not know, only ASCII is read.
+- A line has at most 4,096 bytes. A longer link loses its fragment. If it is still too long, a link of another scheme is cut off, and
+  any other link is skipped.
+
+The saved web is collected in a temporary file, and written when it is complete, with its pages in ascending byte order of URL. What is
+skipped, and why, is listed on standard error. Only the standard library is needed.
+
+exit status:
+  0  the saved web was written
+  1  an input cannot be read, a write failed, or the saved web would have more than 2^30 bytes, the most that a crawl reads
+  3  bad command line
 """
 
 from __future__ import annotations
 
 import argparse
 import collections
-import contextlib
-import gzip
 import html
 import html.entities
 import html.parser
 import mimetypes
 import os
 import re
-import signal
 import sys
 import tempfile
-import zlib
-from io import BufferedIOBase
-from typing import BinaryIO, Callable, Iterable, Iterator, NamedTuple, NoReturn, Optional
+from typing import BinaryIO, Callable, Iterable, NamedTuple, NoReturn, Optional
 from urllib.parse import quote, unquote_to_bytes
-
-DESCRIPTION = """\
-Convert a saved site to a saved web: a text file of pages and their links, which
-`mercator crawl` reads. The site is a folder of HTML files, as `wget -r` leaves it,
-or WARC files, gzipped or not. The saved web (version 2) is written to standard
-output. What is skipped, and why, is listed on standard error.
-
-Then `mercator crawl --sources - URL < WEB` reports the broken links."""
-
-RULES = """\
-exit status:
-  0  the saved web was written
-  1  an input cannot be read or is invalid, a write failed, or the saved web would
-     have more than 2^30 bytes, the most that a crawl reads; nothing was written,
-     unless a write failed
-  3  bad command line
-
-pages of a folder, as a plain static server returns them:
-  - Each file has one own URL, which is the page with the links of the file. It is
-    BASE/its/path, or that of the folder, `/dir/`, for an index file. The bytes of a
-    name are percent-encoded by the path percent-encode set of the URL Standard, and
-    so are `%`, `\\` and `?`.
-  - `/dir` is a redirect to `/dir/`, whether or not `/dir/` is a page.
-  - An alias is another URL for which a server returns a file. `/dir/index.html` is
-    always one. A URL in a link is one if it has other percent-escapes than a file's
-    own URL, consecutive slashes or `%2F`, which are one slash, or a query, which a
-    server ignores for a file. The page of an alias has one link, which is the file's
-    own URL. So the links of a file are followed once.
-  - In the same way, a link to `/dir` in another spelling leads to a redirect.
-  - An index file is `index.html` or, if its folder has none, `index.htm` or
-    `index.xhtml`. With --index-file, index files have the given names instead; the
-    first that a folder has counts.
-  - With --fallback html, a path that has no page and does not end with a slash is
-    looked up again with `.html` added.
-  - With --exact, a link in another spelling or with a query leads to no page. With
-    --queries, a `?` in a file name starts the query (the own URL of `index.html?x`
-    is `/?x`), and no query is ignored.
-  - A symbolic link is followed if it leads to a file or folder in FOLDER. Others
-    are skipped and reported, unless --follow is given. A link to a file counts as a
-    file. Through a link to a folder, the files of the folder have aliases: their own
-    URLs have the path of the folder without symbolic links or, if the folder is
-    outside of FOLDER, the first of its shortest paths.
-  - Whether a file is HTML is decided by its suffix or, if the suffix is unknown, by
-    its first bytes. All other files are pages without links, and so are files of
-    more than 2^30 bytes.
-
-pages of a WARC: the response, resource and revisit records of http and https URLs.
-  A status of 200 to 299 is a page, and a redirect leads to its target. A URL with
-  any other status is missing. If several pages have the same URL, the first one
-  counts. A revisit has the links of the first page with the same digest. At most
-  2^26 bytes are read of a record, and of a compressed document. A record with more
-  than 2^20 bytes of headers is an error; a response with so many is not a page.
-
-links: the URLs in elements that load or lead to another document (a, area, img,
-  script, link, iframe and others), in srcset, in a meta refresh and in a meta such
-  as og:image, but not those in a template, in the order of
-  the document. Not read are `link` whose rel has only preconnect or dns-prefetch (which
-  name a host), forms, quotations, and what scripts create. A link is written as it
-  is in the document, with its character references decoded, except that
-  - tabs, line breaks, and spaces at both ends are removed, as URL parsers do;
-  - in a page with an encoding that Python does not know, only ASCII is read: a link
-    with other bytes is skipped, or loses its fragment if only that has them;
-  - in a page that is not UTF-8, queries are percent-encoded in the page's encoding;
-  - after `<base href>`, the resolved URL is written, since the links of a saved web
-    are resolved against the URL of the page. If the base is neither http nor https,
-    a relative link gets the scheme of the base, so that it is skipped and counted;
-  - a line has at most 4,096 bytes. A longer link loses its fragment. If it is still
-    too long, a link of another scheme (such as data:), which the reader skips, is
-    cut off; any other link is skipped and reported.
-
-A page is skipped and reported if its own line would be too long, or if this script
-cannot write its host in canonical form (not plain ASCII, or with a user name). The
-links of a document are skipped and reported if finding them takes more than
-1 second of CPU time plus 5 per million bytes."""
 
 HEADER = b"savedweb 2\n"
 LINE_LIMIT = 4096  # most bytes of a line, without its line break
 INPUT_LIMIT = 1 << 30  # most bytes that a crawl reads
-HEADER_LIMIT = 1 << 20  # most bytes of the headers of a WARC record, and of an HTTP response
-DOCUMENT_LIMIT = 1 << 26  # most bytes that are read of a WARC record, and of its decompressed document
 FILE_LIMIT = 1 << 30  # most bytes of a file whose links are read
-# The CPU time in which the links of a document must be found. The densest documents need 2 seconds per million bytes.
-SECONDS, SECONDS_PER_MILLION_BYTES = 1.0, 5.0
 FAULT, BAD_WORDS = 1, 3  # exit statuses, the same as those of mercator: an error, and a bad command line
 
 INDEX_FILES = ("index.html", "index.htm", "index.xhtml")
 HTML_KINDS = ("text/html", "application/xhtml+xml")
+XML_KINDS = {".xhtml": "application/xhtml+xml", ".xht": "application/xhtml+xml", ".svg": "image/svg+xml"}
 # The start tags of HTML that end SVG and MathML, but for `font`
 BREAKOUTS = frozenset(
     """b big blockquote body br center code dd div dl dt em embed h1 h2 h3 h4 h5 h6 head hr i img li listing menu meta nobr
@@ -179,27 +110,6 @@ DATA_NAMES = {"data", "movie", "src", "url"}  # the names with which the value o
 
 class Fault(Exception):
     """An error that ends the script with status 1. Its text is printed."""
-
-
-class TooSlow(Exception):
-    """Raised when the CPU time for a document is over."""
-
-
-@contextlib.contextmanager
-def limited_time(size: int) -> Iterator[None]:
-    """Raise TooSlow in this block after the CPU time for a document of this size. Only the main thread can use it."""
-
-    def stop(*_: object) -> NoReturn:
-        raise TooSlow
-
-    before = signal.signal(signal.SIGPROF, stop)
-    # The signal is repeated, since Python ignores an exception in some places
-    signal.setitimer(signal.ITIMER_PROF, SECONDS + size * SECONDS_PER_MILLION_BYTES / 1e6, 1)
-    try:
-        yield
-    finally:
-        signal.setitimer(signal.ITIMER_PROF, 0)
-        signal.signal(signal.SIGPROF, before)
 
 
 # ---------------------------------------------------------------- URLs
@@ -399,6 +309,7 @@ WINDOWS_NAMES = set(
     "windows-1252 iso-8859-1 latin1 us-ascii ascii ansi_x3.4-1968 cp1252 cp819 csisolatin1 ibm819 iso-ir-100 iso8859-1"
     " iso88591 iso_8859-1 iso_8859-1:1987 l1 x-cp1252".split()
 )
+SHEET_CHARSET = re.compile(rb'@charset "([^"]*)";')
 REFERENCE = re.compile("&(#[0-9]+;?|#[xX][0-9a-fA-F]+;?|[A-Za-z][A-Za-z0-9]*(?:;|(?![A-Za-z0-9=])))")
 LONG_REFERENCE = re.compile("&#([0-9]{8,})(;?)")
 # Python's own pattern for references between tags fails on `&#` without a digit, and reads all that follows as text
@@ -545,8 +456,9 @@ class LinkReader(html.parser.HTMLParser):
     # The elements whose content is text, by the HTML Standard; Python's own list depends on its version
     CDATA_CONTENT_ELEMENTS = tuple("script style title textarea xmp iframe noembed noframes plaintext".split())
 
-    def __init__(self, styles: bool) -> None:
+    def __init__(self, styles: bool, xml: bool = False) -> None:
         super().__init__(convert_charrefs=False)
+        self.xml = xml
         self.links: list[str] = []
         self.base: Optional[str] = None
         self.styles, self.in_style = styles, False
@@ -560,14 +472,14 @@ class LinkReader(html.parser.HTMLParser):
 
     def parse_marked_section(self, begin: int, report: int = True) -> int:
         """Return the end of `<![..`, the next `>`, but for a CDATA section in SVG or MathML. Python's own method may fail."""
-        if self.foreign.kind and self.rawdata.startswith("<![CDATA[", begin):
+        if (self.xml or self.foreign.kind) and self.rawdata.startswith("<![CDATA[", begin):
             end = self.rawdata.find("]]>", begin + 9)
             return end + 3 if end >= 0 else len(self.rawdata)
         return self.parse_bogus_comment(begin)
 
     def set_cdata_mode(self, elem: str, **_: bool) -> None:
         """Read what follows as text, up to the end tag of the element; nothing ends a `plaintext`."""
-        if not self.has_text:
+        if not self.has_text or self.xml:
             return
         self.cdata_elem = elem
         self.interesting = re.compile("(?!)" if elem == "plaintext" else rf"(?i)</{elem}(?=[\t\n\f\r />])")
@@ -581,7 +493,7 @@ class LinkReader(html.parser.HTMLParser):
         return end_of(END_TAG, self.rawdata, begin)
 
     def handle_startendtag(self, tag: str, attrs: list[tuple[str, Optional[str]]]) -> None:
-        """Read a tag such as `<br/>` as a start tag, since the slash closes no element in HTML."""
+        """Read a tag such as `<br/>`. In HTML it is a start tag, since the slash closes no element."""
         self.read_start(tag, attrs, True)
         if tag in self.CDATA_CONTENT_ELEMENTS:
             self.set_cdata_mode(tag)
@@ -590,7 +502,8 @@ class LinkReader(html.parser.HTMLParser):
         self.in_style = False
         if tag == "template" and self.templates and not self.foreign.kind:
             self.templates -= 1
-        self.foreign.close(tag)
+        if not self.xml:
+            self.foreign.close(tag)
 
     def handle_data(self, data: str) -> None:
         if self.in_style:
@@ -601,13 +514,16 @@ class LinkReader(html.parser.HTMLParser):
 
     def read_start(self, tag: str, attrs: list[tuple[str, Optional[str]]], closed: bool) -> None:
         """Read a start tag, which may have a slash before its end."""
-        is_foreign = self.foreign.begin(tag)
+        is_foreign = not self.xml and self.foreign.begin(tag)
+        closed = closed and (self.xml or is_foreign)
         self.has_text = not is_foreign
         if not self.templates:
             self.read_tag(tag, attrs, is_foreign)
-        if tag == "template" and not is_foreign and (self.templates or not self.is_shadow_root()):
+        if tag == "template" and not is_foreign and not closed and (self.templates or not self.is_shadow_root()):
             self.templates += 1
-        if not closed and (is_foreign or tag in ("svg", "math")):
+        if closed:
+            self.in_style = False
+        elif not self.xml and (is_foreign or tag in ("svg", "math")):
             self.foreign.open(tag, attributes(self.get_starttag_text() or ""))
 
     def is_shadow_root(self) -> bool:
@@ -621,10 +537,11 @@ class LinkReader(html.parser.HTMLParser):
             for name, value in attrs:
                 if name == "style" and value:
                     self.links += links_of_style(value)
-        if not is_foreign and tag not in LINKS and tag != "base":
+        is_other = self.xml and tag not in LINKS and tag not in ("base", "template", "svg", "math")
+        if not is_foreign and not is_other and tag not in LINKS and tag != "base":
             return
         found = attributes(self.get_starttag_text() or "")
-        if is_foreign:
+        if is_foreign or is_other:
             self.read_links(() if tag == "font" else ("href", "xlink:href"), found)
         elif tag == "base":
             if self.base is None:
@@ -676,35 +593,37 @@ def declared(start: bytes) -> str:
     return ""
 
 
-def charset_names(body: bytes, charset: Optional[str]) -> Iterator[str]:
-    """Yield the encodings that a document may have: that of its server, and the one that it declares."""
-    for name in (charset, declared(body[:START_LENGTH])):
-        name = (name or "").lower()
-        if name in WINDOWS_NAMES:
-            name = "cp1252"
-        yield "utf-8" if name in UTF8_NAMES or name.startswith("utf-16") else name
+def charset_of(body: bytes, kind: Optional[str]) -> str:
+    """Return the encoding that a document or a style sheet declares, or nothing. UTF-16 means UTF-8, since its bytes would differ."""
+    found = SHEET_CHARSET.match(body)
+    if kind != STYLE_KIND:
+        name = declared(body[:START_LENGTH]).lower()
+    else:
+        name = found[1].decode("latin-1").strip(EDGE).lower() if found else ""
+    if name in WINDOWS_NAMES:
+        return "cp1252"
+    return "utf-8" if name in UTF8_NAMES or name.startswith("utf-16") else name
 
 
-def text_of(body: bytes, charset: Optional[str]) -> tuple[str, str]:
-    """Return a document's text and encoding.
+def text_of(body: bytes, kind: Optional[str]) -> tuple[str, str]:
+    """Return the text and the encoding of a document or a style sheet.
 
-    The encoding is that of its byte order mark, that of the server, the declared one, UTF-8 or windows-1252, whichever
-    applies first.
+    The encoding is that of its byte order mark, the declared one, UTF-8 or, for a document, windows-1252, whichever applies first.
     """
     for mark, name in BYTE_ORDER_MARKS:
         if body.startswith(mark):
             return body[len(mark) :].decode(name, "replace"), "utf-8"
-    names = [name for name in charset_names(body, charset) if name]
-    for name in names:
-        try:
-            return body.decode(name, "replace"), name
-        except (LookupError, ValueError):
-            # Not an encoding, or one that cannot decode these bytes
-            pass
+    charset = charset_of(body, kind)
     try:
-        return body.decode("utf-8"), "utf-8"
+        if charset:
+            return body.decode(charset, "replace"), charset
+    except (LookupError, ValueError):
+        # Not an encoding, or one that cannot decode these bytes
+        pass
+    try:
+        return body.decode("utf-8", "replace" if kind == STYLE_KIND and not charset else "strict"), "utf-8"
     except UnicodeError:
-        if names:
+        if charset:
             return re.sub("[^\0-\x7f]", UNKNOWN, body.decode("latin-1")), NOT_KNOWN
         return body.decode("cp1252", "replace"), "cp1252"
 
@@ -756,43 +675,30 @@ def with_base(links: list[str], given: str, url: Url) -> list[str]:
 
 
 def is_document(kind: Optional[str], body: bytes) -> bool:
-    """Return whether a body of this media type, or of unknown type, is HTML."""
-    return kind in HTML_KINDS or (not kind and HTML_START.match(body[:START_LENGTH]) is not None)
+    """Return whether a body of this media type, or of unknown type, is a document."""
+    return kind in (*HTML_KINDS, *XML_KINDS.values()) or (not kind and HTML_START.match(body[:START_LENGTH]) is not None)
 
 
-def links_of(body: bytes, url: Url, kind: Optional[str], web: Web, charset: Optional[str] = None) -> list[str]:
-    """Return the link texts of a document if it is HTML, or a style sheet and --styles is given; else none.
-
-    If that takes too long, it is reported, and there are none.
-    """
-    try:
-        with limited_time(len(body)):
-            return links_in_any_time(body, url, kind, web, charset)
-    except TooSlow:
-        web.note("links skipped, finding them takes too much CPU time", url.text())
-        return []
-
-
-def links_in_any_time(body: bytes, url: Url, kind: Optional[str], web: Web, charset: Optional[str]) -> list[str]:
-    """Return the link texts of a document, as links_of does, however long it takes."""
+def links_of(body: bytes, url: Url, kind: Optional[str], web: Web) -> list[str]:
+    """Return the link texts of a document or a style sheet, and none of anything else."""
     base: Optional[str] = None
-    if kind == STYLE_KIND and web.styles:
-        text, charset = text_of(body, charset)
+    if kind != STYLE_KIND and not is_document(kind, body):
+        return []
+    text, charset = text_of(body, kind)
+    if kind == STYLE_KIND:
         given = links_of_style(text)
-    elif is_document(kind, body):
-        text, charset = text_of(body, charset)
-        reader = LinkReader(web.styles)
+    else:
+        reader = LinkReader(web.styles, kind in XML_KINDS.values())
         reader.feed(without_long_references(text))
         reader.close()
         given, base = reader.links, reader.base
-    else:
-        return []
     if charset == NOT_KNOWN:
         web.note("unknown encoding, only ASCII was read", url.text())
         given, base = known_links(given, base)
         charset = "cp1252"
     web.count("links over several lines, joined", sum("\n" in link.strip(EDGE) for link in given))
-    links = [with_query_in(cleaned(link), charset) for link in given]
+    # The queries of a style sheet are in UTF-8 in any encoding
+    links = [with_query_in(cleaned(link), "utf-8" if kind == STYLE_KIND else charset) for link in given]
     return links if base is None else with_base(links, base, url)
 
 
@@ -809,7 +715,7 @@ class Web:
     """A saved web, which is collected page by page in a temporary file. It counts what is skipped."""
 
     def __init__(self, options: argparse.Namespace) -> None:
-        self.once, self.styles, self.quiet = options.once, options.styles, options.quiet
+        self.styles, self.quiet = not options.no_styles, options.quiet
         self.file = tempfile.TemporaryFile()
         # By URL: the positions in the file of the page's first line, of the line after it, and of its end
         self.pages: dict[str, tuple[int, int, int]] = {}
@@ -828,11 +734,10 @@ class Web:
         if not self.quiet:
             # The text is untrusted input and may go to a terminal, so control characters are escaped
             where = where[:200].encode("unicode_escape").decode()
-            print(f"site_to_web: {what}: {where}", file=sys.stderr)
+            print(f"converter: {what}: {where}", file=sys.stderr)
 
     def page(self, url: str, links: Iterable[str]) -> bool:
         """Add a page with its links. Return whether it was added."""
-        links = dict.fromkeys(links) if self.once else links
         return self.add(url, lambda: (self.link(text, url) for text in links))
 
     def moved(self, url: str, target: str) -> bool:
@@ -846,11 +751,6 @@ class Web:
         added = self.page(url, [own])
         self.aliases += added
         return added
-
-    def again(self, url: str, earlier: str) -> bool:
-        """Add a page with the links of an earlier page. Return whether it was added."""
-        _, begin, end = self.pages[earlier]
-        return self.add(url, lambda: self.lines(begin, end).splitlines(True))
 
     def add(self, url: str, lines: Callable[[], Iterable[Optional[bytes]]]) -> bool:
         """Add a page and the lines that the function `lines` returns, except None. Return whether it was added."""
@@ -869,9 +769,7 @@ class Web:
         self.pages[url] = (begin, begin + len(head), self.size)
         self.links += sum(line.startswith(b"link ") for line in below)
         if len(HEADER) + self.size > INPUT_LIMIT:
-            raise Fault(
-                f"the saved web has more than {INPUT_LIMIT} bytes, the most that a crawl reads; --once makes it smaller"
-            )
+            raise Fault(f"the saved web has more than {INPUT_LIMIT} bytes, the most that a crawl reads")
         return True
 
     def link(self, text: str, url: str) -> Optional[bytes]:
@@ -914,7 +812,7 @@ class Web:
         lines = [f"{len(self.pages)} pages, {kinds}; {self.links} links; {size} bytes"]
         lines += [f"{what}: {count}" for what, count in sorted(self.counts.items())]
         for line in lines:
-            print(f"site_to_web: {line}", file=sys.stderr)
+            print(f"converter: {line}", file=sys.stderr)
 
 
 # ---------------------------------------------------------------- folders
@@ -1000,6 +898,7 @@ def kind_of(name: bytes) -> tuple[Optional[str], bool]:
     """Return the media type that a file's suffix means, or None; and whether the suffix means that it is compressed."""
     suffix = os.path.splitext(os.path.basename(os.fsdecode(name)))[1]
     kind, packing = KINDS.guess_type("name" + suffix)
+    kind = XML_KINDS.get(suffix.lower(), kind)
     return kind, packing is not None
 
 
@@ -1073,7 +972,8 @@ class Folder:
     def links(self, name: bytes, url: str) -> list[str]:
         """Return the links of a file at its own URL. No more bytes are read than it has, and none if it is empty."""
         kind, packed = kind_of(split_name(name, self.queries)[0])
-        if packed or (kind and kind != STYLE_KIND and kind not in HTML_KINDS):
+        is_read = not kind or kind == STYLE_KIND and self.web.styles or is_document(kind, b"")
+        if packed or not is_read:
             return []
         path = os.path.join(self.folder, name)
         size = os.path.getsize(path)
@@ -1174,197 +1074,6 @@ class Folder:
         self.write_spelled({text: plain for text, plain in again.items() if text not in found})
 
 
-# ---------------------------------------------------------------- web archives
-
-
-def headers_of(lines: list[bytes]) -> dict[str, str]:
-    """Return header names with the first value of each. A line that begins with a space continues the one before."""
-    found: dict[str, list[str]] = {}
-    last: list[str] = []  # the value of the last header, line by line; it is not used if the header is not the first
-    for line in (line.decode("utf-8", "replace") for line in lines):
-        if line[:1] in (" ", "\t"):
-            last.append(line.strip())
-            continue
-        name, _, value = line.partition(":")
-        last = [value.strip()]
-        found.setdefault(name.strip().lower(), last)
-    return {name: " ".join(values) for name, values in found.items()}
-
-
-def record_headers(file: BufferedIOBase) -> Optional[dict[str, str]]:
-    """Return the headers of the next record of a WARC, or None at its end."""
-    while line := file.readline(1 << 16):
-        if line.strip():
-            break
-    if not line:
-        return None
-    if not line.startswith(b"WARC/"):
-        raise Fault("not a WARC file: a record does not begin with WARC/")
-    lines = []
-    size = len(line)
-    while line := file.readline(1 << 16).rstrip(b"\r\n"):
-        lines.append(line)
-        size += len(line)
-        if size > HEADER_LIMIT:
-            raise Fault(f"the headers of a WARC record have more than {HEADER_LIMIT} bytes")
-    headers = headers_of(lines)
-    if not re.fullmatch("[0-9]{1,18}", headers.get("content-length", "")):
-        raise Fault("a WARC record has no valid Content-Length")
-    return headers
-
-
-def records(file: BufferedIOBase) -> Iterator[tuple[dict[str, str], bytes]]:
-    """Yield the headers and the block of each WARC record that may be a page; a large block is cut off."""
-    while headers := record_headers(file):
-        length = int(headers["content-length"])
-        if headers.get("warc-type") in ("response", "resource", "revisit"):
-            block = file.read(min(length, DOCUMENT_LIMIT))
-            length -= len(block)
-        else:
-            block = None
-        while skipped := file.read(min(length, 1 << 20)):
-            length -= len(skipped)
-        if length:
-            raise Fault("a WARC record is cut off")
-        if block is not None:
-            yield headers, block
-
-
-def dechunked(body: bytes) -> bytes:
-    """Return the body of a chunked message; unchanged if it is not chunked."""
-    out: list[bytes] = []
-    place = 0
-    while True:
-        end = body.find(b"\r\n", place)
-        digits = re.match(rb"\s*([0-9A-Fa-f]+)", body[place:end]) if end >= 0 else None
-        if not digits:
-            return b"".join(out) if out else body
-        size = int(digits[1], 16)
-        if size == 0:
-            return b"".join(out)
-        out.append(body[end + 2 : end + 2 + size])
-        place = end + 2 + size + 2
-
-
-def unpacked(body: bytes, coding: str) -> Optional[bytes]:
-    """Return the body without its content coding; None if that is unknown or the body is invalid."""
-    for name in reversed([part.strip().lower() for part in coding.split(",")]):
-        if name in ("", "identity"):
-            continue
-        if name not in ("gzip", "x-gzip", "deflate"):
-            return None
-        try:
-            # A body that is not compressed, although the header says so, is left unchanged
-            if name == "deflate":
-                window = 15 if body[:1] == b"\x78" else -15
-                body = zlib.decompressobj(window).decompress(body, DOCUMENT_LIMIT)
-            elif body[:2] == b"\x1f\x8b":
-                body = zlib.decompressobj(31).decompress(body, DOCUMENT_LIMIT)
-        except zlib.error:
-            return None
-    return body
-
-
-class Response:
-    """An HTTP response: its status (None if it is not one), headers and body."""
-
-    def __init__(self, block: bytes) -> None:
-        head, _, self.body = block.partition(b"\r\n\r\n")
-        if len(head) > HEADER_LIMIT:
-            head = b""
-        first, *lines = head.split(b"\r\n")
-        status = re.match(rb"HTTP/[0-9.]+ ([0-9]{3})", first)
-        self.status = int(status[1]) if status else None
-        self.headers = headers_of(lines)
-
-    def target(self) -> Optional[str]:
-        """Return the target of a redirect; None if the response is not a redirect."""
-        return self.headers.get("location") if self.status in (301, 302, 303, 307, 308) else None
-
-    def is_page(self) -> bool:
-        """Return whether the status is that of a page."""
-        return self.status is not None and 200 <= self.status < 300
-
-    def content(self) -> Optional[bytes]:
-        """Return the body without its transfer and content coding; None if that is unknown or the body is invalid."""
-        chunked = "chunked" in self.headers.get("transfer-encoding", "").lower()
-        body = dechunked(self.body) if chunked else self.body
-        return unpacked(body, self.headers.get("content-encoding", ""))
-
-
-class Archive:
-    """Adds the pages of WARC files to a saved web."""
-
-    def __init__(self, web: Web) -> None:
-        self.web = web
-        self.by_digest: dict[str, str] = {}  # the URL of the first page with a digest
-
-    def read(self, path: str) -> None:
-        """Add the pages of one file."""
-        with open(path, "rb") as plain:
-            packed = plain.read(2) == b"\x1f\x8b"
-        try:
-            with gzip.open(path, "rb") if packed else open(path, "rb") as file:
-                for headers, block in records(file):
-                    self.record(headers, block)
-        except (Fault, EOFError, gzip.BadGzipFile, zlib.error) as fault:
-            raise Fault(f"{path}: {fault}") from None
-
-    def record(self, headers: dict[str, str], block: bytes) -> None:
-        """Add the page of one record, if it is one."""
-        target = headers.get("warc-target-uri", "").strip("<>")
-        url = parse(target)
-        digest = headers.get("warc-payload-digest")
-        if url is None:
-            self.web.count("records of URLs that are neither http nor https")
-            return
-        if len(block) >= DOCUMENT_LIMIT:
-            self.web.note("only the beginning of the record was read, it is too large", url.text())
-        if url.host is None:
-            self.web.note("page skipped, its host cannot be written in canonical form", target)
-        elif headers["warc-type"] == "resource":
-            self.document(block, url, headers.get("content-type", ""), digest)
-        elif headers["warc-type"] == "revisit":
-            self.revisit(Response(block), url, digest)
-        else:
-            self.response(Response(block), url, digest)
-
-    def response(self, response: Response, url: Url, digest: Optional[str]) -> None:
-        """Add the page of an HTTP response, if it is one."""
-        target = response.target()
-        if target is not None:
-            self.web.moved(url.text(), cleaned(target))
-        elif response.is_page():
-            self.document(response.content(), url, response.headers.get("content-type", ""), digest)
-        else:
-            status = "none" if response.status is None else response.status
-            self.web.count(f"responses that are not pages, status {status}")
-
-    def revisit(self, response: Response, url: Url, digest: Optional[str]) -> None:
-        """Add a page with the same content as an earlier record, which may be missing."""
-        if not response.is_page() and response.status not in (None, 304):
-            self.response(response, url, digest)
-        elif digest in self.by_digest:
-            self.web.again(url.text(), self.by_digest[digest])
-        else:
-            self.web.note("links skipped, the first record with this content is missing", url.text())
-            self.web.page(url.text(), [])
-
-    def document(self, body: Optional[bytes], url: Url, kind: str, digest: Optional[str]) -> None:
-        """Add a page with the links of its body."""
-        charset = re.search(r"(?i)charset\s*=\s*[\"']?([^\s\"';]+)", kind)
-        kind = kind.partition(";")[0].strip().lower()
-        if body is None:
-            self.web.note("links skipped, the content coding is unknown or the body is invalid", url.text())
-            links = []
-        else:
-            links = links_of(body, url, kind, self.web, charset[1] if charset else None)
-            if len(body) >= DOCUMENT_LIMIT and is_document(kind, body):
-                self.web.note("only the links at the beginning were read, the page is too large", url.text())
-        if self.web.page(url.text(), links) and digest:
-            self.by_digest.setdefault(digest, url.text())
-
-
 # ---------------------------------------------------------------- the command
 
 
@@ -1373,20 +1082,17 @@ class CommandLine(argparse.ArgumentParser):
 
     def error(self, message: str) -> NoReturn:
         self.print_usage(sys.stderr)
-        self.exit(BAD_WORDS, f"site_to_web: {message}\n")
+        self.exit(BAD_WORDS, f"converter: {message}\n")
 
 
 def command_line() -> CommandLine:
     """Return the parser of this script's command line."""
     words = CommandLine(
-        usage="site_to_web.py [OPTION..] FOLDER BASE > WEB\n       site_to_web.py [OPTION..] --warc FILE.. > WEB",
-        description=DESCRIPTION,
-        epilog=RULES,
+        usage="converter.py [OPTION..] FOLDER BASE > WEB", description=__doc__,
         formatter_class=argparse.RawDescriptionHelpFormatter,
     )
-    words.add_argument("folder", nargs="?", metavar="FOLDER", help="folder to convert")
-    words.add_argument("base", nargs="?", metavar="BASE", help="URL of the folder, such as http://docs.test/")
-    words.add_argument("--warc", nargs="+", metavar="FILE", help="convert web archives instead of FOLDER and BASE")
+    words.add_argument("folder", metavar="FOLDER", help="folder to convert")
+    words.add_argument("base", metavar="BASE", help="URL of the folder, such as http://docs.test/")
     words.add_argument(
         "--index-file",
         action="append",
@@ -1405,10 +1111,7 @@ def command_line() -> CommandLine:
         action="store_true",
         help="follow symbolic links that lead out of FOLDER, which are otherwise listed and skipped",
     )
-    words.add_argument(
-        "--styles", action="store_true", help="also read url() and @import in styles and style sheets"
-    )
-    words.add_argument("--once", action="store_true", help="write equal links of a page only once")
+    words.add_argument("--no-styles", action="store_true", help="do not read style sheets, style elements and style attributes")
     words.add_argument("--quiet", action="store_true", help="only count what is skipped, and do not list it")
     return words
 
@@ -1425,20 +1128,13 @@ def base_of(text: str, words: argparse.ArgumentParser) -> Url:
 def run(words: argparse.ArgumentParser) -> None:
     """Read the site and write the saved web."""
     options = words.parse_args()
-    if bool(options.warc) == bool(options.folder) or bool(options.folder) != bool(options.base):
-        words.error("give FOLDER and BASE, or --warc FILE..")
     if options.exact and options.fallback:
         words.error("--exact and --fallback exclude each other")
     web = Web(options)
-    if options.warc:
-        archive = Archive(web)
-        for path in options.warc:
-            archive.read(path)
-    else:
-        base = base_of(options.base, words)
-        if not os.path.isdir(options.folder):
-            raise Fault(f"{options.folder}: not a folder")
-        Folder(options.folder, base, options, web).write()
+    base = base_of(options.base, words)
+    if not os.path.isdir(options.folder):
+        raise Fault(f"{options.folder}: not a folder")
+    Folder(options.folder, base, options, web).write()
     web.write(sys.stdout.buffer)
     web.summary()
 
@@ -1455,7 +1151,7 @@ def main() -> None:
     try:
         run(command_line())
     except (Fault, OSError) as fault:
-        print(f"site_to_web: {text_of_fault(fault)}", file=sys.stderr)
+        print(f"converter: {text_of_fault(fault)}", file=sys.stderr)
         if isinstance(fault, BrokenPipeError):
             # Otherwise the interpreter would try to write again at its end
             os.dup2(os.open(os.devnull, os.O_WRONLY), sys.stdout.fileno())
