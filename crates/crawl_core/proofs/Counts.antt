@@ -1,5 +1,5 @@
 -- How the count of the kept state changes with a subqueue, and that the machine's events on subqueues are the table's moves.
-use Rattle.crawl_core.proofs.Prelude.{◌≡◌, ℕ, suc, ◌-◌, ◌≤◌, Bool, true, false, List, ◌∷◌, length, drop, slice_get, slice_set, Option, Some, refl, sym, ap, ◌∙◌, arith, option_map, nat_cmp, is_at, length_push, length-remove_key, Event, Take, Done, Reply, one_if, let_go, holds, Kept, KeptQueue, IsCounted, kept_count, outstanding, has_seen}
+use Rattle.crawl_core.proofs.Prelude.{◌≡◌, ℕ, suc, ◌-◌, ◌≤◌, true, false, List, ◌∷◌, length, drop, slice_get, slice_set, Option, Some, None, is_some, refl, ap, ◌∙◌, arith, option_map, nat_cmp, is_at, length_push, length-remove_key, Event, Take, Done, Reply, one_if, let_go, holds, Kept, KeptQueue, IsCounted, kept_count, outstanding}
 use Rattle.crawl_core.proofs.Places.{sum_at}
 use Rattle.crawl_core.specs.declared.reply.Reply.TheVariants as told
 use Rattle.crawl_core.specs.Moves.{Moves, accepting}
@@ -7,6 +7,10 @@ use Rattle.crawl_core.specs.Moves.{Moves, accepting}
 -- the result of a test at an index is its result for the element at that index
 pub there : {X Y : Type 0} (f : X → Y) (o : Option X) (y : Y) → option_map f o ≡ Some y → (x : X) × (o ≡ Some x) × (f x ≡ y)
 there f o y e = grind arith
+
+some_there : {X : Type 0} (o : Option X) → is_some o ≡ true → (x : X) × (o ≡ Some x)
+some_there None e = absurd (cc)
+some_there (Some x) e = (x, refl)
 
 -- the kept state after an event, and the count that is stored with it, are right
 pub record Fits (old : Kept) (event : Event) (reply : Reply) (new : Kept) (count : ℕ) : Type 0 where
@@ -58,9 +62,9 @@ take_fits {kept} {count} place url new counted idle oldest set =
     }
 
 -- a URL that is accepted has the unit of its sender
-pub admit_counts : {kept : Kept} {count : ℕ} (place sender : ℕ) (url : List ℕ) (seen : Option Bool) (new : List KeptQueue) → IsCounted kept count → seen ≡ option_map (λ q. has_seen q url) (slice_get kept.queues place) → seen ≡ Some false → holds kept.gate sender ≡ true → ((queue : KeptQueue) → slice_get kept.queues place ≡ Some queue → new ≡ slice_set kept.queues place (accepting queue url sender)) → IsCounted (record { gate = let_go kept.gate sender; queues = new }) count
-admit_counts {kept} {count} place sender url seen new counted seen_is unseen held set =
-    let here = there (λ (q : KeptQueue). has_seen q url) (slice_get kept.queues place) false (sym seen_is ∙ unseen) in
+pub admit_counts : {kept : Kept} {count : ℕ} (place sender : ℕ) (url : List ℕ) (new : List KeptQueue) → IsCounted kept count → is_some (slice_get kept.queues place) ≡ true → holds kept.gate sender ≡ true → ((queue : KeptQueue) → slice_get kept.queues place ≡ Some queue → new ≡ slice_set kept.queues place (accepting queue url sender)) → IsCounted (record { gate = let_go kept.gate sender; queues = new }) count
+admit_counts {kept} {count} place sender url new counted present held set =
+    let here = some_there (slice_get kept.queues place) present in
     let is_new = set here.0 here.1 in
     let sum = sum_at outstanding kept.queues place here.0 (accepting here.0 url sender) here.1 in
     let longer = length_push here.0.waiting url in

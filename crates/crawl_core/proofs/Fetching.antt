@@ -1,5 +1,5 @@
 -- The URL that a subqueue is busy with, in the kept state and in a state that it shows.
-use Rattle.crawl_core.proofs.Prelude.{◌≡◌, ℕ, ◌-◌, slice_get, Option, arith, option_map, length-map, length-drop, slice_get-map, Kept, KeptQueue, Shows, ShowsQueue, State, Subqueue}
+use Rattle.crawl_core.proofs.Prelude.{◌≡◌, ℕ, slice_get, Option, arith, option_map, length-map, length-drop, slice_get-map, Kept, KeptQueue, Shows, ShowsQueue, State, Subqueue}
 use Rattle.crawl_core.specs.Fetching.{kept_fetch, fetch_of, in_fetch}
 use Rattle.crawl_core.proofs.Simulation.{Both, AllZip-slice_get}
 

@@ -15,7 +15,7 @@ pub use Rattle.crawl_core.specs.declared.event.Event.{Event}
 pub use Rattle.crawl_core.specs.declared.event.Event.TheVariants.{Admit, Back, Close, Done, EndSeeds, Enter, Look, Take}
 pub use Rattle.crawl_core.specs.declared.reply.Reply.{Reply}
 pub use Rattle.crawl_core.specs.declared.word.Word.{Word}
-pub use Rattle.hash_index.proofs.Listed.{has_index, none_there}
+pub use Rattle.hash_index.proofs.Listed.{has_index}
 pub use Rattle.std.proofs.Common.{Bool, List, MatchOption, None, Option, Ordering, Some, [], ap, arith, cond, drop, eq-eqb, eqb-true, false, filter_map, fold, inl, inr, is_some, length, map, mul-zero, nat_eq, ne_eqb, not, refl, replicate, rules, slice_get, slice_set, subst, suc, sym, take, true, true≢false, unwrap_or, zero, zero-add, ℕ, ◌&&◌, ◌++◌, ◌+◌, ◌-◌, ◌<◌, ◌||◌, ◌∙◌, ◌∷◌, ◌≡◌, ◌≤◌, ◌⊎◌}
 pub use Rattle.std.proofs.lemmas.Bool.{cases_lt, eqb-false}
 pub use Rattle.std.proofs.lemmas.Bool.Decides.{nat_tests}

@@ -1,5 +1,5 @@
 -- How a run continues.
-use Rattle.crawl_core.proofs.Prelude.{◌≡◌, ℕ, ◌+◌, List, [], ◌∷◌, ◌++◌, length, refl, ap, arith, zip, length_push, Event, Reply, State, start, Step, Run, Kept, Shows, Makes}
+use Rattle.crawl_core.proofs.Prelude.{◌≡◌, ℕ, List, [], ◌∷◌, ◌++◌, length, refl, ap, arith, zip, length_push, Event, Reply, State, start, Step, Run, Kept, Shows, Makes}
 
 -- a new frontier had these replies to these events, and this is kept after them
 pub record RunTo (workers max : ℕ) (events : List Event) (replies : List Reply) (kept : Kept) : Type 0 where

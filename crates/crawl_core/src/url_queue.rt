@@ -85,30 +85,28 @@ impl UrlQueue {
         }
     }
 
-    /// Whether the URL was ever accepted here.
-    pub fn has_seen(&self, url: &Text) -> bool
-        ensures { result ≡ has_seen self.now url.now }
-    {
-        self.index.find(&self.seen, url).is_some()
-    }
-
-    /// Appends a URL that was never accepted here, and returns how many of the sender came before it.
-    pub fn accept(&mut self, url: &Text, sender: u64) -> Result<u64, NoMemory>
-        requires { has_seen self.old url.now ≡ false }
-        ensures number { IfOk result (λ number. number ≡ number_at self.old.numbers sender) }
-        ensures accepted { IfOk result (λ _. self.new ≡ accepting self.old url.now sender) }
+    /// Appends a URL, and returns how many of the sender came before it. `None` if the URL was ever accepted here.
+    pub fn accept(&mut self, url: &Text, sender: u64) -> Result<Option<u64>, NoMemory>
+        ensures seen { IfOk result (λ number. IfNone number (has_seen self.old url.now ≡ true)) }
+        ensures unchanged { IfOk result (λ number. IfNone number (self.new ≡ self.old)) }
+        ensures fresh { IfOk result (λ number. IfSome number (λ _. has_seen self.old url.now ≡ false)) }
+        ensures number { IfOk result (λ number. IfSome number (λ number. number ≡ number_at self.old.numbers sender)) }
+        ensures accepted { IfOk result (λ number. OnSome number (self.new ≡ accepting self.old url.now sender)) }
         ensures err { OnErr result (self.new ≡ self.old) }
     {
-        let waits = url.clone()?;
-        let known = url.clone()?;
         self.waiting.reserve(1)?;
         self.seen.reserve(1)?;
-        let _ = self.index.find_or_insert(&self.seen, url)?;
+        let found = self.index.find_or_insert(&self.seen, url)?;
+        if found.is_some() {
+            return Ok(None);
+        }
+        let waits = url.clone()?;
+        let known = url.clone()?;
         let number = self.numbers.get(&sender).copied().unwrap_or(0);
         self.numbers.insert(sender, number + 1)?;
         self.seen.push_reserved(known);
         self.waiting.push_back_reserved(waits);
-        Ok(number)
+        Ok(Some(number))
     }
 
     /// Takes the URL that has waited longest, which makes the subqueue busy.

@@ -1,5 +1,5 @@
 //! The subqueues of a machine, each read and changed by its number.
-ghost use Rattle.std.specs.Prelude.{◌≡◌, ◌∷◌, [], ◌<◌, true, false, length, replicate, slice_get, slice_set, Some, None, drop, IfOk, IfSome, IfNone, OnErr, OnSome, option_map};
+ghost use Rattle.std.specs.Prelude.{◌≡◌, ◌∷◌, [], ◌<◌, true, false, length, replicate, slice_get, slice_set, Some, None, drop, IfOk, IfSome, IfNone, OnErr, OnSome, is_some, option_map};
 ghost use Rattle.crawl_core.specs.Fetching.{kept_fetch};
 ghost use Rattle.crawl_core.specs.Handing.{kept_progress};
 ghost use Rattle.crawl_core.specs.Kept.{KeptQueue, empty_queue, has_seen, number_at};
@@ -64,19 +64,22 @@ impl UrlQueues {
         Some(queue.progress())
     }
 
-    /// Whether the subqueue has accepted the URL, if there is one.
-    pub fn has_seen(&self, place: u32, url: &Text) -> Option<bool>
-        ensures { result ≡ option_map (λ queue. has_seen queue url.now) (slice_get self.now place) }
+    /// Whether there is such a subqueue.
+    pub fn has(&self, place: u32) -> bool
+        ensures { result ≡ is_some (slice_get self.now place) }
     {
-        let queue = self.queues.get(place as usize)?;
-        Some(queue.has_seen(url))
+        self.queues.get(place as usize).is_some()
     }
 
-    /// Appends a URL that the subqueue never accepted, and returns how many of the sender came before it.
-    pub fn accept(&mut self, place: u32, url: &Text, sender: u64) -> Result<u64, NoMemory>
-        requires { option_map (λ queue. has_seen queue url.now) (slice_get self.old place) ≡ Some false }
-        ensures number { IfOk result (λ number. (queue : KeptQueue) → slice_get self.old place ≡ Some queue → number ≡ number_at queue.numbers sender) }
-        ensures accepted { IfOk result (λ _. (queue : KeptQueue) → slice_get self.old place ≡ Some queue → self.new ≡ slice_set self.old place (accepting queue url.now sender)) }
+    /// Appends a URL to the subqueue, and returns how many of the sender came before it. `None` if the subqueue has accepted the
+    /// URL before.
+    pub fn accept(&mut self, place: u32, url: &Text, sender: u64) -> Result<Option<u64>, NoMemory>
+        requires { is_some (slice_get self.old place) ≡ true }
+        ensures seen { IfOk result (λ number. IfNone number ((queue : KeptQueue) → slice_get self.old place ≡ Some queue → has_seen queue url.now ≡ true)) }
+        ensures unchanged { IfOk result (λ number. IfNone number (self.new ≡ self.old)) }
+        ensures fresh { IfOk result (λ number. IfSome number (λ _. (queue : KeptQueue) → slice_get self.old place ≡ Some queue → has_seen queue url.now ≡ false)) }
+        ensures number { IfOk result (λ number. IfSome number (λ number. (queue : KeptQueue) → slice_get self.old place ≡ Some queue → number ≡ number_at queue.numbers sender)) }
+        ensures accepted { IfOk result (λ number. OnSome number ((queue : KeptQueue) → slice_get self.old place ≡ Some queue → self.new ≡ slice_set self.old place (accepting queue url.now sender))) }
         ensures err { OnErr result (self.new ≡ self.old) }
     {
         self.queues[place as usize].accept(url, sender)

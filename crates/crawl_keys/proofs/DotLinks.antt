@@ -1,5 +1,5 @@
 -- How the parser reads dot segments at the beginning of a text, and segments that they cancel.
-use Rattle.crawl_keys.proofs.Prelude.{common_steps, ◌≡◌, ℕ, zero, suc, ◌+◌, ◌-◌, ◌<◌, ◌==◌, true, false, List, [], ◌∷◌, ◌++◌, length, refl, ap, sym, subst, ◌∙◌, All, arith, append_assoc, append-nil, length-append, take_all, Option, unwrap_or, before_first, list_all, position_or_len, prefix_len, and_from, and_parts, eq-eqb, true≢false, nat_tests, All-nil, All-cons, All-weaker, list_all-append, fails_before_first, percent_encode_unchanged, SpecialNotFile, PATH, All-take-prefix_len, IsNot, Passes, list_all_from_All, rsplit_once_at, IsNoSlash, parse_path_more, IsAhead, IsBehind, IsInFolder, IsWithin, above, behind_ups, has_no_scheme, first_is_slash, is_kept, is_other, is_plain}
+use Rattle.crawl_keys.proofs.Prelude.{common_steps, ◌≡◌, ℕ, zero, suc, ◌+◌, ◌<◌, ◌==◌, true, false, List, [], ◌∷◌, ◌++◌, length, refl, ap, sym, subst, ◌∙◌, All, arith, append_assoc, append-nil, length-append, take_all, Option, unwrap_or, before_first, list_all, position_or_len, prefix_len, and_from, and_parts, eq-eqb, true≢false, nat_tests, All-nil, All-cons, All-weaker, list_all-append, fails_before_first, percent_encode_unchanged, SpecialNotFile, PATH, All-take-prefix_len, IsNot, Passes, list_all_from_All, rsplit_once_at, IsNoSlash, parse_path_more, IsAhead, IsBehind, IsInFolder, IsWithin, above, behind_ups, has_no_scheme, first_is_slash, is_kept, is_other, is_plain}
 use Rattle.url.specs.Input.{split_once}
 use Rattle.url.specs.Path.{IsSegment, dot_count, parse_path, push_segment, without_last_segment}
 use Rattle.crawl_keys.proofs.HostLinks.{split_behind}

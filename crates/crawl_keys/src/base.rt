@@ -1,10 +1,12 @@
 //! A page whose links are resolved.
-ghost use Rattle.std.specs.Prelude.{◌≡◌, ◌≤◌, ◌+◌, ℕ, List, Ok, Some, length, true, IfSome};
+ghost use Rattle.std.specs.Prelude.{◌≡◌, ◌≤◌, ◌+◌, ℕ, List, Some, length, true, IfOk, IfSome};
+ghost use Rattle.std.specs.Result.{result_ok};
 ghost use Rattle.crawl_keys.specs.Bases.{IsBase, IsFolderOf, IsSchemeOf};
 ghost use Rattle.crawl_keys.specs.CanonicalText.{IsCanonical};
 ghost use Rattle.crawl_keys.specs.CanonicalText as spec;
 ghost use Rattle.crawl_keys.specs.Folders.{is_of_folder};
-ghost use Rattle.crawl_keys.specs.Links.{IsAtRoot, IsByHost, IsInFolder, is_query, is_rooted, is_same};
+ghost use Rattle.crawl_keys.specs.Links.{IsAtRoot, IsBehind, IsByHost, IsInFolder, is_query, is_rooted, is_same};
+ghost use Rattle.crawl_keys.specs.Links as links;
 ghost use Rattle.crawl_keys.specs.Outcome.{Gives};
 ghost use Rattle.crawl_keys.specs.Spelled.{IsSpelled};
 ghost use Rattle.url.specs.Parser.{parse_url};
@@ -18,7 +20,7 @@ use crate::plain::{
     HostPlace, PlainLink, begins_path, behind_ups, is_plain, len_before, plain_link,
 };
 use crate::{CanonUrl, KeyError, before_fragment};
-use std::alloc::Global;
+use std::alloc::{AllocError, Global};
 use std::marker::Model;
 use url::Url;
 
@@ -57,12 +59,11 @@ impl Model for Base {
 }
 
 impl Base {
-    /// The base for the links of the page at this URL. It shares the URL's text. The only error is
-    /// `NoMemory`.
-    pub fn new(alloc: Global, page: &CanonUrl) -> Result<Base, KeyError>
-        ensures { Gives KeyError.NoMemory (λ base. base) result (Ok page.now) }
+    /// The base for the links of the page at this URL. It shares the URL's text. The only error is out of memory.
+    pub fn new(alloc: Global, page: &CanonUrl) -> Result<Base, AllocError>
+        ensures { IfOk result (λ base. base ≡ page.now) }
     {
-        let url = page.copy()?;
+        let url = page.clone()?;
         Ok(Base::of_url(alloc, url))
     }
 
@@ -116,6 +117,17 @@ impl Base {
         match self.known(alloc, text) {
             Some(answer) => answer,
             None => self.without_fragment(alloc, text),
+        }
+    }
+
+    /// The canonical URL of a link on the page. `None` if it leads to no http or https URL. The only error is out of memory.
+    pub fn link(&self, alloc: Global, text: &str) -> Result<Option<CanonUrl>, AllocError>
+        ensures { IfOk result (λ link. link ≡ result_ok (spec.resolve self.now text.now)) }
+    {
+        match self.resolve(alloc, text) {
+            Ok(url) => Ok(Some(url)),
+            Err(KeyError::NoMemory) => Err(AllocError),
+            Err(KeyError::NotUrl | KeyError::NotHttp) => Ok(None),
         }
     }
 
@@ -217,27 +229,35 @@ impl Base {
         None
     }
 
-    /// The result of a link that begins with dot segments, and with segments that they remove. `None` means unknown.
+    /// The result of a link with dot segments. `None` means unknown.
     fn dotted(&self, alloc: Global, text: &str) -> Option<Result<CanonUrl, KeyError>>
-        ensures { IfSome result (λ answer. Gives KeyError.NoMemory (λ url. url) answer (spec.resolve self.now text.now)) }
-    {
-        let (ups, rest) = behind_dots(text);
-        // A text that does not begin with a dot segment was tried before.
-        if rest.len() < text.len() && is_plain(b'/', rest.as_bytes()) && has_no_scheme(text) {
-            return Some(self.in_folder(alloc, text, ups, rest));
-        }
-        None
-    }
-
-    /// The result of a link with dot segments after another segment. `None` means unknown.
-    #[tactic(auto, using(crate::proofs::DotLinks::behind_both))]
-    fn dotted_within(&self, alloc: Global, text: &str) -> Option<Result<CanonUrl, KeyError>>
         ensures { IfSome result (λ answer. Gives KeyError.NoMemory (λ url. url) answer (spec.resolve self.now text.now)) }
     {
         if !has_no_scheme(text) {
             return None;
         }
         let (ups, rest) = behind_dots(text);
+        // A text that does not begin with a dot segment was tried before.
+        if rest.len() < text.len() && is_plain(b'/', rest.as_bytes()) {
+            return Some(self.in_folder(alloc, text, ups, rest));
+        }
+        self.dotted_within(alloc, text, ups, rest)
+    }
+
+    /// The result of a link with dot segments after another segment. `rest` is the text after the leading dot segments, which
+    /// climb `ups` folders. `None` means unknown.
+    #[tactic(auto, using(crate::proofs::DotLinks::behind_both))]
+    fn dotted_within(
+        &self,
+        alloc: Global,
+        text: &str,
+        ups: usize,
+        rest: &str,
+    ) -> Option<Result<CanonUrl, KeyError>>
+        requires behind { IsBehind text.now ups rest.now }
+        requires relative { links.has_no_scheme text.now ≡ true }
+        ensures { IfSome result (λ answer. Gives KeyError.NoMemory (λ url. url) answer (spec.resolve self.now text.now)) }
+    {
         let Ok(found) = without_dots(alloc, rest) else {
             return Some(Err(KeyError::NoMemory));
         };
@@ -291,9 +311,6 @@ impl Base {
             return self.from_root(alloc, text);
         }
         if let Some(answer) = self.dotted(alloc, text) {
-            return answer;
-        }
-        if let Some(answer) = self.dotted_within(alloc, text) {
             return answer;
         }
         // For the proof: the page's URL has a text that parses.

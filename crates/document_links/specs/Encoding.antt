@@ -1,12 +1,17 @@
 -- The text of a document in UTF-8, and its links.
-use Rattle.std.specs.Prelude.{◌≡◌, ℕ, ◌-◌, ◌%◌, nat_lt, Bool, true, List, [], ◌∷◌, drop, take, slice_index, Option, None, Some, Vec, if◌then◌else◌, bytes_eq}
+use Rattle.std.specs.Prelude.{◌≡◌, ◌≤◌, ℕ, ◌-◌, ◌%◌, nat_lt, Bool, true, false, ◌||◌, List, [], ◌∷◌, ◌++◌, codes, drop, map, take, slice_index, Option, None, Some, Vec, if◌then◌else◌, bytes_eq}
 use Rattle.std.specs.Int.{is_in_range}
 use Rattle.std.specs.Str.Lossy.{utf8_lossy}
 use Rattle.std.specs.declared.alloc.Global.{Global}
+use Rattle.std.specs.List.{list_all}
+use Rattle.html_links.specs.Links.{base_of, links_of}
+use Rattle.html_links.specs.Styles.{style_links_of}
 use Rattle.document_links.specs.declared.charset.Charset.{Charset}
 use Rattle.document_links.specs.declared.charset.TheConstants.{LIKELY, WINDOWS}
+use Rattle.document_links.specs.declared.document.ReadOptions.{ReadOptions}
 use Rattle.document_links.specs.declared.charset.Charset.TheVariants.{Utf8, Utf16Le, Utf16Be, Windows1252, Other}
-use Rattle.document_links.specs.Written.{HasTexts}
+use Rattle.document_links.specs.Rooted.{all_rooted}
+use Rattle.document_links.specs.Written.{AreWritten, byte_count, can_write, is_unicode, written}
 
 -- the byte order mark of UTF-8
 abbrev pub mark : List ℕ
@@ -31,17 +36,62 @@ abbrev pub text_in : List ℕ → Option (Vec ℕ Global) → List ℕ
 text_in body None = without_mark body
 text_in body (Some text) = text.items
 
+-- the links of a document with this text: with those of its styles if the options ask for them, and below the path of the top if they have one
+abbrev pub read_links_of : ReadOptions → List ℕ → List (List ℕ)
+read_links_of options text = all_rooted options.root (links_of options.styles options.syntax text)
+
+-- a document with this text has these link texts, if it has no base
+abbrev pub HasTexts : ReadOptions → Charset → List ℕ → List (List ℕ) → Type 0
+HasTexts options charset text links =
+    is_unicode charset ≡ true → base_of options.syntax text ≡ None → list_all can_write (read_links_of options text) ≡ true → byte_count links ≤ options.byte_limit
+    → links ≡ map written (read_links_of options text)
+
 -- a document in this encoding has these link texts
-pub record HasLinks (charset : Charset) (body : List ℕ) (limit : ℕ) (links : List (List ℕ)) : Type 0 where
+pub record HasLinks (options : ReadOptions) (charset : Charset) (body : List ℕ) (links : List (List ℕ)) : Type 0 where
   pub text : List ℕ
   pub decoded : IsTextIn charset body text
-  pub texts : HasTexts charset text limit links
+  pub texts : HasTexts options charset text links
 
 -- a document has these link texts in some encoding, which is UTF-8 if it begins with the mark of that
-pub record HasLinkTexts (body : List ℕ) (limit : ℕ) (links : List (List ℕ)) : Type 0 where
+pub record HasLinkTexts (options : ReadOptions) (body : List ℕ) (links : List (List ℕ)) : Type 0 where
   pub charset : Charset
   pub marked : has_mark body ≡ true → charset ≡ Utf8
-  pub has : HasLinks charset body limit links
+  pub has : HasLinks options charset body links
+
+-- ---- style sheets
+
+-- a style sheet names its encoding after these bytes, if it begins with them
+abbrev pub charset_rule : List ℕ
+charset_rule = codes "@charset " ++ 34 ∷ []
+
+-- a style sheet begins with a byte order mark of UTF-16, or with the name of its encoding
+abbrev pub names_encoding : List ℕ → Bool
+names_encoding sheet = bytes_eq (take 2 sheet) (255 ∷ 254 ∷ []) || bytes_eq (take 2 sheet) (254 ∷ 255 ∷ []) || bytes_eq (take 10 sheet) charset_rule
+
+-- the encoding is a known one, so that all bytes are read
+abbrev pub is_known : Charset → Bool
+is_known Utf8 = true
+is_known Utf16Le = true
+is_known Utf16Be = true
+is_known Windows1252 = true
+is_known Other = false
+
+-- a style sheet with this text has these link texts
+abbrev pub HasSheetTexts : ReadOptions → Charset → List ℕ → List (List ℕ) → Type 0
+HasSheetTexts options charset text links = is_known charset ≡ true → AreWritten [] (all_rooted options.root (style_links_of text)) links options.byte_limit
+
+-- a style sheet in this encoding has these link texts
+pub record HasSheetLinks (options : ReadOptions) (charset : Charset) (sheet : List ℕ) (links : List (List ℕ)) : Type 0 where
+  pub text : List ℕ
+  pub decoded : IsTextIn charset sheet text
+  pub texts : HasSheetTexts options charset text links
+
+-- a style sheet has these link texts in some encoding, which is UTF-8 unless the sheet names another
+pub record HasSheet (options : ReadOptions) (sheet : List ℕ) (links : List (List ℕ)) : Type 0 where
+  pub charset : Charset
+  pub marked : has_mark sheet ≡ true → charset ≡ Utf8
+  pub unnamed : names_encoding sheet ≡ false → charset ≡ Utf8
+  pub has : HasSheetLinks options charset sheet links
 
 -- ---- windows-1252
 

@@ -1,10 +1,8 @@
 -- The text of a link, as it is written in the line of a page.
-use Rattle.std.specs.Prelude.{◌≡◌, ◌≤◌, ℕ, Bool, true, false, ◌&&◌, ◌||◌, List, ◌++◌, length, map, None, if◌then◌else◌}
+use Rattle.std.specs.Prelude.{◌≡◌, ◌≤◌, ℕ, Bool, true, false, ◌&&◌, ◌||◌, List, ◌++◌, length, map, if◌then◌else◌}
 use Rattle.std.specs.List.{before_first, flat_map, list_all}
 use Rattle.url.specs.Input.{strip_tabs_and_new_lines, trim_c0_control_and_space}
 use Rattle.crawl_keys.specs.Fragments.{is_number_sign}
-use Rattle.html_links.specs.Links.{base_of, links_of}
-use Rattle.html_links.specs.declared.context.Syntax.TheVariants.{Html}
 use Rattle.document_links.specs.declared.charset.Charset.{Charset}
 use Rattle.document_links.specs.declared.charset.Charset.TheVariants.{Utf8, Utf16Le, Utf16Be, Windows1252, Other}
 use Rattle.document_links.specs.declared.page_base.PageBase.{PageBase}
@@ -59,9 +57,3 @@ keeps_links of_page charset = has_no_base of_page && is_unicode charset
 -- after these texts come those of these links, if each link fits in a line, and the limit is not passed
 pub record AreWritten (old links new : List (List ℕ)) (limit : ℕ) : Type 0 where
   pub one_each : list_all can_write links ≡ true → byte_count new ≤ limit → new ≡ old ++ map written links
-
--- a document with this text has these link texts, if it has no base
-abbrev pub HasTexts : Charset → List ℕ → ℕ → List (List ℕ) → Type 0
-HasTexts charset text limit links =
-    is_unicode charset ≡ true → base_of Html text ≡ None → list_all can_write (links_of false Html text) ≡ true → byte_count links ≤ limit
-    → links ≡ map written (links_of false Html text)

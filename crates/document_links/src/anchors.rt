@@ -130,7 +130,7 @@ impl Anchors {
     fn push_link(&mut self, fragment: &[u8], index: usize, is_own: bool) -> Result<(), AllocError> {
         let begin = self.fragments.len();
         push_without_breaks(fragment, &mut self.fragments)?;
-        if is_own && self.has_part(begin)? {
+        if is_own && self.has_anchor(begin)? {
             self.fragments.truncate(begin);
             return Ok(());
         }
@@ -141,7 +141,7 @@ impl Anchors {
     }
 
     /// Whether the document has the anchor that the last fragment names, which starts at `begin`.
-    fn has_part(&self, begin: usize) -> Result<bool, AllocError> {
+    fn has_anchor(&self, begin: usize) -> Result<bool, AllocError> {
         let fragment = self.fragments.as_slice().get(begin..).unwrap_or(&[]);
         is_indicated(*self.fragments.allocator(), &self.ids, fragment)
     }

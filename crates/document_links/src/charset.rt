@@ -1,11 +1,11 @@
-//! The encoding of a document.
-ghost use Rattle.std.specs.Prelude.{◌≡◌, ◌≢◌, ℕ, ◌≤◌, ◌<◌, length, true, IsAscii, IfOk, IfSome, IsNone};
-ghost use Rattle.document_links.specs.Encoding.{character_of, has_mark, likely_byte};
+//! The encoding of a document or a style sheet.
+ghost use Rattle.std.specs.Prelude.{◌≡◌, ◌≢◌, ℕ, ◌≤◌, ◌<◌, bytes_eq, false, length, take, true, IsAscii, IfOk, IfSome, IsNone, IsSome};
+ghost use Rattle.document_links.specs.Encoding.{character_of, charset_rule, has_mark, likely_byte, names_encoding};
 ghost use Rattle.document_links.specs.Places.{keeps_ascii};
 ghost use Rattle.document_links.specs.Written.{is_unicode};
 
 use crate::cleaning::trimmed;
-use crate::document_start::{behind_first, behind_front, start_of};
+use crate::document_start::{START_LENGTH, behind_first, behind_front, start_of};
 use crate::words::is_among;
 use memchr::memchr;
 use std::alloc::{AllocError, Global};
@@ -38,16 +38,43 @@ impl Charset {
     }
 }
 
-/// Finds the encoding of a document, by its first bytes, its head, and whether it is UTF-8.
-pub(crate) fn charset_of(body: &[u8]) -> Charset
+/// Finds the encoding of a document, by its first bytes, its head, and whether it is UTF-8, or of a style sheet, by its first bytes.
+pub(crate) fn charset_of(body: &[u8], is_style_sheet: bool) -> Charset
     ensures ascii { IsAscii body.now → keeps_ascii result ≡ true }
     ensures marked { has_mark body.now ≡ true → result ≡ Charset.Utf8 }
+    ensures unnamed { is_style_sheet ≡ true → names_encoding body.now ≡ false → result ≡ Charset.Utf8 }
 {
     match body {
         [0xef, 0xbb, 0xbf, ..] => Charset::Utf8,
         [0xff, 0xfe, ..] => Charset::Utf16Le,
         [0xfe, 0xff, ..] => Charset::Utf16Be,
+        _ if is_style_sheet => sheet_unmarked(body),
         _ => charset_unmarked(body),
+    }
+}
+
+/// The encoding of a style sheet without a byte order mark.
+fn sheet_unmarked(body: &[u8]) -> Charset
+    ensures ascii { keeps_ascii result ≡ true }
+    ensures unnamed { bytes_eq (take 10 body.now) charset_rule ≡ false → result ≡ Charset.Utf8 }
+{
+    match named_in_sheet(body) {
+        Some(name) => charset_named(name, body),
+        None => Charset::Utf8,
+    }
+}
+
+/// The name of the encoding in the `@charset` with which a style sheet begins. Only the spelling `@charset "NAME";` counts.
+pub(crate) fn named_in_sheet(body: &[u8]) -> Option<&[u8]>
+    ensures { IsSome result → bytes_eq (take 10 body.now) charset_rule ≡ true }
+{
+    let behind = body.strip_prefix(b"@charset \"")?;
+    let end = memchr(b'"', behind)?;
+    let (name, rest) = behind.split_at(end);
+    if end < START_LENGTH && rest.starts_with(b"\";") {
+        Some(name)
+    } else {
+        None
     }
 }
 

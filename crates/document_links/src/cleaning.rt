@@ -1,4 +1,4 @@
-//! The parts of a link's text that a URL parser reads.
+//! What a URL parser reads of the text of a link.
 ghost use Rattle.std.specs.Prelude.{◌≡◌, ◌++◌, IfOk, OnOk};
 ghost use Rattle.std.specs.List.{list_any};
 ghost use Rattle.url.specs.Input.{is_c0_control_or_space, is_tab_or_new_line, strip_tabs_and_new_lines, trim_c0_control_and_space, trim_end, trim_start};
@@ -83,7 +83,7 @@ pub(crate) fn push_without_breaks(text: &[u8], out: &mut Vec<u8>) -> Result<(), 
 
 /// The text before its first `#`.
 #[tactic(auto, using(crate::proofs::Trimming::sign_at, crate::proofs::Trimming::no_sign, std::proofs::lemmas::List::take_all))]
-pub(crate) fn before_fragment(text: &[u8]) -> &[u8]
+pub(crate) fn without_fragment(text: &[u8]) -> &[u8]
     ensures { result.now ≡ without_fragment text.now }
 {
     match memchr(b'#', text) {

@@ -1,12 +1,11 @@
 //! Reads a document.
-ghost use Rattle.std.specs.Prelude.{◌≡◌, ◌++◌, [], true, false, IfOk, OnOk, IfSome, IsAscii, MatchOption, None};
+ghost use Rattle.std.specs.Prelude.{◌≡◌, ◌++◌, [], true, IfOk, OnOk, IfSome, IsAscii, MatchOption, None};
 ghost use Rattle.std.specs.Str.Lossy.{utf8_lossy};
 ghost use Rattle.html_links.specs.Links.{base_of, links_of};
-ghost use Rattle.html_links.specs.declared.context.Syntax.TheVariants.{Html};
 ghost use Rattle.html_links.specs.Reads.{base_at};
-ghost use Rattle.document_links.specs.Encoding.{HasLinks, HasLinkTexts, IsTextIn, text_in};
+ghost use Rattle.document_links.specs.Encoding.{HasLinks, HasLinkTexts, HasTexts, IsTextIn, text_in};
 ghost use Rattle.document_links.specs.Places.{keeps_ascii};
-ghost use Rattle.document_links.specs.Written.{AreWritten, HasTexts, is_unicode};
+ghost use Rattle.document_links.specs.Written.{AreWritten, is_unicode};
 
 use crate::anchors::{AnchorTargets, anchors_of};
 use crate::charset::{Charset, charset_of, declared, from_utf16, from_windows};
@@ -15,6 +14,7 @@ use crate::link_texts::LinkTexts;
 use crate::link_writer::LinkWriter;
 use crate::positions::InvalidLink;
 use crate::raw_links::{RawIds, RawLinks};
+use crate::root::add_root;
 use crate::unknown::{ascii_text, has_unknown, keep_known};
 use crawl_keys::CanonUrl;
 use html_links::{Base, Syntax, read_links, read_page, read_places};
@@ -22,7 +22,14 @@ use std::alloc::{AllocError, Global};
 
 /// What is read of a document.
 #[derive(Clone, Copy)]
-pub struct ReadOptions {
+pub struct ReadOptions<'a> {
+    /// How the document is written.
+    pub syntax: Syntax,
+    /// Whether `url()` and `@import` in `style` elements and attributes are links.
+    pub styles: bool,
+    /// The path of the site's top, which ends with a slash, if links and a `base` that begin with one slash lead below the top. That is so
+    /// in a folder whose URL is not known.
+    pub root: Option<&'a str>,
     /// Whether anchors and links to anchors are read.
     pub anchors: bool,
     /// Whether the positions of links and the invalid links are kept.
@@ -49,13 +56,31 @@ pub struct Document {
 
 impl Document {
     /// A document without links.
-    pub fn empty(alloc: Global) -> Document {
+    pub fn empty(alloc: Global) -> Document
+        ensures { result.links ≡ [] }
+    {
         Document {
             links: LinkTexts::new(alloc),
             has_skipped: false,
             anchors: None,
             positions: Vec::new(alloc),
             invalid: Vec::new(alloc),
+            encoding: None,
+        }
+    }
+
+    /// The document with the links that were written, without anchors.
+    pub(crate) fn written(writer: &mut LinkWriter) -> Document
+        ensures { result.links ≡ writer.old.links }
+    {
+        let links = writer.take_links();
+        let (positions, invalid) = writer.take_positions();
+        Document {
+            links,
+            has_skipped: writer.has_skipped,
+            anchors: None,
+            positions,
+            invalid,
             encoding: None,
         }
     }
@@ -69,13 +94,14 @@ pub fn read_document(
     alloc: Global,
     body: &[u8],
     url: &CanonUrl,
-    options: ReadOptions,
+    options: ReadOptions<'_>,
     room: &mut RawLinks,
 ) -> Result<Document, AllocError>
-    // In a Unicode encoding and without `base`: one text for each link, in order.
-    ensures { IfOk result (λ document. HasLinkTexts body.now options.byte_limit document.links) }
+    // In a Unicode encoding and without `base`: one text for each link, in order. If there is a root, paths that begin with one slash
+    // are below it.
+    ensures { IfOk result (λ document. HasLinkTexts options.entry body.now document.links) }
 {
-    let charset = charset_of(body);
+    let charset = charset_of(body, false);
     let mut document = document_in(alloc, body, charset, url, options, room)?;
     document.encoding = unknown_encoding(alloc, body, charset)?;
     Ok(document)
@@ -87,10 +113,10 @@ fn document_in(
     body: &[u8],
     charset: Charset,
     url: &CanonUrl,
-    options: ReadOptions,
+    options: ReadOptions<'_>,
     room: &mut RawLinks,
 ) -> Result<Document, AllocError>
-    ensures { IfOk result (λ document. HasLinks charset body.now options.byte_limit document.links) }
+    ensures { IfOk result (λ document. HasLinks options.entry charset body.now document.links) }
 {
     match utf8_text(alloc, body, charset)? {
         Some(text) => text_document(alloc, text.as_slice(), charset, url, options, room),
@@ -119,45 +145,38 @@ fn text_document(
     text: &[u8],
     charset: Charset,
     url: &CanonUrl,
-    options: ReadOptions,
+    options: ReadOptions<'_>,
     raw: &mut RawLinks,
 ) -> Result<Document, AllocError>
-    ensures { IfOk result (λ document. HasTexts charset text.now options.byte_limit document.links) }
+    ensures { IfOk result (λ document. HasTexts options.entry charset text.now document.links) }
 {
     let mut ids = RawIds::new(alloc);
     raw.clear()?;
     let base = read_known(alloc, text, charset, options, raw, &mut ids)?;
+    let base = add_root(options.root, url, base, raw)?;
     // The base also applies to the links before it, so all were found first.
     let mut writer = written_links(alloc, charset, base, url, options, raw)?;
-    let links = writer.take_links();
-    let (positions, invalid) = writer.take_positions();
-    let has_skipped = writer.has_skipped;
+    let mut document = Document::written(&mut writer);
     // If an id is not known, no link to an anchor is known to be broken.
     let anchors = if options.anchors && !ids.has_unknown {
         Some(anchors_of(alloc, &ids.ids, raw, writer, url)?)
     } else {
         None
     };
-    Ok(Document {
-        links,
-        has_skipped,
-        anchors,
-        positions,
-        invalid,
-        encoding: None,
-    })
+    document.anchors = anchors;
+    Ok(document)
 }
 
 /// Writes the texts of these links of a page with this base.
-fn written_links(
+pub(crate) fn written_links(
     alloc: Global,
     charset: Charset,
     base: Base,
     url: &CanonUrl,
-    options: ReadOptions,
+    options: ReadOptions<'_>,
     raw: &RawLinks,
 ) -> Result<LinkWriter, AllocError>
-    ensures { is_unicode charset ≡ true → base_at base ≡ None → IfOk result (λ writer. AreWritten [] raw.now.texts writer.links options.byte_limit) }
+    ensures { is_unicode charset ≡ true → base_at base ≡ None → IfOk result (λ writer. AreWritten [] raw.now.texts writer.links options.entry.byte_limit) }
 {
     let mut writer = LinkWriter::new(alloc, charset, base, url)?;
     writer.make_room(url, raw, options.places)?;
@@ -170,12 +189,12 @@ fn read_known(
     alloc: Global,
     text: &[u8],
     charset: Charset,
-    options: ReadOptions,
+    options: ReadOptions<'_>,
     raw: &mut RawLinks,
     ids: &mut RawIds,
 ) -> Result<Base, AllocError>
-    ensures links { is_unicode charset ≡ true → OnOk result (raw.new.texts ≡ raw.old.texts ++ links_of false Html text.now) }
-    ensures base { is_unicode charset ≡ true → IfOk result (λ base. base_at base ≡ base_of Html text.now) }
+    ensures links { is_unicode charset ≡ true → OnOk result (raw.new.texts ≡ raw.old.texts ++ links_of options.entry.styles options.entry.syntax text.now) }
+    ensures base { is_unicode charset ≡ true → IfOk result (λ base. base_at base ≡ base_of options.entry.syntax text.now) }
 {
     let base = read_all(alloc, text, options, raw, ids)?;
     match charset {
@@ -191,19 +210,19 @@ fn read_known(
 fn read_all(
     alloc: Global,
     text: &[u8],
-    options: ReadOptions,
+    options: ReadOptions<'_>,
     raw: &mut RawLinks,
     ids: &mut RawIds,
 ) -> Result<Base, AllocError>
-    ensures links { OnOk result (raw.new.texts ≡ raw.old.texts ++ links_of false Html text.now) }
-    ensures base { IfOk result (λ base. base_at base ≡ base_of Html text.now) }
+    ensures links { OnOk result (raw.new.texts ≡ raw.old.texts ++ links_of options.entry.styles options.entry.syntax text.now) }
+    ensures base { IfOk result (λ base. base_at base ≡ base_of options.entry.syntax text.now) }
 {
     if options.anchors {
-        read_page(alloc, Syntax::Html, text, false, raw, ids)
-    } else if options.places {
-        read_places(alloc, Syntax::Html, text, false, raw)
+        read_page(alloc, options.syntax, text, options.styles, raw, ids)
+    } else if options.places || options.styles {
+        read_places(alloc, options.syntax, text, options.styles, raw)
     } else {
-        read_links(alloc, Syntax::Html, text, raw)
+        read_links(alloc, options.syntax, text, raw)
     }
 }
 

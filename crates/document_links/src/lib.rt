@@ -1,4 +1,4 @@
-//! One HTML document, from its bytes: its encoding, its links and their positions, and its anchors.
+//! One HTML document or style sheet, from its bytes: its encoding, its links and their positions, and its anchors.
 #![tactic(auto)]
 
 mod anchors;
@@ -15,7 +15,9 @@ mod places;
 mod positions;
 mod query;
 mod raw_links;
+mod root;
 mod scheme;
+mod style_sheet;
 mod targets;
 mod unknown;
 mod words;
@@ -23,6 +25,7 @@ mod words;
 pub use anchors::{AnchorLink, AnchorTargets, Anchors, PageAnchors, Target};
 pub use document::{Document, ReadOptions, read_document};
 pub use document_start::{START_LENGTH, is_document};
+pub use html_links::Syntax;
 pub use line_text::{LINK_FRONT, fits};
 pub use link_texts::LinkTexts;
 pub use page_base::{base_of, resolved};
@@ -30,3 +33,4 @@ pub use places::{TextPlace, text_places};
 pub use positions::{InvalidLink, LinkPlaces};
 pub use raw_links::RawLinks;
 pub use scheme::InvalidKind;
+pub use style_sheet::read_style_sheet;

@@ -1,11 +1,12 @@
 //! The texts of a document's links, as a crawl reads them.
 ghost use Rattle.std.specs.Prelude.{◌≡◌, ◌∷◌, ◌++◌, ◌≤◌, [], true, IfOk, OnOk, None};
+ghost use Rattle.std.specs.List.{list_all};
 ghost use Rattle.html_links.specs.Reads.{base_at};
-ghost use Rattle.document_links.specs.Texts.{fits};
+ghost use Rattle.document_links.specs.Texts.{fits, is_plain};
 ghost use Rattle.document_links.specs.Written.{AreWritten, can_write, has_no_base, has_room, keeps_links, shortened, written};
 
 use crate::charset::Charset;
-use crate::cleaning::{before_fragment, cut, has_breaks, trimmed, without_breaks};
+use crate::cleaning::{cut, has_breaks, trimmed, without_breaks, without_fragment};
 use crate::line_text::{LINK_FRONT, TEXT_LIMIT, fits, fits_plainly};
 use crate::link_texts::LinkTexts;
 use crate::page_base::{LinkMeaning, PageBase, meaning_of, page_base};
@@ -114,7 +115,10 @@ impl LinkWriter {
     }
 
     /// Whether a link's text is written unchanged, and has no scheme.
-    pub(crate) fn keeps(&self, text: &[u8]) -> bool {
+    pub(crate) fn keeps(&self, text: &[u8]) -> bool
+        ensures fit { result ≡ true → fits 5 text.now ≡ true }
+        ensures plain { result ≡ true → list_all is_plain text.now ≡ true }
+    {
         matches!(self.base, PageBase::None) && fits_plainly(text)
     }
 
@@ -125,7 +129,7 @@ impl LinkWriter {
         ensures charset { self.new.charset ≡ self.old.charset }
         ensures written { keeps_links self.old.base self.old.charset ≡ true → can_write text.now ≡ true → OnOk result (self.new.links ≡ self.old.links ++ written text.now ∷ []) }
     {
-        if matches!(self.base, PageBase::None) && fits_plainly(text) {
+        if self.keeps(text) {
             return self.push_text(text);
         }
         let text = trimmed(text);
@@ -183,7 +187,7 @@ impl LinkWriter {
         if fits(LINK_FRONT, text) {
             return self.push_text(text);
         }
-        let front = before_fragment(text);
+        let front = without_fragment(text);
         if fits(LINK_FRONT, front) {
             return self.push_text(front);
         }

@@ -20,21 +20,22 @@ pub struct TextPlace {
     pub column: u64,
 }
 
-/// Returns the locations of these positions in the text of a document, in the same order. If the positions are in ascending order,
-/// the text is read once.
+/// Returns the locations of these positions in the text of a document or a style sheet, in the same order. If the positions are in
+/// ascending order, the text is read once.
 ///
 /// # Errors
 /// Out of memory.
 pub fn text_places(
     alloc: Global,
     body: &[u8],
+    is_style_sheet: bool,
     indices: &[usize],
 ) -> Result<Vec<TextPlace>, AllocError>
     ensures one { IfOk result (λ places. ArePlaces indices.now places.items) }
     // If the document is ASCII, the text is the document itself.
     ensures ascii { IsAscii body.now → IfOk result (λ places. places.items ≡ map (place_at body.now) indices.now) }
 {
-    match utf8_text(alloc, body, charset_of(body))? {
+    match utf8_text(alloc, body, charset_of(body, is_style_sheet))? {
         Some(text) => places_in(alloc, text.as_slice(), indices),
         None => places_in(alloc, without_mark(body), indices),
     }

@@ -1,13 +1,13 @@
 //! The queries of links on pages that are not in UTF-8.
 use crate::charset::windows_byte;
-use crate::cleaning::before_fragment;
+use crate::cleaning::without_fragment;
 use crate::scheme::{is_web, scheme_of};
 use memchr::memchr;
 use std::alloc::AllocError;
 
 /// Appends a link. The letters in its query are percent-encoded in windows-1252.
 pub(crate) fn push_with_query(link: &[u8], out: &mut Vec<u8>) -> Result<(), AllocError> {
-    let front = before_fragment(link);
+    let front = without_fragment(link);
     let query = match memchr(b'?', front) {
         Some(mark) => mark,
         None => front.len(),

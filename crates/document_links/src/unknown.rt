@@ -1,7 +1,7 @@
 //! A document in an unknown encoding: only ASCII is read.
 ghost use Rattle.std.specs.Prelude.{◌≡◌, ◌<◌, ◌≤◌, IsAscii, IfOk};
 
-use crate::cleaning::{before_fragment, trimmed};
+use crate::cleaning::{trimmed, without_fragment};
 use crate::raw_links::RawLinks;
 use crate::scheme::{is_web, names_host, scheme_of};
 use html_links::Base;
@@ -58,7 +58,7 @@ pub(crate) fn keep_known(base: Base, raw: &mut RawLinks) -> Result<Base, AllocEr
 /// Whether the document has no `base`, or one that is known up to its fragment.
 fn is_base_known(base: &Base) -> bool {
     match base {
-        Some(base) => is_known(before_fragment(base.as_slice())),
+        Some(base) => is_known(without_fragment(base.as_slice())),
         None => true,
     }
 }
@@ -77,7 +77,7 @@ fn known_links(raw: &RawLinks, has_base: bool) -> Result<RawLinks, AllocError> {
 
 /// Appends the known part of a link with this text: all of it, or up to its `#` if only the fragment is unknown.
 fn push_known(position: usize, text: &[u8], known: &mut RawLinks) -> Result<(), AllocError> {
-    let front = before_fragment(text);
+    let front = without_fragment(text);
     if is_known(text) {
         known.push_at(position, text)
     } else if is_known(front) {

@@ -19,6 +19,7 @@ use Rattle.site_files.specs.declared.error.SiteError.TheVariants as unmade
 abbrev pub of_site : SiteError → SiteFault
 of_site unmade.BadBase = wrong.BadBase
 of_site unmade.NoFiles = wrong.NoFiles
+of_site unmade.NoneListed = wrong.NoFiles
 of_site unmade.TooLarge = wrong.TooLarge
 of_site unmade.NoMemory = wrong.NoMemory
 of_site (unmade.Io why) = wrong.CannotReadFolder

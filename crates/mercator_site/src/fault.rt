@@ -54,7 +54,7 @@ impl From<SiteError> for SiteFault {
     fn from(error: SiteError) -> SiteFault {
         match error {
             SiteError::BadBase => SiteFault::BadBase,
-            SiteError::NoFiles => SiteFault::NoFiles,
+            SiteError::NoFiles | SiteError::NoneListed => SiteFault::NoFiles,
             SiteError::TooLarge => SiteFault::TooLarge,
             SiteError::NoMemory => SiteFault::NoMemory,
             SiteError::Io(_) => SiteFault::CannotReadFolder,

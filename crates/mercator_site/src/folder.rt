@@ -36,6 +36,8 @@ fn rules_of(alloc: Global, options: &SiteOptions) -> Result<Rules, AllocError> {
         follow: options.follow,
         anchors: false,
         places: false,
+        styles: false,
+        rooted: false,
         threads: THREADS,
     })
 }

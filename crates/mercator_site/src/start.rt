@@ -196,7 +196,7 @@ fn push_own(top: &CanonUrl, url: &CanonUrl, urls: &mut Vec<CanonUrl>) -> Result<
 /// The URL of the page with this number, if the page is an HTML document by its name and this is its own URL.
 fn document_at<'a>(files: &'a SiteFiles<'_>, number: usize) -> Option<&'a CanonUrl> {
     let url = files.url(number)?;
-    if files.document(number)?.is_document && files.own_url(number)? == url {
+    if files.document(number)?.is_page() && files.own_url(number)? == url {
         Some(url)
     } else {
         None

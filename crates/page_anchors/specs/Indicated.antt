@@ -1,4 +1,4 @@
--- The indicated part of a document, by the HTML Standard. A route names no part, and is never missing.
+-- Whether a document has the anchor that a fragment names: the indicated part of the HTML Standard. A route names no anchor, and is never missing.
 use Rattle.std.specs.Prelude.{ℕ, ◌==◌, Bool, true, false, ◌&&◌, ◌||◌, List, [], ◌∷◌, codes, length, nat_eq, slice_index, if◌then◌else◌, IsSorted, bytes_eq}
 use Rattle.std.specs.Cmp.Lexicographic.{slice_cmp}
 use Rattle.std.specs.List.{list_any, starts_with}
@@ -34,7 +34,7 @@ fragment_of text = percent_encode IN_FRAGMENT text
 abbrev pub decoded_of : List ℕ → List ℕ
 decoded_of fragment = utf8_lossy (percent_decode fragment)
 
--- ---- the part
+-- ---- the anchor
 
 abbrev pub is_letter : ℕ → ℕ → ℕ → Bool
 is_letter b upper lower = (b == upper) || (b == lower)
@@ -58,12 +58,12 @@ decoded_has ids fragment = has_decoded ids (decoded_of fragment)
 abbrev pub has_fragment : List (List ℕ) → List ℕ → Bool
 has_fragment ids fragment = if has_id ids fragment then true else decoded_has ids fragment
 
-abbrev pub has_part : List (List ℕ) → List ℕ → Bool
-has_part ids text = has_fragment ids (fragment_of text)
+abbrev pub has_anchor : List (List ℕ) → List ℕ → Bool
+has_anchor ids text = has_fragment ids (fragment_of text)
 
--- the top is there, for no fragment; else an element has the part
+-- without a fragment the top is meant, which each document has
 abbrev pub front_indicated : List (List ℕ) → List ℕ → Bool
-front_indicated ids front = if length front == 0 then true else has_part ids front
+front_indicated ids front = if length front == 0 then true else has_anchor ids front
 
 abbrev pub is_indicated : List (List ℕ) → List ℕ → Bool
 is_indicated ids text = front_indicated ids (before_directive text)

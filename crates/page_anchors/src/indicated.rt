@@ -2,7 +2,7 @@
 ghost use Rattle.std.specs.Prelude.{◌≡◌, IfOk, false, not};
 ghost use Rattle.std.specs.List.{list_any};
 ghost use Rattle.page_anchors.specs.Escapes.{is_escaped, is_odd};
-ghost use Rattle.page_anchors.specs.Indicated.{before_directive, begins_directive, decoded_has, has_decoded, has_fragment, has_part, is_indicated, is_letter, is_route, is_top, DoAscend};
+ghost use Rattle.page_anchors.specs.Indicated.{before_directive, begins_directive, decoded_has, has_decoded, has_fragment, has_anchor, is_indicated, is_letter, is_route, is_top, DoAscend};
 
 use crate::ids::{Ids, NoMemory};
 use crate::search::has_id;
@@ -31,7 +31,7 @@ pub fn is_indicated(alloc: Global, ids: &Ids, text: &[u8]) -> Result<bool, NoMem
     if front.is_empty() {
         return Ok(true);
     }
-    has_part(alloc, ids, front)
+    has_anchor(alloc, ids, front)
 }
 
 /// Whether a URL parser leaves the text unchanged, and it has neither percent escapes nor a directive.
@@ -92,8 +92,8 @@ fn begins_directive(text: &[u8]) -> bool
 }
 
 /// Whether an id is the text as a URL parser writes it or after percent-decoding, or the decoded text is `top`.
-fn has_part(alloc: Global, ids: &Ids, text: &[u8]) -> Result<bool, NoMemory>
-    ensures { DoAscend ids.now → IfOk result (λ found. found ≡ has_part ids.now text.now) }
+fn has_anchor(alloc: Global, ids: &Ids, text: &[u8]) -> Result<bool, NoMemory>
+    ensures { DoAscend ids.now → IfOk result (λ found. found ≡ has_anchor ids.now text.now) }
 {
     let fragment = percent_encode(text, IN_FRAGMENT).into_cow(alloc)?;
     has_fragment(alloc, ids, fragment.as_str().as_bytes())

@@ -6,7 +6,7 @@ use crate::web_text::WEB_LIMIT;
 use crawl_keys::CanonUrl;
 use document_links::{
     AnchorTargets, Anchors, Document, InvalidLink, LINK_FRONT, LinkTexts, RawLinks, ReadOptions,
-    Target, fits, is_document, read_document,
+    Syntax, Target, fits, is_document, read_document,
 };
 use site_files::{Left, Note, SiteFiles};
 use std::alloc::{AllocError, Global};
@@ -66,7 +66,7 @@ fn file_document(
     room: &mut RawLinks,
 ) -> Result<Document, AllocError> {
     match (task.document(files), body) {
-        (Some(file), Some(body)) if file.is_document || is_document(body) => {
+        (Some(file), Some(body)) if file.is_document() || is_document(body) => {
             read_document(alloc, body, &task.url, options_at(files, &task.url), room)
         }
         _ => Ok(Document::empty(alloc)),
@@ -75,8 +75,11 @@ fn file_document(
 
 /// What is read of the document at a URL. If a page has more bytes of links than a saved web, the saved web is too large. A page whose
 /// URL is too long is not in it, but its links can still spell others.
-fn options_at(files: &SiteFiles<'_>, url: &CanonUrl) -> ReadOptions {
+fn options_at<'a>(files: &SiteFiles<'_>, url: &CanonUrl) -> ReadOptions<'a> {
     ReadOptions {
+        syntax: Syntax::Html,
+        styles: false,
+        root: None,
         anchors: files.rules().anchors,
         places: files.rules().places,
         byte_limit: if fits(LINK_FRONT, url.as_str().as_bytes()) {

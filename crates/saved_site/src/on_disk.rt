@@ -33,7 +33,7 @@ impl<R: Files> OnDisk<'_, R> {
     /// Reads a file below the folder. Returns why its links are skipped, if they are.
     fn read_file(&self, file: SiteFile<'_>, body: &mut Body) -> io::Result<Option<Left>> {
         let path = format!(in self.alloc; "{}/{}", self.folder, file.name)?;
-        read_path(self.rt, path.as_str(), file.is_document, body)
+        read_path(self.rt, path.as_str(), file.is_document(), body)
     }
 }
 

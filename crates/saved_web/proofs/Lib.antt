@@ -1,10 +1,10 @@
 pub mod Prelude
 pub mod AheadLinks
-pub mod JoinedParts
+pub mod JoinedChunks
 pub mod KnownLinks
 pub mod LeastLine
 pub mod LongPages
 pub mod MovedPages
-pub mod PartPages
-pub mod PartPlaces
+pub mod ChunkPages
+pub mod ChunkPlaces
 pub mod ReadWeb

@@ -1,7 +1,7 @@
--- The links of two parts of a page, put together.
+-- The links of two chunks of a page, put together.
 use Rattle.saved_web.proofs.Prelude.{◌≡◌, ℕ, ◌+◌, Bool, true, false, cond, List, [], ◌∷◌, ◌++◌, Option, Some, None, IfSome, refl, ap, ◌∙◌, count_by, list_any, or_parts, filter_map-append, sum_by-append, AreFound, put_link, link_texts, moved_text, found_page, page_behind, Page, line_of, says_page, is_page, Line}
 use native.Mathlib.Omega.{arith}
-use Rattle.saved_web.proofs.JoinedParts.{links_end}
+use Rattle.saved_web.proofs.JoinedChunks.{links_end}
 use Rattle.saved_pages.specs.declared.line.Line.TheVariants as says
 use Rattle.saved_web.specs.declared.long.LinksFound.{LinksFound}
 
@@ -17,7 +17,7 @@ links_of_both (x ∷ xs) ys none = grind (arith, or_parts, put_before, links_of_
 count_of_both : (p : List ℕ → Bool) (xs ys : List (List ℕ)) → count_by p (xs ++ ys) ≡ count_by p xs + count_by p ys
 count_of_both p xs ys = sum_by-append (λ x. cond (p x) 1 0) xs ys
 
--- what is found of both parts
+-- what is found of both chunks
 pub both_found : (url : List ℕ) (all front back : List (List ℕ)) (first second : LinksFound) (both : Option LinksFound) → all ≡ front ++ back → list_any is_page front ≡ false → AreFound url front first → AreFound url back second
     → IfSome both (λ found. found.links.items ≡ first.links.items ++ second.links.items) → IfSome both (λ found. found.skipped ≡ first.skipped + second.skipped) → IfSome both (AreFound url all)
 both_found url all front back first second both split none f s links skipped = grind (arith, links_of_both, filter_map-append, count_of_both)

@@ -1,4 +1,4 @@
--- The links of a page, found in parts of its lines.
+-- The links of a page, found in chunks of its lines.
 use Rattle.std.specs.Prelude.{◌≡◌, ℕ, List, count_by, is_none, filter_map}
 use Rattle.saved_pages.specs.SavedWeb.{link_texts, link_url}
 use Rattle.saved_web.specs.declared.long.LinksFound.{LinksFound}

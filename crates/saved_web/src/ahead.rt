@@ -1,8 +1,7 @@
 //! The links of a web's pages, which threads resolve ahead.
-ghost use Rattle.std.specs.Prelude.{◌≡◌, List, All, slice_get, IfOk, IfSome};
-ghost use Rattle.saved_web.specs.Ahead.{IsChunk, shown_page};
+ghost use Rattle.std.specs.Prelude.{◌≡◌, All, IfOk, IfSome};
+ghost use Rattle.saved_web.specs.Ahead.{IsChunk};
 ghost use Rattle.saved_web.specs.KnownPages.{known_page};
-ghost use Rattle.saved_pages.specs.PageLists.{PageRead};
 
 mod chunk;
 
@@ -28,6 +27,8 @@ const BLOCKS: usize = 64;
 #[derive(Drop)]
 pub struct Ahead<'w, 'a> {
     web: &'w WebPages<'a>,
+    /// The index of the first page of each block, and the number of pages.
+    blocks: Vec<usize>,
     chunks: Vec<Chunk>,
 }
 
@@ -61,8 +62,15 @@ impl<'w, 'a> Ahead<'w, 'a> {
         if !in_threads || web.bytes() < LEAST || !web.has_one_host() {
             return Ahead::of_none(alloc, web);
         }
-        match chunks_of(rt, alloc, web) {
-            Ok(chunks) => Ahead { web, chunks },
+        let Ok(blocks) = blocks_of(alloc, web) else {
+            return Ahead::of_none(alloc, web);
+        };
+        match chunks_of(rt, alloc, web, &blocks) {
+            Ok(chunks) => Ahead {
+                web,
+                blocks,
+                chunks,
+            },
             Err(_) => Ahead::of_none(alloc, web),
         }
     }
@@ -73,6 +81,7 @@ impl<'w, 'a> Ahead<'w, 'a> {
     {
         Ahead {
             web,
+            blocks: Vec::new(alloc),
             chunks: Vec::new(alloc),
         }
     }
@@ -85,8 +94,25 @@ impl<'w, 'a> Ahead<'w, 'a> {
             return None;
         }
         let index = self.web.find(url)?;
-        page_among(alloc, &self.chunks, index)
+        let chunk = self.chunks.get(chunk_of(&self.blocks, index))?;
+        chunk.page(alloc, index)
     }
+}
+
+/// Returns the index of the first page of each block, and the number of pages. All blocks have about the same number of bytes.
+fn blocks_of(alloc: Global, web: &WebPages<'_>) -> Result<Vec<usize>, AllocError> {
+    let bytes = web.bytes();
+    let mut blocks = Vec::with_capacity(alloc, BLOCKS + 1)?;
+    for block in 0..=BLOCKS {
+        blocks.push(web.index_behind(bytes.saturating_mul(block) / BLOCKS))?;
+    }
+    Ok(blocks)
+}
+
+/// Returns the number of the chunk that has the page at the index, by the first pages of the blocks.
+fn chunk_of(blocks: &[usize], index: usize) -> usize {
+    let begun = blocks.partition_point(|first| *first <= index);
+    begun.saturating_sub(1) % CHUNKS
 }
 
 /// Resolves the links of all pages, chunk by chunk.
@@ -94,6 +120,7 @@ fn chunks_of<R: Threads + Sync>(
     rt: &R,
     alloc: Global,
     web: &WebPages<'_>,
+    blocks: &[usize],
 ) -> Result<Vec<Chunk>, AllocError>
     ensures { IfOk result (λ chunks. All (IsChunk web.now) chunks.items) }
 {
@@ -101,18 +128,6 @@ fn chunks_of<R: Threads + Sync>(
         rt,
         alloc,
         CHUNKS,
-        &|number: usize| { Chunk::new(alloc, web, number) },
+        &|number: usize| { Chunk::new(alloc, web, blocks, number) },
     )
-}
-
-/// Returns the page of the web at the index. `None` if no chunk has its links, or if memory runs out.
-fn page_among(alloc: Global, chunks: &[Chunk], index: usize) -> Option<Page>
-    ensures { (web : List PageRead) → All (IsChunk web) chunks.now → IfSome result (λ page. page ≡ shown_page (slice_get web index)) }
-{
-    for chunk in chunks {
-        if let Some(page) = chunk.page(alloc, index) {
-            return Some(page);
-        }
-    }
-    None
 }

@@ -4,7 +4,7 @@ ghost use Rattle.crawl_keys.specs.Folders.{is_of_folder};
 ghost use Rattle.saved_web.specs.KnownLinks.{AreLinks, AreOfFolder};
 ghost use Rattle.saved_pages.specs.SavedWeb.{link_url};
 
-use crawl_keys::{Base, CanonUrl, KeyError};
+use crawl_keys::{Base, CanonUrl};
 use crawl_pages::FetchError;
 use hash_index::{HashIndex, Keyed};
 use hash_order::hash_of;
@@ -132,7 +132,7 @@ impl<'a> KnownLinks<'a> {
         }
         match self.find(text) {
             Some(link) => Ok(copy_of(link)?),
-            None => link_of(alloc, base, text.as_str()),
+            None => Ok(base.link(alloc, text.as_str())?),
         }
     }
 
@@ -154,7 +154,7 @@ impl<'a> KnownLinks<'a> {
         if let Some(index) = found {
             return Ok(copy_of(link_at(&self.links, index))?);
         }
-        let link = link_of(alloc, base, text.as_str())?;
+        let link = base.link(alloc, text.as_str())?;
         let known = KnownLink {
             text: text.as_str(),
             link: copy_of(&link)?,
@@ -180,17 +180,5 @@ pub fn copy_of(link: &Option<CanonUrl>) -> Result<Option<CanonUrl>, AllocError>
     match link {
         Some(url) => Ok(Some(url.clone()?)),
         None => Ok(None),
-    }
-}
-
-/// Returns the URL that the text of a link leads to, if it leads to one.
-pub fn link_of(alloc: Global, base: &Base, text: &str) -> Result<Option<CanonUrl>, FetchError>
-    ensures link { IfOk result (λ link. link ≡ link_url base.now text.now) }
-    ensures refused { IfErr result (λ e. e ≡ FetchError.NoMemory) }
-{
-    match base.resolve(alloc, text) {
-        Ok(url) => Ok(Some(url)),
-        Err(KeyError::NoMemory) => Err(FetchError::NoMemory),
-        Err(KeyError::NotUrl | KeyError::NotHttp) => Ok(None),
     }
 }

@@ -6,7 +6,7 @@ ghost use Rattle.saved_pages.specs.SavedWeb.{link_texts, link_url, moved_text, f
 ghost use Rattle.crawl_pages.specs.declared.page.Page.TheVariants.{Moved};
 
 use crate::folder::Folder;
-use crate::known_links::{KnownLinks, copy_of, link_of};
+use crate::known_links::{KnownLinks, copy_of};
 use crate::link_cache::{LinkCache, folder_hash};
 use crawl_keys::{Base, CanonUrl, is_of_folder};
 use crawl_pages::{FetchError, Links, Page};
@@ -42,7 +42,7 @@ fn moved_page(alloc: Global, base: &Base, text: &str) -> Result<Page, FetchError
     ensures page { IfOk result (λ page. page ≡ Moved (link_url base.now text.now)) }
     ensures refused { IfErr result (λ e. e ≡ FetchError.NoMemory) }
 {
-    let to = link_of(alloc, base, text)?;
+    let to = base.link(alloc, text)?;
     Ok(Page::Moved { to })
 }
 
@@ -156,7 +156,7 @@ fn link_on<'a>(
     ensures refused { IfErr result (λ e. e ≡ FetchError.NoMemory) }
 {
     if before < FEW_TEXTS && !folder.comes_again() {
-        return link_of(alloc, folder.page(), text);
+        return Ok(folder.page().link(alloc, text)?);
     }
     // Most texts are known as a whole, so nothing is searched for in them.
     let whole = LinkText::new(text);

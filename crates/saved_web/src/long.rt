@@ -10,8 +10,7 @@ use crate::folder::Folder;
 use crate::known_links::KnownLinks;
 use crate::links::{find_links, moved_text};
 use crate::threads::cut_before_page;
-use crate::web::base_of;
-use crawl_keys::CanonUrl;
+use crawl_keys::{Base, CanonUrl};
 use crawl_pages::{Links, Page};
 use saved_pages::{Line, line_of};
 use simdutf8::compat::from_utf8;
@@ -19,10 +18,10 @@ use std::alloc::Global;
 use std::thread::{Threads, join};
 use text_lines::{cut_line, first_line, first_text};
 
-/// A page with fewer bytes than this is not worth a thread.
+/// Threads do not read a page of fewer bytes than this.
 pub const LEAST: usize = 1 << 18;
 
-/// The number of threads that each read a part of a page, this one among them.
+/// The number of threads that each read a chunk of a page, this one among them.
 const THREADS: u32 = 4;
 
 /// The links among some lines, up to the next page.
@@ -34,7 +33,7 @@ struct LinksFound {
 }
 
 impl LinksFound {
-    /// These, and then those; nothing if there is no room.
+    /// Returns these links, and then the others. `None` if memory runs out.
     fn and(self, more: LinksFound) -> Option<LinksFound>
         ensures links { IfSome result (λ both. both.links.items ≡ self.links.items ++ more.links.items) }
         ensures skipped { IfSome result (λ both. both.skipped ≡ self.skipped + more.skipped) }
@@ -52,8 +51,8 @@ impl LinksFound {
     }
 }
 
-/// The page at this URL, with these lines under its own, up to the next page or to the end, if it has links and threads find them;
-/// nothing if one thread has to read it.
+/// Returns the page at this URL, with the links that threads find among the lines after its own, up to the next page or to the end.
+/// `None` if one thread has to read the page.
 pub fn long_page<R: Threads>(rt: &R, alloc: Global, url: &CanonUrl, behind: &str) -> Option<Page>
     ensures { IfSome result (λ page. page ≡ page_behind url.now (Some (lines behind.now))) }
 {
@@ -67,7 +66,7 @@ pub fn long_page<R: Threads>(rt: &R, alloc: Global, url: &CanonUrl, behind: &str
     }
 }
 
-/// Whether the first of the lines is a page, or there is none.
+/// Whether the first of the lines is a page, or there is no line.
 #[tactic(auto, using(crate::proofs::LongPages::page_begins))]
 fn begins_with_page(bytes: &[u8]) -> bool
     ensures { result ≡ true → link_texts (lines bytes.now) ≡ [] }
@@ -91,7 +90,7 @@ fn says_page(line: &str) -> bool
     }
 }
 
-/// The page at this URL with the links among these lines, by threads.
+/// Returns the page at this URL with the links among these lines, which threads find.
 fn linked_page<R: Threads>(rt: &R, alloc: Global, url: &CanonUrl, bytes: &[u8]) -> Option<Page>
     ensures { IfSome result (λ page. page ≡ found_page url.now (link_texts (lines bytes.now))) }
 {
@@ -103,8 +102,8 @@ fn linked_page<R: Threads>(rt: &R, alloc: Global, url: &CanonUrl, bytes: &[u8]) 
     })
 }
 
-/// The links of the page at this URL among these lines, by `threads` threads. If one cannot be started this one reads its
-/// part. Nothing if a page is among the lines of a part but the last, or there is no room.
+/// Returns the links of the page at this URL among these lines, found by `threads` threads. If a thread cannot be started, this one
+/// reads its chunk. `None` if a page is among the lines of a chunk that is not the last, or if memory runs out.
 fn links_by_threads<R: Threads>(
     rt: &R,
     alloc: Global,
@@ -118,10 +117,10 @@ fn links_by_threads<R: Threads>(
         return links_in(alloc, url, bytes);
     }
     let fewer = threads - 1;
-    let (front, back) = first_part(bytes, threads as usize)?;
+    let (front, back) = first_chunk(bytes, threads as usize)?;
     let of_front = move || -> Option<LinksFound>
         ensures { IfSome result (AreFound url.entry.now (lines front.entry.now)) }
-    { links_in(alloc, url, front) };
+    { links_among(alloc, url, front) };
     // This one runs on the same thread, so that the handle need not be shared.
     let of_back = move || -> Option<LinksFound>
         ensures { IfSome result (AreFound url.entry.now (lines back.entry.now)) }
@@ -132,15 +131,15 @@ fn links_by_threads<R: Threads>(
     first.and(second)
 }
 
-/// The first of `parts` parts of the lines, about, and the others; nothing if a page is among the first.
-fn first_part(bytes: &[u8], parts: usize) -> Option<(&[u8], &[u8])>
-    requires { 0 < parts }
+/// Returns the lines of about the first of `chunks` chunks of the bytes, and the other lines. `None` if a page is among the first.
+fn first_chunk(bytes: &[u8], chunks: usize) -> Option<(&str, &[u8])>
+    requires { 0 < chunks }
     ensures lines { IfSome result (λ x. lines bytes.now ≡ lines x.0.now ++ lines x.1.now) }
     ensures none { IfSome result (λ x. list_any is_page (lines x.0.now) ≡ false) }
 {
-    let (front, back) = cut_line(bytes, bytes.len() / parts)?;
+    let (front, back) = cut_line(bytes, bytes.len() / chunks)?;
     match from_utf8(front) {
-        Ok(text) if !has_page(text) => Some((front, back)),
+        Ok(text) if !has_page(text) => Some((text, back)),
         _ => None,
     }
 }
@@ -159,7 +158,7 @@ fn has_page(text: &str) -> bool
     false
 }
 
-/// The links of the page at this URL among the lines of these bytes; nothing if they are no text, or there is no room.
+/// Returns the links of the page at this URL among the lines of the last chunk. `None` if it is not UTF-8, or if memory runs out.
 fn links_in(alloc: Global, url: &CanonUrl, bytes: &[u8]) -> Option<LinksFound>
     ensures { IfSome result (AreFound url.now (lines bytes.now)) }
 {
@@ -169,11 +168,11 @@ fn links_in(alloc: Global, url: &CanonUrl, bytes: &[u8]) -> Option<LinksFound>
     }
 }
 
-/// Likewise for a text.
+/// Returns the links of the page at this URL among the lines of a text. `None` if memory runs out.
 fn links_among(alloc: Global, url: &CanonUrl, text: &str) -> Option<LinksFound>
     ensures { IfSome result (AreFound url.now (lines text.now)) }
 {
-    let Ok(base) = base_of(alloc, url) else {
+    let Ok(base) = Base::new(alloc, url) else {
         return None;
     };
     let mut folder = Folder::new(alloc, base, false);

@@ -54,7 +54,7 @@ impl<'a> SavedWeb<'a> {
     /// thread, which finds the error.
     ///
     /// # Errors
-    /// Those of [`SavedWeb::read`]. It is no error if a thread cannot be started: the thread that needs it reads its part.
+    /// Those of [`SavedWeb::read`]. It is no error if a thread cannot be started: the thread that needs it reads its chunk.
     #[tactic(auto, using(crate::proofs::LeastLine::no_fault))]
     pub fn read_in_threads<R: Threads + Sync>(
         rt: &R,
@@ -99,7 +99,7 @@ impl<'a> SavedWeb<'a> {
         ensures refused { IfErr result (λ e. e ≡ FetchError.NoMemory) }
     {
         match self.pages.get(url) {
-            Some(page) => page_behind(alloc, cache, base_of(alloc, url)?, page.behind()),
+            Some(page) => page_behind(alloc, cache, Base::new(alloc, url)?, page.behind()),
             None => Ok(Page::Missing),
         }
     }
@@ -162,16 +162,5 @@ impl Fetch for SavedWeb<'_> {
     {
         let mut cache = LinkCache::without_slots(alloc);
         self.page(alloc, &mut cache, url)
-    }
-}
-
-/// Returns the base for the links of the page at this URL.
-pub(crate) fn base_of(alloc: Global, url: &CanonUrl) -> Result<Base, FetchError>
-    ensures base { IfOk result (λ base. base ≡ url.now) }
-    ensures refused { IfErr result (λ e. e ≡ FetchError.NoMemory) }
-{
-    match Base::new(alloc, url) {
-        Ok(base) => Ok(base),
-        Err(_) => Err(FetchError::NoMemory),
     }
 }

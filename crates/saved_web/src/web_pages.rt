@@ -1,4 +1,4 @@
-//! The pages of a saved web, in the parts in which they were read.
+//! The pages of a saved web, in the chunks in which they were read.
 ghost use Rattle.std.specs.Prelude.{◌≡◌, ◌++◌, ℕ, List, Some, true, false, slice_get, IfOk, IfSome, flat_map, option_map};
 ghost use Rattle.saved_pages.specs.PageLists.{page_with, has, urls};
 
@@ -15,16 +15,16 @@ const SAMPLES: usize = 1_024;
 /// Threads do not look at a list of fewer pages than this.
 const LEAST: usize = 4_096;
 
-/// How often a list is halved. The number of threads that look at a part is two to this power.
+/// How often a list is halved. The number of threads that look at a chunk is two to this power.
 const HALVINGS: u32 = 2;
 
-/// The pages of a saved web: in one part, or in one part for each thread that read some. Each part has its own index.
+/// The pages of a saved web: in one chunk, or in one chunk for each thread that read some. Each chunk has its own index.
 #[derive(Drop)]
 pub struct WebPages<'a> {
-    parts: Vec<Pages<'a>>,
+    chunks: Vec<Pages<'a>>,
 }
 
-// Contracts see the pages of all parts, in order.
+// Contracts see the pages of all chunks, in order.
 impl<'a> Model for WebPages<'a> {
     ghost use Rattle.std.specs.Prelude.{List, flat_map};
     ghost use Rattle.std.specs.Coded.{coded_list};
@@ -34,27 +34,27 @@ impl<'a> Model for WebPages<'a> {
 
     ghost coded = { coded_list page_read_code };
 
-    ghost view = { λ pages. flat_map (λ part. part) pages.parts.items };
+    ghost view = { λ pages. flat_map (λ chunk. chunk) pages.chunks.items };
 }
 
 impl<'a> WebPages<'a> {
-    /// Returns the pages in one part.
+    /// Returns the pages in one chunk.
     pub fn one(alloc: Global, pages: Pages<'a>) -> Result<WebPages<'a>, AllocError>
         ensures { IfOk result (λ web. web ≡ pages.entry) }
     {
-        let mut parts = Vec::with_capacity(alloc, 1)?;
-        parts.push(pages)?;
-        Ok(WebPages { parts })
+        let mut chunks = Vec::with_capacity(alloc, 1)?;
+        chunks.push(pages)?;
+        Ok(WebPages { chunks })
     }
 
-    /// Returns the page with the URL: that of the first part that has one.
-    #[tactic(auto, using(crate::proofs::PartPages::passed_part, crate::proofs::PartPages::found_part))]
+    /// Returns the page with the URL: that of the first chunk that has one.
+    #[tactic(auto, using(crate::proofs::ChunkPages::passed_chunk, crate::proofs::ChunkPages::found_chunk))]
     pub fn get(&self, url: &CanonUrl) -> Option<&KnownPage<'a>>
         ensures page { option_map (λ page. page.now) result ≡ page_with self.now url.now }
         ensures same { IfSome result (λ page. page.now.url ≡ url.now) }
     {
-        for part in &self.parts {
-            if let Some(page) = part.get(url) {
+        for chunk in &self.chunks {
+            if let Some(page) = chunk.get(url) {
                 return Some(page);
             }
         }
@@ -62,43 +62,43 @@ impl<'a> WebPages<'a> {
     }
 
     /// Returns the index of the page with the URL.
-    #[tactic(auto, using(crate::proofs::PartPlaces::summed_index, crate::proofs::PartPlaces::found_index))]
+    #[tactic(auto, using(crate::proofs::ChunkPlaces::summed_index, crate::proofs::ChunkPlaces::found_index))]
     pub fn find(&self, url: &CanonUrl) -> Option<usize>
         ensures { IfSome result (λ index. slice_get self.now index ≡ page_with self.now url.now) }
     {
         let mut before: usize = 0;
-        for part in &self.parts {
-            if let Some(index) = part.find(url) {
+        for chunk in &self.chunks {
+            if let Some(index) = chunk.find(url) {
                 return before.checked_add(index);
             }
-            before = before.checked_add(part.len())?;
+            before = before.checked_add(chunk.len())?;
         }
         None
     }
 
     /// Returns the page at the index.
-    #[tactic(auto, using(crate::proofs::PartPlaces::passed_rest, crate::proofs::PartPlaces::lent_page, crate::proofs::PartPlaces::from_part, crate::proofs::PartPlaces::found_place))]
+    #[tactic(auto, using(crate::proofs::ChunkPlaces::passed_rest, crate::proofs::ChunkPlaces::lent_page, crate::proofs::ChunkPlaces::from_chunk, crate::proofs::ChunkPlaces::found_place))]
     pub fn page(&self, index: usize) -> Option<&KnownPage<'a>>
         ensures { IfSome result (λ page. slice_get self.now index ≡ Some page.now) }
     {
         let mut index = index;
-        for part in &self.parts {
-            if index < part.len() {
-                return part.at(index);
+        for chunk in &self.chunks {
+            if index < chunk.len() {
+                return chunk.at(index);
             }
-            index -= part.len();
+            index -= chunk.len();
         }
         None
     }
 
     /// Returns the URLs of the pages.
-    #[tactic(auto, using(crate::proofs::PartPages::urls_more))]
+    #[tactic(auto, using(crate::proofs::ChunkPages::urls_more))]
     pub fn urls(&self, alloc: Global) -> Result<Vec<CanonUrl>, NoMemory>
         ensures { IfOk result (λ all. all.items ≡ urls self.now) }
     {
         let mut all = Vec::new(alloc);
-        for part in &self.parts {
-            part.push_urls(alloc, &mut all)?;
+        for chunk in &self.chunks {
+            chunk.push_urls(alloc, &mut all)?;
         }
         Ok(all)
     }
@@ -107,14 +107,14 @@ impl<'a> WebPages<'a> {
     /// name. The result has no meaning.
     pub fn read_ahead(&self, hashes: &[u64]) -> u64 {
         let mut sum: u64 = 0;
-        for part in &self.parts {
-            sum = sum.wrapping_add(part.read_slots(hashes));
+        for chunk in &self.chunks {
+            sum = sum.wrapping_add(chunk.read_slots(hashes));
         }
-        for part in &self.parts {
-            sum = sum.wrapping_add(part.read_list(hashes));
+        for chunk in &self.chunks {
+            sum = sum.wrapping_add(chunk.read_list(hashes));
         }
-        for part in &self.parts {
-            sum = sum.wrapping_add(part.read_texts(hashes));
+        for chunk in &self.chunks {
+            sum = sum.wrapping_add(chunk.read_texts(hashes));
         }
         sum
     }
@@ -122,8 +122,8 @@ impl<'a> WebPages<'a> {
     /// Returns about how many bytes of the input are theirs.
     pub fn bytes(&self) -> usize {
         let mut bytes: usize = 0;
-        for part in &self.parts {
-            bytes = bytes.saturating_add(part.bytes());
+        for chunk in &self.chunks {
+            bytes = bytes.saturating_add(chunk.bytes());
         }
         bytes
     }
@@ -132,13 +132,13 @@ impl<'a> WebPages<'a> {
     pub fn index_behind(&self, bytes: usize) -> usize {
         let mut bytes = bytes;
         let mut before: usize = 0;
-        for part in &self.parts {
-            let own = part.bytes();
+        for chunk in &self.chunks {
+            let own = chunk.bytes();
             if bytes < own {
-                return before.saturating_add(part.index_behind(bytes));
+                return before.saturating_add(chunk.index_behind(bytes));
             }
             bytes -= own;
-            before = before.saturating_add(part.len());
+            before = before.saturating_add(chunk.len());
         }
         before
     }
@@ -174,8 +174,8 @@ impl<'a> WebPages<'a> {
 
     /// Whether some page has about the given number of bytes.
     pub fn has_long_page(&self, bytes: usize) -> bool {
-        for part in &self.parts {
-            if part.has_long_page(bytes) {
+        for chunk in &self.chunks {
+            if chunk.has_long_page(bytes) {
                 return true;
             }
         }
@@ -187,38 +187,38 @@ impl<'a> WebPages<'a> {
         ensures both { IfSome result (λ web. web ≡ self.entry ++ more.entry) }
         ensures apart { IfSome result (λ _. (url : List ℕ) → has more.entry url ≡ true → has self.entry url ≡ false) }
     {
-        if some_known(rt, &self.parts, &more.parts) {
+        if some_known(rt, &self.chunks, &more.chunks) {
             return None;
         }
-        let WebPages { mut parts } = self;
-        let WebPages { parts: mut others } = more;
-        match parts.append(&mut others) {
-            Ok(()) => Some(WebPages { parts }),
+        let WebPages { mut chunks } = self;
+        let WebPages { chunks: mut others } = more;
+        match chunks.append(&mut others) {
+            Ok(()) => Some(WebPages { chunks }),
             Err(_) => None,
         }
     }
 }
 
-/// Whether a page of the parts and a page of the others have the same URL.
-#[tactic(auto, using(crate::proofs::PartPages::none_of_more))]
-fn some_known<R: Threads + Sync>(rt: &R, parts: &[Pages<'_>], others: &[Pages<'_>]) -> bool
-    ensures { result ≡ false → (url : List ℕ) → has (flat_map (λ part. part) others.now) url ≡ true → has (flat_map (λ part. part) parts.now) url ≡ false }
+/// Whether a page of the chunks and a page of the others have the same URL.
+#[tactic(auto, using(crate::proofs::ChunkPages::none_of_more))]
+fn some_known<R: Threads + Sync>(rt: &R, chunks: &[Pages<'_>], others: &[Pages<'_>]) -> bool
+    ensures { result ≡ false → (url : List ℕ) → has (flat_map (λ chunk. chunk) others.now) url ≡ true → has (flat_map (λ chunk. chunk) chunks.now) url ≡ false }
 {
     for other in others {
-        if is_known(rt, parts, other) {
+        if is_known(rt, chunks, other) {
             return true;
         }
     }
     false
 }
 
-/// Whether a page of the parts and a page of `other` have the same URL.
-#[tactic(auto, using(crate::proofs::PartPages::none_in_more))]
-fn is_known<R: Threads + Sync>(rt: &R, parts: &[Pages<'_>], other: &Pages<'_>) -> bool
-    ensures { result ≡ false → (url : List ℕ) → has other.now url ≡ true → has (flat_map (λ part. part) parts.now) url ≡ false }
+/// Whether a page of the chunks and a page of `other` have the same URL.
+#[tactic(auto, using(crate::proofs::ChunkPages::none_in_more))]
+fn is_known<R: Threads + Sync>(rt: &R, chunks: &[Pages<'_>], other: &Pages<'_>) -> bool
+    ensures { result ≡ false → (url : List ℕ) → has other.now url ≡ true → has (flat_map (λ chunk. chunk) chunks.now) url ≡ false }
 {
-    for part in parts {
-        if share_url(rt, part, other) {
+    for chunk in chunks {
+        if share_url(rt, chunk, other) {
             return true;
         }
     }
@@ -266,7 +266,7 @@ fn halves<'l, 'a>(list: &'l [KnownPage<'a>]) -> (&'l [KnownPage<'a>], &'l [Known
 }
 
 /// Whether one of the pages in the list has the URL of a page.
-#[tactic(auto, using(crate::proofs::PartPages::none_with_more))]
+#[tactic(auto, using(crate::proofs::ChunkPages::none_with_more))]
 fn some_has(pages: &Pages<'_>, list: &[KnownPage<'_>]) -> bool
     ensures { result ≡ false → (url : List ℕ) → has list.now url ≡ true → has pages.now url ≡ false }
 {

@@ -4,7 +4,7 @@ use crate::site_pages::Site;
 use check_report::Place;
 use crawl_pages::NoMemory;
 use document_links::{TextPlace, text_places};
-use site_files::{Body, FileBytes, SiteFile};
+use site_files::{Body, FileBytes, FileKind, SiteFile};
 use std::alloc::Global;
 use std::mem;
 use std::sync::atomic::{AtomicUsize, Ordering};
@@ -122,7 +122,7 @@ fn file_of<'f>(site: Site<'_, 'f>, leads: &[Lead]) -> Option<SiteFile<'f>> {
     Some(SiteFile {
         index,
         name: site.files.name(index)?,
-        is_document: true,
+        kind: FileKind::Html,
     })
 }
 
@@ -135,7 +135,7 @@ fn push_places(
     all: &mut Vec<TargetPlace>,
 ) -> Result<(), NoMemory> {
     let indices = indices_of(alloc, leads)?;
-    let places = text_places(alloc, body, indices.as_slice())?;
+    let places = text_places(alloc, body, false, indices.as_slice())?;
     for (lead, place) in leads.iter().zip(places.iter()) {
         let place = place_in(alloc, name, *place)?;
         let number = lead.number;

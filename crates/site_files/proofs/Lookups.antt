@@ -19,7 +19,7 @@ some_response (source.Moved url) is = cc
 pub no_entry : (entries : List Entry) (url : List ℕ) (number : ℕ) → IsEntryAt entries url number → entry_at entries url ≡ Missing → ⊥
 no_entry entries url number is missing = some_response is.entry.source (sym is.first ∙ missing)
 
-or_else-some : (from : Source) (other : Response) → or_else (response_of from) other ≡ response_of from
+pub or_else-some : (from : Source) (other : Response) → or_else (response_of from) other ≡ response_of from
 or_else-some (source.File index) other = refl
 or_else-some (source.Index index) other = refl
 or_else-some (source.Moved url) other = refl

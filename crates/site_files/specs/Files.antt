@@ -1,15 +1,24 @@
 -- The pages of a site, and the files that they are made of.
-use Rattle.std.specs.Prelude.{ℕ, List, map, Option, Some, None, slice_get, string_bytes, option_map}
+use Rattle.std.specs.Prelude.{◌≡◌, ℕ, List, String, map, Option, Some, None, option_and_then, slice_get, string_bytes, option_map}
+use Rattle.std.specs.Borrow.{Bor}
 use Rattle.std.specs.List.Sorted.{IsStrictlySortedBy}
+use Rattle.std.specs.declared.alloc.Global.{Global}
 use Rattle.site_files.specs.declared.error.SiteError.{SiteError}
 use Rattle.site_files.specs.declared.error.SiteError.TheVariants as wrong
 use Rattle.site_files.specs.declared.files.SiteFiles.{SiteFiles}
+use Rattle.site_files.specs.declared.kinds.FileKind.{FileKind}
 use Rattle.site_files.specs.declared.site.Entry.{Entry}
+use Rattle.site_files.specs.declared.site.Rules.{Rules}
 use Rattle.site_files.specs.declared.site.Source.{Source}
 use Rattle.site_files.specs.declared.site.Source.TheVariants.{File, Index, Moved}
+use Rattle.site_files.specs.declared.site_list.ListedUrl.{ListedUrl}
+use Rattle.site_files.specs.declared.site_list.SiteList.{SiteList}
 use Rattle.site_files.specs.Entries.{cmp_urls, server_at}
+use Rattle.site_files.specs.Kinds.{if_read, kind_of}
 use Rattle.site_files.specs.Links.{cmp_names}
+use Rattle.site_files.specs.Pages.{path_in}
 use Rattle.site_files.specs.Server.{Server}
+use Rattle.site_files.specs.SiteList.{kind_in}
 
 -- a page's URL, and the index of its file among the names; a redirect has no file
 pub record PageFile : Type 0 where
@@ -35,6 +44,44 @@ pages_of files = map page_of files.site.entries.items
 abbrev pub name_at : SiteFiles → ℕ → Option (List ℕ)
 name_at files index = option_map string_bytes (slice_get files.names.now index)
 
+-- a file whose links are read, with its index among the names
+pub record Document : Type 0 where
+  pub index : ℕ
+  pub name : List ℕ
+  pub kind : FileKind
+
+abbrev pub site_file : ℕ → FileKind → List ℕ → Document
+site_file index kind name = record { index = index; name = name; kind = kind }
+
+-- the kind of a file with this name, by the rules
+abbrev pub named_kind : Rules → List ℕ → Option FileKind
+named_kind rules name = kind_of (path_in rules.queries name)
+
+-- the kind of the file in the line with this index
+abbrev pub line_kind : List ListedUrl → ℕ → Option FileKind
+line_kind urls index = option_and_then (λ one. kind_in one.content) (slice_get urls index)
+
+-- the kind of the file with this index and name: by the list, if there is one
+abbrev pub file_kind : Rules → Option (Bor (List ListedUrl)) → ℕ → List ℕ → Option FileKind
+file_kind rules None index name = named_kind rules name
+file_kind rules (Some urls) index name = line_kind urls.now index
+
+-- the kind, if links of such a file are read
+abbrev pub kind_at : SiteFiles → ℕ → List ℕ → Option FileKind
+kind_at files index name = option_and_then (if_read files.rules.now.styles) (file_kind files.rules.now files.listed index name)
+
+-- the file with this index and name
+abbrev pub document_in : SiteFiles → ℕ → List ℕ → Option Document
+document_in files index name = option_map (λ kind. site_file index kind name) (kind_at files index name)
+
+-- the file with this index, if its links are read
+abbrev pub document_of : SiteFiles → ℕ → Option Document
+document_of files index = option_and_then (document_in files index) (name_at files index)
+
+-- the file of the page with this number, if its links are read
+abbrev pub document_at : SiteFiles → ℕ → Option Document
+document_at files number = option_and_then (λ page. option_and_then (document_of files) page.file) (slice_get (pages_of files) number)
+
 -- the error of names that are no site: any but that of a folder that cannot be read
 abbrev pub IsOfFiles : SiteError → Type 0
 IsOfFiles (wrong.Io error) = ⊥
@@ -43,6 +90,18 @@ IsOfFiles error = Unit {0}
 -- the host and the place of the folder
 abbrev pub server_of : SiteFiles → Server
 server_of files = server_at files.rules.now files.site
+
+-- the files are those with these names, by these rules
+pub record IsOfNames (names : List (String Global)) (rules : Rules) (files : SiteFiles) : Type 0 where
+  pub has_names : files.names.now ≡ names
+  pub has_no_list : files.listed ≡ None
+  pub has_rules : files.rules.now ≡ rules
+
+-- the files are those of this list, by these rules
+pub record IsOfList (list : SiteList) (rules : Rules) (files : SiteFiles) : Type 0 where
+  pub has_names : files.names.now ≡ list.names.items
+  pub has_list : option_map (λ urls. urls.now) files.listed ≡ Some list.urls.items
+  pub has_rules : files.rules.now ≡ rules
 
 -- the pages and the other names of folders are in order, each once
 pub record IsOrdered (files : SiteFiles) : Type 0 where

@@ -2,9 +2,12 @@ pub mod Below
 pub mod Entries
 pub mod Files
 pub mod Firsts
+pub mod Kinds
 pub mod Links
+pub mod Listed
 pub mod Names
 pub mod Pages
 pub mod Server
+pub mod SiteList
 pub mod Urls
 pub mod Vectors

@@ -2,8 +2,10 @@
 -- `http.server`, which looked up and returned the same.
 use Rattle.std.specs.Prelude.{◌≡◌, ℕ, false, true, List, [], ◌∷◌, codes, Option, Some, None}
 use Rattle.percent_encoding.specs.Percent.{percent_decode}
+use Rattle.site_files.specs.Kinds.{kind_of}
 use Rattle.site_files.specs.Pages.{Folder, Response, Missing, Moved, Found, own_text, response_at}
 use Rattle.site_files.specs.Server.{Host, Server, looked_up}
+use Rattle.site_files.specs.declared.kinds.FileKind.TheVariants.{Html, Xml, Svg, Style, Unknown}
 
 -- the path that is looked up for the path of a request, which comes without its first slash
 abbrev pub requested : List ℕ → Option (List ℕ)
@@ -128,3 +130,22 @@ pub record Rules : Type 0 where
   pub own_folder : own_text (server host) names 11 ≡ Some (codes "http://h/dir/")
   pub own_name : own_text (server host) names 6 ≡ Some (codes "http://h/d4/index.htm")
   pub own_none : own_text (server host) names 3 ≡ None
+
+-- ---- kinds of files
+
+-- the kinds of files by their names
+pub record Kinds : Type 0 where
+  pub html : kind_of (codes "dir/page.html") ≡ Some Html
+  pub upper_case : kind_of (codes "PAGE.HTM") ≡ Some Html
+  pub dots_in_name : kind_of (codes "v1.2.html") ≡ Some Html
+  pub xhtml : kind_of (codes "page.xhtml") ≡ Some Xml
+  pub svg : kind_of (codes "img/Logo.SVG") ≡ Some Svg
+  pub style : kind_of (codes "style.css") ≡ Some Style
+  pub text : kind_of (codes "notes.TXT") ≡ None
+  pub packed : kind_of (codes "page.html.gz") ≡ None
+  pub packed_upper_case : kind_of (codes "page.html.GZ") ≡ Some Unknown
+  pub no_suffix : kind_of (codes "about") ≡ Some Unknown
+  pub empty_suffix : kind_of (codes "about.") ≡ Some Unknown
+  pub hidden : kind_of (codes "dir/.html") ≡ Some Unknown
+  pub only_dots_before : kind_of (codes "..html") ≡ Some Unknown
+  pub suffix_of_folder : kind_of (codes "dir.html/about") ≡ Some Unknown

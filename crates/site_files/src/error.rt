@@ -9,6 +9,8 @@ pub enum SiteError {
     BadBase,
     /// There are no files.
     NoFiles,
+    /// No URL of the list is below the base.
+    NoneListed,
     /// The saved web exceeds the limit of a crawl.
     TooLarge,
     /// An allocation failed.
@@ -24,6 +26,7 @@ impl fmt::Display for SiteError {
                 "the base must be an http or https URL without a query",
             ),
             SiteError::NoFiles => f.write_str("no files"),
+            SiteError::NoneListed => f.write_str("no URL of the list is below the base"),
             SiteError::TooLarge => f.write_str(
                 "the saved web has more than 1073741824 bytes, the most that a crawl reads",
             ),

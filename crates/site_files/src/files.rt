@@ -4,14 +4,16 @@ ghost use Rattle.std.specs.List.Sorted.{IsStrictlySortedBy};
 ghost use Rattle.site_files.specs.Below.{IsTop};
 ghost use Rattle.site_files.specs.Files.{IsOfFiles};
 ghost use Rattle.site_files.specs.Entries.{Finds, IsTable, cmp_urls, texts};
+ghost use Rattle.site_files.specs.Kinds.{is_document, is_page, is_style};
 ghost use Rattle.site_files.specs.Links.{IsLinked};
-ghost use Rattle.site_files.specs.Files.{IsOrdered, name_at, page_file, page_of, pages_of, server_of};
+ghost use Rattle.site_files.specs.Files.{IsOrdered, IsOfNames, document_at, document_of, file_kind, kind_at, line_kind, name_at, named_kind, page_file, page_of, pages_of, server_of, site_file};
 
 use crate::alias::FolderLink;
 use crate::error::SiteError;
-use crate::kinds::{Kind, kind_of};
+use crate::kinds::{FileKind, kind_of};
 use crate::notes::Note;
 use crate::site::{Entry, Rules, Site, Source, split_name};
+use crate::site_list::ListedUrl;
 use crawl_keys::CanonUrl;
 use std::alloc::{AllocError, Global};
 
@@ -31,18 +33,41 @@ pub struct SiteFile<'a> {
     /// Its index among the names of the site.
     pub index: usize,
     pub name: &'a str,
-    /// Whether it is known to be a document. Otherwise it is read only if its first bytes are those of a document.
-    pub is_document: bool,
+    pub kind: FileKind,
+}
+
+impl SiteFile<'_> {
+    /// Whether it is known to be a document. A file of unknown kind is one if its first bytes are those of a document.
+    pub fn is_document(&self) -> bool
+        ensures { result ≡ is_document self.now.kind }
+    {
+        match self.kind {
+            FileKind::Html | FileKind::Xml | FileKind::Svg => true,
+            FileKind::Style | FileKind::Unknown => false,
+        }
+    }
+
+    /// Whether it is known to be a page: an HTML or XHTML document.
+    pub fn is_page(&self) -> bool
+        ensures { result ≡ is_page self.now.kind }
+    {
+        match self.kind {
+            FileKind::Html | FileKind::Xml => true,
+            FileKind::Svg | FileKind::Style | FileKind::Unknown => false,
+        }
+    }
 }
 
 /// The pages of a site by their URLs, and their files.
 #[derive(Drop)]
 pub struct SiteFiles<'a> {
     pub(crate) site: Site,
-    names: &'a [String],
+    pub(crate) names: &'a [String],
     pub(crate) rules: &'a Rules,
-    /// The files without a page, because another file has the same URL.
-    doubles: Vec<Note>,
+    /// What the list of the site has, by the indices of names, if there is a list.
+    pub(crate) listed: Option<&'a [ListedUrl]>,
+    /// The notes about files and listed URLs without a page.
+    pub(crate) doubles: Vec<Note>,
 }
 
 impl<'a> SiteFiles<'a> {
@@ -53,6 +78,8 @@ impl<'a> SiteFiles<'a> {
     pub fn new(alloc: Global, input: SiteNames<'a>) -> Result<SiteFiles<'a>, SiteError>
         ensures error { IfErr result IsOfFiles }
         ensures top { IfOk result (λ files. IsTop input.entry.base.now (string_bytes files.site.top)) }
+        ensures names { IfOk result (IsOfNames input.entry.names.now input.entry.rules.now) }
+        ensures url { IfOk result (λ files. files.site.top_url ≡ string_bytes files.site.top) }
         ensures table { IfOk result (λ files. IsTable (server_of files) (texts input.entry.names.now) files.site.entries.items) }
         ensures links { IfOk result (λ files. IsLinked (string_bytes files.site.top) input.entry.links.now files.site.linked.links.items) }
         ensures ordered { IfOk result IsOrdered }
@@ -69,11 +96,12 @@ impl<'a> SiteFiles<'a> {
             site,
             names,
             rules,
+            listed: None,
             doubles,
         })
     }
 
-    /// Adds the notes about the files without a page.
+    /// Adds the notes about the files and listed URLs without a page.
     pub fn copy_doubles(&self, notes: &mut Vec<Note>) -> Result<(), AllocError> {
         for note in &self.doubles {
             notes.push(note.copy()?)?;
@@ -89,7 +117,9 @@ impl<'a> SiteFiles<'a> {
     }
 
     /// The URL of the top as that of a page.
-    pub fn top_url(&self) -> &CanonUrl {
+    pub fn top_url(&self) -> &CanonUrl
+        ensures { result.now ≡ self.now.site.top_url }
+    {
         &self.site.top_url
     }
 
@@ -137,19 +167,44 @@ impl<'a> SiteFiles<'a> {
         self.url(self.site.own.get(index).copied()??)
     }
 
-    /// The file of the page with this number, if it has one that can be a document.
-    pub fn document(&self, number: usize) -> Option<SiteFile<'a>> {
-        let (_, index) = self.page(number)?;
-        let index = index?;
+    /// The file of the page with this number, if it has one that can have links. Without `Rules.styles`, a style sheet has none.
+    pub fn document(&self, number: usize) -> Option<SiteFile<'a>>
+        ensures { option_map (λ file. site_file file.index file.kind file.name.now) result ≡ document_at self.now number }
+    {
+        match self.page(number) {
+            Some((_, Some(index))) => self.document_of(index),
+            _ => None,
+        }
+    }
+
+    /// The file with this index, if it can have links.
+    fn document_of(&self, index: usize) -> Option<SiteFile<'a>>
+        ensures { option_map (λ file. site_file file.index file.kind file.name.now) result ≡ document_of self.now index }
+    {
         let name = self.name(index)?;
-        let (path, _) = split_name(name, self.rules.queries);
-        match kind_of(path) {
-            Kind::Other => None,
-            kind => Some(SiteFile {
-                index,
-                name,
-                is_document: kind == Kind::Document,
-            }),
+        let kind = self.kind_at(index, name)?;
+        Some(SiteFile { index, name, kind })
+    }
+
+    /// The kind of the file with this index and name, if links of such a file are read.
+    fn kind_at(&self, index: usize, name: &str) -> Option<FileKind>
+        ensures { result ≡ kind_at self.now index name.now }
+    {
+        let kind = self.file_kind(index, name)?;
+        if is_style(kind) && !self.rules.styles {
+            None
+        } else {
+            Some(kind)
+        }
+    }
+
+    /// The kind of the file with this index and name: by its type in the list or, without a list, by its name.
+    fn file_kind(&self, index: usize, name: &str) -> Option<FileKind>
+        ensures { result ≡ file_kind self.now.rules.now self.now.listed index name.now }
+    {
+        match self.listed {
+            Some(urls) => line_kind(urls, index),
+            None => named_kind(self.rules, name),
         }
     }
 
@@ -203,6 +258,31 @@ impl<'a> SiteFiles<'a> {
     pub fn threads(&self) -> usize {
         self.rules.threads
     }
+}
+
+/// The kind of the file in the line with this index.
+fn line_kind(urls: &[ListedUrl], index: usize) -> Option<FileKind>
+    ensures { result ≡ line_kind urls.now index }
+{
+    match urls.get(index) {
+        Some(one) => one.content.kind(),
+        None => None,
+    }
+}
+
+/// The kind of a file with this name.
+fn named_kind(rules: &Rules, name: &str) -> Option<FileKind>
+    ensures { result ≡ named_kind rules.now name.now }
+{
+    let (path, _) = split_name(name, rules.queries);
+    kind_of(path.as_bytes())
+}
+
+/// Whether the file is a style sheet.
+fn is_style(kind: FileKind) -> bool
+    ensures { result ≡ is_style kind }
+{
+    matches!(kind, FileKind::Style)
 }
 
 /// Returns the URL of a page and the index of its file among the names. A page that is a redirect has no file.

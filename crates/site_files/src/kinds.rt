@@ -1,49 +1,151 @@
-//! The kind of a file, by its name.
+//! The kind of a file, by its name or its media type.
+ghost use Rattle.std.specs.Prelude.{◌≡◌, option_map};
+ghost use Rattle.std.specs.List.{before_first, list_all};
+ghost use Rattle.site_files.specs.Kinds.{is_among, is_dot, is_html, is_other, is_packed, is_semicolon, is_xhtml, kind_by, kind_of, kind_of_type, suffix_of};
+ghost use Rattle.url.specs.Input.{rsplit_once};
 
-/// The kind of a file.
+/// The kind of a file that can have links.
 #[derive(Clone, Copy, Debug, PartialEq, Eq)]
-pub(crate) enum Kind {
+pub enum FileKind {
     /// An HTML document.
-    Document,
-    /// The first bytes say what it is.
+    Html,
+    /// An XHTML document.
+    Xml,
+    /// An SVG picture, which is XML too and can have links and anchors.
+    Svg,
+    /// A style sheet.
+    Style,
+    /// An HTML document if its first bytes are those of one.
     Unknown,
-    /// A file without links.
-    Other,
 }
 
-/// The suffixes of Python's own table, without `.htm` and `.html`.
+/// The suffixes of files without links: those in Python's own table of media types that are not of another kind.
 const OTHERS: &str =
-    ".3g2 .3gp .3gpp .3gpp2 .a .aac .adts .ai .aif .aifc .aiff .ass .au .avi .avif .bat .bcpio .bin .bmp .c .cdf .cpio .csh .css .csv .dll .doc .dot .dvi .eml .eps .etx .exe .gif .gtar .h .h5 .hdf .heic .heif .ico .ief .jpe .jpeg .jpg .js .json .ksh .latex .loas .m1v .m3u .m3u8 .man .me .mht .mhtml .mif .mjs .mov .movie .mp2 .mp3 .mp4 .mpa .mpe .mpeg .mpg .ms .n3 .nc .nq .nt .nws .o .obj .oda .opus .p12 .p7c .pbm .pdf .pfx .pgm .pl .png .pnm .pot .ppa .ppm .pps .ppt .ps .pwz .py .pyc .pyo .qt .ra .ram .ras .rdf .rgb .roff .rtx .sgm .sgml .sh .shar .snd .so .src .srt .sv4cpio .sv4crc .svg .swf .t .tar .tcl .tex .texi .texinfo .tif .tiff .tr .trig .tsv .txt .ustar .vcf .vtt .wasm .wav .webm .webmanifest .wiz .wsdl .xbm .xlb .xls .xml .xpdl .xpm .xsl .xwd .zip .svgz .tgz .taz .tz .tbz2 .txz";
+    "3g2 3gp 3gpp 3gpp2 a aac adts ai aif aifc aiff ass au avi avif bat bcpio bin bmp c cdf cpio csh csv dll doc dot dvi eml eps etx exe gif gtar h h5 hdf heic heif ico ief jpe jpeg jpg js json ksh latex loas m1v m3u m3u8 man me mht mhtml mif mjs mov movie mp2 mp3 mp4 mpa mpe mpeg mpg ms n3 nc nq nt nws o obj oda opus p12 p7c pbm pdf pfx pgm pl png pnm pot ppa ppm pps ppt ps pwz py pyc pyo qt ra ram ras rdf rgb roff rtx sgm sgml sh shar snd so src srt sv4cpio sv4crc swf t tar tcl tex texi texinfo tif tiff tr trig tsv txt ustar vcf vtt wasm wav webm webmanifest wiz wsdl xbm xlb xls xml xpdl xpm xsl xwd zip svgz tgz taz tz tbz2 txz";
 
-/// Suffixes of packed files, only in this case.
-const PACKED: &str = ".gz .Z .bz2 .xz .br";
-
-/// The kind of a file with this name.
-pub(crate) fn kind_of(name: &str) -> Kind {
-    let suffix = suffix_of(name);
-    if PACKED.split(' ').any(|packed| packed == suffix) {
-        return Kind::Other;
+/// The kind of the file with this path, or `None` if it has no links.
+pub(crate) fn kind_of(path: &[u8]) -> Option<FileKind>
+    ensures { result ≡ kind_of path.now }
+{
+    match suffix_of(path) {
+        Some(suffix) => kind_by(suffix),
+        None => Some(FileKind::Unknown),
     }
-    if suffix.eq_ignore_ascii_case(".html") || suffix.eq_ignore_ascii_case(".htm") {
-        return Kind::Document;
-    }
-    if OTHERS
-        .split(' ')
-        .any(|other| other.eq_ignore_ascii_case(suffix))
-    {
-        return Kind::Other;
-    }
-    Kind::Unknown
 }
 
-/// The last dot of a file's name and what comes after it, if something other than dots comes before it.
-fn suffix_of(name: &str) -> &str {
-    let file = match name.rsplit_once('/') {
-        Some((_, file)) => file,
-        None => name,
+/// The kind of a file with this suffix. Case matters only for packed files.
+fn kind_by(suffix: &[u8]) -> Option<FileKind>
+    ensures { result ≡ kind_by suffix.now }
+{
+    if is_html(suffix) {
+        Some(FileKind::Html)
+    } else if is_xhtml(suffix) {
+        Some(FileKind::Xml)
+    } else if suffix.eq_ignore_ascii_case(b"svg") {
+        Some(FileKind::Svg)
+    } else if suffix.eq_ignore_ascii_case(b"css") {
+        Some(FileKind::Style)
+    } else if is_packed(suffix) || is_other(suffix) {
+        None
+    } else {
+        Some(FileKind::Unknown)
+    }
+}
+
+/// Whether the suffix is that of HTML.
+fn is_html(suffix: &[u8]) -> bool
+    ensures { result ≡ is_html suffix.now }
+{
+    suffix.eq_ignore_ascii_case(b"html") || suffix.eq_ignore_ascii_case(b"htm")
+}
+
+/// Whether the suffix is that of XHTML.
+fn is_xhtml(suffix: &[u8]) -> bool
+    ensures { result ≡ is_xhtml suffix.now }
+{
+    suffix.eq_ignore_ascii_case(b"xhtml") || suffix.eq_ignore_ascii_case(b"xht")
+}
+
+/// Whether the suffix is that of a packed file.
+fn is_packed(suffix: &[u8]) -> bool
+    ensures { result ≡ is_packed suffix.now }
+{
+    suffix == b"gz".as_slice()
+        || suffix == b"Z".as_slice()
+        || suffix == b"bz2".as_slice()
+        || suffix == b"xz".as_slice()
+        || suffix == b"br".as_slice()
+}
+
+/// Whether the suffix is one of `OTHERS`.
+fn is_other(suffix: &[u8]) -> bool
+    ensures { result ≡ is_other suffix.now }
+{
+    is_among(suffix, OTHERS)
+}
+
+/// Whether the suffix is one of these, which are separated by spaces.
+fn is_among(suffix: &[u8], suffixes: &str) -> bool
+    ensures { result ≡ is_among suffix.now suffixes.now }
+{
+    suffixes
+        .split(' ')
+        .any(|one| suffix.eq_ignore_ascii_case(one.as_bytes()))
+}
+
+/// The kind of a file with this media type, which may have parameters, or `None` if it has no links. Case does not matter.
+pub(crate) fn kind_of_type(text: &str) -> Option<FileKind>
+    ensures { result ≡ kind_of_type text.now }
+{
+    let name = media_type(text);
+    if name.eq_ignore_ascii_case("text/html") {
+        Some(FileKind::Html)
+    } else if name.eq_ignore_ascii_case("application/xhtml+xml") {
+        Some(FileKind::Xml)
+    } else if name.eq_ignore_ascii_case("image/svg+xml") {
+        Some(FileKind::Svg)
+    } else if name.eq_ignore_ascii_case("text/css") {
+        Some(FileKind::Style)
+    } else {
+        None
+    }
+}
+
+/// A media type without its parameters.
+fn media_type(text: &str) -> &str
+    ensures { result.now ≡ before_first is_semicolon text.now }
+{
+    match text.split_once(';') {
+        Some((name, _)) => name,
+        None => text,
+    }
+}
+
+/// What comes after the last dot of a file's name, if something other than dots comes before it.
+fn suffix_of(path: &[u8]) -> Option<&[u8]>
+    ensures { option_map (λ suffix. suffix.now) result ≡ suffix_of path.now }
+{
+    let (_, name) = rsplit_once(path, b'/');
+    let (Some(stem), suffix) = rsplit_once(name, b'.') else {
+        return None;
     };
-    match file.rfind('.') {
-        Some(dot) if file.bytes().take(dot).any(|byte| byte != b'.') => &file[dot..],
-        _ => "",
+    if is_dots(stem) { None } else { Some(suffix) }
+}
+
+/// Whether a text has only dots.
+fn is_dots(text: &[u8]) -> bool
+    ensures { result ≡ list_all is_dot text.now }
+{
+    text.iter().all(|byte| *byte == b'.')
+}
+
+/// What is before the last separator of a text, if there is one, and what is after it.
+fn rsplit_once(text: &[u8], separator: u8) -> (Option<&[u8]>, &[u8])
+    ensures before { option_map (λ before. before.now) result.0 ≡ (rsplit_once separator text.now).0 }
+    ensures after { result.1.now ≡ (rsplit_once separator text.now).1 }
+{
+    match text.iter().rposition(|byte| *byte == separator) {
+        Some(at) => (Some(&text[..at]), &text[at + 1..]),
+        None => (None, text),
     }
 }

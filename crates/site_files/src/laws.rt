@@ -1,5 +1,5 @@
 //! What the definitions in `specs/` say of some requests.
-ghost use Rattle.site_files.specs.Vectors.{Requests, Responses, Rules};
+ghost use Rattle.site_files.specs.Vectors.{Kinds, Requests, Responses, Rules};
 
 /// The paths that are looked up for requests.
 pub fn requests()
@@ -14,4 +14,9 @@ pub fn responses()
 /// What is returned by the rules of a host, and the own URLs of files.
 pub fn rules()
     ensures { Rules }
+{}
+
+/// The kinds of files by their names.
+pub fn kinds()
+    ensures { Kinds }
 {}

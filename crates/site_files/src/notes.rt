@@ -24,6 +24,10 @@ pub enum Left {
     FileChanged,
     /// Another file has the same URL.
     SameUrl,
+    /// An earlier line of the list has the same URL.
+    ListedTwice,
+    /// The list has this number of URLs that are not below the top.
+    Elsewhere(usize),
     /// The URL of the page is too long for a line.
     LongUrl,
     /// The target of the redirect is too long for a line.
@@ -37,6 +41,12 @@ pub enum Left {
 impl fmt::Display for Left {
     fn fmt<W: fmt::Write>(&self, f: &mut fmt::Formatter<W>) -> fmt::Result {
         f.write_str(match self {
+            Left::Elsewhere(count) => {
+                return write!(
+                    f,
+                    "{count} other URLs of the list skipped, they are not below this one"
+                );
+            }
             Left::NotUtf8 => "skipped, its name is not UTF-8",
             Left::NoFile => "skipped, neither a file nor a folder",
             Left::Unread => "skipped, it cannot be read",
@@ -48,6 +58,7 @@ impl fmt::Display for Left {
             Left::LongFile => "links skipped, the file has more than 1 GiB",
             Left::FileChanged => "links skipped, the file changed while it was read",
             Left::SameUrl => "file skipped, another file has the same URL",
+            Left::ListedTwice => "line skipped, an earlier line has the same URL",
             Left::LongUrl => "page skipped, its URL is too long",
             Left::LongTarget => "target of the redirect skipped, it is too long",
             Left::LongLinks => "some links skipped, they are too long",

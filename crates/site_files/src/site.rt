@@ -33,6 +33,10 @@ pub struct Rules {
     pub anchors: bool,
     /// Whether the positions of links are kept.
     pub places: bool,
+    /// Whether the links of style sheets, and those of styles in documents, are read.
+    pub styles: bool,
+    /// Whether an absolute path is below the folder, as in a check without BASE.
+    pub rooted: bool,
     /// Whether symbolic links that lead out of the folder are followed.
     pub follow: bool,
     /// The number of threads that make pages; 0 means 1.
@@ -100,6 +104,7 @@ impl Site {
     ) -> Result<Site, SiteError>
         ensures error { IfErr result IsOfFiles }
         ensures top { IfOk result (λ site. IsTop base.now (string_bytes site.top)) }
+        ensures url { IfOk result (λ site. site.top_url ≡ string_bytes site.top) }
         ensures table { IfOk result (λ site. IsTable (server_at rules.now site) (texts names.now) site.entries.items) }
         ensures links { IfOk result (λ site. IsLinked (string_bytes site.top) links.now site.linked.links.items) }
     {
@@ -129,9 +134,12 @@ impl Site {
     }
 
     /// One without pages, whose top has this URL.
-    fn at(alloc: Global, base: &str) -> Result<Site, SiteError>
+    #[tactic(auto, using(crate::proofs::OtherNames::linked))]
+    pub(crate) fn at(alloc: Global, base: &str) -> Result<Site, SiteError>
         ensures error { IfErr result IsOfFiles }
         ensures top { IfOk result (λ site. IsTop base.now (string_bytes site.top)) }
+        ensures links { IfOk result (λ site. IsLinked (string_bytes site.top) [] site.linked.links.items) }
+        ensures url { IfOk result (λ site. site.top_url ≡ string_bytes site.top) }
     {
         let page = url_at(alloc, base)?;
         let Some((origin, path)) = split_origin(page.as_str()) else {
@@ -392,7 +400,7 @@ fn add(url: &str, source: Source, entries: &mut Vec<Entry>) -> Result<(), SiteEr
 }
 
 /// The pages in the order of their URLs. Of those with one URL, the first stays the first.
-fn in_order(entries: Vec<Entry>) -> Result<Vec<Entry>, AllocError>
+pub(crate) fn in_order(entries: Vec<Entry>) -> Result<Vec<Entry>, AllocError>
     ensures { IfOk result (λ ordered. IsInOrder entries.items ordered.items) }
 {
     let mut ordered = entries;
@@ -401,7 +409,7 @@ fn in_order(entries: Vec<Entry>) -> Result<Vec<Entry>, AllocError>
 }
 
 /// The first page of each URL, of pages in the order of their URLs.
-fn without_doubles(entries: Vec<Entry>) -> Vec<Entry>
+pub(crate) fn without_doubles(entries: Vec<Entry>) -> Vec<Entry>
     requires { IsSorted cmp_urls entries.items }
     ensures { IsOnce entries.items result.items }
 {
@@ -462,6 +470,7 @@ fn url_at(alloc: Global, text: &str) -> Result<CanonUrl, SiteError>
 fn top_at(alloc: Global, page: &CanonUrl, text: &str) -> Result<CanonUrl, SiteError>
     ensures error { IfErr result IsOfFiles }
     ensures top { IfOk result (λ _. (base : List ℕ) → canonical base ≡ Ok page.now → IsTop base text.now) }
+    ensures url { IfOk result (λ url. url ≡ text.now) }
 {
     let url = url_at(alloc, text)?;
     let is_top = is_top(alloc, page.as_str(), &url, text)?;

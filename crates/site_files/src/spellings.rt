@@ -70,7 +70,7 @@ impl SiteFiles<'_> {
     fn is_tried(&self, url: &str) -> bool
         ensures { result ≡ (self.now.rules.now.html_fallback && not (ends_in_slash (before_query url.now))) }
     {
-        self.rules.html_fallback && !ends_in_slash(path_of(url).as_bytes())
+        self.rules.html_fallback && !ends_in_slash(before_query(url).as_bytes())
     }
 
     /// The URL of the file or folder that a server looks up for a URL, or `None` if it looks up none.
@@ -134,7 +134,7 @@ fn has_empty_name(text: &[u8]) -> bool {
 }
 
 /// The URL without its query.
-fn path_of(url: &str) -> &str
+pub fn before_query(url: &str) -> &str
     ensures { result.now ≡ before_query url.now }
 {
     match url.split_once('?') {

@@ -28,16 +28,15 @@ impl Core {
         ensures moves { IfOk result (λ reply. Moves self.old (Event.Admit sender url.now queue) reply self.new) }
         ensures err { OnErr result (self.new ≡ self.old) }
     {
-        let Some(seen) = self.queues.has_seen(queue, url) else {
+        if !self.queues.has(queue) {
             return Ok(Reply::Refused(Refusal::NoSuch));
-        };
+        }
         if !self.holders.contains(&sender) {
             return Ok(Reply::Refused(Refusal::Nothing));
         }
-        if seen {
+        let Some(number) = self.queues.accept(queue, url, sender)? else {
             return Ok(Reply::Seen);
-        }
-        let number = self.queues.accept(queue, url, sender)?;
+        };
         // The sender's unit goes with the URL, so the count stays.
         self.holders.remove(&sender);
         Ok(Reply::Accepted { queue, number })

@@ -8,7 +8,7 @@ ghost use Rattle.crawl_keys.specs.HostFilter.{in_order};
 ghost use Rattle.crawl_keys.specs.HostFilter as spec;
 ghost use Rattle.crawl_keys.specs.Outcome.{Gives};
 
-use crate::filter::FilterError;
+use crate::filter::error::FilterError;
 use crate::filter::marks::Marks;
 use std::alloc::Global;
 use std::collections::BTreeSet;

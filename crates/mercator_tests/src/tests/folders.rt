@@ -39,6 +39,8 @@ impl OneFile {
             follow: false,
             anchors: true,
             places: true,
+            styles: false,
+            rooted: false,
             threads: 2,
         };
         Ok(OneFile {

@@ -42,7 +42,8 @@ struct LinksAhead {
 
 impl Chunk {
     /// Resolves the links of the pages in this block and in each block that is a multiple of `CHUNKS` later, until memory runs out.
-    pub fn new(alloc: Global, web: &WebPages<'_>, first: usize) -> Chunk
+    /// `blocks` has the index of the first page of each block, and the number of pages.
+    pub fn new(alloc: Global, web: &WebPages<'_>, blocks: &[usize], first: usize) -> Chunk
         ensures { IsChunk web.now result }
     {
         let mut cache = LinkCache::new(alloc, CHUNKS as u32);
@@ -52,7 +53,7 @@ impl Chunk {
         };
         for round in 0..BLOCKS / CHUNKS {
             let block = first.saturating_add(round * CHUNKS);
-            match chunk.add_block(alloc, web, block, &mut cache) {
+            match chunk.add_block(alloc, web, blocks, block, &mut cache) {
                 Ok(()) => {}
                 Err(_) => return chunk,
             }
@@ -60,21 +61,25 @@ impl Chunk {
         chunk
     }
 
-    /// Resolves the links of the pages of a block. All blocks have about the same number of bytes.
+    /// Resolves the links of the pages of a block.
     fn add_block<'a>(
         &mut self,
         alloc: Global,
         web: &WebPages<'a>,
+        blocks: &[usize],
         block: usize,
         cache: &mut LinkCache<'a>,
     ) -> Result<(), FetchError>
         requires { IsChunk web.now self.old }
         ensures { IsChunk web.now self.new }
     {
-        let bytes = web.bytes();
-        let first = web.index_behind(bytes.saturating_mul(block) / BLOCKS);
-        let end = web.index_behind(bytes.saturating_mul(block.saturating_add(1)) / BLOCKS);
-        for index in first..end {
+        let Some(first) = blocks.get(block) else {
+            return Ok(());
+        };
+        let Some(end) = blocks.get(block.saturating_add(1)) else {
+            return Ok(());
+        };
+        for index in *first..*end {
             self.add_page(alloc, web, index, cache)?;
         }
         Ok(())

@@ -1,5 +1,5 @@
 use Rattle.saved_web.proofs.Prelude.{lines, AreFound}
-use Rattle.saved_web.proofs.JoinedParts.{at_some}
+use Rattle.saved_web.proofs.JoinedChunks.{at_some}
 use Rattle.saved_web.proofs.LongPages.{both_found}
 use Rattle.saved_web.proofs.long.+fn-links_by_threads-of_back+links_by_threads.Goals as goal
 

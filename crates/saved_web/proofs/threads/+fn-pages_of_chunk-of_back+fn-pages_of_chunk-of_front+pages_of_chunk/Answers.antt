@@ -1,5 +1,5 @@
 use Rattle.saved_web.proofs.Prelude.{subst, lines, AreReadBehind}
-use Rattle.saved_web.proofs.JoinedParts.{both_read, at_some}
+use Rattle.saved_web.proofs.JoinedChunks.{both_read, at_some}
 use Rattle.saved_web.proofs.threads.+fn-pages_of_chunk-of_back+fn-pages_of_chunk-of_front+pages_of_chunk.Goals as goal
 
 pub returns : goal.returns

@@ -1,5 +1,5 @@
 use Rattle.std.proofs.Common.{◌||◌}
-use Rattle.saved_web.proofs.PartPages.{none_in_halves}
+use Rattle.saved_web.proofs.ChunkPages.{none_in_halves}
 use Rattle.saved_web.proofs.web_pages.+fn-some_has_in_threads-in_back+fn-some_has_in_threads-in_front+some_has_in_threads.Goals as goal
 
 pub returns-else-first : goal.returns-else-first

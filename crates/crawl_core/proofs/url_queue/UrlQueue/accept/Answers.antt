@@ -1,6 +1,5 @@
-use Rattle.crawl_core.proofs.Prelude.{rules, ◌≡◌, ℕ, ◌+◌, ◌≤◌, false, List, [], ◌∷◌, ◌++◌, length, map, is_some, sym, subst, ◌∙◌, length_push, map-id, has_index, none_there, number_at}
+use Rattle.crawl_core.proofs.Prelude.{rules, ◌≡◌, ℕ, ◌+◌, ◌≤◌, List, [], ◌∷◌, ◌++◌, None, length, map, sym, subst, length_push, map-id, has_index, number_at, arith}
 use Rattle.hash_order.specs.HashOrder.{hash_of}
-use Rattle.hash_index.specs.Lists.{index_of}
 use Rattle.hash_index.specs.Index.{IsIndexOf}
 use Rattle.hash_index.proofs.Keeping.{pushed_item}
 use Rattle.crawl_core.proofs.SenderCounts.{few_after}
@@ -17,11 +16,15 @@ invariant_of-self-2 c =
     let is : number ≡ number_at c.self.inside.numbers.entries c.args.sender = search rules in
     let few : (s : ℕ) → number_at c.insert.new.self.entries s ≤ length before + 1 =
     few_after c.self.inside.numbers c.insert.new.self c.args.sender number (length before) c.in_ok-insert.ensures.updates is c.self.invariant.0 in
-    let absent : is_some (index_of before url) ≡ false = has_index before url ∙ search rules in
-    let found : c.in_ok-find_or_insert.field-0 ≡ index_of before url =
-    subst (λ texts. c.in_ok-find_or_insert.field-0 ≡ index_of texts url) (map-id seen ∙ same) c.in_ok-find_or_insert.ensures.found in
+    let none : c.in_ok-found.found ≡ None = search rules in
     let known : IsIndexOf hash_of (map (λ (text : List ℕ). text) before ++ url ∷ []) c.find_or_insert.new.self =
-    subst (λ xs. IsIndexOf hash_of (map (λ (text : List ℕ). text) xs ++ url ∷ []) c.find_or_insert.new.self) same (c.in_ok-find_or_insert.ensures.pushed (found ∙ none_there _ absent)) in (
+    subst (λ xs. IsIndexOf hash_of (map (λ (text : List ℕ). text) xs ++ url ∷ []) c.find_or_insert.new.self) same (c.in_ok-found.ensures.pushed none) in (
       subst (λ xs. (s : ℕ) → number_at c.insert.new.self.entries s ≤ length xs) (sym items) (subst (λ n. (s : ℕ) → number_at c.insert.new.self.entries s ≤ n) (sym (length_push before url)) few),
       pushed_item (λ text. text) hash_of c.find_or_insert.new.self before c.push_reserved.new.self.items url items known,
     )
+
+pub returns-then-is_some-clause-seen : goal.returns-then-is_some-clause-seen
+returns-then-is_some-clause-seen c = grind (arith, map-id, has_index)
+
+pub returns-clause-fresh : goal.returns-clause-fresh
+returns-clause-fresh c = grind (arith, map-id, has_index)

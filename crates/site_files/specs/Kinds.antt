@@ -1,0 +1,106 @@
+-- The kinds of files that can have links, by their names or media types.
+use Rattle.std.specs.Prelude.{ℕ, ◌==◌, Bool, true, false, not, ◌||◌, ◌&&◌, List, codes, bytes_eq, Option, Some, None, if◌then◌else◌}
+use Rattle.std.specs.List.{before_first, list_all, list_any, slice_split}
+use Rattle.std.specs.Option.{option_map_or}
+use Rattle.std.specs.Str.{str_eq_ignore_ascii_case}
+use Rattle.url.specs.Input.{rsplit_once}
+use Rattle.site_files.specs.declared.kinds.FileKind.{FileKind}
+use Rattle.site_files.specs.declared.kinds.FileKind.TheVariants.{Html, Xml, Svg, Style, Unknown}
+use Rattle.site_files.specs.declared.kinds.TheConstants.{OTHERS}
+
+abbrev pub is_dot : ℕ → Bool
+is_dot b = b == 46
+
+-- the last name on a path
+abbrev pub last_name : List ℕ → List ℕ
+last_name path = (rsplit_once 47 path).1
+
+-- what is after a last dot, unless only dots are before it
+abbrev pub after_stem : Option (List ℕ) → List ℕ → Option (List ℕ)
+after_stem None suffix = None
+after_stem (Some stem) suffix = if list_all is_dot stem then None else Some suffix
+
+-- the suffix of a file's name
+abbrev pub suffix_of : List ℕ → Option (List ℕ)
+suffix_of path = after_stem (rsplit_once 46 (last_name path)).0 (rsplit_once 46 (last_name path)).1
+
+-- ---- suffixes, in any case but those of packed files
+
+abbrev pub is_html : List ℕ → Bool
+is_html suffix = str_eq_ignore_ascii_case suffix (codes "html") || str_eq_ignore_ascii_case suffix (codes "htm")
+
+abbrev pub is_xhtml : List ℕ → Bool
+is_xhtml suffix = str_eq_ignore_ascii_case suffix (codes "xhtml") || str_eq_ignore_ascii_case suffix (codes "xht")
+
+abbrev pub is_packed : List ℕ → Bool
+is_packed suffix =
+    bytes_eq suffix (codes "gz") || bytes_eq suffix (codes "Z") || bytes_eq suffix (codes "bz2") || bytes_eq suffix (codes "xz")
+    || bytes_eq suffix (codes "br")
+
+-- one of the suffixes in a text, in which spaces separate them
+abbrev pub is_among : List ℕ → List ℕ → Bool
+is_among suffix suffixes = list_any (str_eq_ignore_ascii_case suffix) (slice_split (λ b. b == 32) suffixes)
+
+abbrev pub is_other : List ℕ → Bool
+is_other suffix = is_among suffix OTHERS.now
+
+-- the kind of a file with this suffix; none if it has no links
+abbrev pub kind_by : List ℕ → Option FileKind
+kind_by suffix =
+    if is_html suffix then Some Html
+    else if is_xhtml suffix then Some Xml
+    else if str_eq_ignore_ascii_case suffix (codes "svg") then Some Svg
+    else if str_eq_ignore_ascii_case suffix (codes "css") then Some Style
+    else if is_packed suffix || is_other suffix then None
+    else Some Unknown
+
+-- the kind of the file with this path
+abbrev pub kind_of : List ℕ → Option FileKind
+kind_of path = option_map_or kind_by (suffix_of path) (Some Unknown)
+
+-- ---- media types, in any case
+
+abbrev pub is_semicolon : ℕ → Bool
+is_semicolon b = b == 59
+
+-- the kind of a file with this media type, which has no parameters
+abbrev pub kind_by_type : List ℕ → Option FileKind
+kind_by_type name =
+    if str_eq_ignore_ascii_case name (codes "text/html") then Some Html
+    else if str_eq_ignore_ascii_case name (codes "application/xhtml+xml") then Some Xml
+    else if str_eq_ignore_ascii_case name (codes "image/svg+xml") then Some Svg
+    else if str_eq_ignore_ascii_case name (codes "text/css") then Some Style
+    else None
+
+-- parameters come after a semicolon
+abbrev pub kind_of_type : List ℕ → Option FileKind
+kind_of_type text = kind_by_type (before_first is_semicolon text)
+
+-- ---- which files are read
+
+-- known to be a document
+abbrev pub is_document : FileKind → Bool
+is_document Html = true
+is_document Xml = true
+is_document Svg = true
+is_document Style = false
+is_document Unknown = false
+
+-- known to be a page
+abbrev pub is_page : FileKind → Bool
+is_page Html = true
+is_page Xml = true
+is_page Svg = false
+is_page Style = false
+is_page Unknown = false
+
+abbrev pub is_style : FileKind → Bool
+is_style Html = false
+is_style Xml = false
+is_style Svg = false
+is_style Style = true
+is_style Unknown = false
+
+-- the kind, if files of it are read; style sheets only if the rules say so
+abbrev pub if_read : Bool → FileKind → Option FileKind
+if_read styles kind = if is_style kind && not styles then None else Some kind
