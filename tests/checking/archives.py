@@ -225,11 +225,11 @@ def line_of(draw: Random, site: Site, url: str, response: Response) -> Optional[
 
 
 def random_type(draw: Random, name: str) -> str:
-    """The type with which a server sends a file, or now and then another one."""
+    """The type with which a server sends a file, or now and then another one. Only a style sheet gets that of style sheets."""
     form = form_of(os.fsencode(name), True)
     usual = draw.choice([kind for kind in FORMS if FORMS[kind] == form] or OTHER_TYPES)
-    others = (*FORMS, "Text/HTML;charset=UTF-8", "text/CSS;x", "IMAGE/svg+xml;", "text/html;", "-")
-    return draw.choice(others) if draw.random() < 0.3 else usual
+    others = [kind for kind in FORMS if FORMS[kind] != "css"] + ["Text/HTML;charset=UTF-8", "IMAGE/svg+xml;", "text/html;", "-"]
+    return draw.choice([*others, "text/CSS;x"] if form == "css" else others) if draw.random() < 0.3 else usual
 
 
 def respelled(draw: Random, url: str) -> str:

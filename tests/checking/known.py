@@ -542,14 +542,14 @@ KNOWN = [
         "links outside BASE",
         {
             "index.html": "<a href=/x><a href=../x#y><a href=/project><a href=http://docs.test:80/project/a><a href=//docs.test:8080/x>"
-            "<a href=https://docs.test/x><a href=/projects/><a href=/%70roject/>",
+            "<a href=https://docs.test/x><a href=/projects/><a href=/%70roject/#y><a href=/%70roject/no>",
         },
         [
-            "http://docs.test/%70roject/ index.html:1:164", "http://docs.test/project index.html:1:35", "project/a index.html:1:52",
+            "http://docs.test/%70roject/no index.html:1:186", "http://docs.test/project index.html:1:35", "project/a index.html:1:52",
             "http://docs.test/projects/ index.html:1:145", "http://docs.test/x index.html:1:20", "http://docs.test/x index.html:1:9",
         ],
         (
-            {"kind": "total", "links": 8, "broken": 1, "leaving": 5, "external": 2},
+            {"kind": "total", "links": 9, "broken": 1, "leaving": 5, "external": 2},
             {"kind": "leaving", "target": "http://docs.test/x", "reason": "outside_base", "pages": 1},
             {"kind": "external", "url": "http://docs.test:8080/x", "links": 1}, {"kind": "external", "url": "https://docs.test/x", "links": 1},
         ),

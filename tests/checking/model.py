@@ -9,7 +9,7 @@ import os
 import re
 from collections import Counter
 from functools import lru_cache
-from typing import AbstractSet, Any, Dict, Iterator, List, NamedTuple, Optional, Set, Tuple, Union
+from typing import AbstractSet, Any, Dict, Iterable, Iterator, List, NamedTuple, Optional, Set, Tuple, Union
 from urllib.parse import quote, unquote_to_bytes
 
 import drawn
@@ -332,7 +332,7 @@ class Site:
         front = self.base.path[:-1]
         if request._replace(path=(), query="") != self.base._replace(path=(), query=""):
             return None
-        if [unquote_to_bytes(name) for name in request.path[:len(front)]] != [unquote_to_bytes(name) for name in front]:
+        if len(request.path) == len(front) or list(map(unquote_to_bytes, request.path[:len(front)])) != list(map(unquote_to_bytes, front)):
             return None
         path = self.path_of([unquote_to_bytes(part) for part in request.path[len(front):]])
         if path is None or not is_short("page", url):
@@ -541,13 +541,12 @@ class Model:
         return linking
 
     def leaving_urls(self, linking: Dict[str, Set[str]]) -> List[str]:
-        """The URLs of the site's origin that are not below the top and to which pages link, in order."""
-        origin = origin_of(self.site.base)
-        return sorted((url for url in linking if url.startswith(origin) and not self.is_within(url)), key=str.encode)
+        """The URLs of the site's origin without a page that are not below the top and to which pages link, in order."""
+        return sorted((url for url in linking if url in self.others and self.others[url] is None), key=str.encode)
 
     def leaving_links(self, linking: Dict[str, Set[str]]) -> Iterator[Row]:
         """The rows of links that leave the site, and of their locations."""
-        places = self.places()
+        places = self.places(())
         for url in self.leaving_urls(linking):
             target = self.shown_outside(url)
             if not self.is_ignored(target):
@@ -564,9 +563,10 @@ class Model:
         shared = next(count for count in range(len(top), -1, -1) if top[:count] == path[:count] and count < len(path))
         return "../" * (len(top) - shared) + "/".join(path[shared:])
 
-    def places(self) -> Dict[str, Set[Place]]:
-        """The locations of links to each URL, and of links to redirects to it."""
-        ends = {url: response.url for url, response in self.responses.items() if isinstance(response, Moved)}
+    def places(self, redirects: Iterable[str]) -> Dict[str, Set[Place]]:
+        """The locations of links to each URL, and of links to those of these redirects that lead to it."""
+        moved = [(url, self.responses[url]) for url in redirects]
+        ends = {url: response.url for url, response in moved if isinstance(response, Moved)}
         places: Dict[str, Set[Place]] = {}
         for links in self.links.values():
             for link in links:
@@ -583,7 +583,7 @@ class Model:
 
     def missing_pages(self, linking: Dict[str, Set[str]]) -> Iterator[Row]:
         """The rows of missing pages, with the locations of links to them and to redirects to them."""
-        names, places = self.names(), self.places()
+        names, places = self.names(), self.places(self.responses)
         for url in sorted(url for url, response in self.responses.items() if response is None):
             if not self.is_ignored(self.shown(url)):
                 pages, found = linking.get(url, ()), places.get(url, set())

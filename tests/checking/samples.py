@@ -108,7 +108,7 @@ class Folder:
         """What is known of a finding, in words, the most telling first."""
         left = self.left(finding)
         if finding.reason:
-            return [REASONS[finding.reason], *left]
+            return left or [REASONS[finding.reason]]
         if finding.missing == "anchor":
             return left + self.anchor_notes(finding)
         return left + self.page_notes(finding.target)

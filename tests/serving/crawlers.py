@@ -559,8 +559,8 @@ def found_in_saved_web(trial: Trial, site: Path, url: str) -> Dict[str, str]:
     web = trial.folder / "folder.web"
     with open(web, "wb") as file:
         subprocess.run(
-            # The server follows symbolic links, too.
-            [sys.executable, str(ROOT / "tests/checking/converter.py"), "--follow", str(site), url],
+            # The server follows symbolic links, too, and the crawlers read no styles.
+            [sys.executable, str(ROOT / "tests/checking/converter.py"), "--follow", "--no-styles", str(site), url],
             stdout=file, stderr=subprocess.DEVNULL, timeout=LONG, check=True,
         )
     words = [trial.program, "crawl", "--within", "127.0.0.1", str(web), url]
