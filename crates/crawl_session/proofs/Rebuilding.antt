@@ -1,23 +1,29 @@
 -- An old session's lines are read one after another, and the lines of a new session are written one after another.
-use Rattle.crawl_session.proofs.Prelude.{◌≡◌, ℕ, suc, ◌+◌, ◌&&◌, Bool, true, List, [], ◌∷◌, ◌++◌, length, Option, Some, None, Result, Ok, Err, IfOk, bytes_eq, bytes_eq-Decides, refl, sym, ap, subst, ◌∙◌, arith, append_assoc, append-nil, cons_option, option_to_list, slice_get, filter_map-append, flat_map-append, Answer, Appends-nil, Appends-trans, Row, Frontier, Listed, done_by, done_in, each_below, pending_at, Request, RequestError, Offer, exchange, request_for, says_closed, Settings, SessionView}
+use Rattle.crawl_session.proofs.Prelude.{◌≡◌, ℕ, zero, suc, ◌+◌, ◌≤◌, ◌<◌, ◌&&◌, ◌||◌, Bool, true, false, take, drop, take-append-drop, inl, inr, List, [], ◌∷◌, ◌++◌, length, Option, Some, None, Result, Ok, Err, IfOk, bytes_eq, bytes_eq-Decides, refl, sym, ap, subst, ◌∙◌, arith, append_assoc, append-nil, cons_option, option_to_list, slice_get, filter_map-append, flat_map-append, Answer, Appends-nil, Appends-trans, Row, Frontier, Listed, done_by, done_in, each_below, pending_at, Request, RequestError, Offer, exchange, request_for, says_closed, Settings, SessionView}
 use Rattle.std.specs.Prelude.{max}
+use Rattle.std.proofs.lemmas.Bool.{cases_lt}
 use Rattle.crawl_session.specs.declared.rebuild.LeftOut.{LeftOut}
 use Rattle.crawl_session.specs.declared.rebuild.RebuildError.{RebuildError}
 use Rattle.crawl_session.specs.declared.request.RequestError.TheVariants as wrong
 use Rattle.crawl_session.specs.Frontiers.{Shows}
 use Rattle.crawl_session.specs.Listing.{Gives, is_count}
-use Rattle.crawl_session.specs.Rebuilding.{Collects, CollectsQueues, Given, Inventory, Offers, ReadsLine, ReadsLines, Tells, Writes, by_turns, closing, done_line, done_url, each_url, end_line, ended_urls, finish_url, leaves_out, line_if, lines_text, longest, next_line, no_line, none_left_out, offer_line, offered_by, offered_to, one_line, other_by, other_url, plus, queues_below, rebuilt, row_url, takes_url, then_give, turn, turns_below, unfinished_urls, unless_empty, urls_in, waiting_url, with_line, with_lines}
+use Rattle.crawl_session.specs.Rebuilding.{Collects, CollectsQueues, Given, Inventory, IsFull, IsRefused, Offers, ReadsLine, ReadsLines, Tells, Writes, by_turns, closing, done_line, done_url, each_url, end_line, ended_urls, finish_url, is_accepted, leaves_out, line_if, lines_text, longest, next_line, no_line, none_left_out, offer_line, offered, offered_by, offered_to, one_line, other_by, other_url, plus, queues_below, rebuilt, row_url, takes_url, then_give, turn, turns_below, unfinished_urls, unless_empty, urls_in, waiting_url, with_line, with_lines}
 
 -- ---- lines that are read
 
-done_push : (settings : Settings) (front : List (List ℕ)) (line : List ℕ) (state : Frontier) → (done_by settings line (done_in settings front state).state).state ≡ (done_in settings (front ++ line ∷ []) state).state
-done_push settings [] line state = refl
-done_push settings (first ∷ more) line state = done_push settings more line (done_by settings first state).state
+done_append : (settings : Settings) (front back : List (List ℕ)) (state : Frontier) → (done_in settings back (done_in settings front state).state).state ≡ (done_in settings (front ++ back) state).state
+done_append settings [] back state = refl
+done_append settings (first ∷ more) back state = done_append settings more back (done_by settings first state).state
 
-with_push : (settings : Settings) (state : Frontier) (had : Inventory) (front : List (List ℕ)) (line : List ℕ)
-    → with_line settings (done_in settings front state).state (with_lines settings state had front) line ≡ with_lines settings state had (front ++ line ∷ [])
-with_push settings state had [] line = refl
-with_push settings state had (first ∷ more) line = with_push settings (done_by settings first state).state (with_line settings state had first) more line
+with_append : (settings : Settings) (state : Frontier) (had : Inventory) (front back : List (List ℕ))
+    → with_lines settings (done_in settings front state).state (with_lines settings state had front) back ≡ with_lines settings state had (front ++ back)
+with_append settings state had [] back = refl
+with_append settings state had (first ∷ more) back = with_append settings (done_by settings first state).state (with_line settings state had first) more back
+
+-- more lines were read
+pub reads_both : (had : Inventory) (old : SessionView) (front : List (List ℕ)) (next : Inventory) (mid : SessionView) (back : List (List ℕ)) (last : Inventory) (new : SessionView)
+    → ReadsLines had old front next mid → ReadsLines next mid back last new → ReadsLines had old (front ++ back) last new
+reads_both had old front next mid back last new one two = grind (arith, done_append, with_append)
 
 -- the first of all lines were read
 abbrev pub ReadsFront : Inventory → SessionView → List (List ℕ) → List (List ℕ) → Inventory → SessionView → Type 0
@@ -25,7 +31,7 @@ ReadsFront had old all rest next mid = (front : List (List ℕ)) × (all ≡ fro
 
 reads_more : (had : Inventory) (old : SessionView) (front : List (List ℕ)) (next : Inventory) (mid : SessionView) (line : List ℕ) (last : Inventory) (new : SessionView)
     → ReadsLines had old front next mid → ReadsLine next mid line last new → ReadsLines had old (front ++ line ∷ []) last new
-reads_more had old front next mid line last new so_far one = grind (arith, done_push, with_push)
+reads_more had old front next mid line last new so_far one = reads_both had old front next mid (line ∷ []) last new so_far (record { settings = one.settings; comes = one.comes })
 
 pub front_more : (had : Inventory) (old : SessionView) (all rest : List (List ℕ)) (next : Inventory) (mid : SessionView) (line : List ℕ) (more : List (List ℕ)) (last : Inventory) (new : SessionView)
     → ReadsFront had old all rest next mid → rest ≡ line ∷ more → ReadsLine next mid line last new → ReadsFront had old all more last new
@@ -136,16 +142,16 @@ turns_more one n queues old mid new out_old out_mid out_new a b before here =
     let next : suc n ≡ n + 1 = omega arith in
     subst (λ m. Writes (each_url (one old.settings) (turns_below m queues)) old out_old out_new (plus a b) new) next (each_more_in one (turns_below n queues) (turn n queues) old mid new out_old out_mid out_new a b before here)
 
+one_of : (o : Option (List ℕ)) → option_to_list o ≡ cons_option o []
+one_of None = refl
+one_of (Some u) = refl
+
 -- one queue more
 pub turn_more : (one : Settings → List ℕ → Frontier → Given) (position : ℕ) (front : List (List (List ℕ))) (queue : List (List ℕ)) (old mid new : SessionView) (out_old out_mid out_new : Option (List ℕ)) (a b : LeftOut) → Writes (each_url (one old.settings) (turn position front)) old out_old out_mid a mid
     → Writes (each_url (one mid.settings) (option_to_list (slice_get queue position))) mid out_mid out_new b new → Writes (each_url (one old.settings) (turn position (front ++ queue ∷ []))) old out_old out_new (plus a b) new
 turn_more one position front queue old mid new out_old out_mid out_new a b before here =
     let same : turn position front ++ option_to_list (slice_get queue position) ≡ turn position (front ++ queue ∷ []) = ap (λ l. turn position front ++ l) (one_of (slice_get queue position)) ∙ sym (filter_map-append (λ (q : List (List ℕ)). slice_get q position) front (queue ∷ [])) in
     subst (λ l. Writes (each_url (one old.settings) l) old out_old out_new (plus a b) new) same (each_more_in one (turn position front) (option_to_list (slice_get queue position)) old mid new out_old out_mid out_new a b before here)
-  where
-    one_of : (o : Option (List ℕ)) → option_to_list o ≡ cons_option o []
-    one_of None = refl
-    one_of (Some u) = refl
 
 -- ---- one line
 
@@ -240,6 +246,94 @@ rebuilt_all had queue old mid next new out_old out_mid out_next out_new a b c fi
     (subst (λ (s : Settings). Writes (unfinished_urls s had) mid out_mid out_next b next) first.settings second) in
     writes_both (λ state. then_give (ended_urls old.settings had state) (unfinished_urls old.settings had)) (closing old.settings queue had) old next new out_old out_next out_new (plus a b) c front
     (subst (λ (s : Settings). Writes (closing s queue had) next out_next out_new c new) front.settings third)
+
+-- ---- no room
+
+true_second : (a b c : Bool) → b ≡ true → c ≡ true → (a || (b && c)) ≡ true
+true_second true b c one two = refl
+true_second false b c one two = λ i. one i && two i
+
+full_first : (first second : Frontier → Given) (old : SessionView) → IsFull first old → IsFull (λ state. then_give (first state) second) old
+full_first first second old full = λ state shown. ap (λ b. b || ((first state).fits && (second (first state).state).full)) (full state shown)
+
+full_second : (first second : Frontier → Given) (old mid : SessionView) (out_old out_mid : Option (List ℕ)) (a : LeftOut) → Writes first old out_old out_mid a mid → IsFull second mid → IsFull (λ state. then_give (first state) second) old
+full_second first second old mid out_old out_mid a before full = λ state shown. (let came = before.comes state shown in true_second (first state).full (first state).fits (second (first state).state).full came.0 (full (first state).state came.1.1.1))
+
+full_as : (first second : Frontier → Given) (old : SessionView) → ((state : Frontier) → first state ≡ second state) → IsFull first old → IsFull second old
+full_as first second old same full = λ state shown. sym (ap (λ (g : Given). g.full) (same state)) ∙ full state shown
+
+full_offered : (one : LeftOut) (more : ℕ → Frontier → Given) (url : List ℕ) (old : SessionView) → IsRefused url old → IsFull (offered old.settings one more url) old
+full_offered one more url old refused = λ state shown.
+    let here = exchange state (Offer url refused.queue) in
+    let own : bytes_eq url url ≡ true = (bytes_eq-Decides url url).1 refl in
+    let full = refused.full state shown in
+    subst (λ (r : Result Request RequestError). (offered_by one more url r state).full ≡ true) (sym refused.asks) (λ i. own i && (full i || (is_accepted here.answer && (more refused.queue here.state).full)))
+
+pub full_done : (url : List ℕ) (old : SessionView) → IsRefused url old → IsFull (done_url old.settings url) old
+full_done url old refused = full_offered (record { all = 1; unfinished = 0 }) (finish_url old.settings url) url old refused
+
+pub full_waiting : (url : List ℕ) (old : SessionView) → IsRefused url old → IsFull (waiting_url old.settings url) old
+full_waiting url old refused = full_offered (record { all = 1; unfinished = 1 }) (λ queue. no_line) url old refused
+
+-- among URLs, after some of them
+full_among : (one : Settings → List ℕ → Frontier → Given) (urls front here back : List (List ℕ)) (old mid : SessionView) (out_old out_mid : Option (List ℕ)) (a : LeftOut) → urls ≡ (front ++ here) ++ back → Writes (each_url (one old.settings) front) old out_old out_mid a mid
+    → IsFull (each_url (one mid.settings) here) mid → IsFull (each_url (one old.settings) urls) old
+full_among one urls front here back old mid out_old out_mid a parts before full =
+    let each = each_url (one old.settings) in
+    let now = subst (λ (s : Settings). IsFull (each_url (one s) here) mid) before.settings full in
+    let both = full_as (λ state. then_give (each front state) (each here)) (each (front ++ here)) old (each_append (one old.settings) front here) (full_second (each front) (each here) old mid out_old out_mid a before now) in
+    subst (λ l. IsFull (each l) old) (sym parts) (full_as (λ state. then_give (each (front ++ here) state) (each back)) (each ((front ++ here) ++ back)) old (each_append (one old.settings) (front ++ here) back) (full_first (each (front ++ here)) (each back) old both))
+
+pub full_url : (one : Settings → List ℕ → Frontier → Given) (urls : List (List ℕ)) (i : ℕ) (url : List ℕ) (old mid : SessionView) (out_old out_mid : Option (List ℕ)) (a : LeftOut) → take (i + 1) urls ≡ take i urls ++ url ∷ [] → Writes (each_url (one old.settings) (take i urls)) old out_old out_mid a mid
+    → IsFull (one mid.settings url) mid → IsFull (each_url (one old.settings) urls) old
+full_url one urls i url old mid out_old out_mid a more before full =
+    full_among one urls (take i urls) (url ∷ []) (drop (i + 1) urls) old mid out_old out_mid a (sym (take-append-drop (i + 1) urls) ∙ ap (λ l. l ++ drop (i + 1) urls) more) before
+    (full_as (one mid.settings url) (each_url (one mid.settings) (url ∷ [])) mid (each_one (one mid.settings) url) full)
+
+pub full_queue : (one : Settings → List ℕ → Frontier → Given) (position : ℕ) (queues : List (List (List ℕ))) (i : ℕ) (queue : List (List ℕ)) (old mid : SessionView) (out_old out_mid : Option (List ℕ)) (a : LeftOut) → take (i + 1) queues ≡ take i queues ++ queue ∷ []
+    → Writes (each_url (one old.settings) (turn position (take i queues))) old out_old out_mid a mid → IsFull (each_url (one mid.settings) (option_to_list (slice_get queue position))) mid → IsFull (each_url (one old.settings) (turn position queues)) old
+full_queue one position queues i queue old mid out_old out_mid a more before full =
+    let at = λ (q : List (List ℕ)). slice_get q position in
+    let front = take i queues in
+    let back = drop (i + 1) queues in
+    let parts : turn position queues ≡ (turn position front ++ option_to_list (slice_get queue position)) ++ turn position back =
+    ap (turn position) (sym (take-append-drop (i + 1) queues) ∙ ap (λ l. l ++ back) more) ∙ filter_map-append at (front ++ queue ∷ []) back ∙ ap (λ l. l ++ turn position back) (filter_map-append at front (queue ∷ []) ∙ ap (λ l. turn position front ++ l) (sym (one_of (slice_get queue position)))) in
+    full_among one (turn position queues) (turn position front) (option_to_list (slice_get queue position)) (turn position back) old mid out_old out_mid a parts before full
+
+turns_rest : (n m : ℕ) (queues : List (List (List ℕ))) → n ≤ m → (rest : List (List ℕ)) × (turns_below m queues ≡ turns_below n queues ++ rest)
+turns_rest n zero queues below = let none : n ≡ zero = omega (arith, below) in ([], ap (λ k. turns_below k queues) (sym none) ∙ sym (append-nil (turns_below n queues)))
+turns_rest n (suc m) queues below =
+    elim (cases_lt m n) [
+      | inl less ↦ let all : n ≡ suc m = omega (arith, below, less) in ([], ap (λ k. turns_below k queues) (sym all) ∙ sym (append-nil (turns_below n queues)))
+      | inr most ↦ let before = turns_rest n m queues most in (before.0 ++ turn m queues, ap (λ l. l ++ turn m queues) before.1 ∙ append_assoc (turns_below n queues) before.0 (turn m queues))
+    ]
+
+pub full_turn : (one : Settings → List ℕ → Frontier → Given) (n : ℕ) (queues : List (List (List ℕ))) (old mid : SessionView) (out_old out_mid : Option (List ℕ)) (a : LeftOut) → n < longest queues → Writes (each_url (one old.settings) (turns_below n queues)) old out_old out_mid a mid
+    → IsFull (each_url (one mid.settings) (turn n queues)) mid → IsFull (each_url (one old.settings) (by_turns queues)) old
+full_turn one n queues old mid out_old out_mid a below before full =
+    let rest = turns_rest (suc n) (longest queues) queues (omega (arith, below)) in
+    full_among one (by_turns queues) (turns_below n queues) (turn n queues) rest.0 old mid out_old out_mid a rest.1 before full
+
+-- among all lines
+pub ended_full : (had : Inventory) (old mid : SessionView) (out_old out_mid : Option (List ℕ)) → Writes (line_if had.ended old.settings end_line is_count) old out_old out_mid none_left_out mid → IsFull (each_url (done_url mid.settings) had.done) mid → IsFull (ended_urls old.settings had) old
+ended_full had old mid out_old out_mid before full =
+    full_second (line_if had.ended old.settings end_line is_count) (each_url (done_url old.settings) had.done) old mid out_old out_mid none_left_out before (subst (λ (s : Settings). IsFull (each_url (done_url s) had.done) mid) before.settings full)
+
+pub busy_full : (had : Inventory) (old : SessionView) → IsFull (each_url (waiting_url old.settings) had.in_progress) old → IsFull (unfinished_urls old.settings had) old
+busy_full had old full = full_first (each_url (waiting_url old.settings) had.in_progress) (each_url (waiting_url old.settings) (by_turns had.pending)) old full
+
+pub pending_full : (had : Inventory) (old mid : SessionView) (out_old out_mid : Option (List ℕ)) (a : LeftOut) → Writes (each_url (waiting_url old.settings) had.in_progress) old out_old out_mid a mid → IsFull (each_url (waiting_url mid.settings) (by_turns had.pending)) mid → IsFull (unfinished_urls old.settings had) old
+pending_full had old mid out_old out_mid a before full =
+    full_second (each_url (waiting_url old.settings) had.in_progress) (each_url (waiting_url old.settings) (by_turns had.pending)) old mid out_old out_mid a before (subst (λ (s : Settings). IsFull (each_url (waiting_url s) (by_turns had.pending)) mid) before.settings full)
+
+pub rebuilt_ended : (had : Inventory) (queue : ℕ) (old : SessionView) → IsFull (ended_urls old.settings had) old → IsFull (rebuilt old.settings queue had) old
+rebuilt_ended had queue old full =
+    full_first (λ state. then_give (ended_urls old.settings had state) (unfinished_urls old.settings had)) (closing old.settings queue had) old (full_first (ended_urls old.settings had) (unfinished_urls old.settings had) old full)
+
+pub rebuilt_unfinished : (had : Inventory) (queue : ℕ) (old mid : SessionView) (out_old out_mid : Option (List ℕ)) (a : LeftOut) → Writes (ended_urls old.settings had) old out_old out_mid a mid → IsFull (unfinished_urls mid.settings had) mid → IsFull (rebuilt old.settings queue had) old
+rebuilt_unfinished had queue old mid out_old out_mid a before full =
+    full_first (λ state. then_give (ended_urls old.settings had state) (unfinished_urls old.settings had)) (closing old.settings queue had) old
+    (full_second (ended_urls old.settings had) (unfinished_urls old.settings had) old mid out_old out_mid a before (subst (λ (s : Settings). IsFull (unfinished_urls s had) mid) before.settings full))
 
 -- ---- queues
 

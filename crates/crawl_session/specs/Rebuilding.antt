@@ -4,6 +4,7 @@ use Rattle.std.specs.Prelude.{◌≡◌, ℕ, zero, suc, ◌+◌, Bool, true, fa
 use Rattle.std.specs.Io.KnownBytes.{Appends}
 use Rattle.crawl_keys.specs.Assignment.{assign, subqueue_of}
 use Rattle.crawl_keys.specs.HostKey.{host_key}
+use Rattle.crawl_core.specs.declared.reply.Refusal.TheVariants as refusal
 use Rattle.crawl_core.specs.declared.reply.Reply.TheVariants as told
 use Rattle.crawl_session.specs.declared.answer.Answer.{Answer}
 use Rattle.crawl_session.specs.declared.answer.Answer.TheVariants.{Told}
@@ -126,12 +127,13 @@ by_turns queues = turns_below (longest queues) queues
 
 -- ---- the lines of the new session
 
--- lines that are given to a session; how many URLs its filter left out; whether each line was answered as it has to be; and the state
--- after them
+-- lines that are given to a session; how many URLs its filter left out; whether each line was answered as it has to be; whether the
+-- first one that was not is an offer that was refused because there is no room; and the state after them
 pub record Given : Type 0 where
   pub lines : List (List ℕ)
   pub left_out : LeftOut
   pub fits : Bool
+  pub full : Bool
   pub state : Frontier
 
 abbrev pub none_left_out : LeftOut
@@ -141,18 +143,18 @@ abbrev pub plus : LeftOut → LeftOut → LeftOut
 plus a b = record { all = a.all + b.all; unfinished = a.unfinished + b.unfinished }
 
 abbrev pub no_line : Frontier → Given
-no_line state = record { lines = []; left_out = none_left_out; fits = true; state = state }
+no_line state = record { lines = []; left_out = none_left_out; fits = true; full = false; state = state }
 
 abbrev pub then_give : Given → (Frontier → Given) → Given
 then_give first second =
     let back = second first.state in
-    record { lines = first.lines ++ back.lines; left_out = plus first.left_out back.left_out; fits = first.fits && back.fits; state = back.state }
+    record { lines = first.lines ++ back.lines; left_out = plus first.left_out back.left_out; fits = first.fits && back.fits; full = first.full || (first.fits && back.full); state = back.state }
 
 -- a line, whose answer has to pass a test
 abbrev pub one_line : Settings → List ℕ → (Answer → Bool) → Frontier → Given
 one_line settings line test state =
     let here = line_exchange settings state line in
-    record { lines = line ∷ []; left_out = none_left_out; fits = test here.answer; state = here.state }
+    record { lines = line ∷ []; left_out = none_left_out; fits = test here.answer; full = false; state = here.state }
 
 abbrev pub line_if : Bool → Settings → List ℕ → (Answer → Bool) → Frontier → Given
 line_if is settings line test state = if is then one_line settings line test state else no_line state
@@ -177,20 +179,29 @@ abbrev pub is_accepted : Answer → Bool
 is_accepted (Told (told.Accepted queue number)) = true
 is_accepted _ = false
 
+-- refused, because there is no room
+abbrev pub is_full : Answer → Bool
+is_full (Told (told.Refused refusal.Full)) = true
+is_full _ = false
+
 -- after the offer of a URL, which has to ask for this very URL and to be accepted: what follows is given the number of its queue
 abbrev pub offered_to : List ℕ → (ℕ → Frontier → Given) → List ℕ → ℕ → Frontier → Given
 offered_to url more named queue state =
     let here = exchange state (Offer named queue) in
     let rest = more queue here.state in
-    record rest { lines = offer_line url ∷ rest.lines; fits = bytes_eq named url && (is_accepted here.answer && rest.fits) }
+    record rest {
+      lines = offer_line url ∷ rest.lines;
+      fits = bytes_eq named url && (is_accepted here.answer && rest.fits);
+      full = bytes_eq named url && (is_full here.answer || (is_accepted here.answer && rest.full));
+    }
 
 -- no line of the URL is needed: the filter does not allow it
 abbrev pub leaves_out : LeftOut → Frontier → Given
-leaves_out one state = record { lines = []; left_out = one; fits = true; state = state }
+leaves_out one state = record { lines = []; left_out = one; fits = true; full = false; state = state }
 
 -- no line fits
 abbrev pub no_fit : Frontier → Given
-no_fit state = record { lines = []; left_out = none_left_out; fits = false; state = state }
+no_fit state = record { lines = []; left_out = none_left_out; fits = false; full = false; state = state }
 
 abbrev pub offered_by : LeftOut → (ℕ → Frontier → Given) → List ℕ → Result Request RequestError → Frontier → Given
 offered_by one more url (Ok (Offer named queue)) state = offered_to url more named queue state
@@ -213,7 +224,7 @@ done_url settings url state = offered settings (record { all = 1; unfinished = 0
 
 -- a URL of another part: its offer asks nothing of the session
 abbrev pub other_by : List ℕ → Result Request RequestError → Frontier → Given
-other_by url (Err (wrong.Elsewhere part named)) state = record { lines = offer_line url ∷ []; left_out = none_left_out; fits = bytes_eq named url; state = state }
+other_by url (Err (wrong.Elsewhere part named)) state = record { lines = offer_line url ∷ []; left_out = none_left_out; fits = bytes_eq named url; full = false; state = state }
 other_by url (Err wrong.Filtered) state = leaves_out (record { all = 1; unfinished = 0 }) state
 other_by url _ state = no_fit state
 
@@ -292,6 +303,16 @@ pub record Writes (given : Frontier → Given) (old : SessionView) (out_old out_
   pub comes : (state : Frontier) → Shows old.core state →
       let x = given state in
       (x.fits ≡ true) × ((text ≡ lines_text x.lines) × ((left_out ≡ x.left_out) × Shows new.core x.state))
+
+-- of these lines, the first that was not answered as it has to be is an offer that was refused because there is no room
+abbrev pub IsFull : (Frontier → Given) → SessionView → Type 0
+IsFull given old = (state : Frontier) → Shows old.core state → (given state).full ≡ true
+
+-- the offer of a URL was refused because there is no room
+pub record IsRefused (url : List ℕ) (old : SessionView) : Type 0 where
+  pub queue : ℕ
+  pub asks : request_for old.settings (offer_line url) ≡ Ok (Offer url queue)
+  pub full : (state : Frontier) → Shows old.core state → is_full (exchange state (Offer url queue)).answer ≡ true
 
 -- what the offer of a URL asks: to accept it into this queue; or nothing, if the filter does not allow it
 abbrev pub offer_asks : List ℕ → Option ℕ → Result Request RequestError

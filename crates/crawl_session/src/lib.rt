@@ -6,6 +6,7 @@ mod compact;
 mod deferrals;
 mod exchange;
 mod frontier;
+mod inventory;
 /// Laws of sessions.
 pub mod laws;
 mod list;
@@ -22,13 +23,14 @@ mod texts;
 
 pub use answer::Answer;
 pub use compact::Compactor;
+pub use inventory::Inventory;
 pub use list::{ListForm, Lister};
 pub use log::{read_settings, settings_line, whole_len};
 pub use log_start::{read_start, start_text};
 pub use part::Part;
-pub use rebuild::{LeftOut, RebuildError, Rebuilder};
+pub use rebuild::{LeftOut, RebuildError, rebuild_log};
 pub use request::{Request, RequestError};
 pub use serving::{HELD_LIMIT, READ_SIZE, ServeError, serve};
 pub use session::Session;
 pub use stats::Stats;
-pub use sums::{LogSum, SumCheck};
+pub use sums::{LogSum, SumCheck, hex_digit};

@@ -101,7 +101,7 @@ impl Lister {
     ) -> Result<(), ServeError>
         ensures { IfOk result (λ _. Lists self.now.form (spec.in_progress_below session.old.settings.workers) session.old (O.contents out.old) (O.contents out.new) session.new) }
     {
-        for queue in 0..session.workers {
+        for queue in 0..session.queues {
             self.busy_queue(session, queue, out)?;
         }
         Ok(())
@@ -128,7 +128,7 @@ impl Lister {
     pub fn pending<O: Write>(&self, session: &mut Session, out: &mut O) -> Result<(), ServeError>
         ensures { IfOk result (λ _. Lists self.now.form (spec.pending_below session.old.settings.workers) session.old (O.contents out.old) (O.contents out.new) session.new) }
     {
-        for queue in 0..session.workers {
+        for queue in 0..session.queues {
             self.drain(session, queue, out)?;
         }
         Ok(())
@@ -195,7 +195,7 @@ impl Lister {
     fn stats_by_queue<O: Write>(&self, session: &mut Session, out: &mut O) -> Result<(), ServeError>
         ensures { IfOk result (λ _. Lists self.now.form (spec.stats_below session.old.settings.workers) session.old (O.contents out.old) (O.contents out.new) session.new) }
     {
-        for queue in 0..session.workers {
+        for queue in 0..session.queues {
             self.stats_of(session, Some(queue), out)?;
         }
         Ok(())

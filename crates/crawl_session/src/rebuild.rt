@@ -1,27 +1,24 @@
 //! The log of a session with other settings that has the URLs of an old session.
-ghost use Rattle.std.specs.Prelude.{◌≡◌, ◌++◌, ◌∷◌, [], codes, decimal, false, length, slice_get, string_bytes, true, ℕ, Err, IfOk, option_map, option_to_list};
+ghost use Rattle.std.specs.Prelude.{◌≡◌, ◌≢◌, ◌++◌, ◌∷◌, [], codes, decimal, false, string_bytes, true, ℕ, Err, IfErr, IfOk, option_map, option_to_list};
 ghost use Rattle.std.specs.Io.KnownBytes.{Appends};
-ghost use Rattle.std.specs.Str.Lines.{lines};
 ghost use Rattle.crawl_session.specs.Compacting.{says_closed};
 ghost use Rattle.crawl_session.specs.Exchanges.{exchange};
 ghost use Rattle.crawl_session.specs.Frontiers.{Frontier, Shows};
-ghost use Rattle.crawl_session.specs.Listing.{in_progress_below, is_count, pending_at, taken_each};
+ghost use Rattle.crawl_session.specs.Listing.{is_count};
 ghost use Rattle.crawl_session.specs.Rebuilding as spec;
-ghost use Rattle.crawl_session.specs.Rebuilding.{Collects, CollectsQueues, Offers, ReadsLine, ReadsLines, ReadsRequest, ReadsUnfinished, Tells, Writes};
+ghost use Rattle.crawl_session.specs.Rebuilding.{IsFull, IsRefused, Offers, Tells, Writes};
 ghost use Rattle.crawl_session.specs.declared.rebuild.RebuildError.TheVariants as wrong;
 ghost use Rattle.crawl_session.specs.declared.request.Request.TheVariants as request;
 ghost use Rattle.crawl_session.specs.declared.request.RequestError.TheVariants as why;
 
 use crate::answer::Answer;
-use crate::list::{Row, again, give, is_count, take, waiting};
+use crate::inventory::{Inventory, WaitingUrls, is_closed};
+use crate::list::is_count;
 use crate::request::{Request, RequestError};
 use crate::session::Session;
-use crate::texts::Texts;
 use crawl_core::{NoMemory, Refusal, Reply, Text};
 use std::alloc::{AllocError, AllocFailed, Global};
 use std::io::Write;
-use std::marker::Model;
-use text_lines::first_line;
 
 /// Why no log of the new session can be written.
 #[derive(Clone, Copy, Debug, PartialEq, Eq)]
@@ -62,8 +59,8 @@ pub struct LeftOut {
 }
 
 impl LeftOut {
-    /// Returns the number of none.
-    fn none() -> LeftOut
+    /// Returns the numbers of no URLs.
+    pub fn none() -> LeftOut
         ensures { result ≡ spec.none_left_out }
     {
         LeftOut {
@@ -89,282 +86,75 @@ impl LeftOut {
     }
 }
 
-/// The URLs that wait in one queue, in order.
-#[derive(Drop)]
-struct WaitingUrls {
-    urls: Vec<Text>,
-}
-
-impl Model for WaitingUrls {
-    ghost use Rattle.std.specs.Prelude.{List, ℕ};
-
-    ghost Value = { List (List ℕ) };
-
-    ghost view = { λ w. w.urls.items };
-}
-
-impl WaitingUrls {
-    /// Returns how many there are.
-    fn len(&self) -> usize
-        ensures { result ≡ length self.now }
-    {
-        self.urls.len()
-    }
-
-    /// Returns the one at this position.
-    fn get(&self, position: usize) -> Option<&Text>
-        ensures { option_map (λ url. url.now) result ≡ slice_get self.now position }
-    {
-        self.urls.get(position)
-    }
-}
-
-/// Reads the URLs of an old session, and writes the log of a new session with other settings that has the same URLs done and not
-/// done.
-#[derive(Drop)]
-pub struct Rebuilder {
-    alloc: Global,
-    /// The URLs that are done, in the order in which they were done.
-    done: Vec<Text>,
-    /// The URLs in progress, by queue.
-    in_progress: Vec<Text>,
-    /// The pending URLs of each queue that has some.
-    pending: Vec<WaitingUrls>,
-    /// The URLs that belong to other parts.
-    elsewhere: Texts,
-    /// The seeds ended.
-    ended: bool,
-    /// A `next` was answered `closed`.
-    closed: bool,
-}
-
-impl Model for Rebuilder {
-    ghost use Rattle.crawl_session.specs.Rebuilding.{Inventory};
-
-    ghost Value = { Inventory };
-
-    ghost view = { λ r. record { done = r.done.items; in_progress = r.in_progress.items; pending = r.pending.items; elsewhere = r.elsewhere; ended = r.ended; closed = r.closed } };
-}
-
-impl Rebuilder {
-    /// Creates one that has read no lines.
-    pub fn new(alloc: Global) -> Rebuilder
-        ensures { result ≡ spec.empty }
-    {
-        Rebuilder {
-            alloc,
-            done: Vec::new(alloc),
-            in_progress: Vec::new(alloc),
-            pending: Vec::new(alloc),
-            elsewhere: Texts::new(alloc),
-            ended: false,
-            closed: false,
-        }
-    }
-
-    /// Gives these lines of the old session's log to that session.
-    ///
-    /// # Errors
-    /// Out of memory. The session has then received only the first of the lines.
-    pub fn read(&mut self, session: &mut Session, log: &[u8]) -> Result<(), NoMemory>
-        ensures { IfOk result (λ _. ReadsLines self.old session.old (lines log.now) self.new session.new) }
-    {
-        let mut rest = log;
-        while let Some((line, more)) = first_line(rest) {
-            rest = more;
-            self.read_line(session, line)?;
-        }
-        Ok(())
-    }
-
-    /// Gives a line to the old session.
-    fn read_line(&mut self, session: &mut Session, line: &[u8]) -> Result<(), NoMemory>
-        ensures { IfOk result (λ _. ReadsLine self.old session.old line.now self.new session.new) }
-    {
-        match session.request(line) {
-            Ok(request) => self.read_request(session, request),
-            Err(RequestError::NoMemory) => Err(AllocError),
-            Err(RequestError::Elsewhere { url, .. }) => {
-                let _new = self.elsewhere.insert(url)?;
-                Ok(())
-            }
-            Err(_) => Ok(()),
-        }
-    }
-
-    /// Gives a request to the old session.
-    fn read_request(&mut self, session: &mut Session, request: Request) -> Result<(), NoMemory>
-        ensures { IfOk result (λ _. ReadsRequest self.old session.old request self.new session.new) }
-    {
-        self.ended = ends_seeds(&request) | self.ended;
-        match request {
-            Request::Next { queue } => {
-                let answer = session.frontier.exchange(Request::Next { queue })?;
-                self.closed = is_closed(&answer) | self.closed;
-                Ok(())
-            }
-            request => {
-                let row = give(session, request)?;
-                push_url(&mut self.done, row)
-            }
-        }
-    }
-
-    /// Reads the URLs that are not done, after all lines. The old session then has no pending URL.
-    ///
-    /// # Errors
-    /// Out of memory.
-    pub fn read_unfinished(&mut self, session: &mut Session) -> Result<(), NoMemory>
-        ensures { IfOk result (λ _. ReadsUnfinished self.old session.old self.new session.new) }
-    {
-        self.in_progress = in_progress(self.alloc, session)?;
-        self.pending = pending(self.alloc, session)?;
-        Ok(())
-    }
-
-    /// Gives the new session the lines of its log, and writes them. The session is new, and has the given queue. Returns how many
-    /// URLs its filter does not allow.
-    ///
-    /// # Errors
-    /// Those of [`RebuildError`].
-    pub fn write<O: Write>(
-        &self,
-        session: &mut Session,
-        queue: u32,
-        out: &mut O,
-    ) -> Result<LeftOut, RebuildError>
-        ensures { IfOk result (λ left_out. Writes (spec.rebuilt session.old.settings queue self.now) session.old (O.contents out.old) (O.contents out.new) left_out session.new) }
-    {
-        let done = self.write_done(session, out)?;
-        let unfinished = self.write_unfinished(session, out)?;
-        let others = self.write_closing(session, queue, out)?;
-        let left_out = done.plus(&unfinished)?;
-        Ok(left_out.plus(&others)?)
-    }
-
-    /// Writes the end of the seeds, and the URLs that are done.
-    fn write_done<O: Write>(
-        &self,
-        session: &mut Session,
-        out: &mut O,
-    ) -> Result<LeftOut, RebuildError>
-        ensures { IfOk result (λ left_out. Writes (spec.ended_urls session.old.settings self.now) session.old (O.contents out.old) (O.contents out.new) left_out session.new) }
-    {
-        end_seeds_if(self.ended, session, out)?;
-        done_urls(self.alloc, session, &self.done, out)
-    }
-
-    /// Writes the URLs that are not done.
-    fn write_unfinished<O: Write>(
-        &self,
-        session: &mut Session,
-        out: &mut O,
-    ) -> Result<LeftOut, RebuildError>
-        ensures { IfOk result (λ left_out. Writes (spec.unfinished_urls session.old.settings self.now) session.old (O.contents out.old) (O.contents out.new) left_out session.new) }
-    {
-        let busy = waiting_urls(self.alloc, session, &self.in_progress, out)?;
-        let pending = pending_urls(self.alloc, session, &self.pending, out)?;
-        Ok(busy.plus(&pending)?)
-    }
-
-    /// Writes the URLs of other parts, and the line that closes the session.
-    fn write_closing<O: Write>(
-        &self,
-        session: &mut Session,
-        queue: u32,
-        out: &mut O,
-    ) -> Result<LeftOut, RebuildError>
-        ensures { IfOk result (λ left_out. Writes (spec.closing session.old.settings queue self.now) session.old (O.contents out.old) (O.contents out.new) left_out session.new) }
-    {
-        let others = other_urls(self.alloc, session, self.elsewhere.as_slice(), out)?;
-        close_if(self.alloc, self.closed, session, queue, out)?;
-        Ok(others)
-    }
-}
-
-/// Whether the request ends the seeds.
-fn ends_seeds(request: &Request) -> bool
-    ensures { result ≡ spec.ends_seeds request.now }
-{
-    matches!(request, Request::EndSeeds)
-}
-
-/// Whether the answer is `closed`.
-fn is_closed(answer: &Answer) -> bool
-    ensures { result ≡ says_closed answer.now }
-{
-    matches!(answer, Answer::Told(Reply::Closed))
-}
-
-/// Appends the URL of a row, if there is one.
-fn push_url(urls: &mut Vec<Text>, row: Option<Row>) -> Result<(), NoMemory>
-    ensures { IfOk result (λ _. urls.new.items ≡ urls.old.items ++ spec.urls_in (option_to_list row)) }
-{
-    if let Some(Row::Url { url, .. }) = row {
-        urls.push(url)?;
-    }
-    Ok(())
-}
-
-/// Returns the URL that each queue is busy with, by queue.
-fn in_progress(alloc: Global, session: &mut Session) -> Result<Vec<Text>, NoMemory>
-    ensures { IfOk result (λ urls. Collects (in_progress_below session.old.settings.workers) session.old urls.items session.new) }
-{
-    let mut urls = Vec::new(alloc);
-    for queue in 0..session.workers {
-        let row = again(session, queue)?;
-        push_url(&mut urls, row)?;
-    }
-    Ok(urls)
-}
-
-/// Takes the pending URLs of each queue that has some.
-fn pending(alloc: Global, session: &mut Session) -> Result<Vec<WaitingUrls>, NoMemory>
-    ensures { IfOk result (λ queues. CollectsQueues session.old.settings.workers session.old queues.items session.new) }
-{
-    let mut queues = Vec::new(alloc);
-    for queue in 0..session.workers {
-        let urls = drain(alloc, session, queue)?;
-        push_queue(&mut queues, urls)?;
-    }
-    Ok(queues)
-}
-
-/// Appends the URLs of a queue, unless there are none.
-fn push_queue(queues: &mut Vec<WaitingUrls>, urls: WaitingUrls) -> Result<(), NoMemory>
-    ensures { IfOk result (λ _. queues.new.items ≡ queues.old.items ++ spec.unless_empty urls) }
-{
-    if !urls.urls.is_empty() {
-        queues.push(urls)?;
-    }
-    Ok(())
-}
-
-/// Takes the pending URLs of a queue. What is in progress is done first.
-fn drain(alloc: Global, session: &mut Session, queue: u32) -> Result<WaitingUrls, NoMemory>
-    ensures { IfOk result (λ urls. Collects (λ state. pending_at state queue) session.old urls session.new) }
-{
-    let _freed = session.frontier.exchange(Request::Done { queue })?;
-    let count = waiting(session, queue)?;
-    let urls = take_each(alloc, session, queue, count)?;
-    Ok(WaitingUrls { urls })
-}
-
-/// Takes that number of URLs of a queue that is not busy.
-fn take_each(
-    alloc: Global,
+/// Gives a new session the lines of a log that has the URLs of the inventory, and writes them. The session has the given queue.
+/// Returns how many URLs its filter does not allow.
+///
+/// # Errors
+/// Those of [`RebuildError`].
+#[tactic(auto, using(std::proofs::lemmas::Result::err_from_is_err_and, crate::proofs::Rebuilding::rebuilt_ended, crate::proofs::Rebuilding::rebuilt_unfinished))]
+pub fn rebuild_log<O: Write>(
+    inventory: &Inventory,
     session: &mut Session,
     queue: u32,
-    count: u64,
-) -> Result<Vec<Text>, NoMemory>
-    ensures { IfOk result (λ urls. Collects (taken_each queue count) session.old urls.items session.new) }
+    out: &mut O,
+) -> Result<LeftOut, RebuildError>
+    ensures written { IfOk result (λ left_out. Writes (spec.rebuilt session.old.settings queue inventory.now) session.old (O.contents out.old) (O.contents out.new) left_out session.new) }
+    ensures full { IfErr result (λ error. error ≡ wrong.Full → IsFull (spec.rebuilt session.old.settings queue inventory.now) session.old) }
 {
-    let mut urls = Vec::new(alloc);
-    for _url in 0..count {
-        let row = take(session, queue)?;
-        push_url(&mut urls, row)?;
-    }
-    Ok(urls)
+    let done = write_done(inventory, session, out)?;
+    let unfinished = write_unfinished(inventory, session, out)?;
+    let others = write_closing(inventory, session, queue, out)?;
+    let left_out = done.plus(&unfinished)?;
+    Ok(left_out.plus(&others)?)
+}
+
+/// Writes the end of the seeds, and the URLs that are done.
+#[tactic(auto, using(std::proofs::lemmas::Result::err_from_is_err_and, crate::proofs::Rebuilding::ended_full))]
+fn write_done<O: Write>(
+    inventory: &Inventory,
+    session: &mut Session,
+    out: &mut O,
+) -> Result<LeftOut, RebuildError>
+    ensures written { IfOk result (λ left_out. Writes (spec.ended_urls session.old.settings inventory.now) session.old (O.contents out.old) (O.contents out.new) left_out session.new) }
+    ensures full { IfErr result (λ error. error ≡ wrong.Full → IsFull (spec.ended_urls session.old.settings inventory.now) session.old) }
+{
+    end_seeds_if(inventory.ended, session, out)?;
+    done_urls(inventory.alloc, session, &inventory.done, out)
+}
+
+/// Writes the URLs that are not done.
+#[tactic(auto, using(std::proofs::lemmas::Result::err_from_is_err_and, crate::proofs::Rebuilding::busy_full, crate::proofs::Rebuilding::pending_full))]
+fn write_unfinished<O: Write>(
+    inventory: &Inventory,
+    session: &mut Session,
+    out: &mut O,
+) -> Result<LeftOut, RebuildError>
+    ensures written { IfOk result (λ left_out. Writes (spec.unfinished_urls session.old.settings inventory.now) session.old (O.contents out.old) (O.contents out.new) left_out session.new) }
+    ensures full { IfErr result (λ error. error ≡ wrong.Full → IsFull (spec.unfinished_urls session.old.settings inventory.now) session.old) }
+{
+    let busy = waiting_urls(inventory.alloc, session, &inventory.in_progress, out)?;
+    let pending = pending_urls(inventory.alloc, session, &inventory.pending, out)?;
+    Ok(busy.plus(&pending)?)
+}
+
+/// Writes the URLs of other parts, and the line that closes the session.
+fn write_closing<O: Write>(
+    inventory: &Inventory,
+    session: &mut Session,
+    queue: u32,
+    out: &mut O,
+) -> Result<LeftOut, RebuildError>
+    ensures written { IfOk result (λ left_out. Writes (spec.closing session.old.settings queue inventory.now) session.old (O.contents out.old) (O.contents out.new) left_out session.new) }
+    ensures room { IfErr result (λ error. error ≢ wrong.Full) }
+{
+    let others = other_urls(
+        inventory.alloc,
+        session,
+        inventory.elsewhere.as_slice(),
+        out,
+    )?;
+    close_if(inventory.alloc, inventory.closed, session, queue, out)?;
+    Ok(others)
 }
 
 /// Ends the seeds of the new session, if they had ended in the old one.
@@ -373,12 +163,13 @@ fn end_seeds_if<O: Write>(
     session: &mut Session,
     out: &mut O,
 ) -> Result<(), RebuildError>
-    ensures { IfOk result (λ _. Writes (spec.line_if ended session.old.settings spec.end_line is_count) session.old (O.contents out.old) (O.contents out.new) spec.none_left_out session.new) }
+    ensures written { IfOk result (λ _. Writes (spec.line_if ended session.old.settings spec.end_line is_count) session.old (O.contents out.old) (O.contents out.new) spec.none_left_out session.new) }
+    ensures room { IfErr result (λ error. error ≢ wrong.Full) }
 {
     if !ended {
         return Ok(());
     }
-    let answer = give_line(session, "endseeds", out)?;
+    let answer = record_line(session, "endseeds", out)?;
     fit_if(is_count(&answer))
 }
 
@@ -390,13 +181,14 @@ fn close_if<O: Write>(
     queue: u32,
     out: &mut O,
 ) -> Result<(), RebuildError>
-    ensures { IfOk result (λ _. Writes (spec.line_if closed session.old.settings (spec.next_line queue) says_closed) session.old (O.contents out.old) (O.contents out.new) spec.none_left_out session.new) }
+    ensures written { IfOk result (λ _. Writes (spec.line_if closed session.old.settings (spec.next_line queue) says_closed) session.old (O.contents out.old) (O.contents out.new) spec.none_left_out session.new) }
+    ensures room { IfErr result (λ error. error ≢ wrong.Full) }
 {
     if !closed {
         return Ok(());
     }
     let line = queue_line(alloc, "next", queue)?;
-    let answer = give_line(session, &line, out)?;
+    let answer = record_line(session, &line, out)?;
     fit_if(is_closed(&answer))
 }
 
@@ -407,7 +199,8 @@ fn done_urls<O: Write>(
     urls: &[Text],
     out: &mut O,
 ) -> Result<LeftOut, RebuildError>
-    ensures { IfOk result (λ left_out. Writes (spec.each_url (spec.done_url session.old.settings) urls.now) session.old (O.contents out.old) (O.contents out.new) left_out session.new) }
+    ensures written { IfOk result (λ left_out. Writes (spec.each_url (spec.done_url session.old.settings) urls.now) session.old (O.contents out.old) (O.contents out.new) left_out session.new) }
+    ensures full { IfErr result (λ error. error ≡ wrong.Full → IsFull (spec.each_url (spec.done_url session.old.settings) urls.now) session.old) }
 {
     let mut left_out = LeftOut::none();
     for url in urls {
@@ -418,14 +211,15 @@ fn done_urls<O: Write>(
 }
 
 /// Writes a URL that is done: it is offered, taken and done.
-#[tactic(auto, using(crate::proofs::Rebuilding::done_more))]
+#[tactic(auto, using(std::proofs::lemmas::Result::err_from_is_err_and, crate::proofs::Rebuilding::done_more, crate::proofs::Rebuilding::full_done))]
 fn done_url<O: Write>(
     alloc: Global,
     session: &mut Session,
     url: &Text,
     out: &mut O,
 ) -> Result<LeftOut, RebuildError>
-    ensures { IfOk result (λ left_out. Writes (spec.done_url session.old.settings url.now) session.old (O.contents out.old) (O.contents out.new) left_out session.new) }
+    ensures written { IfOk result (λ left_out. Writes (spec.done_url session.old.settings url.now) session.old (O.contents out.old) (O.contents out.new) left_out session.new) }
+    ensures full { IfErr result (λ error. error ≡ wrong.Full → IsFull (spec.done_url session.old.settings url.now) session.old) }
 {
     match offer(alloc, session, url, out)? {
         None => Ok(LeftOut {
@@ -447,7 +241,8 @@ fn finish<O: Write>(
     queue: u32,
     out: &mut O,
 ) -> Result<(), RebuildError>
-    ensures { IfOk result (λ _. Writes (spec.finish_url session.old.settings url.now queue) session.old (O.contents out.old) (O.contents out.new) spec.none_left_out session.new) }
+    ensures written { IfOk result (λ _. Writes (spec.finish_url session.old.settings url.now queue) session.old (O.contents out.old) (O.contents out.new) spec.none_left_out session.new) }
+    ensures room { IfErr result (λ error. error ≢ wrong.Full) }
 {
     take_url(alloc, session, url, queue, out)?;
     end_url(alloc, session, queue, out)
@@ -461,10 +256,11 @@ fn take_url<O: Write>(
     queue: u32,
     out: &mut O,
 ) -> Result<(), RebuildError>
-    ensures { IfOk result (λ _. Writes (spec.one_line session.old.settings (spec.next_line queue) (spec.takes_url url.now)) session.old (O.contents out.old) (O.contents out.new) spec.none_left_out session.new) }
+    ensures written { IfOk result (λ _. Writes (spec.one_line session.old.settings (spec.next_line queue) (spec.takes_url url.now)) session.old (O.contents out.old) (O.contents out.new) spec.none_left_out session.new) }
+    ensures room { IfErr result (λ error. error ≢ wrong.Full) }
 {
     let line = queue_line(alloc, "next", queue)?;
-    let answer = give_line(session, &line, out)?;
+    let answer = record_line(session, &line, out)?;
     fit_if(takes_url(&answer, url))
 }
 
@@ -475,10 +271,11 @@ fn end_url<O: Write>(
     queue: u32,
     out: &mut O,
 ) -> Result<(), RebuildError>
-    ensures { IfOk result (λ _. Writes (spec.one_line session.old.settings (spec.done_line queue) is_count) session.old (O.contents out.old) (O.contents out.new) spec.none_left_out session.new) }
+    ensures written { IfOk result (λ _. Writes (spec.one_line session.old.settings (spec.done_line queue) is_count) session.old (O.contents out.old) (O.contents out.new) spec.none_left_out session.new) }
+    ensures room { IfErr result (λ error. error ≢ wrong.Full) }
 {
     let line = queue_line(alloc, "done", queue)?;
-    let answer = give_line(session, &line, out)?;
+    let answer = record_line(session, &line, out)?;
     fit_if(is_count(&answer))
 }
 
@@ -489,7 +286,8 @@ fn waiting_urls<O: Write>(
     urls: &[Text],
     out: &mut O,
 ) -> Result<LeftOut, RebuildError>
-    ensures { IfOk result (λ left_out. Writes (spec.each_url (spec.waiting_url session.old.settings) urls.now) session.old (O.contents out.old) (O.contents out.new) left_out session.new) }
+    ensures written { IfOk result (λ left_out. Writes (spec.each_url (spec.waiting_url session.old.settings) urls.now) session.old (O.contents out.old) (O.contents out.new) left_out session.new) }
+    ensures full { IfErr result (λ error. error ≡ wrong.Full → IsFull (spec.each_url (spec.waiting_url session.old.settings) urls.now) session.old) }
 {
     let mut left_out = LeftOut::none();
     for url in urls {
@@ -506,7 +304,8 @@ fn pending_urls<O: Write>(
     queues: &[WaitingUrls],
     out: &mut O,
 ) -> Result<LeftOut, RebuildError>
-    ensures { IfOk result (λ left_out. Writes (spec.each_url (spec.waiting_url session.old.settings) (spec.by_turns queues.now)) session.old (O.contents out.old) (O.contents out.new) left_out session.new) }
+    ensures written { IfOk result (λ left_out. Writes (spec.each_url (spec.waiting_url session.old.settings) (spec.by_turns queues.now)) session.old (O.contents out.old) (O.contents out.new) left_out session.new) }
+    ensures full { IfErr result (λ error. error ≡ wrong.Full → IsFull (spec.each_url (spec.waiting_url session.old.settings) (spec.by_turns queues.now)) session.old) }
 {
     let mut left_out = LeftOut::none();
     for position in 0..longest(queues) {
@@ -535,7 +334,8 @@ fn write_turn<O: Write>(
     queues: &[WaitingUrls],
     out: &mut O,
 ) -> Result<LeftOut, RebuildError>
-    ensures { IfOk result (λ left_out. Writes (spec.each_url (spec.waiting_url session.old.settings) (spec.turn position queues.now)) session.old (O.contents out.old) (O.contents out.new) left_out session.new) }
+    ensures written { IfOk result (λ left_out. Writes (spec.each_url (spec.waiting_url session.old.settings) (spec.turn position queues.now)) session.old (O.contents out.old) (O.contents out.new) left_out session.new) }
+    ensures full { IfErr result (λ error. error ≡ wrong.Full → IsFull (spec.each_url (spec.waiting_url session.old.settings) (spec.turn position queues.now)) session.old) }
 {
     let mut left_out = LeftOut::none();
     for queue in queues {
@@ -552,7 +352,8 @@ fn waiting_at<O: Write>(
     url: Option<&Text>,
     out: &mut O,
 ) -> Result<LeftOut, RebuildError>
-    ensures { IfOk result (λ left_out. Writes (spec.each_url (spec.waiting_url session.old.settings) (option_to_list (option_map (λ u. u.now) url.entry))) session.old (O.contents out.old) (O.contents out.new) left_out session.new) }
+    ensures written { IfOk result (λ left_out. Writes (spec.each_url (spec.waiting_url session.old.settings) (option_to_list (option_map (λ u. u.now) url.entry))) session.old (O.contents out.old) (O.contents out.new) left_out session.new) }
+    ensures full { IfErr result (λ error. error ≡ wrong.Full → IsFull (spec.each_url (spec.waiting_url session.old.settings) (option_to_list (option_map (λ u. u.now) url.entry))) session.old) }
 {
     match url {
         Some(url) => waiting_url(alloc, session, url, out),
@@ -561,13 +362,15 @@ fn waiting_at<O: Write>(
 }
 
 /// Writes a URL that is not done: it is offered.
+#[tactic(auto, using(std::proofs::lemmas::Result::err_from_is_err_and, crate::proofs::Rebuilding::full_waiting))]
 fn waiting_url<O: Write>(
     alloc: Global,
     session: &mut Session,
     url: &Text,
     out: &mut O,
 ) -> Result<LeftOut, RebuildError>
-    ensures { IfOk result (λ left_out. Writes (spec.waiting_url session.old.settings url.now) session.old (O.contents out.old) (O.contents out.new) left_out session.new) }
+    ensures written { IfOk result (λ left_out. Writes (spec.waiting_url session.old.settings url.now) session.old (O.contents out.old) (O.contents out.new) left_out session.new) }
+    ensures full { IfErr result (λ error. error ≡ wrong.Full → IsFull (spec.waiting_url session.old.settings url.now) session.old) }
 {
     match offer(alloc, session, url, out)? {
         None => Ok(LeftOut {
@@ -585,7 +388,8 @@ fn offer<O: Write>(
     url: &Text,
     out: &mut O,
 ) -> Result<Option<u32>, RebuildError>
-    ensures { IfOk result (λ queue. Offers url.now session.old (O.contents out.old) (O.contents out.new) queue session.new) }
+    ensures offers { IfOk result (λ queue. Offers url.now session.old (O.contents out.old) (O.contents out.new) queue session.new) }
+    ensures full { IfErr result (λ error. error ≡ wrong.Full → IsRefused url.now session.old) }
 {
     let line = offer_line(alloc, url)?;
     let asked = session.request(line.as_bytes());
@@ -602,7 +406,8 @@ fn asked_queue(
     asked: &Result<Request, RequestError>,
     url: &Text,
 ) -> Result<Option<u32>, RebuildError>
-    ensures { IfOk result (λ queue. asked.now ≡ spec.offer_asks url.now queue) }
+    ensures asks { IfOk result (λ queue. asked.now ≡ spec.offer_asks url.now queue) }
+    ensures room { IfErr result (λ error. error ≢ wrong.Full) }
 {
     match asked {
         Ok(Request::Offer { url: named, queue }) if named == url => Ok(Some(*queue)),
@@ -616,6 +421,7 @@ fn asked_queue(
 fn accept(session: &mut Session, url: &Text, queue: u32) -> Result<(), RebuildError>
     ensures settings { session.new.settings ≡ session.old.settings }
     ensures accepted { IfOk result (λ _. (state : Frontier) → Shows session.old.core state → (spec.is_accepted (exchange state (request.Offer url.now queue)).answer ≡ true) × Shows session.new.core (exchange state (request.Offer url.now queue)).state) }
+    ensures full { IfErr result (λ error. error ≡ wrong.Full → (state : Frontier) → Shows session.old.core state → spec.is_full (exchange state (request.Offer url.now queue)).answer ≡ true) }
 {
     let url = url.clone()?;
     let answer = session.frontier.exchange(Request::Offer { url, queue })?;
@@ -624,7 +430,8 @@ fn accept(session: &mut Session, url: &Text, queue: u32) -> Result<(), RebuildEr
 
 /// Returns an error unless the answer to an offer is `accepted`.
 fn fit_offer(answer: &Answer) -> Result<(), RebuildError>
-    ensures { IfOk result (λ _. spec.is_accepted answer.now ≡ true) }
+    ensures accepted { IfOk result (λ _. spec.is_accepted answer.now ≡ true) }
+    ensures full { IfErr result (λ error. error ≡ wrong.Full → spec.is_full answer.now ≡ true) }
 {
     match answer {
         Answer::Told(Reply::Accepted { .. }) => Ok(()),
@@ -640,7 +447,8 @@ fn other_urls<O: Write>(
     urls: &[Text],
     out: &mut O,
 ) -> Result<LeftOut, RebuildError>
-    ensures { IfOk result (λ left_out. Writes (spec.each_url (spec.other_url session.old.settings) urls.now) session.old (O.contents out.old) (O.contents out.new) left_out session.new) }
+    ensures written { IfOk result (λ left_out. Writes (spec.each_url (spec.other_url session.old.settings) urls.now) session.old (O.contents out.old) (O.contents out.new) left_out session.new) }
+    ensures room { IfErr result (λ error. error ≢ wrong.Full) }
 {
     let mut left_out = LeftOut::none();
     for url in urls {
@@ -658,7 +466,8 @@ fn other_url<O: Write>(
     url: &Text,
     out: &mut O,
 ) -> Result<LeftOut, RebuildError>
-    ensures { IfOk result (λ left_out. Writes (spec.other_url session.old.settings url.now) session.old (O.contents out.old) (O.contents out.new) left_out session.new) }
+    ensures written { IfOk result (λ left_out. Writes (spec.other_url session.old.settings url.now) session.old (O.contents out.old) (O.contents out.new) left_out session.new) }
+    ensures room { IfErr result (λ error. error ≢ wrong.Full) }
 {
     let line = offer_line(alloc, url)?;
     let asked = session.request(line.as_bytes());
@@ -676,6 +485,7 @@ fn other_url<O: Write>(
 fn is_elsewhere(asked: &Result<Request, RequestError>, url: &Text) -> Result<bool, RebuildError>
     ensures other { IfOk result (λ is. is ≡ true → (part : ℕ) × (asked.now ≡ Err (why.Elsewhere part url.now))) }
     ensures filtered { IfOk result (λ is. is ≡ false → asked.now ≡ Err why.Filtered) }
+    ensures room { IfErr result (λ error. error ≢ wrong.Full) }
 {
     match asked {
         Err(RequestError::Elsewhere { url: named, .. }) if named == url => Ok(true),
@@ -687,7 +497,8 @@ fn is_elsewhere(asked: &Result<Request, RequestError>, url: &Text) -> Result<boo
 
 /// Returns an error unless a line was answered as it has to be.
 fn fit_if(fits: bool) -> Result<(), RebuildError>
-    ensures { IfOk result (λ _. fits ≡ true) }
+    ensures fits { IfOk result (λ _. fits ≡ true) }
+    ensures room { IfErr result (λ error. error ≢ wrong.Full) }
 {
     if fits {
         Ok(())
@@ -725,12 +536,13 @@ fn queue_line(alloc: Global, word: &str, queue: u32) -> Result<String, NoMemory>
 }
 
 /// Gives a line to the session, and writes it.
-fn give_line<O: Write>(
+fn record_line<O: Write>(
     session: &mut Session,
     line: &str,
     out: &mut O,
 ) -> Result<Answer, RebuildError>
-    ensures { IfOk result (λ answer. Tells session.old line.now (O.contents out.old) (O.contents out.new) answer session.new) }
+    ensures tells { IfOk result (λ answer. Tells session.old line.now (O.contents out.old) (O.contents out.new) answer session.new) }
+    ensures room { IfErr result (λ error. error ≢ wrong.Full) }
 {
     let answer = session.answer(line.as_bytes())?;
     write_line(line, out)?;
@@ -739,7 +551,8 @@ fn give_line<O: Write>(
 
 /// Writes a line, and LF.
 fn write_line<O: Write>(line: &str, out: &mut O) -> Result<(), RebuildError>
-    ensures { IfOk result (λ _. Appends (O.contents out.old) (O.contents out.new) (line.now ++ 10 ∷ [])) }
+    ensures written { IfOk result (λ _. Appends (O.contents out.old) (O.contents out.new) (line.now ++ 10 ∷ [])) }
+    ensures room { IfErr result (λ error. error ≢ wrong.Full) }
 {
     if out.write_all(line.as_bytes()).is_err() || out.write_all(b"\n").is_err() {
         return Err(RebuildError::CannotWrite);

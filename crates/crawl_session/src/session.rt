@@ -25,8 +25,8 @@ use std::marker::Model;
 pub struct Session {
     alloc: Global,
     pub(crate) frontier: Frontier,
-    /// The queues of all parts.
-    pub(crate) workers: u32,
+    /// The number of queues, in all parts together.
+    pub(crate) queues: u32,
     filter: Filter,
     part: Option<Part>,
 }
@@ -37,9 +37,9 @@ impl Model for Session {
 
     ghost Value = { SessionView };
 
-    ghost view = { λ s. record { settings = record { workers = s.workers; suffixes = s.filter; part = s.part }; core = s.frontier } };
+    ghost view = { λ s. record { settings = record { workers = s.queues; suffixes = s.filter; part = s.part }; core = s.frontier } };
 
-    ghost invariant = { λ s. IsSession (record { workers = s.workers; suffixes = s.filter; part = s.part }) };
+    ghost invariant = { λ s. IsSession (record { workers = s.queues; suffixes = s.filter; part = s.part }) };
 }
 
 impl Session {
@@ -68,7 +68,7 @@ impl Session {
             Ok(frontier) => Ok(Session {
                 alloc,
                 frontier,
-                workers,
+                queues: workers,
                 filter,
                 part: None,
             }),
@@ -99,14 +99,14 @@ impl Session {
         if part.queues < 1 || part.queues > WORKER_LIMIT || parts <= part.number {
             return Err(CoreError::BadWorkers);
         }
-        let Some(workers) = part.queues.checked_mul(parts) else {
+        let Some(queues) = part.queues.checked_mul(parts) else {
             return Err(CoreError::BadWorkers);
         };
-        match new_frontier(alloc, workers, max_pending) {
+        match new_frontier(alloc, queues, max_pending) {
             Ok(frontier) => Ok(Session {
                 alloc,
                 frontier,
-                workers,
+                queues,
                 filter,
                 part: Some(part),
             }),
@@ -119,7 +119,7 @@ impl Session {
         ensures { Gives wrong.NoMemory (λ request. request) result (request_for self.now.settings line.now) }
     {
         match &self.part {
-            None => request_of(self.alloc, self.workers, &self.filter, line),
+            None => request_of(self.alloc, self.queues, &self.filter, line),
             Some(part) => self.request_by(part, line),
         }
     }
@@ -143,7 +143,7 @@ impl Session {
         requires { 1 ≤ part.now.queues }
         ensures { Gives wrong.NoMemory (λ request. request) result (placed_if part.now (request_of self.now.settings.workers self.now.settings.suffixes line.now)) }
     {
-        match request_of(self.alloc, self.workers, &self.filter, line) {
+        match request_of(self.alloc, self.queues, &self.filter, line) {
             Ok(request) => placed(part, request),
             Err(why) => Err(why),
         }

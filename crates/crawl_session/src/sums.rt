@@ -120,20 +120,20 @@ fn sum_text(sum: u64) -> [u8; SUM_LEN]
 {
     [
         MARK,
-        digit(sum >> 28),
-        digit(sum >> 24),
-        digit(sum >> 20),
-        digit(sum >> 16),
-        digit(sum >> 12),
-        digit(sum >> 8),
-        digit(sum >> 4),
-        digit(sum),
+        hex_digit(sum >> 28),
+        hex_digit(sum >> 24),
+        hex_digit(sum >> 20),
+        hex_digit(sum >> 16),
+        hex_digit(sum >> 12),
+        hex_digit(sum >> 8),
+        hex_digit(sum >> 4),
+        hex_digit(sum),
         b'\n',
     ]
 }
 
 /// Returns the hexadecimal digit of the low four bits.
-fn digit(number: u64) -> u8
+pub fn hex_digit(number: u64) -> u8
     ensures { result ≡ spec.digit number }
 {
     b"0123456789abcdef"[(number % 16) as usize]

@@ -1,6 +1,6 @@
 //! Tests of a log that is rebuilt for other settings: its lines, what the filter leaves out, and that there is none without room.
 use crawl_keys::Filter;
-use crawl_session::{LeftOut, RebuildError, Rebuilder, Session};
+use crawl_session::{Inventory, LeftOut, RebuildError, Session, rebuild_log};
 use std::alloc::Global;
 
 /// A log of a session with one queue, and the lines of a log of a session with other settings.
@@ -130,11 +130,11 @@ fn rebuilt(
     log: &str,
     new: &mut Session,
 ) -> Result<(Vec<u8>, LeftOut), RebuildError> {
-    let mut rebuilder = Rebuilder::new(alloc);
-    rebuilder.read(old, log.as_bytes())?;
-    rebuilder.read_unfinished(old)?;
+    let mut inventory = Inventory::new(alloc);
+    inventory.read(old, log.as_bytes())?;
+    inventory.read_unfinished(old)?;
     let mut lines = Vec::new(alloc);
-    let left_out = rebuilder.write(new, 0, &mut lines)?;
+    let left_out = rebuild_log(&inventory, new, 0, &mut lines)?;
     Ok((lines, left_out))
 }
 

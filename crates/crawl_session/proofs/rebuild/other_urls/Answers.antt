@@ -10,4 +10,4 @@ loop-url-preserved g c =
     let i = c.loop-url.url-index in
     let more = take_more c.args.urls.now i c.url-item.result c.loop-url-test.true in
     rw (c.in_ok-left_out.ensures, more, ← c.url-item.is)
-    (each_more other_url (take i c.args.urls.now) c.url-item.result c.args.session.now c.loop-url.session c.other_url.new.session (written c.args.out.now) (written c.loop-url.out) (written c.other_url.new.out) c.loop-url.left_out c.in_ok-more.more c.loop-url.invariant c.in_ok-more.ensures)
+    (each_more other_url (take i c.args.urls.now) c.url-item.result c.args.session.now c.loop-url.session c.other_url.new.session (written c.args.out.now) (written c.loop-url.out) (written c.other_url.new.out) c.loop-url.left_out c.in_ok-more.more c.loop-url.invariant c.in_ok-more.ensures.written)

@@ -7,4 +7,4 @@ pub returns-in-Ok : goal.returns-in-Ok
 returns-in-Ok c =
     subst (λ (s : SessionView). Gives wrong.NoMemory (λ (r : Request). r) c.placed.result (placed_if c.args.part.now (request_of s.settings.workers s.settings.suffixes c.args.line.now)))
     c.self.view_is
-    (placed_gives c.args.part.now (request_of c.self.inside.workers c.self.inside.filter c.args.line.now) c.placed.result c.in-Ok.request c.in-Ok.ensures c.placed.ensures)
+    (placed_gives c.args.part.now (request_of c.self.inside.queues c.self.inside.filter c.args.line.now) c.placed.result c.in-Ok.request c.in-Ok.ensures c.placed.ensures)

@@ -1,12 +1,12 @@
 use Rattle.crawl_session.proofs.Prelude.{rules}
 use Rattle.crawl_session.specs.Rebuilding.{Writes, by_turns, each_url, waiting_url}
 use Rattle.crawl_session.proofs.Rebuilding.{unfinished_both}
-use Rattle.crawl_session.proofs.rebuild.Rebuilder.write_unfinished.Goals as goal
+use Rattle.crawl_session.proofs.rebuild.write_unfinished.Goals as goal
 
-pub returns : goal.returns
-returns g c =
+pub returns-clause-written : goal.returns-clause-written
+returns-clause-written g c =
     let written = g.O.Write.contents in
-    let had = c.args.self.now in
+    let had = c.args.inventory.now in
     let old = c.args.session.now in
     let mid = c.waiting_urls.new.session in
     let new = c.pending_urls.new.session in

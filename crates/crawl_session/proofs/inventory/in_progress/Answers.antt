@@ -1,6 +1,6 @@
 use Rattle.crawl_session.specs.Listing.{in_progress_at}
 use Rattle.crawl_session.proofs.Rebuilding.{collects_row}
-use Rattle.crawl_session.proofs.rebuild.in_progress.Goals as goal
+use Rattle.crawl_session.proofs.inventory.in_progress.Goals as goal
 
 pub loop-queue-preserved : goal.loop-queue-preserved
 loop-queue-preserved c =

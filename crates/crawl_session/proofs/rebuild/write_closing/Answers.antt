@@ -1,12 +1,12 @@
 use Rattle.crawl_session.proofs.Prelude.{rules, says_closed}
 use Rattle.crawl_session.specs.Rebuilding.{Writes, each_url, line_if, next_line, none_left_out, other_url}
 use Rattle.crawl_session.proofs.Rebuilding.{closing_both}
-use Rattle.crawl_session.proofs.rebuild.Rebuilder.write_closing.Goals as goal
+use Rattle.crawl_session.proofs.rebuild.write_closing.Goals as goal
 
-pub returns : goal.returns
-returns g c =
+pub returns-clause-written : goal.returns-clause-written
+returns-clause-written g c =
     let written = g.O.Write.contents in
-    let had = c.args.self.now in
+    let had = c.args.inventory.now in
     let old = c.args.session.now in
     let mid = c.other_urls.new.session in
     let new = c.close_if.new.session in

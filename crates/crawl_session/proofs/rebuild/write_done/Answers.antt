@@ -2,12 +2,12 @@ use Rattle.crawl_session.proofs.Prelude.{IfOk, rules}
 use Rattle.crawl_session.specs.Listing.{is_count}
 use Rattle.crawl_session.specs.Rebuilding.{Writes, done_url, each_url, end_line, line_if, none_left_out}
 use Rattle.crawl_session.proofs.Rebuilding.{ended_both}
-use Rattle.crawl_session.proofs.rebuild.Rebuilder.write_done.Goals as goal
+use Rattle.crawl_session.proofs.rebuild.write_done.Goals as goal
 
-pub returns : goal.returns
-returns g c =
+pub returns-clause-written : goal.returns-clause-written
+returns-clause-written g c =
     let written = g.O.Write.contents in
-    let had = c.args.self.now in
+    let had = c.args.inventory.now in
     let old = c.args.session.now in
     let mid = c.end_seeds_if.new.session in
     let new = c.done_urls.new.session in

@@ -1,5 +1,5 @@
 use Rattle.crawl_session.proofs.Rebuilding.{queues_more}
-use Rattle.crawl_session.proofs.rebuild.pending.Goals as goal
+use Rattle.crawl_session.proofs.inventory.pending.Goals as goal
 
 pub loop-queue-preserved : goal.loop-queue-preserved
 loop-queue-preserved c =

@@ -1,6 +1,6 @@
 use Rattle.crawl_session.proofs.Prelude.{lines}
 use Rattle.crawl_session.proofs.Rebuilding.{front_more}
-use Rattle.crawl_session.proofs.rebuild.Rebuilder.read.Goals as goal
+use Rattle.crawl_session.proofs.inventory.Inventory.read.Goals as goal
 
 pub loop-line-preserved : goal.loop-line-preserved
 loop-line-preserved c =

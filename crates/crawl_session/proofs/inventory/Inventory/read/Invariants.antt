@@ -1,6 +1,6 @@
 use Rattle.crawl_session.proofs.Prelude.{length, lines}
 use Rattle.crawl_session.proofs.Rebuilding.{ReadsFront}
-use Rattle.crawl_session.proofs.rebuild.Rebuilder.read.Given as goal
+use Rattle.crawl_session.proofs.inventory.Inventory.read.Given as goal
 
 abbrev pub invariant-loop-line : goal.invariant-loop-line
 invariant-loop-line l = ReadsFront l.initial.self l.initial.session (lines l.log) (lines l.rest) l.self l.session

@@ -1,6 +1,6 @@
 use Rattle.crawl_session.specs.Listing.{taken_one}
 use Rattle.crawl_session.proofs.Rebuilding.{collects_row}
-use Rattle.crawl_session.proofs.rebuild.take_each.Goals as goal
+use Rattle.crawl_session.proofs.inventory.take_each.Goals as goal
 
 pub loop-url-preserved : goal.loop-url-preserved
 loop-url-preserved c =
