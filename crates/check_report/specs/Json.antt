@@ -11,7 +11,7 @@ use Rattle.check_report.specs.declared.row.Part.{Part}
 use Rattle.check_report.specs.declared.row.Part.TheVariants as part
 use Rattle.check_report.specs.declared.value.Broken.{Broken}
 use Rattle.check_report.specs.declared.value.Kind.{Kind}
-use Rattle.check_report.specs.declared.value.Kind.TheVariants.{NoPage, NoAnchor, NotUrl, UnknownScheme, LocalFile}
+use Rattle.check_report.specs.declared.value.Kind.TheVariants.{NoPage, NoAnchor, NotUrl, UnknownScheme, LocalFile, Leaves, OutsideBase}
 use Rattle.check_report.specs.declared.value.Totals.{Totals}
 
 -- ---- members
@@ -42,21 +42,33 @@ kind word rest = text_at (codes "kind") word rest
 
 -- ---- rows
 
--- whether a page or an anchor is missing, and not the link invalid
+-- whether a page or an anchor is missing
 abbrev pub is_missing : Kind → Bool
 is_missing NoPage = true
 is_missing NoAnchor = true
 is_missing NotUrl = false
 is_missing UnknownScheme = false
 is_missing LocalFile = false
+is_missing Leaves = false
+is_missing OutsideBase = false
+
+-- whether the link leads out of the site
+abbrev pub is_leaving : Kind → Bool
+is_leaving NoPage = false
+is_leaving NoAnchor = false
+is_leaving NotUrl = false
+is_leaving UnknownScheme = false
+is_leaving LocalFile = false
+is_leaving Leaves = true
+is_leaving OutsideBase = true
 
 -- the kind of the row of a target
 abbrev pub target_kind : Kind → List ℕ
-target_kind k = if is_missing k then codes "broken" else codes "invalid"
+target_kind k = if is_missing k then codes "broken" else (if is_leaving k then codes "leaving" else codes "invalid")
 
 -- the kind of the row of a location of a link to such a target
 abbrev pub place_kind : Kind → List ℕ
-place_kind k = if is_missing k then codes "place" else codes "invalid_place"
+place_kind k = if is_missing k then codes "place" else (if is_leaving k then codes "leaving_place" else codes "invalid_place")
 
 -- the name of the member that says what is wrong
 abbrev pub wrong_key : Kind → List ℕ
@@ -69,12 +81,14 @@ wrong_word NoAnchor = codes "anchor"
 wrong_word NotUrl = codes "not_url"
 wrong_word UnknownScheme = codes "unknown_scheme"
 wrong_word LocalFile = codes "local_file"
+wrong_word Leaves = codes "above_folder"
+wrong_word OutsideBase = codes "outside_base"
 
 -- the target and what is wrong
 abbrev pub target_at : Broken → Members → Members
 target_at b rest = text_at (codes "target") (string_bytes b.target) (text_at (wrong_key b.kind) (wrong_word b.kind) rest)
 
--- the page that is suggested, or `null`; nothing for an invalid link
+-- the page that is suggested, or `null`; nothing if neither a page nor an anchor is missing
 abbrev pub same_name_at : Broken → Members → Members
 same_name_at b rest = if is_missing b.kind then member (codes "same_name") (text_or_null (option_map string_bytes b.same_name)) rest else rest
 
@@ -91,13 +105,13 @@ row_kind part.Unreached = codes "unreached"
 row_kind part.External = codes "external"
 row_kind part.Unused = codes "unused"
 
--- the counts of broken links and invalid links
+-- the counts of broken links, invalid links and links that lead out of the site
 abbrev pub broken_counts : Totals → Members
 broken_counts t =
     count_at (codes "broken") t.broken_links (count_at (codes "missing_pages") t.broken_urls (count_at (codes "missing_anchors") t.broken_anchors
-    (count_at (codes "invalid") t.invalid_links no_members)))
+    (count_at (codes "invalid") t.invalid_links (count_at (codes "leaving") t.leaving_links no_members))))
 
--- the optional counts, and then the counts of broken links and invalid links
+-- the optional counts, and then the counts of broken links, invalid links and links that lead out of the site
 abbrev pub optional_counts : Totals → Counts → Members
 optional_counts t c = count_if_at (codes "unreached") c.unreached (count_if_at (codes "external") c.external (broken_counts t))
 

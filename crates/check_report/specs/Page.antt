@@ -47,15 +47,25 @@ missing_noun n = if n == 1 then codes " missing page" else codes " missing pages
 abbrev pub invalid_noun : ℕ → List ℕ
 invalid_noun n = if n == 1 then codes " invalid link" else codes " invalid links"
 
--- the title counts the broken links; if there are none, the missing pages, to which no link leads; if there are none, the invalid links
+abbrev pub leaving_noun : ℕ → List ℕ
+leaving_noun n = if n == 1 then codes " leaving link" else codes " leaving links"
+
+-- the title counts the broken links; if there are none, the missing pages, to which no link leads; if there are none, the invalid
+-- links; if there are none, the links that lead out of the site
 abbrev pub counts_links : Totals → Bool
-counts_links t = nat_lt 0 t.broken_links || ((t.broken_urls == 0) && (t.invalid_links == 0))
+counts_links t = nat_lt 0 t.broken_links || ((t.broken_urls == 0) && (t.invalid_links == 0) && (t.leaving_links == 0))
+
+abbrev pub other_count : Totals → ℕ
+other_count t = if nat_lt 0 t.invalid_links then t.invalid_links else t.leaving_links
+
+abbrev pub other_noun : Totals → List ℕ
+other_noun t = if nat_lt 0 t.invalid_links then invalid_noun t.invalid_links else leaving_noun t.leaving_links
 
 abbrev pub title_count : Totals → ℕ
-title_count t = if counts_links t then t.broken_links else (if nat_lt 0 t.broken_urls then t.broken_urls else t.invalid_links)
+title_count t = if counts_links t then t.broken_links else (if nat_lt 0 t.broken_urls then t.broken_urls else other_count t)
 
 abbrev pub title_noun : Totals → List ℕ
-title_noun t = if counts_links t then links_noun t.broken_links else (if nat_lt 0 t.broken_urls then missing_noun t.broken_urls else invalid_noun t.invalid_links)
+title_noun t = if counts_links t then links_noun t.broken_links else (if nat_lt 0 t.broken_urls then missing_noun t.broken_urls else other_noun t)
 
 -- the page up to its body, with the title
 abbrev pub page_start : List ℕ → Totals → List ℕ
@@ -82,7 +92,7 @@ item_some word n = if n == 0 then [] else total_item word n
 abbrev pub broken_items : Totals → List ℕ
 broken_items t =
     total_item (codes "<li>missing pages <b>") t.broken_urls ++ total_item (codes "<li>missing anchors <b>") t.broken_anchors
-    ++ item_some (codes "<li>invalid links <b>") t.invalid_links
+    ++ item_some (codes "<li>invalid links <b>") t.invalid_links ++ item_some (codes "<li>leaving links <b>") t.leaving_links
 
 -- an item if there is a count, otherwise nothing
 abbrev pub item_if : List ℕ → Option ℕ → List ℕ

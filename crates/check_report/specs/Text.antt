@@ -13,7 +13,7 @@ use Rattle.check_report.specs.declared.value.Broken.{Broken}
 use Rattle.check_report.specs.declared.value.External.{External}
 use Rattle.check_report.specs.declared.value.FileCount.{FileCount}
 use Rattle.check_report.specs.declared.value.Kind.{Kind}
-use Rattle.check_report.specs.declared.value.Kind.TheVariants.{NoPage, NoAnchor, NotUrl, UnknownScheme, LocalFile}
+use Rattle.check_report.specs.declared.value.Kind.TheVariants.{NoPage, NoAnchor, NotUrl, UnknownScheme, LocalFile, Leaves, OutsideBase}
 use Rattle.check_report.specs.declared.value.Place.{Place}
 use Rattle.check_report.specs.declared.value.Redirect.{Redirect}
 use Rattle.check_report.specs.declared.value.Totals.{Totals}
@@ -45,6 +45,8 @@ message NoAnchor = codes "no such anchor"
 message NotUrl = codes "not a URL"
 message UnknownScheme = codes "unknown scheme"
 message LocalFile = codes "local file"
+message Leaves = codes "leaves the folder"
+message OutsideBase = codes "outside BASE"
 
 abbrev pub same_name_text : Escape → Option (List ℕ) → List ℕ
 same_name_text how None = []
@@ -90,11 +92,11 @@ place_text colour b p = code colour bold ++ place_start p ++ code colour plain +
 abbrev pub broken_text : Bool → Broken → List ℕ
 broken_text colour b = if nat_lt 0 (length b.places.items) then [] else target_text colour b
 
--- whether something is missing or invalid. A page at which the check starts can be missing though no link leads to it
+-- whether something is missing or invalid, or leads out of the site. A page at which the check starts can be missing though no link leads to it
 abbrev pub is_broken : Totals → Bool
-is_broken t = nat_lt 0 t.broken_links || nat_lt 0 t.broken_urls || nat_lt 0 t.broken_anchors || nat_lt 0 t.invalid_links
+is_broken t = nat_lt 0 t.broken_links || nat_lt 0 t.broken_urls || nat_lt 0 t.broken_anchors || nat_lt 0 t.invalid_links || nat_lt 0 t.leaving_links
 
--- red if something is missing or invalid, otherwise green
+-- red if something is wrong, otherwise green
 abbrev pub verdict : Totals → List ℕ
 verdict t = if is_broken t then red else green
 
@@ -103,7 +105,7 @@ abbrev pub broken_total : Bool → Totals → List ℕ
 broken_total colour t =
     code colour (verdict t) ++ counted (codes "broken links ") t.broken_links ++ code colour plain
     ++ counted (codes ", missing pages ") t.broken_urls ++ counted (codes ", missing anchors ") t.broken_anchors
-    ++ counted_some (codes ", invalid links ") t.invalid_links
+    ++ counted_some (codes ", invalid links ") t.invalid_links ++ counted_some (codes ", leaving links ") t.leaving_links
 
 -- the first line of the totals
 abbrev pub site_total : Totals → Counts → List ℕ

@@ -3,7 +3,7 @@ ghost use Rattle.std.specs.Prelude.{◌≡◌, ◌++◌, ◌∷◌, [], OnOk, If
 ghost use Rattle.json.specs.Json.{object};
 ghost use Rattle.json.specs.Token.{begin_object, end_object, key, string, number};
 ghost use Rattle.json.specs.Tree.{json_tokens, members_tokens};
-ghost use Rattle.check_report.specs.Json.{count_tokens, is_object, json_line, members_of, is_missing, object_line, place_kind, row_kind, same_name_tokens, target_kind, text_or_null, optional_counts, wrong_key, wrong_word};
+ghost use Rattle.check_report.specs.Json.{count_tokens, is_object, json_line, members_of, is_leaving, is_missing, object_line, place_kind, row_kind, same_name_tokens, target_kind, text_or_null, optional_counts, wrong_key, wrong_word};
 ghost use Rattle.check_report.specs.Rows as line;
 ghost use Rattle.check_report.specs.Rows.{line_of};
 
@@ -91,7 +91,7 @@ fn put_total(out: &mut Writer, base: &str, totals: Totals, counts: Counts) -> Re
     put_optional_counts(out, totals, counts)
 }
 
-/// Writes the optional counts, and then the counts of broken links and invalid links.
+/// Writes the optional counts, and then the counts of broken links, invalid links and links that lead out of the site.
 fn put_optional_counts(out: &mut Writer, totals: Totals, counts: Counts) -> Result<(), NoMemory>
     ensures tokens { OnOk result (out.new.tokens ++ end_object ∷ [] ≡ out.old.tokens ++ members_tokens (optional_counts totals counts)) }
     ensures before { out.new.before ≡ out.old.before }
@@ -101,18 +101,19 @@ fn put_optional_counts(out: &mut Writer, totals: Totals, counts: Counts) -> Resu
     put_broken_counts(out, totals)
 }
 
-/// Writes the numbers of broken links, missing pages, missing anchors and invalid links.
+/// Writes the numbers of broken links, missing pages, missing anchors, invalid links and links that lead out of the site.
 fn put_broken_counts(out: &mut Writer, totals: Totals) -> Result<(), NoMemory>
-    ensures tokens { OnOk result (out.new.tokens ≡ out.old.tokens ++ key (codes "broken") ∷ number (decimal totals.broken_links) ∷ key (codes "missing_pages") ∷ number (decimal totals.broken_urls) ∷ key (codes "missing_anchors") ∷ number (decimal totals.broken_anchors) ∷ key (codes "invalid") ∷ number (decimal totals.invalid_links) ∷ []) }
+    ensures tokens { OnOk result (out.new.tokens ≡ out.old.tokens ++ key (codes "broken") ∷ number (decimal totals.broken_links) ∷ key (codes "missing_pages") ∷ number (decimal totals.broken_urls) ∷ key (codes "missing_anchors") ∷ number (decimal totals.broken_anchors) ∷ key (codes "invalid") ∷ number (decimal totals.invalid_links) ∷ key (codes "leaving") ∷ number (decimal totals.leaving_links) ∷ []) }
     ensures before { out.new.before ≡ out.old.before }
 {
     put_count(out, "broken", totals.broken_links)?;
     put_count(out, "missing_pages", totals.broken_urls)?;
     put_count(out, "missing_anchors", totals.broken_anchors)?;
-    put_count(out, "invalid", totals.invalid_links)
+    put_count(out, "invalid", totals.invalid_links)?;
+    put_count(out, "leaving", totals.leaving_links)
 }
 
-/// Writes the members for a missing page or anchor, or for an invalid link.
+/// Writes the members for a missing page or anchor, or for a link that is invalid or leads out of the site.
 fn put_broken(out: &mut Writer, broken: &Broken) -> Result<(), NoMemory>
     requires { out.old.tokens ≡ begin_object ∷ [] }
     ensures tokens { OnOk result (out.new.tokens ++ end_object ∷ [] ≡ json_tokens (object (members_of (line.broken broken.now)))) }
@@ -123,7 +124,7 @@ fn put_broken(out: &mut Writer, broken: &Broken) -> Result<(), NoMemory>
     put_same_name(out, broken)
 }
 
-/// Writes the page that is suggested for a missing page or anchor, null if there is none. An invalid link has no such member.
+/// Writes the page that is suggested for a missing page or anchor, null if there is none. Other rows have no such member.
 fn put_same_name(out: &mut Writer, broken: &Broken) -> Result<(), NoMemory>
     ensures tokens { OnOk result (out.new.tokens ≡ out.old.tokens ++ same_name_tokens broken.now) }
     ensures before { out.new.before ≡ out.old.before }
@@ -135,7 +136,7 @@ fn put_same_name(out: &mut Writer, broken: &Broken) -> Result<(), NoMemory>
     }
 }
 
-/// Writes the members for a broken or invalid link: the target, what is wrong, the file, the line and the column.
+/// Writes the members for the location of a link: the target, what is wrong, the file, the line and the column.
 fn put_place(out: &mut Writer, broken: &Broken, place: &Place) -> Result<(), NoMemory>
     requires { out.old.tokens ≡ begin_object ∷ [] }
     ensures tokens { OnOk result (out.new.tokens ++ end_object ∷ [] ≡ json_tokens (object (members_of (line.place broken.now place.now)))) }
@@ -225,13 +226,25 @@ fn put_target(out: &mut Writer, kind: &str, broken: &Broken) -> Result<(), NoMem
     put_text(out, wrong_key(broken.kind), wrong_word(broken.kind))
 }
 
-/// Whether a page or an anchor is missing. Otherwise the link is invalid.
+/// Whether a page or an anchor is missing.
 fn is_missing(kind: Kind) -> bool
     ensures { result ≡ is_missing kind }
 {
     match kind {
         Kind::NoPage | Kind::NoAnchor => true,
-        Kind::NotUrl | Kind::UnknownScheme | Kind::LocalFile => false,
+        Kind::NotUrl | Kind::UnknownScheme | Kind::LocalFile | Kind::Leaves | Kind::OutsideBase =>
+            false,
+    }
+}
+
+/// Whether the link leads out of the site.
+fn is_leaving(kind: Kind) -> bool
+    ensures { result ≡ is_leaving kind }
+{
+    match kind {
+        Kind::Leaves | Kind::OutsideBase => true,
+        Kind::NoPage | Kind::NoAnchor | Kind::NotUrl | Kind::UnknownScheme | Kind::LocalFile =>
+            false,
     }
 }
 
@@ -241,6 +254,8 @@ fn target_kind(kind: Kind) -> &'static str
 {
     if is_missing(kind) {
         "broken"
+    } else if is_leaving(kind) {
+        "leaving"
     } else {
         "invalid"
     }
@@ -252,6 +267,8 @@ fn place_kind(kind: Kind) -> &'static str
 {
     if is_missing(kind) {
         "place"
+    } else if is_leaving(kind) {
+        "leaving_place"
     } else {
         "invalid_place"
     }
@@ -278,6 +295,8 @@ fn wrong_word(kind: Kind) -> &'static str
         Kind::NotUrl => "not_url",
         Kind::UnknownScheme => "unknown_scheme",
         Kind::LocalFile => "local_file",
+        Kind::Leaves => "above_folder",
+        Kind::OutsideBase => "outside_base",
     }
 }
 

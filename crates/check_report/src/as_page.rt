@@ -1,6 +1,6 @@
 //! Prints a row in the HTML page.
 ghost use Rattle.std.specs.Prelude.{◌≡◌, ◌++◌, OnOk, codes};
-ghost use Rattle.check_report.specs.Page.{broken_items, broken_row, count_items, external_row, head_part, html, item_if, item_some, counts_links, invalid_noun, links_noun, missing_noun, more_row, page_heading, page_line, page_start, page_total, place_row, redirect_row, script_part, section_start, site_items, style_part, tail_part, title_count, title_noun, optional_items, tools_part, total_item, verdict_start, worst_row};
+ghost use Rattle.check_report.specs.Page.{broken_items, broken_row, count_items, external_row, head_part, html, item_if, item_some, counts_links, invalid_noun, leaving_noun, links_noun, other_count, other_noun, missing_noun, more_row, page_heading, page_line, page_start, page_total, place_row, redirect_row, script_part, section_start, site_items, style_part, tail_part, title_count, title_noun, optional_items, tools_part, total_item, verdict_start, worst_row};
 ghost use Rattle.check_report.specs.Rows.{line_of};
 
 mod parts;
@@ -135,7 +135,7 @@ fn put_heading(out: &mut Vec<u8>, base: &str, totals: Totals) -> Result<(), NoMe
     put(out, "</h1>\n<ul>\n")
 }
 
-/// The number of broken links; if there are none, that of missing pages, to which no link leads; if there are none, that of invalid links.
+/// The number of broken links; if there are none, that of missing pages, to which no link leads; if there are none, the other count.
 fn title_count(totals: Totals) -> u64
     ensures { result ≡ title_count totals }
 {
@@ -144,7 +144,18 @@ fn title_count(totals: Totals) -> u64
     } else if totals.broken_urls > 0 {
         totals.broken_urls
     } else {
+        other_count(totals)
+    }
+}
+
+/// The number of invalid links; if there are none, that of links that lead out of the site.
+fn other_count(totals: Totals) -> u64
+    ensures { result ≡ other_count totals }
+{
+    if totals.invalid_links > 0 {
         totals.invalid_links
+    } else {
+        totals.leaving_links
     }
 }
 
@@ -157,15 +168,27 @@ fn title_noun(totals: Totals) -> &'static str
     } else if totals.broken_urls > 0 {
         missing_noun(totals.broken_urls)
     } else {
-        invalid_noun(totals.invalid_links)
+        other_noun(totals)
     }
 }
 
-/// Whether the title counts broken links. Otherwise there are none, and it counts missing pages or invalid links.
+/// What the other count counts.
+fn other_noun(totals: Totals) -> &'static str
+    ensures { result.now ≡ other_noun totals }
+{
+    if totals.invalid_links > 0 {
+        invalid_noun(totals.invalid_links)
+    } else {
+        leaving_noun(totals.leaving_links)
+    }
+}
+
+/// Whether the title counts broken links. Otherwise there are none, and it counts missing pages, or the other count.
 fn counts_links(totals: Totals) -> bool
     ensures { result ≡ counts_links totals }
 {
-    totals.broken_links > 0 || totals.broken_urls == 0 && totals.invalid_links == 0
+    totals.broken_links > 0
+        || totals.broken_urls == 0 && totals.invalid_links == 0 && totals.leaving_links == 0
 }
 
 /// The noun after this number of broken links, with a space before it.
@@ -201,7 +224,18 @@ fn invalid_noun(count: u64) -> &'static str
     }
 }
 
-/// The start tags of the heading. Its class is `bad` if something is missing or invalid, otherwise `good`.
+/// The noun after this number of links that lead out of the site, with a space before it.
+fn leaving_noun(count: u64) -> &'static str
+    ensures { result.now ≡ leaving_noun count }
+{
+    if count == 1 {
+        " leaving link"
+    } else {
+        " leaving links"
+    }
+}
+
+/// The start tags of the heading. Its class is `bad` if something is wrong, otherwise `good`.
 fn verdict_start(totals: Totals) -> &'static str
     ensures { result.now ≡ verdict_start totals }
 {
@@ -231,13 +265,15 @@ fn put_site_items(out: &mut Vec<u8>, totals: Totals) -> Result<(), NoMemory>
     put_item(out, "<li>other URLs of pages <b>", totals.aliases)
 }
 
-/// Appends the numbers of missing pages and missing anchors, each as an item, and that of invalid links if it is not 0.
+/// Appends the numbers of missing pages and missing anchors, each as an item, and those of invalid links and of links that lead
+/// out of the site if they are not 0.
 fn put_broken_items(out: &mut Vec<u8>, totals: Totals) -> Result<(), NoMemory>
     ensures { OnOk result (out.new.items ≡ out.old.items ++ broken_items totals) }
 {
     put_item(out, "<li>missing pages <b>", totals.broken_urls)?;
     put_item(out, "<li>missing anchors <b>", totals.broken_anchors)?;
-    put_item_some(out, "<li>invalid links <b>", totals.invalid_links)
+    put_item_some(out, "<li>invalid links <b>", totals.invalid_links)?;
+    put_item_some(out, "<li>leaving links <b>", totals.leaving_links)
 }
 
 /// Appends the numbers of unreached files and of external URLs, each as an item if the report has it.

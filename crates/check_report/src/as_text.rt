@@ -64,7 +64,7 @@ fn put_site_total(out: &mut Vec<u8>, totals: Totals, counts: Counts) -> Result<(
 }
 
 /// Appends the second line of the totals, without its LF. If the report has colour, the number of broken links is red or green. The
-/// number of invalid links is omitted if it is 0.
+/// numbers of invalid links and of links that lead out of the site are omitted if they are 0.
 fn put_broken_total(out: &mut Vec<u8>, totals: Totals, colour: bool) -> Result<(), NoMemory>
     ensures { OnOk result (out.new.items ≡ out.old.items ++ broken_total colour totals) }
 {
@@ -73,17 +73,19 @@ fn put_broken_total(out: &mut Vec<u8>, totals: Totals, colour: bool) -> Result<(
     put_code(out, colour, PLAIN)?;
     put_counted(out, ", missing pages ", totals.broken_urls)?;
     put_counted(out, ", missing anchors ", totals.broken_anchors)?;
-    put_counted_some(out, ", invalid links ", totals.invalid_links)
+    put_counted_some(out, ", invalid links ", totals.invalid_links)?;
+    put_counted_some(out, ", leaving links ", totals.leaving_links)
 }
 
-/// Red if something is missing or invalid, otherwise green.
+/// Red if something is wrong, otherwise green.
 fn verdict(totals: Totals) -> &'static str
     ensures { result.now ≡ verdict totals }
 {
     if is_broken(totals) { RED } else { GREEN }
 }
 
-/// Whether something is missing or invalid. A page at which the check starts can be missing though no link leads to it.
+/// Whether something is missing or invalid, or leads out of the site. A page at which the check starts can be missing though no link
+/// leads to it.
 pub fn is_broken(totals: Totals) -> bool
     ensures { result ≡ is_broken totals }
 {
@@ -91,6 +93,7 @@ pub fn is_broken(totals: Totals) -> bool
         || totals.broken_urls > 0
         || totals.broken_anchors > 0
         || totals.invalid_links > 0
+        || totals.leaving_links > 0
 }
 
 /// Appends an empty line and the title of the section, which is bold if the report has colour.
@@ -183,6 +186,8 @@ fn message(kind: Kind) -> &'static str
         Kind::NotUrl => "not a URL",
         Kind::UnknownScheme => "unknown scheme",
         Kind::LocalFile => "local file",
+        Kind::Leaves => "leaves the folder",
+        Kind::OutsideBase => "outside BASE",
     }
 }
 

@@ -14,6 +14,7 @@ mod put;
 mod row;
 mod value;
 
+pub use as_text::is_broken;
 pub use printing::{print_annotations, print_json, print_page, print_text};
 pub use put::NoMemory;
 pub use value::{

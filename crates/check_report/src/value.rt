@@ -6,7 +6,7 @@ pub struct Findings<'a> {
     /// The name of the site, such as its URL or its folder.
     pub base: &'a str,
     pub totals: Totals,
-    /// The missing pages and anchors, and then the invalid links.
+    /// The missing pages and anchors, then the invalid links, then the links that lead out of the site.
     pub broken: &'a [Broken],
     /// The files with the most broken links, most first. All of them are printed, so a caller passes ten, say.
     pub worst: &'a [FileCount],
@@ -52,8 +52,11 @@ pub struct Totals {
     pub broken_urls: u64,
     /// The missing anchors in pages that exist.
     pub broken_anchors: u64,
-    /// The invalid links: those that are no URL, have an unknown scheme or name a local file.
+    /// The invalid links: those that are no URL, have an unknown scheme or name a local file. A target without locations counts as one.
     pub invalid_links: u64,
+    /// The links that lead out of the site: above the folder, or to the host of BASE and not below BASE. A target without locations
+    /// counts as one.
+    pub leaving_links: u64,
     /// The redirects that pages link to.
     pub moved: u64,
 }
@@ -71,12 +74,16 @@ pub enum Kind {
     UnknownScheme,
     /// The link names a file of the reader's computer.
     LocalFile,
+    /// The link leads above the folder.
+    Leaves,
+    /// The link leads to the host of BASE, and not below BASE.
+    OutsideBase,
 }
 
-/// The target of broken links: a missing page or anchor, or the text of an invalid link.
+/// The target of broken links: a missing page or anchor, the text of an invalid link, or a URL that is not below the top.
 #[derive(Drop)]
 pub struct Broken {
-    /// The page, or the page followed by `#` and the anchor, or the invalid link.
+    /// The page, or the page followed by `#` and the anchor, or the invalid link, or the path or URL outside the site.
     pub target: String,
     pub kind: Kind,
     /// The number of pages that link to it.

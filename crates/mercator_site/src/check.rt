@@ -123,7 +123,7 @@ pub fn report_of_pages<R: Threads + Wait + Sync, B: FileBytes + Sync>(
     let crawls = crawl_site(rt, alloc, &site.pages, files, &top, settings)?;
     let results = own_results(&top, crawls.whole.result.pages());
     let others = others_listed(alloc, settings.report.external, &top, results)?;
-    let input = input_of(&site, &crawls, settings);
+    let input = input_of(&site, &crawls, results, settings);
     let checked = check_site(rt, alloc, results, files, bytes, input)?;
     let report = report_of(alloc, &checked, &others, settings)?;
     // Not freed: the process exits soon, and the system frees everything faster.
@@ -175,6 +175,7 @@ fn crawl_reached<R: Threads + Wait + Sync>(
 fn input_of<'a>(
     site: &'a LinkedSite,
     crawls: &'a SiteCrawls,
+    results: &'a [PageResult],
     settings: CheckSettings<'a>,
 ) -> CheckInput<'a>
     ensures front { result.front.now ≡ settings.entry.front.now }
@@ -189,6 +190,8 @@ fn input_of<'a>(
         anchors: site.anchors.as_slice(),
         places: site.places.as_slice(),
         invalid: settings.invalid,
+        found: results,
+        rooted: false,
         reached: reached_in(crawls, settings.report.lists.unreached),
     }
 }

@@ -1,7 +1,9 @@
 -- The rows of the results that found no page are those of all results.
-use Rattle.site_check.proofs.Prelude.{common_steps, ◌≡◌, ◌∙◌, ℕ, Bool, true, false, not, List, [], ◌∷◌, ◌++◌, map, filter, refl, ap, arith, cases_Bool, flat_map, Page, PageResult, Linked, is_unfound, linked, linked_at, result_at, rows_at, rows_with, broken_of, ways_at, ways_with, redirects_of, missing_texts, text_at}
+use Rattle.site_check.proofs.Prelude.{common_steps, ◌≡◌, ◌∙◌, ℕ, Bool, true, false, not, List, [], ◌∷◌, ◌++◌, map, filter, refl, sym, ap, arith, cases_Bool, flat_map, Page, PageResult, Linked, is_unfound, linked, linked_at, result_at, rows_at, rows_with, broken_of, ways_at, ways_with, redirects_of, missing_texts, text_at, SiteFiles, leaving_of, outside_at, outside_linked, outside_of, outside_row, outside_texts, row_at, shown_at}
 use Rattle.crawl_pages.proofs.StableSort.{filter-kept, filter-dropped}
-use Rattle.crawl_pages.specs.Pages.{is_found}
+use Rattle.crawl_pages.specs.Pages.{is_found, is_missing}
+use Rattle.site_check.specs.Broken.{Row}
+use Rattle.site_check.specs.declared.leaving.Outside.{Outside}
 use Rattle.site_check.specs.declared.linked.Linked as code
 
 -- what fails the test gives nothing
@@ -22,6 +24,9 @@ flat_linked p g h none results = flat_mapped g h (filter p results) ∙ flat_fil
 
 no_row : (front : List ℕ) (entries : List (List ℕ)) (url : List ℕ) (pages : ℕ) (page : Page) → is_found page ≡ true → rows_at front entries url pages page ≡ []
 no_row front entries url pages page found = grind (arith, common_steps)
+
+pub no_row_there : (front : List ℕ) (entries : List (List ℕ)) (url : List ℕ) (pages : ℕ) (page : Page) → is_missing page ≡ false → rows_at front entries url pages page ≡ []
+no_row_there front entries url pages page there = grind (arith, common_steps)
 
 no_way : (front url : List ℕ) (pages : ℕ) (page : Page) → is_found page ≡ true → ways_at front url pages page ≡ []
 no_way front url pages page found = grind (arith, common_steps)
@@ -52,3 +57,24 @@ results_back results (r ∷ rs) = ap (λ l. r ∷ l) (results_back results rs)
 pub texts_of_all : (front : List ℕ) (results : List PageResult) (all : List code.Linked) → map linked_at all ≡ map (linked results) (filter is_unfound results) →
     missing_texts front results ≡ flat_map (text_at front) (map result_at all)
 texts_of_all front results all is = grind (arith, common_steps, flat_filter, no_text, found_page, results_at, results_back)
+
+-- ---- the links that lead out of the site
+
+mapped : {X Y Z : Type 0} (g : Y → Z) (h : X → Y) (xs : List X) → map g (map h xs) ≡ map (λ x. g (h x)) xs
+mapped g h [] = refl
+mapped g h (x ∷ xs) = ap (λ l. g (h x) ∷ l) (mapped g h xs)
+
+pub leaving_of_all : (entries : List (List ℕ)) (rooted : Bool) (files : SiteFiles) (results found : List PageResult) (outside : List Outside) → map outside_at outside ≡ outside_linked rooted files results found →
+    flat_map (row_at entries) (map outside_at outside) ≡ leaving_of entries rooted files results found
+leaving_of_all entries rooted files results found outside are =
+    let out = outside_of files found in
+    ap (flat_map (row_at entries)) are ∙ flat_mapped (row_at entries) (outside_row rooted files) (map (linked results) out)
+    ∙ flat_mapped (λ l. row_at entries (outside_row rooted files l)) (linked results) out
+
+pub outside_texts_of_all : (rooted : Bool) (files : SiteFiles) (results found : List PageResult) (outside : List Outside) → map outside_at outside ≡ outside_linked rooted files results found →
+    outside_texts rooted files found ≡ map shown_at outside
+outside_texts_of_all rooted files results found outside are =
+    let text : Row → List ℕ = λ w. w.text in
+    let out = outside_of files found in
+    sym (mapped text (outside_row rooted files) (map (linked results) out) ∙ mapped (λ l. text (outside_row rooted files l)) (linked results) out)
+    ∙ sym (ap (map text) are) ∙ mapped text outside_at outside

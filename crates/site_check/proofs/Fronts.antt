@@ -20,9 +20,6 @@ no_front front url lacks =
     ]
 
 -- what references point to passes if they do
-any_pointed : {X : Type 0} (p : X → Bool) (xs : List (Bor X)) → list_any p (pointed xs) ≡ list_any (λ x. p x.now) xs
+pub any_pointed : {X : Type 0} (p : X → Bool) (xs : List (Bor X)) → list_any p (pointed xs) ≡ list_any (λ x. p x.now) xs
 any_pointed p [] = refl
 any_pointed p (x ∷ xs) = ap (λ b. p x.now || b) (any_pointed p xs)
-
-pub any_both : {X : Type 0} (p : X → Bool) (xs ys : List (Bor X)) → list_any p (pointed xs ++ pointed ys) ≡ (list_any (λ x. p x.now) xs || list_any (λ x. p x.now) ys)
-any_both p xs ys = list_any-append p (pointed xs) (pointed ys) ∙ (λ i. any_pointed p xs i || any_pointed p ys i)

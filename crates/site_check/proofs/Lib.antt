@@ -4,4 +4,6 @@ pub mod Counting
 pub mod Fronts
 pub mod LeadsFound
 pub mod Namesakes
+pub mod Outsides
 pub mod TextsOnce
+pub mod Verdicts

@@ -50,20 +50,20 @@ same_once test (text ∷ more) = same_after test text more
 
 -- ---- what entries match
 
-same_both : (test : List ℕ → Bool) (front texts other back : List (List ℕ)) → list_any test texts ≡ list_any test other →
-    list_any test ((front ++ texts) ++ back) ≡ list_any test ((front ++ other) ++ back)
-same_both test front texts other back same = grind (arith, common_steps, list_any-append)
+same_both : (test : List ℕ → Bool) (front texts other back more : List (List ℕ)) → list_any test texts ≡ list_any test other →
+    list_any test (((front ++ texts) ++ back) ++ more) ≡ list_any test (((front ++ other) ++ back) ++ more)
+same_both test front texts other back more same = grind (arith, common_steps, list_any-append)
 
 -- the texts, each once, are as good as all
-pub are_unused : (front : List ℕ) (entries : List (List ℕ)) (results : List PageResult) (parts texts all told pages unused_ones : List (List ℕ)) →
-    told ≡ not_ignored entries parts → unused_ones ≡ unused entries ((parts ++ texts) ++ pages) → missing_texts front results ≡ pages → AreTexts all texts →
-    AreUnused front entries results all told unused_ones
-are_unused front entries results parts texts all told pages unused_ones are exact missing each =
+pub are_unused : (front : List ℕ) (entries : List (List ℕ)) (results : List PageResult) (anchors texts all others shown told pages unused_ones : List (List ℕ)) →
+    told ≡ not_ignored entries anchors → unused_ones ≡ unused entries (((anchors ++ texts) ++ shown) ++ pages) → missing_texts front results ≡ pages → AreTexts all texts → others ≡ shown →
+    AreUnused front entries results all others told unused_ones
+are_unused front entries results anchors texts all others shown told pages unused_ones are exact missing each same =
     record {
-      parts = parts;
-      told_parts = are;
-      exact = exact ∙ (λ i. filter (λ entry. not (same_both (begins entry) parts texts all pages (each.same (begins entry)) i)) entries)
-          ∙ ap (λ m. unused entries ((parts ++ all) ++ m)) (sym missing);
+      anchors = anchors;
+      told_anchors = are;
+      exact = exact ∙ (λ i. filter (λ entry. not (same_both (begins entry) anchors texts all shown pages (each.same (begins entry)) i)) entries)
+          ∙ (λ i. unused entries (((anchors ++ all) ++ sym same i) ++ sym missing i));
     }
 
 -- ---- in ascending order

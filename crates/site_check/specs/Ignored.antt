@@ -46,23 +46,23 @@ abbrev pub missing_texts : List ℕ → List PageResult → List (List ℕ)
 missing_texts front results = flat_map (text_at front) results
 
 -- the texts of the anchors in rows
-abbrev pub if_part : Kind → List ℕ → List (List ℕ)
-if_part NoAnchor text = text ∷ []
-if_part _ text = []
+abbrev pub if_anchor : Kind → List ℕ → List (List ℕ)
+if_anchor NoAnchor text = text ∷ []
+if_anchor _ text = []
 
-abbrev pub part_in : Broken → List (List ℕ)
-part_in b = if_part b.kind (string_bytes b.target)
+abbrev pub anchor_in : Broken → List (List ℕ)
+anchor_in b = if_anchor b.kind (string_bytes b.target)
 
-abbrev pub parts_in : List Broken → List (List ℕ)
-parts_in all = flat_map part_in all
+abbrev pub anchors_in : List Broken → List (List ℕ)
+anchors_in all = flat_map anchor_in all
 
 -- the texts that no entry matches
 abbrev pub not_ignored : List (List ℕ) → List (List ℕ) → List (List ℕ)
 not_ignored entries texts = filter (λ text. not (is_ignored entries text)) texts
 
--- of all parts that pages lack those are listed that no entry matches; the entries match none of them, no page that is not there, and
--- no invalid link with one of the texts `links`
-pub record AreUnused (front : List ℕ) (entries : List (List ℕ)) (results : List PageResult) (links told all : List (List ℕ)) : Type 0 where
-  pub parts : List (List ℕ)
-  pub told_parts : told ≡ not_ignored entries parts
-  pub exact : all ≡ unused entries ((parts ++ links) ++ missing_texts front results)
+-- of all anchors that documents lack those are listed that no entry matches; the entries match none of them, no invalid link with one of
+-- the texts `links`, none of the other texts, and no page that is not there
+pub record AreUnused (front : List ℕ) (entries : List (List ℕ)) (results : List PageResult) (links others told all : List (List ℕ)) : Type 0 where
+  pub anchors : List (List ℕ)
+  pub told_anchors : told ≡ not_ignored entries anchors
+  pub exact : all ≡ unused entries (((anchors ++ links) ++ others) ++ missing_texts front results)

@@ -77,6 +77,8 @@ if_invalid row.NoAnchor text = []
 if_invalid row.NotUrl text = record { text = text; kind = Some NotUrl } ∷ []
 if_invalid row.UnknownScheme text = record { text = text; kind = Some UnknownScheme } ∷ []
 if_invalid row.LocalFile text = record { text = text; kind = Some LocalFile } ∷ []
+if_invalid row.Leaves text = []
+if_invalid row.OutsideBase text = []
 
 abbrev pub invalid_row_in : Broken → List InvalidRow
 invalid_row_in b = if_invalid b.kind (string_bytes b.target)

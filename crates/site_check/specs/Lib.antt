@@ -1,9 +1,10 @@
 pub mod Aliases
+pub mod Anchors
 pub mod Broken
 pub mod Ignored
 pub mod Invalid
 pub mod Leads
+pub mod Leaving
 pub mod Names
-pub mod Parts
 pub mod Told
 pub mod Totals

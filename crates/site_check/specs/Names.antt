@@ -3,13 +3,14 @@ use Rattle.std.specs.Prelude.{◌≡◌, ◌==◌, ℕ, Bool, ◌&&◌, if◌the
 use Rattle.std.specs.Borrow.{Bor}
 use Rattle.std.specs.BTreeMap.{BTreeMap, get_by}
 use Rattle.std.specs.Cmp.Lexicographic.{slice_cmp}
-use Rattle.std.specs.List.{list_any, before_first}
+use Rattle.std.specs.List.{list_any}
 use Rattle.std.specs.Ordering.{nat_cmp}
 use Rattle.check_report.specs.declared.value.Broken.{Broken}
 use Rattle.check_report.specs.declared.value.Kind.{Kind}
 use Rattle.check_report.specs.declared.value.Kind.TheVariants.{NoPage}
 use Rattle.check_report.specs.declared.value.Place.{Place}
 use Rattle.site_files.specs.Files.{PageFile, name_at, pages_of}
+use Rattle.site_files.specs.Server.{before_query}
 use Rattle.site_files.specs.declared.files.SiteFiles.{SiteFiles}
 use Rattle.site_check.specs.Broken.{shown}
 use Rattle.site_check.specs.declared.names.Namesakes.{Namesakes}
@@ -23,13 +24,9 @@ abbrev pub behind_slashes : List ℕ → List ℕ
 behind_slashes [] = []
 behind_slashes (b ∷ bs) = if list_any is_slash (b ∷ bs) then behind_slashes bs else b ∷ bs
 
--- what is before the query
-abbrev pub path_of : List ℕ → List ℕ
-path_of url = before_first (λ b. b == 63) url
-
 -- the file name that a URL ends with
 abbrev pub last_part : List ℕ → List ℕ
-last_part url = behind_slashes (path_of url)
+last_part url = behind_slashes (before_query url)
 
 -- the page is made of a file, and its URL ends with this name
 abbrev pub has_name : List ℕ → PageFile → Bool

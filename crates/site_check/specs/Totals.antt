@@ -1,8 +1,8 @@
 -- The totals of a check: of a crawl's results, and of the rows that are printed.
-use Rattle.std.specs.Prelude.{ℕ, ◌+◌, ◌-◌, ◌^◌, Bool, true, false, ◌||◌, if◌then◌else◌, List, length, count_by, sum_by, min}
+use Rattle.std.specs.Prelude.{ℕ, ◌+◌, ◌-◌, ◌^◌, Bool, true, false, ◌||◌, if◌then◌else◌, List, length, count_by, sum_by, min, max}
 use Rattle.check_report.specs.declared.value.Broken.{Broken}
 use Rattle.check_report.specs.declared.value.Kind.{Kind}
-use Rattle.check_report.specs.declared.value.Kind.TheVariants.{NoPage, NoAnchor, NotUrl, UnknownScheme, LocalFile}
+use Rattle.check_report.specs.declared.value.Kind.TheVariants.{NoPage, NoAnchor, NotUrl, UnknownScheme, LocalFile, Leaves, OutsideBase}
 use Rattle.check_report.specs.declared.value.Redirect.{Redirect}
 use Rattle.check_report.specs.declared.value.Totals.{Totals}
 use Rattle.crawl_pages.specs.declared.page.Page.{Page}
@@ -28,24 +28,29 @@ own_links is_other r = if is_own_page is_other r then links_in r.page else 0
 abbrev pub link_count : (List ℕ → Bool) → List PageResult → ℕ
 link_count is_other results = capped (sum_by (own_links is_other) results)
 
--- a row is that of a missing page, of a missing anchor, or of an invalid link
+-- a row is that of a missing page, of a missing anchor, of an invalid link, or of a URL outside the site
 
 abbrev pub is_page : Kind → Bool
 is_page NoPage = true
 is_page _ = false
 
-abbrev pub is_part : Kind → Bool
-is_part NoAnchor = true
-is_part _ = false
+abbrev pub is_anchor : Kind → Bool
+is_anchor NoAnchor = true
+is_anchor _ = false
 
 abbrev pub is_missing : Kind → Bool
-is_missing kind = is_page kind || is_part kind
+is_missing kind = is_page kind || is_anchor kind
 
 abbrev pub is_invalid : Kind → Bool
 is_invalid NotUrl = true
 is_invalid UnknownScheme = true
 is_invalid LocalFile = true
 is_invalid _ = false
+
+abbrev pub is_leaving : Kind → Bool
+is_leaving Leaves = true
+is_leaving OutsideBase = true
+is_leaving _ = false
 
 -- the number of locations of such rows
 abbrev pub places_if : (Kind → Bool) → Broken → ℕ
@@ -54,8 +59,15 @@ places_if test b = if test b.kind then length b.places.items else 0
 abbrev pub place_count : (Kind → Bool) → List Broken → ℕ
 place_count test broken = capped (sum_by (places_if test) broken)
 
-abbrev pub part_count : List Broken → ℕ
-part_count broken = count_by (λ b. is_part b.kind) broken
+-- the same, if a row without locations is one of one link
+abbrev pub links_if : (Kind → Bool) → Broken → ℕ
+links_if test b = if test b.kind then max (length b.places.items) 1 else 0
+
+abbrev pub row_links : (Kind → Bool) → List Broken → ℕ
+row_links test broken = capped (sum_by (links_if test) broken)
+
+abbrev pub anchor_count : List Broken → ℕ
+anchor_count broken = count_by (λ b. is_anchor b.kind) broken
 
 abbrev pub url_count : List Broken → ℕ
 url_count broken = count_by (λ b. is_page b.kind) broken
@@ -69,8 +81,9 @@ totals_by is_other results broken redirects =
       links = link_count is_other results;
       broken_links = place_count is_missing broken;
       broken_urls = url_count broken;
-      broken_anchors = part_count broken;
-      invalid_links = place_count is_invalid broken;
+      broken_anchors = anchor_count broken;
+      invalid_links = row_links is_invalid broken;
+      leaving_links = row_links is_leaving broken;
       moved = length redirects;
     }
 

@@ -1,16 +1,16 @@
 //! Links to anchors that documents do not have.
 ghost use Rattle.std.specs.Prelude.{◌≡◌, ◌∷◌, ◌++◌, ℕ, List, [], IfOk, OnOk, map, string_bytes};
 ghost use Rattle.site_files.specs.declared.files.SiteFiles.{SiteFiles};
-ghost use Rattle.site_check.specs.Ignored.{not_ignored, parts_in};
+ghost use Rattle.site_check.specs.Ignored.{not_ignored, anchors_in};
 ghost use Rattle.site_check.specs.Invalid.{invalid_rows_in};
+ghost use Rattle.site_check.specs.Leaving.{leaving_in};
 ghost use Rattle.site_check.specs.Names.{AreNamed};
-ghost use Rattle.site_check.specs.Parts.{part_text};
+ghost use Rattle.site_check.specs.Anchors.{anchor_text};
 ghost use Rattle.site_check.specs.Told.{rows_in};
 
 use crate::ignored::is_ignored;
 use crate::located::take_places;
-use crate::missing_anchors::{Anchor, AnchorCount, MissingAnchorLink, sort_by_anchor};
-use crate::shown::shown;
+use crate::missing_anchors::{Anchor, MissingAnchor, MissingAnchorLink, sort_by_anchor};
 use crate::site_pages::{DocumentUrl, Pages};
 use check_report::{Broken, Kind, Place};
 use crawl_pages::NoMemory;
@@ -112,7 +112,7 @@ fn push_link<'a>(
 ) -> Result<(), NoMemory> {
     let DocumentUrl { url, number } = links.document;
     let fragment = link.fragment;
-    if !pages.has_part(alloc, number, fragment)? {
+    if !pages.has_anchor(alloc, number, fragment)? {
         all.push(MissingAnchorLink {
             anchor: Anchor { url, fragment },
             source: links.source,
@@ -122,84 +122,50 @@ fn push_link<'a>(
     Ok(())
 }
 
-/// An anchor that a document lacks, as it is printed.
-#[derive(Drop)]
-pub(crate) struct MissingAnchor {
-    pub(crate) text: String,
-    /// The number of pages that link to it.
-    pages: u64,
-    /// Its number among all anchors that documents lack.
-    number: usize,
-}
-
-/// The anchors that documents lack, in order.
-pub(crate) fn told_parts(
-    alloc: Global,
-    front: &str,
-    lacking: &[AnchorCount<'_>],
-) -> Result<Vec<MissingAnchor>, NoMemory> {
-    let mut parts = Vec::new(alloc);
-    for (number, lacked) in lacking.iter().enumerate() {
-        parts.push(MissingAnchor {
-            text: part_text(alloc, front, lacked.anchor)?,
-            pages: lacked.pages,
-            number,
-        })?;
-    }
-    Ok(parts)
-}
-
-/// The text of an anchor: the URL of its document, `#`, and the fragment.
-fn part_text(alloc: Global, front: &str, anchor: Anchor<'_>) -> Result<String, NoMemory> {
-    let mut text = String::from_str(alloc, shown(front, anchor.url.as_str()))?;
-    text.push('#')?;
-    let fragment = String::from_utf8_lossy(alloc, anchor.fragment)?;
-    text.push_str(fragment.as_str())?;
-    Ok(text)
-}
-
 /// The rows of these anchors, in order, without those that an entry matches. `found` has the locations of the links to each, after those
-/// of the links to each of `pages` pages.
-pub(crate) fn part_rows(
+/// of `before` other targets.
+pub(crate) fn anchor_rows(
     alloc: Global,
     ignores: &[String],
-    parts: &[MissingAnchor],
-    pages: usize,
+    anchors: &[MissingAnchor],
+    before: usize,
     found: &mut [Vec<Place>],
 ) -> Result<Vec<Broken>, NoMemory>
     ensures rows { IfOk result (λ all. rows_in all.items ≡ []) }
     ensures names { IfOk result (λ all. (front : List ℕ) (files : SiteFiles) → AreNamed front files all.items) }
-    ensures parts { IfOk result (λ all. parts_in all.items ≡ not_ignored (map string_bytes ignores.now) (map part_text parts.now)) }
+    ensures anchors { IfOk result (λ all. anchors_in all.items ≡ not_ignored (map string_bytes ignores.now) (map anchor_text anchors.now)) }
     ensures invalid { IfOk result (λ all. invalid_rows_in all.items ≡ []) }
+    ensures leaving { IfOk result (λ all. leaving_in all.items ≡ []) }
 {
     let mut all = Vec::new(alloc);
-    for part in parts {
-        let places = take_places(alloc, found, pages.saturating_add(part.number));
-        push_part(ignores, part, places, &mut all)?;
+    for (index, anchor) in anchors.iter().enumerate() {
+        let places = take_places(alloc, found, before.saturating_add(index));
+        push_anchor(ignores, anchor, places, &mut all)?;
     }
     Ok(all)
 }
 
 /// Appends the row of an anchor, unless an entry matches it.
-fn push_part(
+fn push_anchor(
     ignores: &[String],
-    part: &MissingAnchor,
+    anchor: &MissingAnchor,
     places: Vec<Place>,
     all: &mut Vec<Broken>,
 ) -> Result<(), NoMemory>
     ensures rows { OnOk result (rows_in all.new.items ≡ rows_in all.old.items) }
     ensures names { OnOk result ((front : List ℕ) (files : SiteFiles) → AreNamed front files all.old.items → AreNamed front files all.new.items) }
-    ensures parts { OnOk result (parts_in all.new.items ≡ parts_in all.old.items ++ not_ignored (map string_bytes ignores.now) (part_text part.now ∷ [])) }
+    ensures anchors { OnOk result (anchors_in all.new.items ≡ anchors_in all.old.items ++ not_ignored (map string_bytes ignores.now) (anchor_text anchor.now ∷ [])) }
     ensures invalid { OnOk result (invalid_rows_in all.new.items ≡ invalid_rows_in all.old.items) }
+    ensures leaving { OnOk result (leaving_in all.new.items ≡ leaving_in all.old.items) }
 {
-    if is_ignored(ignores, part.text.as_str()) {
+    if is_ignored(ignores, anchor.text.as_str()) {
         return Ok(());
     }
-    let target = part.text.clone()?;
+    let target = anchor.text.clone()?;
     all.push(Broken {
         target,
         kind: Kind::NoAnchor,
-        pages: part.pages,
+        pages: anchor.pages,
         places,
         same_name: None,
     })?;

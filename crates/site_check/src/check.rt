@@ -1,25 +1,28 @@
 //! Checks the results of a crawl of a site's saved web.
-ghost use Rattle.std.specs.Prelude.{◌≡◌, ◌==◌, ◌++◌, ℕ, List, IfOk, OnOk, map, not, string_bytes, length, flat_map};
+ghost use Rattle.std.specs.Prelude.{◌≡◌, ◌==◌, ◌++◌, ℕ, List, [], true, IfOk, OnOk, map, not, string_bytes, length, flat_map};
+ghost use Rattle.check_report.specs.Text.{is_broken};
 ghost use Rattle.crawl_sources.specs.Tallies.{pointed};
 ghost use Rattle.crawl_pages.specs.declared.page.PageResult.{PageResult};
 ghost use Rattle.site_files.specs.declared.files.SiteFiles.{SiteFiles};
 ghost use Rattle.site_check.specs.Broken.{broken_of, linked_at, redirects_of, result_at, rows_with, ways_with};
-ghost use Rattle.site_check.specs.Ignored.{AreUnused, missing_texts, not_ignored, parts_in, text_at, unused};
+ghost use Rattle.site_check.specs.Ignored.{AreUnused, missing_texts, not_ignored, anchors_in, text_at, unused};
 ghost use Rattle.site_check.specs.Invalid.{AreInvalid, AreTexts, invalid_rows_in, row_of, text_of, texts_if};
 ghost use Rattle.site_check.specs.Leads.{indices_in, leads_from, number_in, targets_of};
+ghost use Rattle.site_check.specs.Leaving.{leaving_in, leaving_of, outside_at, outside_linked, outside_texts, row_at, shown_at};
 ghost use Rattle.site_check.specs.Names.{AreNamed};
-ghost use Rattle.site_check.specs.Parts.{part_text};
+ghost use Rattle.site_check.specs.Anchors.{anchor_text};
 ghost use Rattle.site_check.specs.Told.{rows_in, way_of};
 ghost use Rattle.site_check.specs.Totals.{totals_of};
 
-use crate::anchors::{MissingAnchor, part_rows, told_parts};
+use crate::anchors::anchor_rows;
 use crate::ignored::unused;
 use crate::input::CheckInput;
 use crate::invalid::{InvalidText, invalid_rows, invalid_texts};
 use crate::leads::{Lead, Maps, link_indices, targets};
+use crate::leaving::{Outside, outside_leads, outside_rows, outside_urls};
 use crate::linked::{Linked, linked_results};
 use crate::located::{TargetPlace, by_number};
-use crate::missing_anchors::{AnchorCounts, lacking, sort_by_anchor};
+use crate::missing_anchors::{MissingAnchor, missing_anchors, sort_by_anchor};
 use crate::names::{Named, names_of};
 use crate::rows::{broken_rows, redirect_rows};
 use crate::shown::shown;
@@ -28,7 +31,7 @@ use crate::threads::{lacked_by, leads_by, locate_by};
 use crate::totals::totals_of;
 use crate::unreached::unreached;
 use crate::worst::worst;
-use check_report::{Broken, FileCount, Findings, Redirect, Totals};
+use check_report::{Broken, FileCount, Findings, Place, Redirect, Totals, is_broken};
 use crawl_pages::{NoMemory, PageResult};
 use site_files::{FileBytes, SiteFiles};
 use std::alloc::Global;
@@ -69,9 +72,9 @@ impl Checked {
 
     /// Whether something is broken.
     pub fn is_broken(&self) -> bool
-        ensures { result ≡ not (length self.now.broken.items == 0) }
+        ensures { result ≡ is_broken self.now.totals }
     {
-        !self.broken.as_slice().is_empty()
+        is_broken(self.totals)
     }
 }
 
@@ -81,7 +84,7 @@ impl Checked {
 ///
 /// # Errors
 /// Out of memory.
-#[tactic(auto, using(crate::proofs::AllRows::rows_of_all, crate::proofs::AllRows::ways_of_all, crate::proofs::AllRows::texts_of_all))]
+#[tactic(auto, using(crate::proofs::AllRows::rows_of_all, crate::proofs::AllRows::ways_of_all, crate::proofs::AllRows::texts_of_all, crate::proofs::AllRows::leaving_of_all, crate::proofs::AllRows::outside_texts_of_all))]
 pub fn check_site<'f, R: Threads + Sync, B: FileBytes + Sync>(
     rt: &R,
     alloc: Global,
@@ -100,10 +103,15 @@ pub fn check_site<'f, R: Threads + Sync, B: FileBytes + Sync>(
     // The rows of invalid links are those of the texts of such links in found pages, each text once and in ascending order, without
     // those that an entry matches, if the check lists invalid links.
     ensures invalid { IfOk result (λ checked. AreInvalid (map string_bytes input.entry.ignores.now) (texts_if input.entry.invalid input.entry.places.now results.now) (invalid_rows_in checked.broken.items)) }
-    // The unused entries are those that match no missing page, no missing anchor and no invalid link.
-    ensures ignores { IfOk result (λ checked. AreUnused input.entry.front.now (map string_bytes input.entry.ignores.now) results.now (texts_if input.entry.invalid input.entry.places.now results.now) (parts_in checked.broken.items) (map string_bytes checked.unused_ignores.items)) }
+    // The rows of links that lead out of the site are those of the missing results on the site's host that are not below its top, in
+    // order, each with the number of results that link to it, without those that an entry matches.
+    ensures leaving { IfOk result (λ checked. leaving_in checked.broken.items ≡ leaving_of (map string_bytes input.entry.ignores.now) input.entry.rooted files.now results.now input.entry.found.now) }
+    // The unused entries are those that match no missing page, no missing anchor, no invalid link and no link that leads out of the site.
+    ensures ignores { IfOk result (λ checked. AreUnused input.entry.front.now (map string_bytes input.entry.ignores.now) results.now (texts_if input.entry.invalid input.entry.places.now results.now) (outside_texts input.entry.rooted files.now input.entry.found.now) (anchors_in checked.broken.items) (map string_bytes checked.unused_ignores.items)) }
     // The totals count the pages at files' own URLs, their links, the pages at aliases, and the rows.
     ensures totals { IfOk result (λ checked. checked.totals ≡ totals_of input.entry.aliases.now results.now checked.broken.items checked.redirects.items) }
+    // By the totals something is broken if and only if there is a row.
+    ensures verdict { IfOk result (λ checked. is_broken checked.totals ≡ not (length checked.broken.items == 0)) }
 {
     let documents = documents_of(alloc, files, input.anchors)?;
     let site = site_of(results, files, input, documents.as_slice());
@@ -135,17 +143,18 @@ fn site_of<'p, 'f>(
     }
 }
 
-/// The links whose locations are reported.
+/// What is broken, and the links whose locations are reported.
 #[derive(Drop)]
 struct BrokenLinks<'p> {
-    lacking: AnchorCounts<'p>,
+    anchors: Vec<MissingAnchor>,
     invalid: Vec<InvalidText<'p>>,
-    /// The links to missing pages and missing anchors and the invalid links, page by page, in the order of a page's text.
+    outside: Vec<Outside<'p>>,
+    /// The links to missing pages and missing anchors, the invalid links, and the links that lead out of the site, page by page, in the
+    /// order of a page's text. Those that an entry of the ignore list matches are left out.
     leads: Vec<Lead>,
 }
 
-/// Finds the links to missing pages and the links to missing anchors, at the same time if a thread can be started, and then the invalid
-/// links. Ignored pages do not count.
+/// Finds the links to missing pages and missing anchors, the invalid links, and the links that lead out of the site.
 fn sought_by<'p, R: Threads + Sync>(
     rt: &R,
     alloc: Global,
@@ -153,7 +162,8 @@ fn sought_by<'p, R: Threads + Sync>(
     site: Site<'p, '_>,
     linked: &[Linked<'p>],
 ) -> Result<BrokenLinks<'p>, NoMemory>
-    ensures { IfOk result (λ sought. AreTexts (texts_if input.entry.invalid input.entry.places.now site.entry.pages.results.now) (map text_of sought.invalid.items)) }
+    ensures invalid { IfOk result (λ sought. AreTexts (texts_if input.entry.invalid input.entry.places.now site.entry.pages.results.now) (map text_of sought.invalid.items)) }
+    ensures outside { IfOk result (λ sought. map outside_at sought.outside.items ≡ outside_linked input.entry.rooted site.entry.files.now site.entry.pages.results.now input.entry.found.now) }
 {
     let threads = site.files.threads().max(1);
     let (leads, lacked) = join(
@@ -164,13 +174,19 @@ fn sought_by<'p, R: Threads + Sync>(
     let mut leads = leads?;
     let mut lacked = lacked?;
     sort_by_anchor(&mut lacked)?;
-    let lacking = lacking(alloc, lacked, linked.len(), &mut leads)?;
-    let before = linked.len().saturating_add(lacking.len());
+    let before = linked.len();
+    let anchors = missing_anchors(alloc, input, lacked.as_slice(), before, &mut leads)?;
+    let before = before.saturating_add(anchors.len());
     let invalid = invalid_texts(alloc, input, site.pages.results, before, &mut leads)?;
+    let before = before.saturating_add(invalid.len());
+    let outside = outside_urls(rt, alloc, input, site)?;
+    let mut leaving = outside_leads(rt, alloc, input, site, outside.as_slice(), before)?;
+    leads.append(&mut leaving)?;
     leads.sort_by(|a: &Lead, b: &Lead| (a.source, a.index).cmp(&(b.source, b.index)))?;
     Ok(BrokenLinks {
-        lacking,
+        anchors,
         invalid,
+        outside,
         leads,
     })
 }
@@ -186,6 +202,10 @@ fn page_leads<'p, R: Threads + Sync>(
     ensures { IfOk result (λ all. all.items ≡ leads_from (number_in (targets_of input.entry.front.now (map string_bytes input.entry.ignores.now) (map result_at linked.now))) (indices_in input.entry.places.now) 0 site.entry.pages.results.now) }
 {
     let numbers = targets(alloc, input.front, input.ignores, linked)?;
+    let is_empty = numbers.is_empty();
+    if is_empty {
+        return Ok(Vec::new(alloc));
+    }
     let indices = link_indices(alloc, input.places)?;
     let maps = Maps {
         numbers: &numbers,
@@ -208,14 +228,15 @@ fn told(
     ensures redirects { IfOk result (λ checked. map way_of checked.redirects.items ≡ flat_map (ways_with input.entry.front.now) (map linked_at linked.now)) }
     ensures names { IfOk result (λ checked. AreNamed input.entry.front.now site.entry.files.now checked.broken.items) }
     ensures invalid { IfOk result (λ checked. invalid_rows_in checked.broken.items ≡ map row_of (not_ignored (map string_bytes input.entry.ignores.now) (map text_of sought.now.invalid.items))) }
-    ensures ignores { IfOk result (λ checked. (results : List PageResult) (links : List (List ℕ)) → missing_texts input.entry.front.now results ≡ flat_map (text_at input.entry.front.now) (map result_at linked.now) → AreTexts links (map text_of sought.now.invalid.items) → AreUnused input.entry.front.now (map string_bytes input.entry.ignores.now) results links (parts_in checked.broken.items) (map string_bytes checked.unused_ignores.items)) }
+    ensures leaving { IfOk result (λ checked. leaving_in checked.broken.items ≡ flat_map (row_at (map string_bytes input.entry.ignores.now)) (map outside_at sought.now.outside.items)) }
+    ensures ignores { IfOk result (λ checked. (results : List PageResult) (links others : List (List ℕ)) → missing_texts input.entry.front.now results ≡ flat_map (text_at input.entry.front.now) (map result_at linked.now) → AreTexts links (map text_of sought.now.invalid.items) → others ≡ map shown_at sought.now.outside.items → AreUnused input.entry.front.now (map string_bytes input.entry.ignores.now) results links others (anchors_in checked.broken.items) (map string_bytes checked.unused_ignores.items)) }
     ensures totals { IfOk result (λ checked. checked.totals ≡ totals_of input.entry.aliases.now site.entry.pages.results.now checked.broken.items checked.redirects.items) }
 {
     let results = site.pages.results;
-    let parts = told_parts(alloc, input.front, &sought.lacking)?;
     let others = Others {
-        parts: parts.as_slice(),
+        anchors: sought.anchors.as_slice(),
         invalid: sought.invalid.as_slice(),
+        outside: sought.outside.as_slice(),
     };
     let broken = broken_all(alloc, input, site, linked, others, places)?;
     let redirects = redirect_rows(alloc, input.front, linked)?;
@@ -251,11 +272,12 @@ fn unreached_files(
     }
 }
 
-/// What is reported after the missing pages: the missing anchors, and the texts of invalid links.
+/// What is reported after the missing pages: the missing anchors, the texts of invalid links, and the URLs outside the site.
 #[derive(Clone, Copy)]
 struct Others<'a> {
-    parts: &'a [MissingAnchor],
+    anchors: &'a [MissingAnchor],
     invalid: &'a [InvalidText<'a>],
+    outside: &'a [Outside<'a>],
 }
 
 /// The rows of the missing pages and of these others, with the locations of the links to them.
@@ -269,43 +291,69 @@ fn broken_all(
 ) -> Result<Vec<Broken>, NoMemory>
     ensures rows { IfOk result (λ all. rows_in all.items ≡ flat_map (rows_with input.entry.front.now (map string_bytes input.entry.ignores.now)) (map linked_at linked.now)) }
     ensures names { IfOk result (λ all. AreNamed input.entry.front.now site.entry.files.now all.items) }
-    ensures parts { IfOk result (λ all. parts_in all.items ≡ not_ignored (map string_bytes input.entry.ignores.now) (map part_text others.entry.parts.now)) }
+    ensures anchors { IfOk result (λ all. anchors_in all.items ≡ not_ignored (map string_bytes input.entry.ignores.now) (map anchor_text others.entry.anchors.now)) }
     ensures invalid { IfOk result (λ all. invalid_rows_in all.items ≡ map row_of (not_ignored (map string_bytes input.entry.ignores.now) (map text_of others.entry.invalid.now))) }
+    ensures leaving { IfOk result (λ all. leaving_in all.items ≡ flat_map (row_at (map string_bytes input.entry.ignores.now)) (map outside_at others.entry.outside.now)) }
 {
     let pages = linked.len();
-    let links = pages.saturating_add(others.parts.len());
-    let mut found = by_number(alloc, places, links.saturating_add(others.invalid.len()))?;
+    let anchors = pages.saturating_add(others.anchors.len());
+    let invalid = anchors.saturating_add(others.invalid.len());
+    let mut found = by_number(alloc, places, invalid.saturating_add(others.outside.len()))?;
+    let found = found.as_mut_slice();
+    let rows = missing_rows(alloc, input, site, linked, found)?;
+    let anchor = anchor_rows(alloc, input.ignores, others.anchors, pages, found)?;
+    let text = invalid_rows(alloc, input.ignores, others.invalid, anchors, found)?;
+    let outside = outside_rows(alloc, input, others.outside, invalid, found)?;
+    let rows = joined(rows, anchor)?;
+    let rows = joined(rows, text)?;
+    joined(rows, outside)
+}
+
+/// The rows of the missing pages. Which pages have a file name is only looked up if a page is missing.
+fn missing_rows(
+    alloc: Global,
+    input: CheckInput<'_>,
+    site: Site<'_, '_>,
+    linked: &[Linked<'_>],
+    found: &mut [Vec<Place>],
+) -> Result<Vec<Broken>, NoMemory>
+    ensures rows { IfOk result (λ all. rows_in all.items ≡ flat_map (rows_with input.entry.front.now (map string_bytes input.entry.ignores.now)) (map linked_at linked.now)) }
+    ensures names { IfOk result (λ all. AreNamed input.entry.front.now site.entry.files.now all.items) }
+    ensures anchors { IfOk result (λ all. anchors_in all.items ≡ []) }
+    ensures invalid { IfOk result (λ all. invalid_rows_in all.items ≡ []) }
+    ensures leaving { IfOk result (λ all. leaving_in all.items ≡ []) }
+{
+    if has_none(linked) {
+        return Ok(Vec::new(alloc));
+    }
     let names = names_of(alloc, site.files)?;
     let named = Named {
         files: site.files,
         names: &names,
     };
-    let rows = broken_rows(alloc, input, named, linked, found.as_mut_slice())?;
-    let parts = part_rows(
-        alloc,
-        input.ignores,
-        others.parts,
-        pages,
-        found.as_mut_slice(),
-    )?;
-    let invalid = invalid_rows(
-        alloc,
-        input.ignores,
-        others.invalid,
-        links,
-        found.as_mut_slice(),
-    )?;
-    let others = joined(parts, invalid)?;
-    let all = joined(rows, others)?;
-    Ok(all)
+    broken_rows(alloc, input, named, linked, found)
+}
+
+/// Whether none of the results is that of a missing page, so that there is no row.
+#[tactic(auto, using(crate::proofs::AllRows::no_row_there))]
+fn has_none(linked: &[Linked<'_>]) -> bool
+    ensures { result ≡ true → (front : List ℕ) (entries : List (List ℕ)) → flat_map (rows_with front entries) (map linked_at linked.now) ≡ [] }
+{
+    for one in linked {
+        if one.result.page.is_missing() {
+            return false;
+        }
+    }
+    true
 }
 
 /// Some rows, and then others that are not of pages.
 fn joined(rows: Vec<Broken>, others: Vec<Broken>) -> Result<Vec<Broken>, NoMemory>
     ensures rows { IfOk result (λ all. rows_in all.items ≡ rows_in rows.items ++ rows_in others.items) }
     ensures names { IfOk result (λ all. (front : List ℕ) (files : SiteFiles) → AreNamed front files rows.items → AreNamed front files others.items → AreNamed front files all.items) }
-    ensures parts { IfOk result (λ all. parts_in all.items ≡ parts_in rows.items ++ parts_in others.items) }
+    ensures anchors { IfOk result (λ all. anchors_in all.items ≡ anchors_in rows.items ++ anchors_in others.items) }
     ensures invalid { IfOk result (λ all. invalid_rows_in all.items ≡ invalid_rows_in rows.items ++ invalid_rows_in others.items) }
+    ensures leaving { IfOk result (λ all. leaving_in all.items ≡ leaving_in rows.items ++ leaving_in others.items) }
 {
     let mut all = rows;
     let mut others = others;
@@ -320,28 +368,29 @@ fn unused_entries(
     linked: &[Linked<'_>],
     others: Others<'_>,
 ) -> Result<Vec<String>, NoMemory>
-    ensures { IfOk result (λ all. map string_bytes all.items ≡ unused (map string_bytes input.entry.ignores.now) ((map part_text others.entry.parts.now ++ map text_of others.entry.invalid.now) ++ flat_map (text_at input.entry.front.now) (map result_at linked.now))) }
+    ensures { IfOk result (λ all. map string_bytes all.items ≡ unused (map string_bytes input.entry.ignores.now) (((map anchor_text others.entry.anchors.now ++ map text_of others.entry.invalid.now) ++ map shown_at others.entry.outside.now) ++ flat_map (text_at input.entry.front.now) (map result_at linked.now))) }
 {
-    let mut texts = texts_of(alloc, others.parts)?;
-    push_texts(others.invalid, &mut texts)?;
-    let pages = missing_texts(alloc, input.front, linked)?;
-    let all = unused(alloc, input.ignores, texts.as_slice(), pages.as_slice())?;
+    let mut texts = anchor_texts(alloc, others.anchors)?;
+    push_invalid(others.invalid, &mut texts)?;
+    push_outside(others.outside, &mut texts)?;
+    push_missing(input.front, linked, &mut texts)?;
+    let all = unused(alloc, input.ignores, texts.as_slice())?;
     Ok(all)
 }
 
 /// Returns the text of each anchor, as it is printed.
-fn texts_of(alloc: Global, parts: &[MissingAnchor]) -> Result<Vec<&str>, NoMemory>
-    ensures { IfOk result (λ texts. pointed texts.items ≡ map part_text parts.now) }
+fn anchor_texts(alloc: Global, anchors: &[MissingAnchor]) -> Result<Vec<&str>, NoMemory>
+    ensures { IfOk result (λ texts. pointed texts.items ≡ map anchor_text anchors.now) }
 {
     let mut texts = Vec::new(alloc);
-    for part in parts {
-        texts.push(part.text.as_str())?;
+    for anchor in anchors {
+        texts.push(anchor.text.as_str())?;
     }
     Ok(texts)
 }
 
 /// Appends the texts of invalid links.
-fn push_texts<'a>(invalid: &[InvalidText<'a>], texts: &mut Vec<&'a str>) -> Result<(), NoMemory>
+fn push_invalid<'a>(invalid: &[InvalidText<'a>], texts: &mut Vec<&'a str>) -> Result<(), NoMemory>
     ensures { OnOk result (pointed texts.new.items ≡ pointed texts.old.items ++ map text_of invalid.now) }
 {
     for one in invalid {
@@ -350,19 +399,28 @@ fn push_texts<'a>(invalid: &[InvalidText<'a>], texts: &mut Vec<&'a str>) -> Resu
     Ok(())
 }
 
-/// The missing pages, as they are printed.
-fn missing_texts<'a>(
-    alloc: Global,
+/// Appends the URLs outside the site, as they are printed.
+fn push_outside<'a>(outside: &'a [Outside<'_>], texts: &mut Vec<&'a str>) -> Result<(), NoMemory>
+    ensures { OnOk result (pointed texts.new.items ≡ pointed texts.old.items ++ map shown_at outside.now) }
+{
+    for one in outside {
+        texts.push(one.text.as_str())?;
+    }
+    Ok(())
+}
+
+/// Appends the missing pages, as they are printed.
+fn push_missing<'a>(
     front: &str,
     linked: &[Linked<'a>],
-) -> Result<Vec<&'a str>, NoMemory>
-    ensures { IfOk result (λ texts. pointed texts.items ≡ flat_map (text_at front.now) (map result_at linked.now)) }
+    texts: &mut Vec<&'a str>,
+) -> Result<(), NoMemory>
+    ensures { OnOk result (pointed texts.new.items ≡ pointed texts.old.items ++ flat_map (text_at front.now) (map result_at linked.now)) }
 {
-    let mut texts = Vec::new(alloc);
     for one in linked {
         if one.result.page.is_missing() {
             texts.push(shown(front, one.result.url.as_str()))?;
         }
     }
-    Ok(texts)
+    Ok(())
 }

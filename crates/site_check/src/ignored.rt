@@ -74,7 +74,7 @@ pub(crate) fn is_ignored(entries: &[String], text: &str) -> bool
     ensures { result ≡ is_ignored (map string_bytes entries.now) text.now }
 {
     let mut rest = entries;
-    'entries: while let Some((entry, more)) = parts(rest) {
+    'entries: while let Some((entry, more)) = split_entry(rest) {
         if begins(entry.as_str(), text) {
             return true;
         }
@@ -84,7 +84,7 @@ pub(crate) fn is_ignored(entries: &[String], text: &str) -> bool
 }
 
 /// Splits the first entry from the others. `None` if there are no entries.
-fn parts(entries: &[String]) -> Option<(&String, &[String])>
+fn split_entry(entries: &[String]) -> Option<(&String, &[String])>
     ensures { MatchOption result (entries.now ≡ []) (λ x. entries.now ≡ x.0.now ∷ x.1.now) }
 {
     match entries.split_first() {
@@ -93,38 +93,26 @@ fn parts(entries: &[String]) -> Option<(&String, &[String])>
     }
 }
 
-/// The entries that match none of these anchors and none of these pages.
+/// The entries that match none of these texts.
 pub(crate) fn unused(
     alloc: Global,
     entries: &[String],
-    parts: &[&str],
-    pages: &[&str],
+    texts: &[&str],
 ) -> Result<Vec<String>, NoMemory>
-    ensures { IfOk result (λ all. map string_bytes all.items ≡ unused (map string_bytes entries.now) (pointed parts.now ++ pointed pages.now)) }
+    ensures { IfOk result (λ all. map string_bytes all.items ≡ unused (map string_bytes entries.now) (pointed texts.now)) }
 {
     let mut all = Vec::new(alloc);
     for entry in entries {
-        if !is_used(entry.as_str(), parts, pages) {
+        if !is_used(entry.as_str(), texts) {
             all.push(entry.clone()?)?;
         }
     }
     Ok(all)
 }
 
-/// Whether the entry matches one of these anchors or pages.
-#[tactic(auto, using(crate::proofs::Fronts::any_both))]
-fn is_used(entry: &str, parts: &[&str], pages: &[&str]) -> bool
-    ensures { result ≡ list_any (begins entry.now) (pointed parts.now ++ pointed pages.now) }
-{
-    if begins_any(entry, parts) {
-        return true;
-    }
-    begins_any(entry, pages)
-}
-
-/// Whether the entry matches one of the texts.
-fn begins_any(entry: &str, texts: &[&str]) -> bool
-    ensures { result ≡ list_any (λ text. begins entry.now text.now) texts.now }
+/// Whether the entry matches one of these texts.
+fn is_used(entry: &str, texts: &[&str]) -> bool
+    ensures { result ≡ list_any (begins entry.now) (pointed texts.now) }
 {
     for text in texts {
         if begins(entry, text) {

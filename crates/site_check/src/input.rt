@@ -19,6 +19,10 @@ pub struct CheckInput<'a> {
     pub places: &'a [LinkPlaces],
     /// Whether invalid links are reported.
     pub invalid: bool,
+    /// All results of the crawl, below the top or not. Those of the site's host that are not below it are reported.
+    pub found: &'a [PageResult],
+    /// Whether the URL of the folder is not known, so that a URL above the top is shown as a path from the top.
+    pub rooted: bool,
     /// The results of a search from the site's starts, if the files that it does not reach are listed.
     pub reached: Option<&'a [PageResult]>,
 }

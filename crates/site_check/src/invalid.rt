@@ -4,8 +4,9 @@ ghost use Rattle.std.specs.Cmp.Lexicographic.{slice_cmp};
 ghost use Rattle.std.specs.List.{list_any};
 ghost use Rattle.std.specs.Ordering.{nat_cmp};
 ghost use Rattle.site_files.specs.declared.files.SiteFiles.{SiteFiles};
-ghost use Rattle.site_check.specs.Ignored.{not_ignored, parts_in};
+ghost use Rattle.site_check.specs.Ignored.{not_ignored, anchors_in};
 ghost use Rattle.site_check.specs.Invalid.{AreTexts, invalid_at, invalid_in, invalid_rows_in, invalid_with, link_text, link_texts, next_text, once, rises, row_kind, row_of, text_of, texts_if, texts_in};
+ghost use Rattle.site_check.specs.Leaving.{leaving_in};
 ghost use Rattle.site_check.specs.Names.{AreNamed};
 ghost use Rattle.site_check.specs.Told.{rows_in};
 
@@ -75,8 +76,8 @@ impl<'a> InvalidText<'a> {
 /// The invalid links of the documents that have any, by the documents' URLs.
 type InvalidLinks<'a> = BTreeMap<HashedText<'a>, &'a [InvalidLink]>;
 
-/// The texts of the invalid links in found pages, each once and in ascending order, if the check lists invalid links. Appends the links to `leads`;
-/// the first text has the number `before`.
+/// The texts of the invalid links in found pages, each once and in ascending order, if the check lists invalid links. Appends
+/// those with a text that no entry matches to `leads`; the first text has the number `before`.
 #[tactic(auto, using(crate::proofs::TextsOnce::no_texts))]
 pub(crate) fn invalid_texts<'a>(
     alloc: Global,
@@ -91,7 +92,7 @@ pub(crate) fn invalid_texts<'a>(
         return Ok(Vec::new(alloc));
     }
     let links = sorted_links(alloc, input.places, results)?;
-    let texts = distinct_texts(alloc, links.as_slice(), before, leads)?;
+    let texts = distinct_texts(alloc, input.ignores, links.as_slice(), before, leads)?;
     Ok(texts)
 }
 
@@ -177,10 +178,12 @@ fn push_links<'a>(
     Ok(())
 }
 
-/// The texts of these links, which are sorted by them, each once. Appends the links to `leads`; the first text has the number `before`.
+/// The texts of these links, which are sorted by them, each once. Appends the links with a text that no entry matches to `leads`; the
+/// first text has the number `before`.
 #[tactic(auto, using(crate::proofs::TextsOnce::link_end))]
 fn distinct_texts<'a>(
     alloc: Global,
+    ignores: &[String],
     links: &[PageLink<'a>],
     before: usize,
     leads: &mut Vec<Lead>,
@@ -193,10 +196,23 @@ fn distinct_texts<'a>(
         let behind = links.get(index..).unwrap_or(&[]);
         add_text(*link, last, behind, &mut texts)?;
         let number = before.saturating_add(texts.len().saturating_sub(1));
-        leads.push(link.lead_to(number))?;
+        push_lead(ignores, *link, number, leads)?;
         last = Some(*link);
     }
     Ok(texts)
+}
+
+/// Appends a link as one to the target with this number, unless an entry matches its text.
+fn push_lead(
+    ignores: &[String],
+    link: PageLink<'_>,
+    number: usize,
+    leads: &mut Vec<Lead>,
+) -> Result<(), NoMemory> {
+    if !is_ignored(ignores, link.text()) {
+        leads.push(link.lead_to(number))?;
+    }
+    Ok(())
 }
 
 /// Appends the text of a link, unless the last link has the same one. `links` begins with the link, and has all with its text.
@@ -246,8 +262,9 @@ pub(crate) fn invalid_rows(
 ) -> Result<Vec<Broken>, NoMemory>
     ensures rows { IfOk result (λ all. rows_in all.items ≡ []) }
     ensures names { IfOk result (λ all. (front : List ℕ) (files : SiteFiles) → AreNamed front files all.items) }
-    ensures parts { IfOk result (λ all. parts_in all.items ≡ []) }
+    ensures anchors { IfOk result (λ all. anchors_in all.items ≡ []) }
     ensures invalid { IfOk result (λ all. invalid_rows_in all.items ≡ map row_of (not_ignored (map string_bytes ignores.now) (map text_of texts.now))) }
+    ensures leaving { IfOk result (λ all. leaving_in all.items ≡ []) }
 {
     let mut all = Vec::new(alloc);
     for (index, text) in texts.iter().enumerate() {
@@ -266,8 +283,9 @@ fn push_row(
 ) -> Result<(), NoMemory>
     ensures rows { OnOk result (rows_in all.new.items ≡ rows_in all.old.items) }
     ensures names { OnOk result ((front : List ℕ) (files : SiteFiles) → AreNamed front files all.old.items → AreNamed front files all.new.items) }
-    ensures parts { OnOk result (parts_in all.new.items ≡ parts_in all.old.items) }
+    ensures anchors { OnOk result (anchors_in all.new.items ≡ anchors_in all.old.items) }
     ensures invalid { OnOk result (invalid_rows_in all.new.items ≡ invalid_rows_in all.old.items ++ map row_of (not_ignored (map string_bytes ignores.now) (text_of text.entry ∷ []))) }
+    ensures leaving { OnOk result (leaving_in all.new.items ≡ leaving_in all.old.items) }
 {
     let link = text.link;
     if is_ignored(ignores, link.text.as_str()) {

@@ -8,6 +8,7 @@ mod ignored;
 mod input;
 mod invalid;
 mod leads;
+mod leaving;
 mod linked;
 mod located;
 mod missing_anchors;

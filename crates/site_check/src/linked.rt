@@ -32,8 +32,21 @@ pub(crate) fn linked_results<'a, R: Threads + Sync>(
     ensures { IfOk result (λ all. map linked_at all.items ≡ map (linked results.now) (filter is_unfound results.now)) }
 {
     let unfound = unfound(alloc, results)?;
+    linked_among(rt, alloc, unfound.as_slice(), results, count)
+}
+
+/// Each of these, with how many of the results have its URL among their links. These are counted by threads if there may be four.
+pub(crate) fn linked_among<'a, R: Threads + Sync>(
+    rt: &R,
+    alloc: Global,
+    unfound: &[&'a PageResult],
+    results: &'a [PageResult],
+    count: usize,
+) -> Result<Vec<Linked<'a>>, NoMemory>
+    ensures { IfOk result (λ all. map linked_at all.items ≡ map (linked results.now) (pointed unfound.now)) }
+{
     let halvings = if count < 4 { 0 } else { HALVINGS };
-    linked_in(rt, alloc, halvings, unfound.as_slice(), results)
+    linked_in(rt, alloc, halvings, unfound, results)
 }
 
 /// Each of these, with how many of some results have its URL among their links, by a thread for each half of the results, as often

@@ -108,36 +108,32 @@ pub(crate) fn every_place<B: FileBytes>(
         if let Some(file) = file_of(site, *leads) {
             body.clear();
             if bytes.read(file, &mut body)?.is_none() {
-                push_places(alloc, *leads, file.name, body.as_slice(), &mut all)?;
+                push_places(alloc, *leads, file, body.as_slice(), &mut all)?;
             }
         }
     }
     Ok(all)
 }
 
-/// The file of the page that has these links.
+/// The file of the page that has these links, if it can have links.
 fn file_of<'f>(site: Site<'_, 'f>, leads: &[Lead]) -> Option<SiteFile<'f>> {
     let one = site.pages.results.get(leads.first()?.source)?;
-    let index = site.files.file_of(one.url.as_str())?;
-    Some(SiteFile {
-        index,
-        name: site.files.name(index)?,
-        kind: FileKind::Html,
-    })
+    site.files.document(site.files.find(one.url.as_str())?)
 }
 
-/// Appends the locations of these links in the contents of the file with this name.
+/// Appends the locations of these links in the contents of this file.
 fn push_places(
     alloc: Global,
     leads: &[Lead],
-    name: &str,
+    file: SiteFile<'_>,
     body: &[u8],
     all: &mut Vec<TargetPlace>,
 ) -> Result<(), NoMemory> {
     let indices = indices_of(alloc, leads)?;
-    let places = text_places(alloc, body, false, indices.as_slice())?;
+    let is_style_sheet = file.kind == FileKind::Style;
+    let places = text_places(alloc, body, is_style_sheet, indices.as_slice())?;
     for (lead, place) in leads.iter().zip(places.iter()) {
-        let place = place_in(alloc, name, *place)?;
+        let place = place_in(alloc, file.name, *place)?;
         let number = lead.number;
         all.push(TargetPlace { number, place })?;
     }

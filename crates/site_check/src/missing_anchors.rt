@@ -1,7 +1,10 @@
 //! Links to anchors that documents lack, anchor by anchor.
 ghost use Rattle.std.specs.Prelude.{IsPermutation};
 
+use crate::ignored::is_ignored;
+use crate::input::CheckInput;
 use crate::leads::Lead;
+use crate::shown::shown;
 use crawl_keys::CanonUrl;
 use crawl_pages::NoMemory;
 use std::alloc::Global;
@@ -46,70 +49,112 @@ pub(crate) fn sort_by_anchor(all: &mut Vec<MissingAnchorLink<'_>>) -> Result<(),
     all.sort_by(|a: &MissingAnchorLink<'_>, b: &MissingAnchorLink<'_>| a.order(b))
 }
 
-/// An anchor that a document lacks, and the number of results that link to it.
-#[derive(Clone, Copy)]
-pub(crate) struct AnchorCount<'a> {
-    pub(crate) anchor: Anchor<'a>,
+/// An anchor that a document lacks, as it is printed.
+#[derive(Drop)]
+pub(crate) struct MissingAnchor {
+    /// The URL of its document, `#`, and the fragment.
+    pub(crate) text: String,
+    /// The number of pages that link to it.
     pub(crate) pages: u64,
 }
 
-/// The anchors that documents lack and links lead to, in order.
-pub(crate) type AnchorCounts<'a> = Vec<AnchorCount<'a>>;
-
-/// The anchors of these links, which are sorted by them, with the number of results that link to each. Appends the links to `leads`;
-/// the first anchor has the number `before`.
-pub(crate) fn lacking<'a>(
+/// The anchors of these links, which are sorted by them, in order. Appends the links to anchors that no entry matches to `leads`; the
+/// first anchor has the number `before`.
+pub(crate) fn missing_anchors(
     alloc: Global,
-    all: Vec<MissingAnchorLink<'a>>,
+    input: CheckInput<'_>,
+    links: &[MissingAnchorLink<'_>],
     before: usize,
     leads: &mut Vec<Lead>,
-) -> Result<AnchorCounts<'a>, NoMemory> {
-    let mut lacking = Vec::new(alloc);
-    let mut last = None;
-    for lacked in &all {
-        count_anchor(&mut lacking, *lacked, last)?;
-        last = Some(*lacked);
-        let number = before.saturating_add(lacking.len().saturating_sub(1));
-        push_lead(*lacked, number, leads)?;
+) -> Result<Vec<MissingAnchor>, NoMemory> {
+    let mut anchors = Vec::new(alloc);
+    let mut begin: usize = 0;
+    for _ in 0..links.len() {
+        let end = anchor_end(links, begin);
+        if end <= begin {
+            break;
+        }
+        let own = links.get(begin..end).unwrap_or(&[]);
+        let number = before.saturating_add(anchors.len());
+        let anchor = missing_anchor(alloc, input, own, number, leads)?;
+        anchors.push(anchor)?;
+        begin = end;
     }
-    Ok(lacking)
+    Ok(anchors)
 }
 
-/// Appends a link to the anchor with this number, if the position of the link is known.
-fn push_lead(
-    lacked: MissingAnchorLink<'_>,
+/// The index after the last link that leads to the same anchor as the link at this index.
+fn anchor_end(links: &[MissingAnchorLink<'_>], begin: usize) -> usize {
+    let behind = links.get(begin..).unwrap_or(&[]);
+    let Some(first) = behind.first() else {
+        return begin;
+    };
+    let count = behind
+        .iter()
+        .position(|link| !link.anchor.order(&first.anchor).is_eq())
+        .unwrap_or(behind.len());
+    begin.saturating_add(count)
+}
+
+/// The anchor of these links. Appends them to `leads`, as links to the target with this number, if no entry matches the anchor.
+fn missing_anchor(
+    alloc: Global,
+    input: CheckInput<'_>,
+    links: &[MissingAnchorLink<'_>],
+    number: usize,
+    leads: &mut Vec<Lead>,
+) -> Result<MissingAnchor, NoMemory> {
+    let text = anchor_text(alloc, input.front, links)?;
+    if !is_ignored(input.ignores, text.as_str()) {
+        push_leads(links, number, leads)?;
+    }
+    let pages = page_count(links);
+    Ok(MissingAnchor { text, pages })
+}
+
+/// The text of the anchor to which these links lead, as it is printed.
+fn anchor_text(
+    alloc: Global,
+    front: &str,
+    links: &[MissingAnchorLink<'_>],
+) -> Result<String, NoMemory> {
+    let mut text = String::new(alloc);
+    if let Some(link) = links.first() {
+        text.push_str(shown(front, link.anchor.url.as_str()))?;
+        text.push('#')?;
+        let fragment = String::from_utf8_lossy(alloc, link.anchor.fragment)?;
+        text.push_str(fragment.as_str())?;
+    }
+    Ok(text)
+}
+
+/// Appends the links whose positions are known as links to the target with this number.
+fn push_leads(
+    links: &[MissingAnchorLink<'_>],
     number: usize,
     leads: &mut Vec<Lead>,
 ) -> Result<(), NoMemory> {
-    if let Some(index) = lacked.index {
-        leads.push(Lead {
-            source: lacked.source,
-            index: index as usize,
-            number,
-        })?;
+    for link in links {
+        if let Some(index) = link.index {
+            leads.push(Lead {
+                source: link.source,
+                index: index as usize,
+                number,
+            })?;
+        }
     }
     Ok(())
 }
 
-/// Counts the result of a link, unless the last link was one of the same result to the same anchor.
-fn count_anchor<'a>(
-    lacking: &mut AnchorCounts<'a>,
-    lacked: MissingAnchorLink<'a>,
-    last: Option<MissingAnchorLink<'a>>,
-) -> Result<(), NoMemory> {
-    let anchor = lacked.anchor;
-    match last {
-        Some(last) if last.anchor.order(&anchor).is_eq() => {
-            if last.source != lacked.source
-                && let Some(known) = lacking.last_mut()
-            {
-                known.pages = known.pages.saturating_add(1);
-            }
-            Ok(())
+/// The number of results that have one of these links, which are in the order of the results.
+fn page_count(links: &[MissingAnchorLink<'_>]) -> u64 {
+    let mut count: u64 = 0;
+    let mut last = None;
+    for link in links {
+        if last != Some(link.source) {
+            count = count.saturating_add(1);
         }
-        _ => {
-            lacking.push(AnchorCount { anchor, pages: 1 })?;
-            Ok(())
-        }
+        last = Some(link.source);
     }
+    count
 }

@@ -1,12 +1,12 @@
 //! Pages with the file name of one that is not there.
 ghost use Rattle.std.specs.Prelude.{◌≡◌, ◌∷◌, [], ℕ, List, None, Some, filter, if◌then◌else◌, IfOk, MatchOption, OnOk, slice_get, string_bytes, unwrap_or, option_copied, option_map, bytes_eq};
 ghost use Rattle.site_files.specs.Files.{PageFile, page_file, pages_of};
-ghost use Rattle.site_check.specs.Names.{AreNames, behind_slashes, has_name, is_slash, known_at, known_with, last_part, named_at, only_told, page_told, path_of, same_name, stands_in};
+ghost use Rattle.site_check.specs.Names.{AreNames, behind_slashes, has_name, is_slash, known_at, known_with, last_part, named_at, only_told, page_told, same_name, stands_in};
 
 use crate::shown::shown;
 use check_report::Place;
 use crawl_pages::NoMemory;
-use site_files::SiteFiles;
+use site_files::{SiteFiles, before_query};
 use std::alloc::Global;
 use std::collections::BTreeMap;
 
@@ -197,17 +197,7 @@ fn stands_in(file: &str, places: &[Place]) -> bool
 fn last_part(url: &str) -> &[u8]
     ensures { result.now ≡ last_part url.now }
 {
-    behind_slashes(path_of(url).as_bytes())
-}
-
-/// Returns the URL up to its first `?`, or all of it if it has no query.
-fn path_of(url: &str) -> &str
-    ensures { result.now ≡ path_of url.now }
-{
-    match url.split_once('?') {
-        Some((path, _)) => path,
-        None => url,
-    }
+    behind_slashes(before_query(url).as_bytes())
 }
 
 /// What follows the last slash, or all.

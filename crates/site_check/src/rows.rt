@@ -1,8 +1,9 @@
 //! The rows of a check: pages that are not there, and pages that moved.
 ghost use Rattle.std.specs.Prelude.{◌≡◌, ◌++◌, ◌∷◌, [], OnOk, IfOk, map, string_bytes, flat_map, option_map};
 ghost use Rattle.site_check.specs.Broken.{linked_at, row_for, rows_with, shown, ways_with};
-ghost use Rattle.site_check.specs.Ignored.{parts_in};
+ghost use Rattle.site_check.specs.Ignored.{anchors_in};
 ghost use Rattle.site_check.specs.Invalid.{invalid_rows_in};
+ghost use Rattle.site_check.specs.Leaving.{leaving_in};
 ghost use Rattle.site_check.specs.Names.{AreNamed, AreNames};
 ghost use Rattle.site_check.specs.Told.{rows_in, way_of};
 
@@ -28,8 +29,9 @@ pub(crate) fn broken_rows<'n>(
     requires { AreNames named.files.now named.names.now }
     ensures rows { IfOk result (λ all. rows_in all.items ≡ flat_map (rows_with input.entry.front.now (map string_bytes input.entry.ignores.now)) (map linked_at linked.now)) }
     ensures names { IfOk result (λ all. AreNamed input.entry.front.now named.entry.files.now all.items) }
-    ensures parts { IfOk result (λ all. parts_in all.items ≡ []) }
+    ensures anchors { IfOk result (λ all. anchors_in all.items ≡ []) }
     ensures invalid { IfOk result (λ all. invalid_rows_in all.items ≡ []) }
+    ensures leaving { IfOk result (λ all. leaving_in all.items ≡ []) }
 {
     let mut all = Vec::new(alloc);
     for (index, one) in linked.iter().enumerate() {
@@ -51,8 +53,9 @@ fn push_row<'n>(
     requires { AreNames named.files.now named.names.now }
     ensures rows { OnOk result (rows_in all.new.items ≡ rows_in all.old.items ++ rows_with input.entry.front.now (map string_bytes input.entry.ignores.now) (linked_at one.now)) }
     ensures names { OnOk result (AreNamed input.entry.front.now named.entry.files.now all.old.items → AreNamed input.entry.front.now named.entry.files.now all.new.items) }
-    ensures parts { OnOk result (parts_in all.new.items ≡ parts_in all.old.items) }
+    ensures anchors { OnOk result (anchors_in all.new.items ≡ anchors_in all.old.items) }
     ensures invalid { OnOk result (invalid_rows_in all.new.items ≡ invalid_rows_in all.old.items) }
+    ensures leaving { OnOk result (leaving_in all.new.items ≡ leaving_in all.old.items) }
 {
     match one.result.page {
         Page::Missing => {
@@ -76,8 +79,9 @@ fn push_missing<'n>(
     requires { AreNames named.files.now named.names.now }
     ensures rows { OnOk result (rows_in all.new.items ≡ rows_in all.old.items ++ row_for (map string_bytes input.entry.ignores.now) told.entry.0.now told.entry.1) }
     ensures names { OnOk result (AreNamed input.entry.front.now named.entry.files.now all.old.items → AreNamed input.entry.front.now named.entry.files.now all.new.items) }
-    ensures parts { OnOk result (parts_in all.new.items ≡ parts_in all.old.items) }
+    ensures anchors { OnOk result (anchors_in all.new.items ≡ anchors_in all.old.items) }
     ensures invalid { OnOk result (invalid_rows_in all.new.items ≡ invalid_rows_in all.old.items) }
+    ensures leaving { OnOk result (leaving_in all.new.items ≡ leaving_in all.old.items) }
 {
     let (text, pages) = told;
     if is_ignored(input.ignores, text) {

@@ -143,7 +143,7 @@ impl<'a> Pages<'a> {
     }
 
     /// Whether a document has the anchor that a fragment names, or there is no such document.
-    pub(crate) fn has_part(
+    pub(crate) fn has_anchor(
         &self,
         alloc: Global,
         number: usize,

@@ -1,4 +1,4 @@
-//! Pages gone through by threads. Of n, the k-th takes each page whose number leaves k, if it does not take a part.
+//! Passes over pages by several threads. Each thread takes a chunk of the pages, or of n threads the k-th takes each n-th page.
 ghost use Rattle.std.specs.Prelude.{◌≡◌, ◌++◌, ◌+◌, ◌<◌, ◌^◌, IfOk, length};
 ghost use Rattle.site_check.specs.Leads.{indices_at, leads_from, number_at};
 
@@ -15,20 +15,20 @@ use std::thread;
 use std::thread::{Threads, join};
 
 /// How often results are halved: the number of threads is two to this power. They are more than run at the same time, since the
-/// pages of one part can have more links than those of another.
+/// pages of one chunk can have more links than those of another.
 const HALVINGS: u32 = 4;
 
 /// Some of the results, the first of which has this number, and what their links are looked for in.
 #[derive(Clone, Copy)]
-struct Part<'a, 'p> {
+struct Chunk<'a, 'p> {
     maps: Maps<'a, 'p>,
     start: usize,
     results: &'p [PageResult],
 }
 
-impl<'a, 'p> Part<'a, 'p> {
+impl<'a, 'p> Chunk<'a, 'p> {
     /// Half of the results each, about.
-    fn halves(self) -> (Part<'a, 'p>, Part<'a, 'p>)
+    fn halves(self) -> (Chunk<'a, 'p>, Chunk<'a, 'p>)
         ensures maps { (result.0.maps ≡ self.entry.maps) × (result.1.maps ≡ self.entry.maps) }
         ensures results { self.entry.results.now ≡ result.0.results.now ++ result.1.results.now }
         ensures front { result.0.start ≡ self.entry.start }
@@ -39,12 +39,12 @@ impl<'a, 'p> Part<'a, 'p> {
         let half = self.results.len() / 2;
         let (front, back) = self.results.split_at(half);
         (
-            Part {
+            Chunk {
                 maps,
                 start,
                 results: front,
             },
-            Part {
+            Chunk {
                 maps,
                 start: start.saturating_add(half),
                 results: back,
@@ -54,7 +54,6 @@ impl<'a, 'p> Part<'a, 'p> {
 }
 
 /// The links of results that lead to targets, by threads if there may be four.
-#[tactic(auto, using(crate::proofs::LeadsFound::no_leads, crate::proofs::LeadsFound::none_at))]
 pub(crate) fn leads_by<'p, R: Threads + Sync>(
     rt: &R,
     alloc: Global,
@@ -64,39 +63,35 @@ pub(crate) fn leads_by<'p, R: Threads + Sync>(
 ) -> Result<Vec<Lead>, NoMemory>
     ensures { IfOk result (λ all. all.items ≡ leads_from (number_at maps.entry.numbers.now) (indices_at maps.entry.indices.now) 0 results.now) }
 {
-    let is_empty = maps.numbers.is_empty();
-    if is_empty {
-        return Ok(Vec::new(alloc));
-    }
     let halvings = if count < 4 { 0 } else { HALVINGS };
-    let part = Part {
+    let chunk = Chunk {
         maps,
         start: 0,
         results,
     };
-    leads_of_part(rt, alloc, halvings, part)
+    leads_of_chunk(rt, alloc, halvings, chunk)
 }
 
 /// Those of a chunk, by a thread for each half of it, as often as it is halved. If none can be started this one reads both.
-fn leads_of_part<R: Threads + Sync>(
+fn leads_of_chunk<R: Threads + Sync>(
     rt: &R,
     alloc: Global,
     halvings: u32,
-    part: Part<'_, '_>,
+    chunk: Chunk<'_, '_>,
 ) -> Result<Vec<Lead>, NoMemory>
-    ensures { part.entry.start + length part.entry.results.now < 2 ^ 64 → IfOk result (λ all. all.items ≡ leads_from (number_at part.entry.maps.numbers.now) (indices_at part.entry.maps.indices.now) part.entry.start part.entry.results.now) }
+    ensures { chunk.entry.start + length chunk.entry.results.now < 2 ^ 64 → IfOk result (λ all. all.items ≡ leads_from (number_at chunk.entry.maps.numbers.now) (indices_at chunk.entry.maps.indices.now) chunk.entry.start chunk.entry.results.now) }
 {
     if halvings == 0 {
-        return leads_from(alloc, part.maps, part.start, part.results);
+        return leads_from(alloc, chunk.maps, chunk.start, chunk.results);
     }
     let fewer = halvings - 1;
-    let (front, back) = part.halves();
+    let (front, back) = chunk.halves();
     let of_front = move || -> Result<Vec<Lead>, NoMemory>
         ensures { front.entry.start + length front.entry.results.now < 2 ^ 64 → IfOk result (λ all. all.items ≡ leads_from (number_at front.entry.maps.numbers.now) (indices_at front.entry.maps.indices.now) front.entry.start front.entry.results.now) }
-    { leads_of_part(rt, alloc, fewer, front) };
+    { leads_of_chunk(rt, alloc, fewer, front) };
     let of_back = move || -> Result<Vec<Lead>, NoMemory>
         ensures { back.entry.start + length back.entry.results.now < 2 ^ 64 → IfOk result (λ all. all.items ≡ leads_from (number_at back.entry.maps.numbers.now) (indices_at back.entry.maps.indices.now) back.entry.start back.entry.results.now) }
-    { leads_of_part(rt, alloc, fewer, back) };
+    { leads_of_chunk(rt, alloc, fewer, back) };
     let (first, second) = join(rt, of_front, of_back);
     let mut first = first?;
     let mut second = second?;
@@ -113,13 +108,13 @@ pub(crate) fn lacked_by<'p, R: Threads + Sync>(
 ) -> Result<Vec<MissingAnchorLink<'p>>, NoMemory> {
     let pages = site.pages;
     let files = site.files;
-    let parts = thread::map_indices(
+    let chunks = thread::map_indices(
         rt,
         alloc,
         count,
         &|rest: usize| { every_lacked(alloc, pages, files, rest, count) },
     )?;
-    joined(alloc, parts)
+    joined(alloc, chunks)
 }
 
 /// The locations of these links, which are together by their pages. Each thread reads the pages that it takes.
@@ -135,24 +130,24 @@ pub(crate) fn locate_by<R: Threads + Sync, B: FileBytes + Sync>(
     let next = AtomicUsize::new(0);
     let next = &next;
     let count = site.files.threads().min(pages.len()).max(1);
-    let parts = thread::map_indices(
+    let chunks = thread::map_indices(
         rt,
         alloc,
         count,
         &|_: usize| { every_place(alloc, site, pages, bytes, next) },
     )?;
-    joined(alloc, parts)
+    joined(alloc, chunks)
 }
 
 /// All that the threads found, or that an allocation failed.
 fn joined<T: Drop>(
     alloc: Global,
-    parts: Vec<Result<Vec<T>, NoMemory>>,
+    chunks: Vec<Result<Vec<T>, NoMemory>>,
 ) -> Result<Vec<T>, NoMemory> {
     let mut all = Vec::new(alloc);
-    for part in parts {
-        let mut part = part?;
-        all.append(&mut part)?;
+    for chunk in chunks {
+        let mut chunk = chunk?;
+        all.append(&mut chunk)?;
     }
     Ok(all)
 }

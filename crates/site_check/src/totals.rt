@@ -1,7 +1,7 @@
 //! The totals of a check.
-ghost use Rattle.std.specs.Prelude.{◌≡◌, IfOk, count_by};
+ghost use Rattle.std.specs.Prelude.{◌≡◌, if◌then◌else◌, IfOk, count_by, length, max};
 ghost use Rattle.site_check.specs.Aliases.{is_alias_page, is_in, is_own_page};
-ghost use Rattle.site_check.specs.Totals.{capped, is_invalid, is_missing, is_page, is_part, link_count, links_in, own_links, part_count, place_count, totals_by, totals_of, url_count};
+ghost use Rattle.site_check.specs.Totals.{capped, is_invalid, is_leaving, is_missing, is_page, is_anchor, link_count, links_in, anchor_count, place_count, row_links, totals_by, totals_of, url_count};
 
 use crate::aliases::{AliasUrls, alias_urls};
 use check_report::{Broken, Kind, Redirect, Totals};
@@ -33,78 +33,78 @@ fn totals_by<'a>(
 ) -> Totals
     ensures { result ≡ totals_by (is_in urls.now) results.now broken.now redirects.now }
 {
+    let pages = page_counts(urls, results);
+    let rows = row_counts(broken);
     Totals {
-        pages: page_count(urls, results),
-        aliases: alias_count(urls, results),
-        links: link_count(urls, results),
-        broken_links: broken_links(broken),
-        broken_urls: url_count(broken),
-        broken_anchors: part_count(broken),
-        invalid_links: invalid_links(broken),
+        pages: pages.own,
+        aliases: pages.aliases,
+        links: pages.links,
+        broken_links: rows.broken_links,
+        broken_urls: rows.urls,
+        broken_anchors: rows.anchors,
+        invalid_links: rows.invalid_links,
+        leaving_links: rows.leaving_links,
         moved: redirects.len() as u64,
     }
 }
 
-/// The number of pages that were found at the own URLs of files.
-fn page_count<'a>(urls: &AliasUrls<'a>, results: &'a [PageResult]) -> u64
-    ensures { result ≡ count_by (is_own_page (is_in urls.now)) results.now }
+/// The counts of the pages that were found.
+#[derive(Clone, Copy)]
+struct PageCounts {
+    /// At the own URLs of files.
+    own: u64,
+    /// At aliases.
+    aliases: u64,
+    /// The links in the pages at own URLs.
+    links: u64,
+}
+
+/// Counts the pages that were found, and the links in those at the own URLs of files.
+fn page_counts<'a>(urls: &AliasUrls<'a>, results: &'a [PageResult]) -> PageCounts
+    ensures own { result.own ≡ count_by (is_own_page (is_in urls.now)) results.now }
+    ensures aliases { result.aliases ≡ count_by (is_alias_page (is_in urls.now)) results.now }
+    ensures links { result.links ≡ link_count (is_in urls.now) results.now }
 {
-    let mut count: u64 = 0;
+    let mut own: u64 = 0;
+    let mut aliases: u64 = 0;
+    let mut links: u64 = 0;
     for one in results {
-        if is_own_page(urls, one) {
-            count += 1;
-        }
+        let (is_own, is_alias) = place_of(urls, one);
+        own += number_of(is_own);
+        aliases += number_of(is_alias);
+        links = links.saturating_add(links_if(is_own, &one.page));
     }
-    count
-}
-
-/// The number of pages that were found at aliases.
-fn alias_count<'a>(urls: &AliasUrls<'a>, results: &'a [PageResult]) -> u64
-    ensures { result ≡ count_by (is_alias_page (is_in urls.now)) results.now }
-{
-    let mut count: u64 = 0;
-    for one in results {
-        if is_alias_page(urls, one) {
-            count += 1;
-        }
+    PageCounts {
+        own,
+        aliases,
+        links,
     }
-    count
 }
 
-/// Whether a page was found at the own URL of a file.
-fn is_own_page<'a>(urls: &AliasUrls<'a>, one: &'a PageResult) -> bool
-    ensures { result ≡ is_own_page (is_in urls.now) one.now }
+/// Whether a page was found at the own URL of a file, and whether one was found at an alias.
+fn place_of<'a>(urls: &AliasUrls<'a>, one: &'a PageResult) -> (bool, bool)
+    ensures own { result.0 ≡ is_own_page (is_in urls.now) one.now }
+    ensures alias { result.1 ≡ is_alias_page (is_in urls.now) one.now }
 {
-    one.page.is_found() && !urls.contains(&one.url.hashed())
-}
-
-/// Whether a page was found at an alias.
-fn is_alias_page<'a>(urls: &AliasUrls<'a>, one: &'a PageResult) -> bool
-    ensures { result ≡ is_alias_page (is_in urls.now) one.now }
-{
-    one.page.is_found() && urls.contains(&one.url.hashed())
-}
-
-/// The number of links in the pages that were found at the own URLs of files.
-fn link_count<'a>(urls: &AliasUrls<'a>, results: &'a [PageResult]) -> u64
-    ensures { result ≡ link_count (is_in urls.now) results.now }
-{
-    let mut count: u64 = 0;
-    for one in results {
-        count = count.saturating_add(own_links(urls, one));
+    if !one.page.is_found() {
+        return (false, false);
     }
-    count
+    let is_other = urls.contains(&one.url.hashed());
+    (!is_other, is_other)
 }
 
-/// Returns the number of links in a page at the own URL of a file; 0 for any other result.
-fn own_links<'a>(urls: &AliasUrls<'a>, one: &'a PageResult) -> u64
-    ensures { result ≡ capped (own_links (is_in urls.now) one.now) }
+/// 1 for what is counted, otherwise 0.
+fn number_of(is_counted: bool) -> u64
+    ensures { result ≡ (if is_counted then 1 else 0) }
 {
-    if is_own_page(urls, one) {
-        links_in(&one.page)
-    } else {
-        0
-    }
+    if is_counted { 1 } else { 0 }
+}
+
+/// Returns the number of links in a page that is counted; 0 for any other.
+fn links_if(is_counted: bool, page: &Page) -> u64
+    ensures { result ≡ capped (if is_counted then links_in page.now else 0) }
+{
+    if is_counted { links_in(page) } else { 0 }
 }
 
 /// Returns the number of links in a page, with the links that were skipped. A page that was not found has none.
@@ -120,63 +120,78 @@ fn links_in(page: &Page) -> u64
     }
 }
 
-/// The number of locations of the links to missing pages and anchors.
-fn broken_links(broken: &[Broken]) -> u64
-    ensures { result ≡ place_count is_missing broken.now }
-{
-    let mut count: u64 = 0;
-    for one in broken {
-        if is_missing(one.kind) {
-            count = count.saturating_add(one.places.len() as u64);
-        }
-    }
-    count
+/// The counts of the rows.
+#[derive(Clone, Copy)]
+struct RowCounts {
+    /// The locations of links to missing pages and anchors.
+    broken_links: u64,
+    /// The missing pages.
+    urls: u64,
+    /// The missing anchors.
+    anchors: u64,
+    /// The locations of invalid links; a row without locations counts as one.
+    invalid_links: u64,
+    /// The locations of links that lead out of the site; a row without locations counts as one.
+    leaving_links: u64,
 }
 
-/// The number of locations of invalid links.
-fn invalid_links(broken: &[Broken]) -> u64
-    ensures { result ≡ place_count is_invalid broken.now }
+/// Counts the rows, and the locations of their links.
+fn row_counts(broken: &[Broken]) -> RowCounts
+    ensures broken_links { result.broken_links ≡ place_count is_missing broken.now }
+    ensures urls { result.urls ≡ url_count broken.now }
+    ensures anchors { result.anchors ≡ anchor_count broken.now }
+    ensures invalid_links { result.invalid_links ≡ row_links is_invalid broken.now }
+    ensures leaving_links { result.leaving_links ≡ row_links is_leaving broken.now }
 {
-    let mut count: u64 = 0;
+    let mut broken_links: u64 = 0;
+    let mut urls: u64 = 0;
+    let mut anchors: u64 = 0;
+    let mut invalid_links: u64 = 0;
+    let mut leaving_links: u64 = 0;
     for one in broken {
-        if is_invalid(one.kind) {
-            count = count.saturating_add(one.places.len() as u64);
-        }
+        let kind = one.kind;
+        urls += number_of(is_page(kind));
+        anchors += number_of(is_anchor(kind));
+        broken_links = broken_links.saturating_add(places_if(is_missing(kind), one));
+        invalid_links = invalid_links.saturating_add(row_links_if(is_invalid(kind), one));
+        leaving_links = leaving_links.saturating_add(row_links_if(is_leaving(kind), one));
     }
-    count
+    RowCounts {
+        broken_links,
+        urls,
+        anchors,
+        invalid_links,
+        leaving_links,
+    }
 }
 
-/// The number of rows of missing pages.
-fn url_count(broken: &[Broken]) -> u64
-    ensures { result ≡ url_count broken.now }
+/// The number of locations of a row that is counted; 0 for any other.
+fn places_if(is_counted: bool, one: &Broken) -> u64
+    ensures { result ≡ (if is_counted then length one.now.places.items else 0) }
 {
-    let mut count: u64 = 0;
-    for one in broken {
-        if is_page(one.kind) {
-            count += 1;
-        }
+    if is_counted {
+        one.places.len() as u64
+    } else {
+        0
     }
-    count
 }
 
-/// The number of rows of missing anchors.
-fn part_count(broken: &[Broken]) -> u64
-    ensures { result ≡ part_count broken.now }
+/// The number of locations of a row that is counted, but at least 1; 0 for any other.
+fn row_links_if(is_counted: bool, one: &Broken) -> u64
+    ensures { result ≡ (if is_counted then max (length one.now.places.items) 1 else 0) }
 {
-    let mut count: u64 = 0;
-    for one in broken {
-        if is_part(one.kind) {
-            count += 1;
-        }
+    if is_counted {
+        (one.places.len() as u64).max(1)
+    } else {
+        0
     }
-    count
 }
 
 /// Whether the row is that of a missing page or a missing anchor.
 fn is_missing(kind: Kind) -> bool
     ensures { result ≡ is_missing kind }
 {
-    is_page(kind) || is_part(kind)
+    is_page(kind) || is_anchor(kind)
 }
 
 /// Whether the row is that of a missing page.
@@ -187,10 +202,17 @@ fn is_page(kind: Kind) -> bool
 }
 
 /// Whether the row is that of a missing anchor.
-fn is_part(kind: Kind) -> bool
-    ensures { result ≡ is_part kind }
+fn is_anchor(kind: Kind) -> bool
+    ensures { result ≡ is_anchor kind }
 {
     matches!(kind, Kind::NoAnchor)
+}
+
+/// Whether the row is that of a URL outside the site.
+fn is_leaving(kind: Kind) -> bool
+    ensures { result ≡ is_leaving kind }
+{
+    matches!(kind, Kind::Leaves | Kind::OutsideBase)
 }
 
 /// Whether the row is that of an invalid link.

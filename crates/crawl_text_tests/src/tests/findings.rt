@@ -40,6 +40,14 @@ const TARGETS: &[Target] = &[
         &[("a.html", 8, 9), ("b.html", 5, 2)],
     ),
     ("htp://a,b", Kind::UnknownScheme, "", &[("b.html", 6, 2)]),
+    ("../../doc/x,y.css", Kind::Leaves, "", &[("a.html", 9, 9)]),
+    (
+        "http://s.test/<b>",
+        Kind::OutsideBase,
+        "",
+        &[("b.html", 7, 2), ("c.html", 1, 1)],
+    ),
+    ("../", Kind::Leaves, "", &[]),
 ];
 
 const TOTALS: Totals = Totals {
@@ -50,12 +58,13 @@ const TOTALS: Totals = Totals {
     broken_urls: 2,
     broken_anchors: 1,
     invalid_links: 4,
+    leaving_links: 3,
     moved: 2,
 };
 
 /// The text with three locations of each target, without colour.
 const TEXT: &str = "pages 4, links 20, redirects 2, aliases 3, unreached files 1, external URLs 2
-broken links 5, missing pages 2, missing anchors 1, invalid links 4
+broken links 5, missing pages 2, missing anchors 1, invalid links 4, leaving links 3
 
 a.html:41:12: down.html: no such page (did you mean lib/down.html?)
 b.html:3:1: down.html: no such page (did you mean lib/down.html?)
@@ -67,6 +76,10 @@ a.html:7:9: C:\\x: local file
 a.html:8:9: http://[<b>: not a URL
 b.html:5:2: http://[<b>: not a URL
 b.html:6:2: htp://a,b: unknown scheme
+a.html:9:9: ../../doc/x,y.css: leaves the folder
+b.html:7:2: http://s.test/<b>: outside BASE
+c.html:1:1: http://s.test/<b>: outside BASE
+../: leaves the folder
 
 files with the most broken links:
   2 b.html
@@ -87,7 +100,7 @@ unused --ignore entries:
 ";
 
 const JSON: &str =
-    "{\"kind\":\"total\",\"base\":\"http://s.test\",\"pages\":4,\"aliases\":3,\"links\":20,\"redirects\":2,\"unreached\":1,\"external\":2,\"broken\":5,\"missing_pages\":2,\"missing_anchors\":1,\"invalid\":4}
+    "{\"kind\":\"total\",\"base\":\"http://s.test\",\"pages\":4,\"aliases\":3,\"links\":20,\"redirects\":2,\"unreached\":1,\"external\":2,\"broken\":5,\"missing_pages\":2,\"missing_anchors\":1,\"invalid\":4,\"leaving\":3}
 {\"kind\":\"broken\",\"target\":\"down.html\",\"missing\":\"page\",\"pages\":3,\"same_name\":\"lib/down.html\"}
 {\"kind\":\"place\",\"target\":\"down.html\",\"missing\":\"page\",\"file\":\"a.html\",\"line\":41,\"column\":12}
 {\"kind\":\"place\",\"target\":\"down.html\",\"missing\":\"page\",\"file\":\"b.html\",\"line\":3,\"column\":1}
@@ -103,6 +116,12 @@ const JSON: &str =
 {\"kind\":\"invalid_place\",\"target\":\"http://[<b>\",\"reason\":\"not_url\",\"file\":\"b.html\",\"line\":5,\"column\":2}
 {\"kind\":\"invalid\",\"target\":\"htp://a,b\",\"reason\":\"unknown_scheme\",\"pages\":3}
 {\"kind\":\"invalid_place\",\"target\":\"htp://a,b\",\"reason\":\"unknown_scheme\",\"file\":\"b.html\",\"line\":6,\"column\":2}
+{\"kind\":\"leaving\",\"target\":\"../../doc/x,y.css\",\"reason\":\"above_folder\",\"pages\":3}
+{\"kind\":\"leaving_place\",\"target\":\"../../doc/x,y.css\",\"reason\":\"above_folder\",\"file\":\"a.html\",\"line\":9,\"column\":9}
+{\"kind\":\"leaving\",\"target\":\"http://s.test/<b>\",\"reason\":\"outside_base\",\"pages\":3}
+{\"kind\":\"leaving_place\",\"target\":\"http://s.test/<b>\",\"reason\":\"outside_base\",\"file\":\"b.html\",\"line\":7,\"column\":2}
+{\"kind\":\"leaving_place\",\"target\":\"http://s.test/<b>\",\"reason\":\"outside_base\",\"file\":\"c.html\",\"line\":1,\"column\":1}
+{\"kind\":\"leaving\",\"target\":\"../\",\"reason\":\"above_folder\",\"pages\":3}
 {\"kind\":\"worst\",\"file\":\"b.html\",\"links\":2}
 {\"kind\":\"redirect\",\"page\":\"guide\",\"to\":\"guide/\",\"pages\":7}
 {\"kind\":\"redirect\",\"page\":\"old.html\",\"to\":null,\"pages\":1}
@@ -123,6 +142,10 @@ const ANNOTATIONS: &str =
 ::error file=s%3Ate/a.html,line=8,col=9::http://[<b>: not a URL
 ::error file=s%3Ate/b.html,line=5,col=2::http://[<b>: not a URL
 ::error file=s%3Ate/b.html,line=6,col=2::htp://a,b: unknown scheme
+::error file=s%3Ate/a.html,line=9,col=9::../../doc/x,y.css: leaves the folder
+::error file=s%3Ate/b.html,line=7,col=2::http://s.test/<b>: outside BASE
+::error file=s%3Ate/c.html,line=1,col=1::http://s.test/<b>: outside BASE
+::error::../: leaves the folder
 ";
 
 /// The HTML page after the fixed texts.
@@ -145,6 +168,12 @@ const PAGE: &str = "</form>
 \tb.html:5:2
 <b>htp://a,b</b>\tunknown scheme
 \tb.html:6:2
+<b>../../doc/x,y.css</b>\tleaves the folder
+\ta.html:9:9
+<b>http://s.test/&lt;b&gt;</b>\toutside BASE
+\tb.html:7:2
+\tc.html:1:1
+<b>../</b>\tleaves the folder
 </pre>
 </section>
 <section id=worst aria-labelledby=h-worst>
@@ -187,7 +216,7 @@ http://a.test/
 
 /// The text of a report without rows, with colour: only the totals.
 const NOTHING: &str = "pages 4, links 20, redirects 2, aliases 3
-\x1b[31mbroken links 5\x1b[0m, missing pages 2, missing anchors 1, invalid links 4
+\x1b[31mbroken links 5\x1b[0m, missing pages 2, missing anchors 1, invalid links 4, leaving links 3
 ";
 
 /// A link in the file `a.html` of a folder.
@@ -225,19 +254,22 @@ const SEEN: &[Seen] = &[
     ),
 ];
 
-/// The numbers of broken links, of missing pages and of invalid links, and the heading of the HTML page.
-type Heading = (u64, u64, u64, &'static str);
+/// The numbers of broken links, of missing pages, of invalid links and of links that lead out of the site, and the heading of the HTML page.
+type Heading = (u64, u64, u64, u64, &'static str);
 
 const HEADINGS: &[Heading] = &[
-    (0, 0, 0, "<h1 class=good><b>0</b> broken links</h1>"),
-    (1, 1, 0, "<h1 class=bad><b>1</b> broken link</h1>"),
-    (7, 2, 9, "<h1 class=bad><b>7</b> broken links</h1>"),
+    (0, 0, 0, 0, "<h1 class=good><b>0</b> broken links</h1>"),
+    (1, 1, 0, 0, "<h1 class=bad><b>1</b> broken link</h1>"),
+    (7, 2, 9, 8, "<h1 class=bad><b>7</b> broken links</h1>"),
     // pages at which the check starts, and to which no link leads
-    (0, 1, 0, "<h1 class=bad><b>1</b> missing page</h1>"),
-    (0, 2, 9, "<h1 class=bad><b>2</b> missing pages</h1>"),
-    // only invalid links
-    (0, 0, 1, "<h1 class=bad><b>1</b> invalid link</h1>"),
-    (0, 0, 2, "<h1 class=bad><b>2</b> invalid links</h1>"),
+    (0, 1, 0, 0, "<h1 class=bad><b>1</b> missing page</h1>"),
+    (0, 2, 9, 8, "<h1 class=bad><b>2</b> missing pages</h1>"),
+    // only invalid links, and others that lead out of the site
+    (0, 0, 1, 8, "<h1 class=bad><b>1</b> invalid link</h1>"),
+    (0, 0, 2, 0, "<h1 class=bad><b>2</b> invalid links</h1>"),
+    // only links that lead out of the site
+    (0, 0, 0, 1, "<h1 class=bad><b>1</b> leaving link</h1>"),
+    (0, 0, 0, 2, "<h1 class=bad><b>2</b> leaving links</h1>"),
 ];
 
 /// The end of the HTML page, after the last name.
@@ -455,7 +487,7 @@ fn seen(alloc: Global, row: &Seen) -> Option<[bool; 3]> {
     ])
 }
 
-/// The totals with these numbers of broken links, of missing pages and of invalid links, and nothing else.
+/// The totals with these numbers, and nothing else.
 fn counted(row: &Heading) -> Totals {
     Totals {
         pages: 1,
@@ -465,6 +497,7 @@ fn counted(row: &Heading) -> Totals {
         broken_urls: row.1,
         broken_anchors: 0,
         invalid_links: row.2,
+        leaving_links: row.3,
         moved: 0,
     }
 }
@@ -490,8 +523,8 @@ fn is_headed(alloc: Global, row: &Heading) -> Option<bool> {
     let is_red = str::from_utf8(text.as_slice())
         .ok()?
         .contains("\x1b[31mbroken");
-    let has_heading = str::from_utf8(page.as_slice()).ok()?.contains(row.3);
-    Some(has_heading && is_red == row.3.contains("bad"))
+    let has_heading = str::from_utf8(page.as_slice()).ok()?.contains(row.4);
+    Some(has_heading && is_red == row.4.contains("bad"))
 }
 
 #[test]
@@ -505,7 +538,7 @@ fn escapes_hidden_characters(rt: HostRuntime) {
 #[test]
 fn heads_the_page_with_the_first_count(rt: HostRuntime) {
     for row in HEADINGS {
-        assert!(rt; is_headed(rt.alloc(), row) == Some(true), "{}", row.3);
+        assert!(rt; is_headed(rt.alloc(), row) == Some(true), "{}", row.4);
     }
 }
 

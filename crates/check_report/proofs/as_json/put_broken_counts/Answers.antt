@@ -13,4 +13,6 @@ returns-clause-tokens c =
     let invalid = key (codes "invalid") ∷ number (decimal t.invalid_links) ∷ [] in
     let second = joined old c.put_count.new.out.tokens c.put_count-2.new.out.tokens links pages c.in_ok-put_count.ensures.tokens c.in_ok-put_count-2.ensures.tokens in
     let third = joined old c.put_count-2.new.out.tokens c.put_count-3.new.out.tokens (links ++ pages) anchors second c.in_ok-put_count-3.ensures.tokens in
-    last_joined c.put_count-4.result old c.put_count-3.new.out.tokens c.put_count-4.new.out.tokens (links ++ pages ++ anchors) invalid third c.put_count-4.ensures.tokens
+    let leaving = key (codes "leaving") ∷ number (decimal t.leaving_links) ∷ [] in
+    let fourth = joined old c.put_count-3.new.out.tokens c.put_count-4.new.out.tokens (links ++ pages ++ anchors) invalid third c.in_ok-put_count-4.ensures.tokens in
+    last_joined c.put_count-5.result old c.put_count-4.new.out.tokens c.put_count-5.new.out.tokens (links ++ pages ++ anchors ++ invalid) leaving fourth c.put_count-5.ensures.tokens

@@ -16,5 +16,7 @@ returns c =
     let third = joined old c.put_counted.new.out.items c.put_code-2.new.out.items (red ++ links) (code colour plain) second c.in_ok-put_code-2.ensures in
     let fourth = joined old c.put_code-2.new.out.items c.put_counted-2.new.out.items (red ++ links ++ code colour plain) pages third c.in_ok-put_counted-2.ensures in
     let fifth = joined old c.put_counted-2.new.out.items c.put_counted-3.new.out.items (red ++ links ++ code colour plain ++ pages) anchors fourth c.in_ok-put_counted-3.ensures in
-    last_joined c.put_counted_some.result old c.put_counted-3.new.out.items c.put_counted_some.new.out.items (red ++ links ++ code colour plain ++ pages ++ anchors)
-    (counted_some (codes ", invalid links ") t.invalid_links) fifth c.put_counted_some.ensures
+    let invalid = counted_some (codes ", invalid links ") t.invalid_links in
+    let sixth = joined old c.put_counted-3.new.out.items c.put_counted_some.new.out.items (red ++ links ++ code colour plain ++ pages ++ anchors) invalid fifth c.in_ok-put_counted_some.ensures in
+    last_joined c.put_counted_some-2.result old c.put_counted_some.new.out.items c.put_counted_some-2.new.out.items (red ++ links ++ code colour plain ++ pages ++ anchors ++ invalid)
+    (counted_some (codes ", leaving links ") t.leaving_links) sixth c.put_counted_some-2.ensures

@@ -1,10 +1,11 @@
-use Rattle.site_check.proofs.Prelude.{◌≡◌, [], take, map, string_bytes, flat_map, linked_at, rows_with, parts_in, invalid_rows_in, AreNamed, rows_in}
+use Rattle.site_check.proofs.Prelude.{◌≡◌, [], take, map, string_bytes, flat_map, linked_at, rows_with, anchors_in, invalid_rows_in, leaving_in, AreNamed, rows_in}
 use Rattle.site_check.proofs.rows.broken_rows.Given as goal
 
 abbrev pub invariant-loop-index : goal.invariant-loop-index
 invariant-loop-index l = record {
   rows : rows_in l.all.items ≡ flat_map (rows_with l.input.front.now (map string_bytes l.input.ignores.now)) (map linked_at (take l.index l.linked));
   names : AreNamed l.input.front.now l.named.files.now l.all.items;
-  parts : parts_in l.all.items ≡ [];
+  anchors : anchors_in l.all.items ≡ [];
   invalid : invalid_rows_in l.all.items ≡ [];
+  leaving : leaving_in l.all.items ≡ [];
 }

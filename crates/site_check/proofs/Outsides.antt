@@ -1,0 +1,93 @@
+-- URLs outside a site, and their paths from its top.
+use Rattle.site_check.proofs.Prelude.{common_steps, ◌≡◌, ◌∙◌, ℕ, suc, ◌<◌, ◌+◌, Bool, true, false, cond, List, [], ◌∷◌, ◌++◌, length, map, drop, take, get_or, refl, sym, ap, inl, inr, arith, append_assoc, cases_Bool, cond-true, cond-false, take-append-drop, bytes_eq-Decides, Bor, PageResult, begins, linked, pointed, SiteFiles}
+use Rattle.std.proofs.Common.{codes, ◌≢◌, eqb, eq-eqb, eqb-true, ne_eqb}
+use Rattle.std.proofs.Math.Seq.{take-append_seam}
+use Rattle.site_check.specs.Leaving.{outside_row, path_after, path_from, steps_up}
+
+-- ---- on the host
+
+begins_both : (front more url : List ℕ) → begins (front ++ more) (front ++ url) ≡ begins more url
+begins_both [] more url = refl
+begins_both (b ∷ front) more url = grind (arith, common_steps, begins_both front more url)
+
+pub on_host : (front url rest : List ℕ) (n : ℕ) (is : Bool) → n ≡ length front → url ≡ front ++ drop n url → rest ≡ drop n url → is ≡ begins (codes "/") rest →
+    is ≡ begins (front ++ 47 ∷ []) url
+on_host front url rest n is count split cut test =
+    test ∙ sym (begins_both front (47 ∷ []) rest) ∙ ap (λ r. begins (front ++ 47 ∷ []) (front ++ r)) cut ∙ ap (begins (front ++ 47 ∷ [])) (sym split)
+
+pub off_host : (front url : List ℕ) → ((rest : List ℕ) → url ≡ front ++ rest → ⊥) → false ≡ begins (front ++ 47 ∷ []) url
+off_host front url lacks =
+    let whole = front ++ 47 ∷ [] in
+    let rest = drop (length whole) url in
+    elim (cases_Bool (begins whole url)) [
+      | inl with ↦
+          absurd (lacks (47 ∷ rest)
+          (sym (take-append-drop (length whole) url) ∙ ap (λ t. t ++ rest) ((bytes_eq-Decides (take (length whole) url) whole).0 with) ∙ append_assoc front (47 ∷ []) rest))
+      | inr without ↦ sym without
+    ]
+
+-- ---- no such result
+
+pub none_outside : (rooted : Bool) (files : SiteFiles) (results rs : List PageResult) (found : List (Bor PageResult)) → length found ≡ 0 → pointed found ≡ rs →
+    [] ≡ map (outside_row rooted files) (map (linked results) rs)
+none_outside rooted files results rs [] none are = ap (λ own. map (outside_row rooted files) (map (linked results) own)) are
+none_outside rooted files results rs (r ∷ found) none are = absurd (omega (arith, none))
+
+-- ---- paths
+
+-- there is no slash in the text
+abbrev pub IsName : List ℕ → Type 0
+IsName text = (i : ℕ) → i < length text → get_or text i 0 ≢ 47
+
+more_name : (b : ℕ) (text : List ℕ) → IsName (b ∷ text) → IsName text
+more_name b text free = λ i below. free (suc i) (omega (arith, below))
+
+first_free : (b : ℕ) (text : List ℕ) → IsName (b ∷ text) → eqb b 47 ≡ false
+first_free b text free = ne_eqb b 47 (free 0 (omega arith))
+
+same_name : (up rest name below behind : List ℕ) → IsName name → path_after up rest (name ++ 47 ∷ below) (name ++ 47 ∷ behind) ≡ path_from below behind
+same_name up rest [] below behind free = refl
+same_name up rest (b ∷ name) below behind free =
+    cond-true (eqb b b) _ _ (eq-eqb b b refl) ∙ cond-false (eqb b 47) _ _ (first_free b name free) ∙ same_name up rest name below behind (more_name b name free)
+
+-- what comes of two bytes that no slash is
+step : (up rest top url : List ℕ) (t u : ℕ) → (eqb t u ≡ true → eqb t 47 ≡ false) → (eqb t u ≡ true → path_after up rest top url ≡ steps_up up ++ rest) →
+    path_after up rest (t ∷ top) (u ∷ url) ≡ steps_up up ++ rest
+step up rest top url t u free more =
+    elim (cases_Bool (eqb t u)) [
+      | inl same ↦ cond-true (eqb t u) _ _ same ∙ cond-false (eqb t 47) _ _ (free same) ∙ more same
+      | inr other ↦ cond-false (eqb t u) _ _ other
+    ]
+
+other_name : (up rest name other below behind : List ℕ) → IsName name → IsName other → name ≢ other → path_after up rest (name ++ 47 ∷ below) (other ++ 47 ∷ behind) ≡ steps_up up ++ rest
+other_name up rest [] [] below behind free others differ = absurd (differ refl)
+other_name up rest [] (u ∷ other) below behind free others differ = cond-false (eqb 47 u) _ _ (ne_eqb 47 u (λ e. others 0 (omega arith) (sym e)))
+other_name up rest (t ∷ name) [] below behind free others differ = cond-false (eqb t 47) _ _ (first_free t name free)
+other_name up rest (t ∷ name) (u ∷ other) below behind free others differ =
+    step up rest (name ++ 47 ∷ below) (other ++ 47 ∷ behind) t u (λ _. first_free t name free)
+    (λ same. other_name up rest name other below behind (more_name t name free) (more_name u other others) (λ e. differ (λ i. eqb-true t u same i ∷ e i)))
+
+top_name : (up rest top url : List ℕ) → IsName top → path_after up rest top url ≡ steps_up up ++ rest
+top_name up rest [] url free = refl
+top_name up rest (t ∷ top) [] free = refl
+top_name up rest (t ∷ top) (u ∷ url) free = step up rest top url t u (λ _. first_free t top free) (λ _. top_name up rest top url (more_name t top free))
+
+url_name : (up rest top url : List ℕ) → IsName url → path_after up rest top url ≡ steps_up up ++ rest
+url_name up rest [] url free = refl
+url_name up rest (t ∷ top) [] free = refl
+url_name up rest (t ∷ top) (u ∷ url) free =
+    step up rest top url t u (λ same. ap (λ b. eqb b 47) (eqb-true t u same) ∙ first_free u url free) (λ _. url_name up rest top url (more_name u url free))
+
+pub path_below : (top url name below other behind : List ℕ) → top ≡ name ++ 47 ∷ below → url ≡ other ++ 47 ∷ behind → IsName name → name ≡ other → path_from top url ≡ path_from below behind
+path_below top url name below other behind above ahead free same =
+    (λ i. path_after top url (above i) (ahead i)) ∙ ap (λ o. path_after top url (name ++ 47 ∷ below) (o ++ 47 ∷ behind)) (sym same) ∙ same_name top url name below behind free
+
+pub path_differs : (top url name below other behind : List ℕ) → top ≡ name ++ 47 ∷ below → url ≡ other ++ 47 ∷ behind → IsName name → IsName other → name ≢ other → path_from top url ≡ steps_up top ++ url
+path_differs top url name below other behind above ahead free others differ =
+    (λ i. path_after top url (above i) (ahead i)) ∙ other_name top url name other below behind free others differ
+
+pub path_of_top : (top url : List ℕ) → IsName top → path_from top url ≡ steps_up top ++ url
+path_of_top top url free = top_name top url top url free
+
+pub path_of_url : (top url : List ℕ) → IsName url → path_from top url ≡ steps_up top ++ url
+path_of_url top url free = url_name top url top url free

@@ -1,0 +1,36 @@
+-- By the totals of a check something is broken if and only if there is a row.
+use Rattle.site_check.proofs.Prelude.{common_steps, ◌≡◌, ◌∙◌, ℕ, ◌+◌, Bool, true, not, ◌||◌, cond, List, [], ◌∷◌, length, ap, refl, arith, PageResult, capped, is_alias, is_invalid, is_leaving, is_missing, is_page, is_anchor, place_count, row_links, totals_by, totals_of, url_count}
+use Rattle.std.proofs.Common.{◌==◌, lt-ltb, max, nat_lt}
+use Rattle.check_report.specs.Text.{is_broken}
+use Rattle.check_report.specs.declared.value.Broken.{Broken}
+use Rattle.check_report.specs.declared.value.Kind.{Kind}
+use Rattle.check_report.specs.declared.value.Kind.TheVariants.{NoPage, NoAnchor, NotUrl, UnknownScheme, LocalFile, Leaves, OutsideBase}
+use Rattle.check_report.specs.declared.value.Redirect.{Redirect}
+use Rattle.check_report.specs.declared.value.Totals.{Totals}
+use Rattle.site_check.specs.Totals.{anchor_count}
+use Rattle.site_files.specs.declared.alias.Alias.{Alias}
+
+-- a count of at least one is not 0 at its limit either
+some_capped : (n more : ℕ) → nat_lt 0 (capped (max n 1 + more)) ≡ true
+some_capped n more = lt-ltb 0 (capped (max n 1 + more)) (omega arith)
+
+-- a row of any kind is counted
+counted : (kind : Kind) (w : Bool) (n urls anchors invalid leaving : ℕ) →
+    (w || nat_lt 0 (cond (is_page kind) 1 0 + urls) || nat_lt 0 (cond (is_anchor kind) 1 0 + anchors) || nat_lt 0 (capped (cond (is_invalid kind) (max n 1) 0 + invalid))
+    || nat_lt 0 (capped (cond (is_leaving kind) (max n 1) 0 + leaving))) ≡ true
+counted NoPage w n urls anchors invalid leaving = let some : nat_lt 0 (1 + urls) ≡ true = lt-ltb 0 (1 + urls) (omega arith) in grind (arith, common_steps)
+counted NoAnchor w n urls anchors invalid leaving = let some : nat_lt 0 (1 + anchors) ≡ true = lt-ltb 0 (1 + anchors) (omega arith) in grind (arith, common_steps)
+counted NotUrl w n urls anchors invalid leaving = let some = some_capped n invalid in grind (arith, common_steps)
+counted UnknownScheme w n urls anchors invalid leaving = let some = some_capped n invalid in grind (arith, common_steps)
+counted LocalFile w n urls anchors invalid leaving = let some = some_capped n invalid in grind (arith, common_steps)
+counted Leaves w n urls anchors invalid leaving = let some = some_capped n leaving in grind (arith, common_steps)
+counted OutsideBase w n urls anchors invalid leaving = let some = some_capped n leaving in grind (arith, common_steps)
+
+by_rows : (is_other : List ℕ → Bool) (results : List PageResult) (broken : List Broken) (redirects : List Redirect) →
+    is_broken (totals_by is_other results broken redirects) ≡ not (length broken == 0)
+by_rows is_other results [] redirects = grind (arith, common_steps)
+by_rows is_other results (b ∷ more) redirects = grind (arith, common_steps, counted)
+
+pub verdict_of_rows : (totals : Totals) (aliases : List Alias) (results : List PageResult) (broken : List Broken) (redirects : List Redirect) →
+    totals ≡ totals_of aliases results broken redirects → is_broken totals ≡ not (length broken == 0)
+verdict_of_rows totals aliases results broken redirects is = ap is_broken is ∙ by_rows (is_alias aliases) results broken redirects

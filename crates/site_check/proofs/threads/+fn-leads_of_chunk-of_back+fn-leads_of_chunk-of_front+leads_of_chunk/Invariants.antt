@@ -1,0 +1,11 @@
+use Rattle.std.proofs.Common.{◌+◌, ◌*◌}
+use Rattle.site_check.proofs.threads.+fn-leads_of_chunk-of_back+fn-leads_of_chunk-of_front+leads_of_chunk.Given as goal
+
+abbrev pub decreases-of_back : goal.decreases-of_back
+decreases-of_back g l = 2 * l.fewer + 1
+
+abbrev pub decreases-of_front : goal.decreases-of_front
+decreases-of_front g l = 2 * l.fewer + 1
+
+abbrev pub decreases-leads_of_chunk : goal.decreases-leads_of_chunk
+decreases-leads_of_chunk g l = 2 * l.halvings

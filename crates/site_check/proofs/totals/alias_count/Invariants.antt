@@ -1,5 +1,0 @@
-use Rattle.site_check.proofs.Prelude.{◌≡◌, ◌≤◌, count_by, take, is_alias_page, is_in}
-use Rattle.site_check.proofs.totals.alias_count.Given as goal
-
-abbrev pub invariant-loop-one : goal.invariant-loop-one
-invariant-loop-one l = (l.count ≡ count_by (is_alias_page (is_in l.urls)) (take l.one-index l.results)) × (l.count ≤ l.one-index)

@@ -1,5 +1,0 @@
-use Rattle.site_check.proofs.Prelude.{◌≡◌, sum_by, take, capped, is_invalid, places_if}
-use Rattle.site_check.proofs.totals.invalid_links.Given as goal
-
-abbrev pub invariant-loop-one : goal.invariant-loop-one
-invariant-loop-one l = l.count ≡ capped (sum_by (places_if is_invalid) (take l.one-index l.broken))

@@ -1,0 +1,90 @@
+-- The links that lead out of a site: to URLs on its host that are not below its top.
+use Rattle.std.specs.Prelude.{◌==◌, ℕ, Bool, not, ◌&&◌, if◌then◌else◌, List, [], ◌∷◌, ◌++◌, codes, filter, map, string_bytes}
+use Rattle.std.specs.List.{flat_map}
+use Rattle.check_report.specs.declared.value.Broken.{Broken}
+use Rattle.check_report.specs.declared.value.Kind.{Kind}
+use Rattle.check_report.specs.declared.value.Kind.TheVariants.{Leaves, OutsideBase}
+use Rattle.crawl_pages.specs.Pages.{is_missing}
+use Rattle.crawl_pages.specs.declared.page.PageResult.{PageResult}
+use Rattle.site_check.specs.Broken.{Linked, Row, begins, linked, row_for}
+use Rattle.site_check.specs.declared.leaving.Outside.{Outside}
+use Rattle.site_files.specs.declared.files.SiteFiles.{SiteFiles}
+
+-- ---- which URLs are outside
+
+-- the URL has the scheme, the host and the port of the site
+abbrev pub is_on_host : SiteFiles → List ℕ → Bool
+is_on_host files url = begins (string_bytes files.site.origin ++ 47 ∷ []) url
+
+abbrev pub is_outside : SiteFiles → List ℕ → Bool
+is_outside files url = is_on_host files url && not (begins (string_bytes files.site.top) url)
+
+-- and there is no page: a page at such a URL is one below the top, whose URL is spelled in another way
+abbrev pub is_left : SiteFiles → PageResult → Bool
+is_left files r = is_missing r.page && is_outside files r.url
+
+abbrev pub outside_of : SiteFiles → List PageResult → List PageResult
+outside_of files found = filter (is_left files) found
+
+-- ---- how they are shown
+
+-- a `../` for each folder that a text names
+abbrev pub step_up : ℕ → List ℕ
+step_up byte = if byte == 47 then codes "../" else []
+
+abbrev pub steps_up : List ℕ → List ℕ
+steps_up folders = flat_map step_up folders
+
+-- two texts are read until they differ. `up` and `rest` are what they have after the last slash so far
+abbrev pub path_after : List ℕ → List ℕ → List ℕ → List ℕ → List ℕ
+path_after up rest [] url = steps_up up ++ rest
+path_after up rest (t ∷ top) [] = steps_up up ++ rest
+path_after up rest (t ∷ top) (u ∷ url) = if t == u then (if t == 47 then path_after top url top url else path_after up rest top url) else steps_up up ++ rest
+
+-- a URL as a path from the top: a `../` for each folder of the top that the URL does not have, and then what only the URL has
+abbrev pub path_from : List ℕ → List ℕ → List ℕ
+path_from top url = path_after top url top url
+
+-- as such a path if the URL of the folder is not known
+abbrev pub outside_text : Bool → SiteFiles → List ℕ → List ℕ
+outside_text rooted files url = if rooted then path_from (string_bytes files.site.top) url else url
+
+abbrev pub outside_texts : Bool → SiteFiles → List PageResult → List (List ℕ)
+outside_texts rooted files found = map (λ r. outside_text rooted files r.url) (outside_of files found)
+
+-- ---- the rows
+
+-- a row is one of such a link by its kind
+abbrev pub if_leaving : Kind → Row → List Row
+if_leaving Leaves row = row ∷ []
+if_leaving OutsideBase row = row ∷ []
+if_leaving _ row = []
+
+abbrev pub leaving_row_in : Broken → List Row
+leaving_row_in b = if_leaving b.kind (record { text = string_bytes b.target; pages = b.pages })
+
+abbrev pub leaving_in : List Broken → List Row
+leaving_in all = flat_map leaving_row_in all
+
+-- a URL and how many pages link to it, as in a row
+abbrev pub outside_row : Bool → SiteFiles → Linked → Row
+outside_row rooted files l = record { text = outside_text rooted files l.result.url; pages = l.pages }
+
+-- those of the results outside the site, in order, each with the number of results that link to it
+abbrev pub outside_linked : Bool → SiteFiles → List PageResult → List PageResult → List Row
+outside_linked rooted files results found = map (outside_row rooted files) (map (linked results) (outside_of files found))
+
+abbrev pub row_at : List (List ℕ) → Row → List Row
+row_at entries row = row_for entries row.text row.pages
+
+-- the rows of these results, without those that an entry matches
+abbrev pub leaving_of : List (List ℕ) → Bool → SiteFiles → List PageResult → List PageResult → List Row
+leaving_of entries rooted files results found = flat_map (λ r. row_at entries (outside_row rooted files (linked results r))) (outside_of files found)
+
+-- ---- how they are found
+
+abbrev pub outside_at : Outside → Row
+outside_at one = record { text = string_bytes one.text; pages = one.linked.pages }
+
+abbrev pub shown_at : Outside → List ℕ
+shown_at one = string_bytes one.text

@@ -1,6 +1,0 @@
--- The anchors that documents lack, as they are printed.
-use Rattle.std.specs.Prelude.{ℕ, List, string_bytes}
-use Rattle.site_check.specs.declared.anchors.MissingAnchor.{MissingAnchor}
-
-abbrev pub part_text : MissingAnchor → List ℕ
-part_text part = string_bytes part.text

@@ -1,0 +1,276 @@
+//! Links that lead out of the site: to URLs on its host that are not below its top.
+ghost use Rattle.std.specs.Prelude.{◌≡◌, ◌∷◌, ◌++◌, ◌<◌, ℕ, List, [], true, IfOk, MatchOption, OnOk, length, map, string_bytes};
+ghost use Rattle.std.specs.List.{flat_map};
+ghost use Rattle.crawl_sources.specs.Tallies.{pointed};
+ghost use Rattle.site_files.specs.declared.files.SiteFiles.{SiteFiles};
+ghost use Rattle.site_check.specs.Broken.{begins, linked_at};
+ghost use Rattle.site_check.specs.Ignored.{anchors_in};
+ghost use Rattle.site_check.specs.Invalid.{invalid_rows_in};
+ghost use Rattle.site_check.specs.Leaving.{is_left, is_outside, leaving_in, outside_at, outside_linked, outside_of, outside_row, outside_text, path_from, row_at, steps_up};
+ghost use Rattle.site_check.specs.Names.{AreNamed};
+ghost use Rattle.site_check.specs.Told.{rows_in};
+ghost use Rattle.site_check.specs.Totals.{is_leaving};
+
+use crate::ignored::is_ignored;
+use crate::input::CheckInput;
+use crate::leads::{Lead, Maps, TargetNumbers, link_indices};
+use crate::linked::{Linked, linked_among};
+use crate::located::take_places;
+use crate::shown::begins;
+use crate::site_pages::Site;
+use crate::threads::leads_by;
+use check_report::{Broken, Kind, Place};
+use crawl_pages::{NoMemory, PageResult};
+use site_files::SiteFiles;
+use std::alloc::Global;
+use std::collections::BTreeMap;
+use std::thread::Threads;
+
+/// A URL on the site's host that is not below its top.
+#[derive(Drop)]
+pub(crate) struct Outside<'a> {
+    /// The result with this URL, and how many of the site's results link to it.
+    pub(crate) linked: Linked<'a>,
+    /// The URL as it is shown.
+    pub(crate) text: String,
+}
+
+/// The missing results on the site's host that are not below its top, in order, each with how many of the site's results link to its URL.
+#[tactic(auto, using(crate::proofs::Outsides::none_outside))]
+pub(crate) fn outside_urls<'a, R: Threads + Sync>(
+    rt: &R,
+    alloc: Global,
+    input: CheckInput<'a>,
+    site: Site<'a, '_>,
+) -> Result<Vec<Outside<'a>>, NoMemory>
+    ensures { IfOk result (λ all. map outside_at all.items ≡ outside_linked input.entry.rooted site.entry.files.now site.entry.pages.results.now input.entry.found.now) }
+{
+    let found = outside_results(alloc, site.files, input.found)?;
+    if found.is_empty() {
+        return Ok(Vec::new(alloc));
+    }
+    let results = site.pages.results;
+    let linked = linked_among(rt, alloc, found.as_slice(), results, site.files.threads())?;
+    with_texts(alloc, site.files, input.rooted, linked.as_slice())
+}
+
+/// The missing results on the site's host that are not below its top, in order.
+fn outside_results<'a>(
+    alloc: Global,
+    files: &SiteFiles<'_>,
+    results: &'a [PageResult],
+) -> Result<Vec<&'a PageResult>, NoMemory>
+    ensures { IfOk result (λ all. pointed all.items ≡ outside_of files.now results.now) }
+{
+    let mut all = Vec::new(alloc);
+    for one in results {
+        if is_left(files, one) {
+            all.push(one)?;
+        }
+    }
+    Ok(all)
+}
+
+/// Whether a result is outside the site. A page at such a URL is one below the top, whose URL is spelled in another way.
+fn is_left(files: &SiteFiles<'_>, one: &PageResult) -> bool
+    ensures { result ≡ is_left files.now one.now }
+{
+    one.page.is_missing() && is_outside(files, one.url.as_str())
+}
+
+/// Whether a URL is on the site's host, and not below its top.
+fn is_outside(files: &SiteFiles<'_>, url: &str) -> bool
+    ensures { result ≡ is_outside files.now url.now }
+{
+    is_on_host(files.origin(), url) && !begins(files.top(), url)
+}
+
+/// Whether a URL has this scheme, host and port.
+#[tactic(auto, using(crate::proofs::Outsides::on_host, crate::proofs::Outsides::off_host))]
+fn is_on_host(origin: &str, url: &str) -> bool
+    ensures { result ≡ begins (origin.now ++ 47 ∷ []) url.now }
+{
+    match url.strip_prefix(origin) {
+        Some(path) => begins("/", path),
+        None => false,
+    }
+}
+
+/// These results with their URLs as they are shown.
+fn with_texts<'a>(
+    alloc: Global,
+    files: &SiteFiles<'_>,
+    rooted: bool,
+    linked: &[Linked<'a>],
+) -> Result<Vec<Outside<'a>>, NoMemory>
+    ensures { IfOk result (λ all. map outside_at all.items ≡ map (outside_row rooted files.now) (map linked_at linked.now)) }
+{
+    let mut all = Vec::new(alloc);
+    for one in linked {
+        let text = outside_text(alloc, files, rooted, one.result.url.as_str())?;
+        all.push(Outside { linked: *one, text })?;
+    }
+    Ok(all)
+}
+
+/// A URL that is not below the top, as it is shown: as a path from the top if the URL of the folder is not known.
+fn outside_text(
+    alloc: Global,
+    files: &SiteFiles<'_>,
+    rooted: bool,
+    url: &str,
+) -> Result<String, NoMemory>
+    ensures { IfOk result (λ text. string_bytes text ≡ outside_text rooted files.now url.now) }
+{
+    if rooted {
+        return path_from(alloc, files.top(), url);
+    }
+    let text = String::from_str(alloc, url)?;
+    Ok(text)
+}
+
+/// A URL as a path from the top: a `../` for each folder of the top that the URL does not have, and then what only the URL has.
+fn path_from(alloc: Global, top: &str, url: &str) -> Result<String, NoMemory>
+    ensures { IfOk result (λ text. string_bytes text ≡ path_from top.now url.now) }
+{
+    let mut folders = top;
+    let mut rest = url;
+    'folders: while let Some((below, behind)) = shared_folder(folders, rest) {
+        folders = below;
+        rest = behind;
+    }
+    let mut text = steps_up(alloc, folders.as_bytes())?;
+    text.push_str(rest)?;
+    Ok(text)
+}
+
+/// What is below the first folder, if a top and a URL have the same one.
+fn shared_folder<'t, 'u>(top: &'t str, url: &'u str) -> Option<(&'t str, &'u str)>
+    ensures { MatchOption result (path_from top.now url.now ≡ steps_up top.now ++ url.now) (λ x. (path_from top.now url.now ≡ path_from x.0.now x.1.now) × (length x.0.now < length top.now)) }
+{
+    match top.split_once('/') {
+        Some((folder, below)) => match url.split_once('/') {
+            Some((other, behind)) => if folder == other {
+                Some((below, behind))
+            } else {
+                None
+            },
+            None => None,
+        },
+        None => None,
+    }
+}
+
+/// A `../` for each folder that a text names.
+fn steps_up(alloc: Global, folders: &[u8]) -> Result<String, NoMemory>
+    ensures { IfOk result (λ text. string_bytes text ≡ steps_up folders.now) }
+{
+    let mut text = String::new(alloc);
+    for byte in folders {
+        if *byte == b'/' {
+            text.push_str("../")?;
+        }
+    }
+    Ok(text)
+}
+
+/// The links of the site's pages to these URLs, without those to URLs that an entry matches. The first URL has the number `before`.
+pub(crate) fn outside_leads<'a, R: Threads + Sync>(
+    rt: &R,
+    alloc: Global,
+    input: CheckInput<'a>,
+    site: Site<'a, '_>,
+    outside: &'a [Outside<'a>],
+    before: usize,
+) -> Result<Vec<Lead>, NoMemory> {
+    let numbers = outside_numbers(alloc, input.ignores, outside, before)?;
+    if numbers.is_empty() {
+        return Ok(Vec::new(alloc));
+    }
+    let indices = link_indices(alloc, input.places)?;
+    let maps = Maps {
+        numbers: &numbers,
+        indices: &indices,
+    };
+    leads_by(rt, alloc, maps, site.pages.results, site.files.threads())
+}
+
+/// The numbers of these URLs, from `before` on, without those that an entry matches.
+fn outside_numbers<'a>(
+    alloc: Global,
+    ignores: &[String],
+    outside: &'a [Outside<'a>],
+    before: usize,
+) -> Result<TargetNumbers<'a>, NoMemory> {
+    let mut numbers = BTreeMap::new(alloc);
+    for (index, one) in outside.iter().enumerate() {
+        if !is_ignored(ignores, one.text.as_str()) {
+            numbers.insert(one.linked.result.url.hashed(), before.saturating_add(index))?;
+        }
+    }
+    Ok(numbers)
+}
+
+/// The kind of the rows.
+fn kind_of(rooted: bool) -> Kind
+    ensures { is_leaving result ≡ true }
+{
+    if rooted {
+        Kind::Leaves
+    } else {
+        Kind::OutsideBase
+    }
+}
+
+/// The rows of these URLs, in order, without those that an entry matches. `found` has the locations of the links to each, after those
+/// of `before` other targets.
+pub(crate) fn outside_rows(
+    alloc: Global,
+    input: CheckInput<'_>,
+    outside: &[Outside<'_>],
+    before: usize,
+    found: &mut [Vec<Place>],
+) -> Result<Vec<Broken>, NoMemory>
+    ensures rows { IfOk result (λ all. rows_in all.items ≡ []) }
+    ensures names { IfOk result (λ all. (front : List ℕ) (files : SiteFiles) → AreNamed front files all.items) }
+    ensures anchors { IfOk result (λ all. anchors_in all.items ≡ []) }
+    ensures invalid { IfOk result (λ all. invalid_rows_in all.items ≡ []) }
+    ensures leaving { IfOk result (λ all. leaving_in all.items ≡ flat_map (row_at (map string_bytes input.entry.ignores.now)) (map outside_at outside.now)) }
+{
+    let kind = kind_of(input.rooted);
+    let mut all = Vec::new(alloc);
+    for (index, one) in outside.iter().enumerate() {
+        let places = take_places(alloc, found, before.saturating_add(index));
+        push_row(input.ignores, kind, one, places, &mut all)?;
+    }
+    Ok(all)
+}
+
+/// Appends the row of a URL, unless an entry matches it.
+fn push_row(
+    ignores: &[String],
+    kind: Kind,
+    one: &Outside<'_>,
+    places: Vec<Place>,
+    all: &mut Vec<Broken>,
+) -> Result<(), NoMemory>
+    requires { is_leaving kind ≡ true }
+    ensures rows { OnOk result (rows_in all.new.items ≡ rows_in all.old.items) }
+    ensures names { OnOk result ((front : List ℕ) (files : SiteFiles) → AreNamed front files all.old.items → AreNamed front files all.new.items) }
+    ensures anchors { OnOk result (anchors_in all.new.items ≡ anchors_in all.old.items) }
+    ensures invalid { OnOk result (invalid_rows_in all.new.items ≡ invalid_rows_in all.old.items) }
+    ensures leaving { OnOk result (leaving_in all.new.items ≡ leaving_in all.old.items ++ row_at (map string_bytes ignores.now) (outside_at one.now)) }
+{
+    if is_ignored(ignores, one.text.as_str()) {
+        return Ok(());
+    }
+    let target = one.text.clone()?;
+    all.push(Broken {
+        target,
+        kind,
+        pages: one.linked.pages,
+        places,
+        same_name: None,
+    })?;
+    Ok(())
+}
