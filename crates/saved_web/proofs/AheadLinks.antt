@@ -1,8 +1,14 @@
 -- The links of pages that are found ahead.
-use Rattle.saved_web.proofs.Prelude.{nat_tests, common_steps, ◌≡◌, ℕ, ◌+◌, ◌<◌, List, [], ◌∷◌, ◌++◌, length, map, take, get_or, slice_get, Option, Some, IfSome, refl, sym, ap, ◌∙◌, map_more, map_push, push_cases, with_url, lead_still, LeadTo, KeepIndices, shown_page, IsAhead, AreAhead, known_page, PageRead, page_with, Page, PageAhead}
+use Rattle.saved_web.proofs.Prelude.{nat_tests, common_steps, ◌≡◌, ℕ, ◌+◌, ◌<◌, List, [], ◌∷◌, ◌++◌, length, map, take, get_or, slice_get, Option, None, Some, IfSome, refl, sym, subst, ap, ◌∙◌, All, get_or_from_slice_get, option_map, slice_get_within, map_more, map_push, push_cases, with_url, lead_still, LeadTo, KeepIndices, shown_page, IsAhead, AreAhead, known_page, PageRead, page_with, Page, PageAhead}
 use native.Mathlib.Omega.{arith}
 use Rattle.crawl_pages.specs.declared.page.Page.TheVariants.{Found}
+use Rattle.saved_pages.proofs.PageIndex.{item_at}
+use Rattle.saved_web.specs.Ahead.{IsChunk}
+use Rattle.saved_web.specs.declared.ahead.chunk.Chunk.{Chunk}
 use Rattle.saved_web.specs.declared.ahead.chunk.LinksAhead.{LinksAhead}
+use Rattle.std.proofs.lemmas.List.Elements.{All-get_or}
+use Rattle.std.specs.Borrow.{Bor}
+use Rattle.std.specs.Slice.{IsItemAt}
 
 -- ---- links by the indices of their URLs
 
@@ -32,6 +38,18 @@ still_ahead web pages old new keep are k page at =
 -- one page more
 pub more_ahead : (web : List PageRead) (pages longer : List PageAhead) (page : PageAhead) (urls : List (List ℕ)) → longer ≡ pages ++ page ∷ [] → AreAhead web pages urls → IsAhead (shown_page (slice_get web page.index)) urls page.links → AreAhead web longer urls
 more_ahead web pages longer page urls is are own k other at = grind (arith, push_cases)
+
+-- the chunk with a number
+chunk_at : (web : List PageRead) (chunks : List Chunk) (k : ℕ) (chunk : Chunk) → All (IsChunk web) chunks → slice_get chunks k ≡ Some chunk → IsChunk web chunk
+chunk_at web chunks k chunk all at =
+    subst (IsChunk web) (get_or_from_slice_get chunks k chunk chunk at) (All-get_or (IsChunk web) chunks k chunk (slice_get_within chunks k chunk at) all)
+
+pub chunk_there : (web : List PageRead) (chunks : List Chunk) (k : ℕ) (o : Option (Bor Chunk)) → IsItemAt chunks k o → All (IsChunk web) chunks → IfSome o (λ chunk. IsChunk web chunk.now)
+chunk_there web chunks k o is all = by_item o (item_at chunks k o is)
+  where
+    by_item : (o : Option (Bor Chunk)) → option_map (λ x. x.now) o ≡ slice_get chunks k → IfSome o (λ chunk. IsChunk web chunk.now)
+    by_item None at = grind arith
+    by_item (Some chunk) at = chunk_at web chunks k chunk.now all (sym at)
 
 -- ---- the page at a URL
 

@@ -2,7 +2,6 @@
 use Rattle.saved_web.proofs.Prelude.{◌≡◌, ℕ, ◌+◌, Bool, true, false, cond, List, [], ◌∷◌, ◌++◌, Option, Some, None, IfSome, refl, ap, ◌∙◌, count_by, list_any, or_parts, filter_map-append, sum_by-append, AreFound, put_link, link_texts, moved_text, found_page, page_behind, Page, line_of, says_page, is_page, Line}
 use native.Mathlib.Omega.{arith}
 use Rattle.saved_web.proofs.JoinedChunks.{links_end}
-use Rattle.saved_pages.specs.declared.line.Line.TheVariants as says
 use Rattle.saved_web.specs.declared.long.LinksFound.{LinksFound}
 
 -- a line that is no page, before those after it
