@@ -99,7 +99,7 @@ pub fn report_of_files<R: Threads + Wait + Sync>(
     let bytes = InMemory {
         bodies: files.bodies,
     };
-    let site = site_pages(rt, &pages, settings.seeds, Vec::new(alloc), &bytes)?;
+    let site = site_pages(rt, alloc, &pages, settings.seeds, &bytes)?;
     report_of_pages(rt, alloc, site, &pages, &bytes, settings)
 }
 

@@ -103,7 +103,7 @@ pub fn web_of_folder<R: Files<File: Send, Dir: Send> + Threads + Sync>(
     let Web {
         text,
         notes: mut found,
-    } = site_web(rt, &files, &[], Vec::new(alloc), &bytes)?;
+    } = site_web(rt, alloc, &files, &[], &bytes)?;
     notes.append(&mut found)?;
     Ok(text)
 }
@@ -143,7 +143,7 @@ pub fn report_of_folder<R: Files<File: Send, Dir: Send> + Threads + Wait + Sync>
     let settings = settings_of(options, files.top(), known.as_slice());
     check_starts(alloc, &files, settings.seeds, settings.reachable)?;
     let bytes = OnDisk { rt, alloc, folder };
-    let site = site_pages(rt, &files, settings.seeds, Vec::new(alloc), &bytes)?;
+    let site = site_pages(rt, alloc, &files, settings.seeds, &bytes)?;
     push_page_notes(alloc, notes, settings.front, site.notes.as_slice())?;
     let report = report_of_pages(rt, alloc, site, &files, &bytes, settings)?;
     Ok(report)

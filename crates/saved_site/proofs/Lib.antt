@@ -1,4 +1,5 @@
 pub mod Prelude
+pub mod FileLinks
 pub mod Found
 pub mod LedPages
 pub mod Lines

@@ -1,5 +1,6 @@
 pub mod Aliases
 pub mod Below
+pub mod FileLinks
 pub mod LinkTables
 pub mod Linked
 pub mod LinkedPages

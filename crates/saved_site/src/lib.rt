@@ -4,6 +4,7 @@
 
 mod aliases;
 mod below;
+mod file_document;
 mod linked;
 mod new_page;
 mod on_disk;

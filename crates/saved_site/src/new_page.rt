@@ -1,14 +1,18 @@
 //! Makes the page of a task from the contents of its file.
+ghost use Rattle.std.specs.Prelude.{[], IfOk, IfSome};
+ghost use Rattle.saved_site.specs.FileLinks.{IsFilePage, IsPageOf};
+ghost use Rattle.saved_site.specs.declared.page.Under.TheVariants.{Links};
+
+use crate::file_document::file_document;
 use crate::page::{LineText, SitePage, Under};
 use crate::spellings::{link_spellings, text_spelling};
 use crate::task::Task;
-use crate::web_text::WEB_LIMIT;
 use crawl_keys::CanonUrl;
 use document_links::{
-    AnchorTargets, Anchors, Document, InvalidLink, LINK_FRONT, LinkTexts, RawLinks, ReadOptions,
-    Syntax, Target, fits, is_document, read_document,
+    AnchorTargets, Anchors, Document, InvalidLink, LINK_FRONT, LinkTexts, RawLinks, Target, fits,
+    is_document,
 };
-use site_files::{Left, Note, SiteFiles};
+use site_files::{FileKind, Left, Note, SiteFiles};
 use std::alloc::{AllocError, Global};
 
 /// A new page, and what is known of it.
@@ -39,64 +43,41 @@ pub(crate) struct SiteAnchors {
     pub(crate) targets: Vec<Target>,
 }
 
-/// Makes the page of a task. `room` is memory for its links. `body` has the contents of its file, if it has one that could be read.
-pub(crate) fn page_of(
+/// Makes the page at the own URL of a file of this kind with these contents. A file of unknown kind has no links, unless its first bytes
+/// are those of a document. `room` is memory for the links.
+pub(crate) fn file_page(
     alloc: Global,
     files: &SiteFiles<'_>,
     task: &Task,
-    body: Option<&[u8]>,
+    kind: FileKind,
+    body: &[u8],
     room: &mut RawLinks,
-) -> Result<NewPage, AllocError> {
-    if task.is_own(files) {
-        let document = file_document(alloc, files, task, body, room)?;
-        return document_page(alloc, files, task, document);
+) -> Result<NewPage, AllocError>
+    ensures { IfOk result (λ new. IfSome new.page (IsFilePage files.now task.now.url kind body.now)) }
+{
+    if kind == FileKind::Unknown && !is_document(body) {
+        return empty_page(alloc, task);
     }
-    if let Some(target) = files.moved_to(task.entry) {
-        return moved_page(alloc, files, task, target);
-    }
-    alias_page(alloc, files, task)
+    let document = file_document(alloc, files, &task.url, kind, body, room)?;
+    document_page(alloc, files, task, document)
 }
 
-/// The links of the file of a task, if it is a document.
-fn file_document(
-    alloc: Global,
-    files: &SiteFiles<'_>,
-    task: &Task,
-    body: Option<&[u8]>,
-    room: &mut RawLinks,
-) -> Result<Document, AllocError> {
-    match (task.document(files), body) {
-        (Some(file), Some(body)) if file.is_document() || is_document(body) => {
-            read_document(alloc, body, &task.url, options_at(files, &task.url), room)
-        }
-        _ => Ok(Document::empty(alloc)),
-    }
+/// Makes a page without links.
+pub(crate) fn empty_page(alloc: Global, task: &Task) -> Result<NewPage, AllocError>
+    ensures { IfOk result (λ new. IfSome new.page (IsPageOf task.now.url (Links []))) }
+{
+    NewPage::new(task, Under::Links(LinkTexts::new(alloc)), Vec::new(alloc))
 }
 
-/// What is read of the document at a URL. If a page has more bytes of links than a saved web, the saved web is too large. A page whose
-/// URL is too long is not in it, but its links can still spell others.
-fn options_at<'a>(files: &SiteFiles<'_>, url: &CanonUrl) -> ReadOptions<'a> {
-    ReadOptions {
-        syntax: Syntax::Html,
-        styles: false,
-        root: None,
-        anchors: files.rules().anchors,
-        places: files.rules().places,
-        byte_limit: if fits(LINK_FRONT, url.as_str().as_bytes()) {
-            WEB_LIMIT
-        } else {
-            usize::MAX
-        },
-    }
-}
-
-/// A page with the links of its file.
+/// Makes the page of a document.
 fn document_page(
     alloc: Global,
     files: &SiteFiles<'_>,
     task: &Task,
     document: Document,
-) -> Result<NewPage, AllocError> {
+) -> Result<NewPage, AllocError>
+    ensures { IfOk result (λ new. IfSome new.page (IsPageOf task.now.url (Links document.links))) }
+{
     let Document {
         links,
         has_skipped,
@@ -159,17 +140,17 @@ fn targets_at(files: &SiteFiles<'_>, urls: Vec<CanonUrl>) -> Result<Vec<Target>,
     Ok(targets)
 }
 
-/// The page of an alias, whose only link is the own URL of its file.
-fn alias_page(alloc: Global, files: &SiteFiles<'_>, task: &Task) -> Result<NewPage, AllocError> {
+/// Makes the page of an alias, whose only link is the own URL of its file.
+pub(crate) fn alias_page(
+    alloc: Global,
+    files: &SiteFiles<'_>,
+    task: &Task,
+    own: &CanonUrl,
+) -> Result<NewPage, AllocError> {
     let mut links = LinkTexts::new(alloc);
-    let own = files.own_url(task.entry);
-    if let Some(own) = own {
-        push_own(files, own, &mut links)?;
-    }
+    push_own(files, own, &mut links)?;
     let mut new = NewPage::new(task, Under::Links(links), Vec::new(alloc))?;
-    if let Some(own) = own
-        && new.page.is_some()
-    {
+    if new.page.is_some() {
         new.own = Some(own.clone()?);
     }
     Ok(new)
@@ -188,14 +169,19 @@ fn push_own(
     Ok(())
 }
 
-/// A folder without its slash, which is moved to the folder with it and with the same query.
-fn moved_page(
+/// Makes the page of a redirect to this target. Other spellings of the redirect's URL and those with a query lead to the target with
+/// their query, as for a folder without its slash.
+pub(crate) fn moved_page(
     alloc: Global,
     files: &SiteFiles<'_>,
     task: &Task,
     target: &str,
 ) -> Result<NewPage, AllocError> {
-    let target = with_query(alloc, target, task.url.as_str())?;
+    let target = if files.url(task.entry) == Some(&task.url) {
+        String::from_str(alloc, target)?
+    } else {
+        with_query(alloc, target, task.url.as_str())?
+    };
     let text = without_origin(target.as_str(), files.origin());
     let mut new = moved_to(alloc, task, text)?;
     if files.can_spell(text)
@@ -229,10 +215,10 @@ fn moved_to(alloc: Global, task: &Task, text: &str) -> Result<NewPage, AllocErro
     NewPage::new(task, under, notes)
 }
 
-/// The URL without its scheme and authority, unless two slashes come first, which would begin a host.
+/// The URL without its scheme and authority, if they are those of the site. Two slashes after them stay, because they would begin a host.
 fn without_origin<'a>(url: &'a str, origin: &str) -> &'a str {
     match url.strip_prefix(origin) {
-        Some(path) if !path.starts_with("//") => path,
+        Some(path) if path.starts_with('/') && !path.starts_with("//") => path,
         _ => url,
     }
 }
@@ -240,8 +226,11 @@ fn without_origin<'a>(url: &'a str, origin: &str) -> &'a str {
 impl NewPage {
     /// Creates the page of a task, as yet without spellings, anchors, positions and invalid links. If its URL is too long for a line, there is a
     /// note instead of the page.
-    fn new(task: &Task, under: Under, notes: Vec<Note>) -> Result<NewPage, AllocError> {
-        let page = SitePage::new(task.url.clone()?, under);
+    fn new(task: &Task, under: Under, notes: Vec<Note>) -> Result<NewPage, AllocError>
+        ensures { IfOk result (λ new. IfSome new.page (IsPageOf task.now.url under)) }
+    {
+        let url = task.url.clone()?;
+        let page = SitePage::new(url, under);
         let mut notes = notes;
         let alloc = *notes.allocator();
         if page.is_none() {

@@ -3,7 +3,7 @@ ghost use Rattle.std.specs.IoError.{error_kind};
 ghost use Rattle.std.specs.Prelude.{◌≡◌, alloc_error};
 
 use document_links::{START_LENGTH, is_document};
-use site_files::{Body, FileBytes, Left, SiteFile};
+use site_files::{Body, FileBytes, FileKind, Left, SiteFile};
 use std::alloc::{AllocError, Global};
 use std::io::{ErrorKind, Read};
 use std::rt::Files;
@@ -33,20 +33,20 @@ impl<R: Files> OnDisk<'_, R> {
     /// Reads a file below the folder. Returns why its links are skipped, if they are.
     fn read_file(&self, file: SiteFile<'_>, body: &mut Body) -> io::Result<Option<Left>> {
         let path = format!(in self.alloc; "{}/{}", self.folder, file.name)?;
-        read_path(self.rt, path.as_str(), file.is_document(), body)
+        read_path(self.rt, path.as_str(), file.kind, body)
     }
 }
 
 /// The number of bytes of a file that is read, at most.
 const FILE_LIMIT: u64 = 1 << 30;
 
-/// Reads the file with this path into an empty body, if it is known to be a document or its first bytes are those of one. Returns why
-/// its links are skipped, if they are. A file of no bytes is not opened, because some of the system's own files have this size and
-/// never end.
+/// Reads the file of this kind with this path into an empty body, but not if the kind is unknown and the first bytes are not those of a
+/// document. Returns why its links are skipped, if they are. A file of no bytes is not opened, because some of the system's own files
+/// have this size and never end.
 fn read_path<R: Files>(
     rt: &R,
     path: &str,
-    is_document: bool,
+    kind: FileKind,
     body: &mut Body,
 ) -> io::Result<Option<Left>> {
     let length = fs::metadata(rt, path)?.len();
@@ -54,7 +54,7 @@ fn read_path<R: Files>(
         return Ok(None);
     }
     let mut file = fs::open(rt, path)?;
-    if !is_document && !starts_document(&mut file, body)? {
+    if kind == FileKind::Unknown && !starts_document(&mut file, body)? {
         return Ok(None);
     }
     if length > FILE_LIMIT {

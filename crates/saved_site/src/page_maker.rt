@@ -1,9 +1,9 @@
 //! Makes pages in threads, each of which reads the files of its pages.
-use crate::new_page::{NewPage, page_of};
+use crate::new_page::{NewPage, alias_page, empty_page, file_page, moved_page};
 use crate::page::PageSink;
-use crate::task::Task;
+use crate::task::{Response, Task};
 use document_links::RawLinks;
-use site_files::{Body, FileBytes, Note, SiteFiles};
+use site_files::{Body, FileBytes, Note, SiteFile, SiteFiles};
 use std::alloc::{AllocError, Global};
 use std::sync::atomic::{AtomicUsize, Ordering};
 use std::thread;
@@ -119,9 +119,7 @@ impl<S: PageSink> PageMaker<S> {
             let Some(task) = tasks.get(number) else {
                 break;
             };
-            let is_read = maker.read(files, bytes, number, task)?;
-            let mut page = maker.page_of(files, task, is_read)?;
-            page.number = number;
+            let page = maker.page_of(files, bytes, number, task)?;
             counter.add(maker.body.as_slice().len());
             counter.add(page.byte_count);
             maker = maker.with_new(page)?;
@@ -129,39 +127,56 @@ impl<S: PageSink> PageMaker<S> {
         Ok(maker)
     }
 
-    /// Reads the file of the task with this number, and returns whether it can be read.
-    fn read<B: FileBytes>(
+    /// Makes the page of the task with this number.
+    fn page_of<B: FileBytes>(
         &mut self,
         files: &SiteFiles<'_>,
         bytes: &B,
         number: usize,
         task: &Task,
-    ) -> Result<bool, AllocError> {
+    ) -> Result<NewPage, AllocError> {
         self.body.clear();
-        let Some(file) = task.document(files) else {
-            return Ok(true);
+        let mut page = match task.response(files) {
+            Response::Own(Some(file)) => self.page_in(files, bytes, number, task, file)?,
+            Response::Own(None) => empty_page(self.alloc, task)?,
+            Response::Alias(own) => alias_page(self.alloc, files, task, own)?,
+            Response::Moved(target) => moved_page(self.alloc, files, task, target)?,
         };
-        match bytes.read(file, &mut self.body)? {
-            Some(left) => {
-                self.body.clear();
-                let place = String::from_str(self.alloc, file.name)?;
-                let note = Note { left, place };
-                self.unread.push(UnreadFile { number, note })?;
-                Ok(false)
-            }
-            None => Ok(true),
-        }
+        page.number = number;
+        Ok(page)
     }
 
-    /// Makes the page of a task from the contents of its file, if they were read.
-    fn page_of(
+    /// Makes the page of the task with this number, whose links are in a file. If the file cannot be read, there are none.
+    fn page_in<B: FileBytes>(
         &mut self,
         files: &SiteFiles<'_>,
+        bytes: &B,
+        number: usize,
         task: &Task,
-        is_read: bool,
+        file: SiteFile<'_>,
     ) -> Result<NewPage, AllocError> {
-        let body = contents_of(&self.body, is_read);
-        page_of(self.alloc, files, task, body, &mut self.room)
+        if !self.read(bytes, number, file)? {
+            return empty_page(self.alloc, task);
+        }
+        let body = self.body.as_slice();
+        file_page(self.alloc, files, task, file.kind, body, &mut self.room)
+    }
+
+    /// Reads the file of the task with this number into the empty body, and returns whether it can be read.
+    fn read<B: FileBytes>(
+        &mut self,
+        bytes: &B,
+        number: usize,
+        file: SiteFile<'_>,
+    ) -> Result<bool, AllocError> {
+        let Some(left) = bytes.read(file, &mut self.body)? else {
+            return Ok(true);
+        };
+        self.body.clear();
+        let place = String::from_str(self.alloc, file.name)?;
+        let note = Note { left, place };
+        self.unread.push(UnreadFile { number, note })?;
+        Ok(false)
     }
 
     /// The same with a new page. The page itself goes into the sink.
@@ -178,11 +193,6 @@ impl<S: PageSink> PageMaker<S> {
             None => Ok(maker),
         }
     }
-}
-
-/// The contents of a file, if they were read.
-fn contents_of(body: &Body, is_read: bool) -> Option<&[u8]> {
-    if is_read { Some(body.as_slice()) } else { None }
 }
 
 /// Pages that were made together, in the order of their tasks, and the notes about files that cannot be read.

@@ -68,7 +68,7 @@ fn make_batches<R: Threads + Sync, B: FileBytes + Sync, S: PageSink>(
 {
     let mut data = before;
     let alloc = *data.notes.allocator();
-    let mut batch = Batch::before(alloc, files, files.rules().threads.min(tasks.len()).max(1))?;
+    let mut batch = Batch::before(alloc, files, files.threads().min(tasks.len()).max(1))?;
     let mut rest = tasks;
     'batches: for _ in 0..tasks.len() {
         if rest.is_empty() {

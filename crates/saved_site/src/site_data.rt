@@ -29,11 +29,11 @@ pub(crate) struct SiteData<S> {
 }
 
 impl<S: PageSink> SiteData<S> {
-    /// No pages, and these notes.
-    pub(crate) fn new(alloc: Global, notes: Vec<Note>) -> SiteData<S> {
+    /// No pages and no notes.
+    pub(crate) fn new(alloc: Global) -> SiteData<S> {
         SiteData {
             parts: Vec::new(alloc),
-            notes,
+            notes: Vec::new(alloc),
             aliases: Vec::new(alloc),
             anchors: Vec::new(alloc),
             places: Vec::new(alloc),

@@ -3,7 +3,7 @@ ghost use Rattle.std.specs.Prelude.{◌≡◌, bytes_eq};
 
 use crate::task::Task;
 use crawl_keys::{Base, CanonUrl};
-use document_links::{LINK_FRONT, LinkTexts, base_of, fits, resolved};
+use document_links::{LINK_FRONT, LinkTexts, fits};
 use site_files::SiteFiles;
 use std::alloc::{AllocError, Global};
 
@@ -19,13 +19,13 @@ pub(crate) fn link_spellings(
     if first == links.len() {
         return Ok(all);
     }
-    let base = base_of(alloc, url)?;
+    let base = Base::new(alloc, url)?;
     let mut last = LastText { text: "" };
     for index in first..links.len() {
         let text = links.text(index);
         if files.can_spell(text)
             && !last.is_again(text)
-            && let Some(spelling) = spelling_at(alloc, files, &base, text.as_bytes())?
+            && let Some(spelling) = spelling_at(alloc, files, &base, text)?
         {
             all.push(spelling)?;
         }
@@ -68,8 +68,8 @@ pub(crate) fn text_spelling(
     url: &CanonUrl,
     text: &str,
 ) -> Result<Option<Task>, AllocError> {
-    let base = base_of(alloc, url)?;
-    spelling_at(alloc, files, &base, text.as_bytes())
+    let base = Base::new(alloc, url)?;
+    spelling_at(alloc, files, &base, text)
 }
 
 /// The spelling that a link has, if its URL is not that of a page. A page whose URL does not fit in a line has no other spellings.
@@ -77,9 +77,9 @@ fn spelling_at(
     alloc: Global,
     files: &SiteFiles<'_>,
     base: &Base,
-    text: &[u8],
+    text: &str,
 ) -> Result<Option<Task>, AllocError> {
-    let Some(url) = resolved(alloc, base, text)? else {
+    let Some(url) = base.link(alloc, text)? else {
         return Ok(None);
     };
     match files.look_up(alloc, &url)? {

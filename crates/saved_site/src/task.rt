@@ -9,21 +9,26 @@ pub(crate) struct Task {
     pub(crate) entry: usize,
 }
 
-impl Task {
-    /// Whether the URL is a file's own, so that the page has the links of the file.
-    pub(crate) fn is_own(&self, files: &SiteFiles<'_>) -> bool {
-        match files.own_url(self.entry) {
-            Some(own) => *own == self.url,
-            None => false,
-        }
-    }
+/// What a server returns for a URL.
+#[derive(Clone, Copy)]
+pub(crate) enum Response<'a> {
+    /// A file at its own URL. If the file can have links, they are those of the page.
+    Own(Option<SiteFile<'a>>),
+    /// A file, whose own URL is this one.
+    Alias(&'a CanonUrl),
+    /// A redirect to this URL.
+    Moved(&'a str),
+}
 
-    /// The file, if the page has its links and it can be a document.
-    pub(crate) fn document<'a>(&self, files: &SiteFiles<'a>) -> Option<SiteFile<'a>> {
-        if self.is_own(files) {
-            files.document(self.entry)
-        } else {
-            None
+impl Task {
+    /// What a server returns for the URL of the page.
+    pub(crate) fn response<'a>(&self, files: &'a SiteFiles<'_>) -> Response<'a> {
+        if let Some(target) = files.moved_to(self.entry) {
+            return Response::Moved(target);
+        }
+        match files.own_url(self.entry) {
+            Some(own) if *own != self.url => Response::Alias(own),
+            _ => Response::Own(files.document(self.entry)),
         }
     }
 }

@@ -14,6 +14,7 @@ use crate::tasks::TaskQueue;
 use crate::web_text::WebText;
 use document_links::{LinkPlaces, PageAnchors};
 use site_files::{Alias, FileBytes, Note, SiteError, SiteFiles};
+use std::alloc::Global;
 use std::thread::Threads;
 
 /// The saved web of a site.
@@ -40,24 +41,24 @@ pub struct LinkedSite {
 }
 
 /// Makes the saved web of a site from the bytes of its files. `seeds` are links on the top at which a crawl starts. Like links in
-/// documents, they can have another spelling or a query. The notes come before those about pages.
+/// documents, they can have another spelling or a query.
 ///
 /// # Errors
 /// `TooLarge`, `NoMemory`.
 pub fn site_web<R: Threads + Sync, B: FileBytes + Sync>(
     rt: &R,
+    alloc: Global,
     files: &SiteFiles<'_>,
     seeds: &[String],
-    notes: Vec<Note>,
     bytes: &B,
 ) -> Result<Web, SiteError>
     ensures web { IfOk result (λ web. IsSiteWeb web.text) }
     ensures below { IfOk result (λ web. IsWebBelow (string_bytes files.now.site.top) web.text) }
     ensures error { IfErr result IsOfWeb }
 {
-    let data = data_of(rt, files, seeds, notes, bytes)?;
+    let data = data_of(rt, alloc, files, seeds, bytes)?;
     let SiteData { parts, notes, .. } = data;
-    let text = WebText::new(*notes.allocator(), files.top(), parts)?;
+    let text = WebText::new(alloc, files.top(), parts)?;
     Ok(Web { text, notes })
 }
 
@@ -67,16 +68,17 @@ pub fn site_web<R: Threads + Sync, B: FileBytes + Sync>(
 /// `TooLarge`, `NoMemory`.
 pub fn site_pages<R: Threads + Sync, B: FileBytes + Sync>(
     rt: &R,
+    alloc: Global,
     files: &SiteFiles<'_>,
     seeds: &[String],
-    notes: Vec<Note>,
     bytes: &B,
 ) -> Result<LinkedSite, SiteError>
     ensures source { IfOk result (λ site. IsSiteSource (string_bytes files.now.site.top) site.pages) }
     ensures aliases { IfOk result (λ site. AreAliases site.pages site.aliases.items) }
     ensures error { IfErr result IsOfWeb }
 {
-    let data = data_of(rt, files, seeds, notes, bytes)?;
+    let mut data = data_of(rt, alloc, files, seeds, bytes)?;
+    data.sort()?;
     let SiteData {
         parts,
         notes,
@@ -85,7 +87,6 @@ pub fn site_pages<R: Threads + Sync, B: FileBytes + Sync>(
         places,
         ..
     } = data;
-    let alloc = *notes.allocator();
     let pages = LinkedPages::new(alloc, files.top(), parts)?;
     let aliases = aliases_among(alloc, &pages, aliases)?;
     Ok(LinkedSite {
@@ -97,21 +98,18 @@ pub fn site_pages<R: Threads + Sync, B: FileBytes + Sync>(
     })
 }
 
-/// Makes all pages of a site, and sorts what is known of them by their URLs.
+/// Makes all pages of a site.
 fn data_of<R: Threads + Sync, B: FileBytes + Sync, S: PageSink>(
     rt: &R,
+    alloc: Global,
     files: &SiteFiles<'_>,
     seeds: &[String],
-    notes: Vec<Note>,
     bytes: &B,
 ) -> Result<SiteData<S>, SiteError>
     ensures { IfErr result IsOfWeb }
 {
-    let alloc = *notes.allocator();
-    let mut none = SiteData::new(alloc, notes);
+    let mut none = SiteData::new(alloc);
     files.copy_doubles(&mut none.notes)?;
     let queue = TaskQueue::new(alloc, files, seeds)?;
-    let mut data = make_all(rt, files, bytes, queue, none)?;
-    data.sort()?;
-    Ok(data)
+    make_all(rt, files, bytes, queue, none)
 }

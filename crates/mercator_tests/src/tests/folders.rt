@@ -83,7 +83,7 @@ fn has_web<R: Threads + Sync>(
     top: &CanonUrl,
 ) -> Option<bool> {
     let files = SiteFiles::new(alloc, site.input()).ok()?;
-    let web = site_web(rt, &files, &[], Vec::new(alloc), &site.bytes()).ok()?;
+    let web = site_web(rt, alloc, &files, &[], &site.bytes()).ok()?;
     let mut text = Vec::new(alloc);
     web.text.write(&mut text).ok()?;
     let pages = SavedWeb::read(alloc, text.as_slice()).ok()?;
@@ -98,7 +98,7 @@ fn has_pages<R: Threads + Sync>(
     top: &CanonUrl,
 ) -> Option<bool> {
     let files = SiteFiles::new(alloc, site.input()).ok()?;
-    let linked = site_pages(rt, &files, &[], Vec::new(alloc), &site.bytes()).ok()?;
+    let linked = site_pages(rt, alloc, &files, &[], &site.bytes()).ok()?;
     let page = linked.pages.fetch(alloc, top).ok()?;
     Some(is_its_page(&page))
 }
@@ -137,7 +137,7 @@ fn is_checked_by_its_pages<R: Threads + Wait + Sync>(
     site: &OneFile,
 ) -> Option<bool> {
     let files = SiteFiles::new(alloc, site.input()).ok()?;
-    let linked = site_pages(rt, &files, &[], Vec::new(alloc), &site.bytes()).ok()?;
+    let linked = site_pages(rt, alloc, &files, &[], &site.bytes()).ok()?;
     let report = report_of_pages(rt, alloc, linked, &files, &site.bytes(), settings(&[])).ok()?;
     Some(lists_its_link(&report))
 }

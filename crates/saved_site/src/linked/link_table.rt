@@ -10,7 +10,7 @@ ghost use Rattle.saved_site.specs.declared.linked.link_table.LinkTable.{LinkTabl
 use crate::linked::known_texts::KnownTexts;
 use crate::linked::linked_page::Leads;
 use crate::page::{LineText, Under};
-use crawl_keys::{Base, CanonUrl, KeyError, before_fragment, is_of_folder};
+use crawl_keys::{Base, CanonUrl, before_fragment, is_of_folder};
 use document_links::LinkTexts;
 use saved_pages::{LinkText, UrlList};
 use std::alloc::{AllocError, Global};
@@ -179,7 +179,7 @@ fn url_index(
     ensures leads { IfOk result (λ index. LeadsTo urls.new index (link_url base.now text.now)) }
     ensures keep { KeepIndices urls.old urls.new }
 {
-    match link_of(alloc, base, text)? {
+    match base.link(alloc, text)? {
         Some(url) => {
             let index = urls.find_or_insert(&url)?;
             Ok(Some(index))
@@ -193,18 +193,7 @@ fn moved_to(alloc: Global, base: &Base, text: &LineText) -> Result<Option<CanonU
     ensures { IfOk result (λ to. to ≡ link_url base.now text.now) }
 {
     match simdutf8::basic::from_utf8(text.as_bytes()) {
-        Ok(text) => link_of(alloc, base, text),
+        Ok(text) => base.link(alloc, text),
         Err(_) => unreachable!(),
-    }
-}
-
-/// The URL that the text of a link leads to, if it leads to one.
-fn link_of(alloc: Global, base: &Base, text: &str) -> Result<Option<CanonUrl>, AllocError>
-    ensures { IfOk result (λ link. link ≡ link_url base.now text.now) }
-{
-    match base.resolve(alloc, text) {
-        Ok(url) => Ok(Some(url)),
-        Err(KeyError::NoMemory) => Err(AllocError),
-        Err(KeyError::NotUrl | KeyError::NotHttp) => Ok(None),
     }
 }

@@ -13,7 +13,6 @@ use crate::linked::linked_page::LinkedPage;
 use crate::linked::page_list::{PageList, Part};
 use crate::page::{PageSink, SitePage};
 use crawl_keys::Base;
-use document_links::base_of;
 use std::alloc::{AllocError, Global};
 use std::marker::Model;
 
@@ -78,7 +77,7 @@ impl Linker {
     {
         // For the proof: the page fits in lines.
         page.stands();
-        let base = base_of(self.alloc, page.url())?;
+        let base = Base::new(self.alloc, page.url())?;
         let Linker {
             alloc,
             top,

@@ -1,0 +1,54 @@
+-- The links of a file, by its kind.
+use Rattle.std.specs.Prelude.{◌≡◌, ◌⊎◌, ◌^◌, ℕ, List, [], ◌++◌, Option, IfSome, string_bytes}
+use Rattle.std.specs.Borrow.{Bor}
+use Rattle.html_links.specs.declared.context.Syntax.{Syntax}
+use Rattle.html_links.specs.declared.context.Syntax.TheVariants as syntax
+use Rattle.document_links.specs.Encoding.{HasLinkTexts, HasSheet}
+use Rattle.document_links.specs.declared.document.ReadOptions.{ReadOptions}
+use Rattle.site_files.specs.declared.files.SiteFiles.{SiteFiles}
+use Rattle.site_files.specs.declared.kinds.FileKind.{FileKind}
+use Rattle.site_files.specs.declared.kinds.FileKind.TheVariants.{Html, Xml, Svg, Style, Unknown}
+use Rattle.saved_site.specs.declared.page.SitePage.{SitePage}
+use Rattle.saved_site.specs.declared.page.Under.{Under}
+use Rattle.saved_site.specs.declared.page.Under.TheVariants.{Links}
+
+-- a document that is found by its first bytes is HTML
+abbrev pub syntax_of : FileKind → Syntax
+syntax_of Html = syntax.Html
+syntax_of Xml = syntax.Xhtml
+syntax_of Svg = syntax.Xhtml
+syntax_of Style = syntax.Html
+syntax_of Unknown = syntax.Html
+
+-- the path below which absolute paths are, if there is one, is that of the top
+abbrev pub IsRoot : SiteFiles → Option (Bor (List ℕ)) → Type 0
+IsRoot files root = IfSome root (λ path. string_bytes files.site.top ≡ string_bytes files.site.origin ++ path.now)
+
+-- what is read of a file of this kind: not more links than the largest saved web has
+pub record AreOptions (files : SiteFiles) (kind : FileKind) (options : ReadOptions) : Type 0 where
+  pub syntax : options.syntax ≡ syntax_of kind
+  pub root : IsRoot files options.root
+  pub limit : options.byte_limit ≡ 2 ^ 30
+
+-- a file of this kind with these contents has these link texts
+abbrev pub HasFileLinks : FileKind → ReadOptions → List ℕ → List (List ℕ) → Type 0
+HasFileLinks Html options body links = HasLinkTexts options body links
+HasFileLinks Xml options body links = HasLinkTexts options body links
+HasFileLinks Svg options body links = HasLinkTexts options body links
+HasFileLinks Style options body links = HasSheet options body links
+HasFileLinks Unknown options body links = HasLinkTexts options body links
+
+pub record IsFileDocument (files : SiteFiles) (kind : FileKind) (body : List ℕ) (links : List (List ℕ)) : Type 0 where
+  pub options : ReadOptions
+  pub are : AreOptions files kind options
+  pub has : HasFileLinks kind options body links
+
+-- the page at this URL, with these contents
+abbrev pub IsPageOf : List ℕ → Under → SitePage → Type 0
+IsPageOf url under page = (page.url ≡ url) × (page.under ≡ under)
+
+-- the page at the URL of a file of this kind with these contents. A file of unknown kind may have no links
+pub record IsFilePage (files : SiteFiles) (url : List ℕ) (kind : FileKind) (body : List ℕ) (page : SitePage) : Type 0 where
+  pub links : List (List ℕ)
+  pub is : IsPageOf url (Links links) page
+  pub has : ((kind ≡ Unknown) × (links ≡ [])) ⊎ IsFileDocument files kind body links
