@@ -4,7 +4,7 @@ use crate::site_pages::Site;
 use check_report::Place;
 use crawl_pages::NoMemory;
 use document_links::{TextPlace, text_places};
-use site_files::{Body, FileBytes, SiteFile};
+use site_files::{Body, FileBytes, FileKind, SiteFile};
 use std::alloc::Global;
 use std::mem;
 use std::sync::atomic::{AtomicUsize, Ordering};
