@@ -27,4 +27,4 @@ returns-in_err-more-clause-full g c =
     let same = err_from_is_err_and r.result r.ensures.1 in
     rw (same.1, same.2)
     (λ is. full_queue waiting_url c.args.position queues i c.queue-item.result c.args.session.now mid (written c.args.out.now) (written c.loop-queue.out) c.loop-queue.left_out more c.loop-queue.invariant
-        (subst (λ (o : Option (List ℕ)). IsFull (each_url (waiting_url mid.settings) (option_to_list o)) mid) c.get.ensures (c.in_err-more.ensures.full is)))
+    (subst (λ (o : Option (List ℕ)). IsFull (each_url (waiting_url mid.settings) (option_to_list o)) mid) c.get.ensures (c.in_err-more.ensures.full is)))
