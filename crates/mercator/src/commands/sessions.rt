@@ -170,8 +170,10 @@ fn left_out_line(alloc: Global, name: &str, left_out: &LeftOut) -> Result<String
     let all = left_out.all;
     let unfinished = left_out.unfinished;
     let mut line = String::new(alloc);
-    write!(line, "mercator: log {file}: URLs left out by --within: ")?;
-    writeln!(line, "{all} ({unfinished} unfinished)")?;
+    writeln!(
+        line,
+        "mercator: log {file}: URLs left out by --within: {all} ({unfinished} unfinished)"
+    )?;
     Ok(line)
 }
 
