@@ -545,11 +545,12 @@ KNOWN = [
             "<a href=https://docs.test/x><a href=/projects/><a href=/%70roject/#y><a href=/%70roject/no>",
         },
         [
-            "http://docs.test/%70roject/no index.html:1:186", "http://docs.test/project index.html:1:35", "project/a index.html:1:52",
+            "%70roject/#y index.html:1:164", "http://docs.test/%70roject/no index.html:1:186", "http://docs.test/project index.html:1:35",
+            "project/a index.html:1:52",
             "http://docs.test/projects/ index.html:1:145", "http://docs.test/x index.html:1:20", "http://docs.test/x index.html:1:9",
         ],
         (
-            {"kind": "total", "links": 9, "broken": 1, "leaving": 5, "external": 2},
+            {"kind": "total", "links": 9, "broken": 2, "leaving": 5, "external": 2},
             {"kind": "leaving", "target": "http://docs.test/x", "reason": "outside_base", "pages": 1},
             {"kind": "external", "url": "http://docs.test:8080/x", "links": 1}, {"kind": "external", "url": "https://docs.test/x", "links": 1},
         ),

@@ -621,11 +621,12 @@ class Model:
         The anchors of an alias are those of its file.
         """
         missing: Dict[Tuple[str, str], Tuple[Set[str], Set[Place]]] = {}
+        responses = {**self.others, **self.responses}
         for page, links in self.links.items():
             for link in links:
-                response = self.responses.get(link.url)
+                response = responses.get(link.url)
                 url = response.url if isinstance(response, Moved) else link.url
-                found = self.responses.get(url)
+                found = responses.get(url)
                 if link.fragment is not None and isinstance(found, (Found, Alias)) and not self.has_anchor(found.name, link.fragment):
                     pages, places = missing.setdefault((url, link.fragment), (set(), set()))
                     pages.add(page)
