@@ -1,5 +1,5 @@
 -- How the commands for a folder end.
-use Rattle.mercator.proofs.Prelude.{◌≡◌, ◌⊎◌, inl, inr, ℕ, Bool, true, false, if◌then◌else◌, List, Option, String, Global, arith, is_incomplete, CrawlError, CrawlFailure, of_crawl_by, of_site, status_of_fault, IsBroken, IsChecked, IsTold}
+use Rattle.mercator.proofs.Prelude.{◌≡◌, ◌⊎◌, inl, inr, ℕ, Bool, true, false, if◌then◌else◌, List, Option, String, Global, arith, is_incomplete, CrawlError, CrawlFailure, of_crawl_by, of_site, status_of_fault, IsBroken, IsChecked, IsTold, GainsAs, Appends}
 use Rattle.crawl_run.specs.declared.error.CrawlError.TheVariants as crawl
 use Rattle.mercator_site.specs.Faults.{IsSiteIncomplete, is_unfinished}
 use Rattle.mercator_site.specs.declared.fault.SiteFault.{SiteFault}
@@ -33,3 +33,9 @@ pub can_print : (options : CheckOptions) (ignores : Option (String Global)) (inp
     → (text : List ℕ) × (IsTold (asks.Check options ignores) input text ⊎ IsBroken (asks.Check options ignores) text)
 can_print options ignores input false text checked = (text, inl checked)
 can_print options ignores input true text checked = (text, inr checked)
+
+-- the report of a check was appended
+pub gains_as : (options : CheckOptions) (ignores : Option (String Global)) (input : Option (List ℕ)) (broken : Bool) (text : List ℕ) (old new : Option (List ℕ)) → IsChecked options ignores broken text
+    → Appends old new text → GainsAs broken (asks.Check options ignores) input old new
+gains_as options ignores input false text old new checked gained = record { text = text; told = checked; gained = gained }
+gains_as options ignores input true text old new checked gained = record { text = text; told = checked; gained = gained }

@@ -164,7 +164,7 @@ note_line name words = codes "mercator: " ++ shown name ++ codes ": " ++ words +
 -- the line that reports how many URLs of this log a narrower suffix leaves out
 abbrev pub left_out_line : List ℕ → LeftOut → List ℕ
 left_out_line file left =
-    codes "mercator: log " ++ shown file ++ codes ": URLs left out by --within: " ++ decimal left.all ++ codes " (" ++ decimal left.unfinished ++ codes " unfinished)" ++ 10 ∷ []
+    codes "mercator: log " ++ (shown file ++ (codes ": URLs left out by --within: " ++ (decimal left.all ++ (codes " (" ++ (decimal left.unfinished ++ (codes " unfinished)" ++ 10 ∷ []))))))
 
 -- the line that reports that the last line of this log had no end, and was removed
 abbrev pub torn_line : List ℕ → List ℕ

@@ -139,11 +139,12 @@ fn index<'a>(alloc: Global) -> Result<Arg<'a>, AllocError> {
     index
         .value_parser(ValueParser::NonEmptyString)
         .requires_arg("base")?
-        .conflicts_with_all(URL_OPTIONS)
+        .conflicts_with("index-file")?
+        .conflicts_with("fallback")?
+        .conflicts_with("exact")?
+        .conflicts_with("queries")?
+        .conflicts_with("follow")
 }
-
-/// The options that say how the names in a folder become URLs, and whether symbolic links are followed.
-const URL_OPTIONS: &[&str] = &["index-file", "fallback", "exact", "queries", "follow"];
 
 /// The option for the names of index files.
 fn index_file<'a>(alloc: Global) -> Arg<'a> {

@@ -13,7 +13,7 @@ pub returns-in_err-left_out-clause-suffix : goal.returns-in_err-left_out-clause-
 returns-in_err-left_out-clause-suffix g c = grind (arith, err_from_is_err_and, plain_fails)
 
 pub returns-in_err-left_out-clause-noted : goal.returns-in_err-left_out-clause-noted
-returns-in_err-left_out-clause-noted g c = (record { all = 0; unfinished = 0 }, ([], (_, (refl, Appends-nil (g.E.Write.contents c.args.err.now)))))
+returns-in_err-left_out-clause-noted g c = (record { all = 0; unfinished = 0 }, ([], _, refl, Appends-nil (g.E.Write.contents c.args.err.now)))
 
 pub returns-clause-done : goal.returns-clause-done
 returns-clause-done g c = λ input out. record { text = []; told = (c.in_ok-left_out.ensures.suffix, refl); gained = Appends-nil out }
