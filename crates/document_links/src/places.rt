@@ -1,4 +1,16 @@
-//! The places of links in a file.
+//! The places of links in a file, and the links as written there.
+ghost use Rattle.std.specs.Prelude.{◌≡◌, [], IfOk, map, slice_index_or, string_bytes};
+ghost use Rattle.std.specs.Str.Lossy.{utf8_lossy};
+ghost use Rattle.document_links.specs.Places.{ArePlaces, ArePlacesIn, point_at, point_of_place};
+ghost use Rattle.document_links.specs.Written.{clean};
+
+use crate::charset::charset_of;
+use crate::cleaning::{trimmed, without_breaks};
+use crate::document::utf8_text;
+use crate::document_start::without_mark;
+use crate::file_links::{Reading, find_links};
+use crate::points::{known_points, point_in};
+use crate::raw_links::RawLinks;
 use crate::text_kind::TextKind;
 use std::alloc::{AllocError, Global};
 
@@ -9,11 +21,12 @@ pub struct TextPlace {
     pub line: u64,
     /// The column in characters, from 1.
     pub column: u64,
-    /// The link as written, without white space around it. Character references are decoded.
+    /// The link as written, with its references read, without white space around it and without tabs and line breaks. Empty if the file
+    /// has no such link.
     pub written: String,
 }
 
-/// Returns the places of the links with these indices among the links of a file, in the same order.
+/// Finds the links with these indices among the links of a file. The places have the order of the indices.
 ///
 /// # Errors
 /// Out of memory.
@@ -22,14 +35,71 @@ pub fn text_places(
     body: &[u8],
     kind: TextKind,
     indices: &[usize],
-) -> Result<Vec<TextPlace>, AllocError> {
+) -> Result<Vec<TextPlace>, AllocError>
+    ensures { IfOk result (λ places. ArePlaces kind body.now indices.now places.items) }
+{
+    let charset = charset_of(body, kind);
+    let reading = Reading { kind, charset };
+    match utf8_text(alloc, body, charset)? {
+        Some(text) => places_in(alloc, text.as_slice(), reading, indices),
+        None => places_in(alloc, without_mark(body), reading, indices),
+    }
+}
+
+/// Finds links in a text in UTF-8, to which it was converted from its encoding.
+fn places_in(
+    alloc: Global,
+    text: &[u8],
+    reading: Reading,
+    indices: &[usize],
+) -> Result<Vec<TextPlace>, AllocError>
+    ensures { IfOk result (λ places. ArePlacesIn reading.kind reading.charset text.now indices.now places.items) }
+{
+    let mut raw = RawLinks::new(alloc);
+    find_links(alloc, text, reading, &mut raw)?;
+    places_of(alloc, text, &raw, indices)
+}
+
+/// The places of these links of a text.
+fn places_of(
+    alloc: Global,
+    text: &[u8],
+    raw: &RawLinks,
+    indices: &[usize],
+) -> Result<Vec<TextPlace>, AllocError>
+    ensures placed { IfOk result (λ places. map point_of_place places.items ≡ map (λ index. point_at text.now (slice_index_or raw.now.positions.items index 0)) indices.now) }
+    ensures written { IfOk result (λ places. map (λ place. string_bytes place.written) places.items ≡ map (λ index. utf8_lossy (clean (slice_index_or raw.now.texts index []))) indices.now) }
+{
+    let table = known_points(alloc, text)?;
     let mut places = Vec::new(alloc);
-    for _ in indices {
+    for index in indices {
+        let point = point_in(text, table.as_slice(), raw.position(*index));
+        let written = written(alloc, link_text(raw, *index))?;
         places.push(TextPlace {
-            line: 1,
-            column: 1,
-            written: String::new(alloc),
+            line: point.line,
+            column: point.column,
+            written,
         })?;
     }
     Ok(places)
+}
+
+/// The text of the link with this index; empty if there is none.
+#[tactic(auto, using(std::proofs::lemmas::List::get_or_default))]
+fn link_text(raw: &RawLinks, index: usize) -> &[u8]
+    ensures { result.now ≡ slice_index_or raw.now.texts index [] }
+{
+    if index < raw.len() {
+        raw.text(index)
+    } else {
+        &[]
+    }
+}
+
+/// A link as it is shown: without white space around it, and without tabs and line breaks.
+fn written(alloc: Global, text: &[u8]) -> Result<String, AllocError>
+    ensures { IfOk result (λ new. string_bytes new ≡ utf8_lossy (clean text.now)) }
+{
+    let clean = without_breaks(alloc, trimmed(text))?;
+    String::from_utf8_lossy(alloc, clean.as_slice())
 }
