@@ -1,12 +1,12 @@
 -- Links of feeds and lists of URLs, over runs of bytes.
-use Rattle.document_links.proofs.Prelude.{◌≡◌, ◌∙◌, ℕ, ◌==◌, Bool, true, false, not, cond, List, [], ◌∷◌, ◌++◌, length, take, drop, Option, None, Some, refl, sym, ap, arith, cond-true, cond-false, cases_Bool}
+use Rattle.document_links.proofs.Prelude.{◌≡◌, ◌∙◌, ℕ, ◌==◌, true, false, not, List, [], ◌∷◌, ◌++◌, take, drop, Option, refl, sym, ap, arith, cond-true, cond-false, cases_Bool}
 use Rattle.std.proofs.Common.{zero, suc, append-nil, append_assoc, subst}
 use Rattle.html_links.specs.Shown.{behind, front}
 use Rattle.html_links.proofs.Sources.{front_all}
 use Rattle.url.specs.Input.{trim_c0_control_and_space}
 use Rattle.document_links.specs.declared.feed.FeedKind.{FeedKind}
 use Rattle.document_links.specs.declared.markup.Markup.{Markup}
-use Rattle.document_links.specs.Feeds.{kind_after, links_at, links_from, markup_links, text_from, text_links, text_of}
+use Rattle.document_links.specs.Feeds.{kind_after, links_from, markup_links, text_from, text_links, text_of}
 use Rattle.document_links.specs.Markup.{is_tag, markup_len, markup_of, section_of}
 use Rattle.document_links.specs.Unescaped.{unescaped}
 use Rattle.document_links.specs.UrlLists.{lines_from, url_lines_of}

@@ -1,12 +1,11 @@
 -- Markup: the first occurrence of a word, and the values of a tag one after another.
-use Rattle.document_links.proofs.Prelude.{◌≡◌, ◌∙◌, ℕ, ◌+◌, ◌<◌, ◌≤◌, ◌==◌, Bool, true, false, not, cond, List, [], ◌∷◌, ◌++◌, length, take, drop, Option, None, Some, refl, sym, ap, arith, cond-true, cond-false, cases_Bool}
+use Rattle.document_links.proofs.Prelude.{◌≡◌, ℕ, ◌≤◌, ◌==◌, true, not, cond, List, [], ◌∷◌, ◌++◌, length, drop, Option, None, Some, refl, ap, arith, cond-true, cond-false, cases_Bool}
 use Rattle.std.specs.Str.{bytes_eq}
 use Rattle.std.specs.Option.{unwrap_or}
 use Rattle.memchr.specs.Find.{FindsNeedle, first_of, matches}
 use Rattle.memchr.proofs.lemmas.ValueLemmas.{FindsNeedle-value}
-use Rattle.html_links.specs.Shown.{Stopped, behind, front}
-use Rattle.html_links.proofs.Jumps.{shorter}
-use Rattle.document_links.specs.Markup.{is_quote, is_unquoted, name_before, quote_after, value_from}
+use Rattle.html_links.specs.Shown.{behind, front}
+use Rattle.document_links.specs.Markup.{is_quote, is_unquoted, name_before, value_from}
 use Rattle.document_links.proofs.Runs.{collects_run, fails}
 
 pub first_match : (word bytes : List ℕ) (r : Option ℕ) → FindsNeedle bytes word 0 r → unwrap_or r (length bytes) ≡ unwrap_or (first_of (matches bytes word 0)) (length bytes)

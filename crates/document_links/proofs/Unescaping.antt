@@ -1,10 +1,10 @@
 -- Text with references, over runs of bytes.
-use Rattle.document_links.proofs.Prelude.{◌≡◌, ◌∙◌, ℕ, ◌==◌, Bool, true, false, not, cond, List, [], ◌∷◌, ◌++◌, refl, sym, ap, arith, cond-true, cond-false, cases_Bool}
+use Rattle.document_links.proofs.Prelude.{◌≡◌, ◌∙◌, ℕ, ◌==◌, not, List, [], ◌∷◌, ◌++◌, refl, sym, ap, arith, cond-true, cond-false, cases_Bool}
 use Rattle.std.proofs.Common.{append-nil}
 use Rattle.html_links.specs.Shown.{Stopped, behind, front}
 use Rattle.html_links.proofs.Sources.{front_all}
 use Rattle.document_links.proofs.Runs.{both_fail, collects_run}
-use Rattle.document_links.specs.Unescaped.{Plain, Reference, in_reference, meaning_of, unescaped, unescaped_from}
+use Rattle.document_links.specs.Unescaped.{Reference, in_reference, meaning_of, unescaped, unescaped_from}
 
 -- a run of bytes before an `&`
 pub plain_run : (bytes : List ℕ) → unescaped bytes ≡ front (λ b. not (b == 38)) bytes ++ unescaped (behind (λ b. not (b == 38)) bytes)

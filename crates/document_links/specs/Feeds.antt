@@ -1,5 +1,5 @@
 -- The links of sitemaps and feeds: the texts and attributes of certain elements, by the name of the root element.
-use Rattle.std.specs.Prelude.{ℕ, zero, suc, ◌==◌, Bool, ◌||◌, List, [], ◌∷◌, ◌++◌, codes, length, take, drop, Option, None, Some, if◌then◌else◌}
+use Rattle.std.specs.Prelude.{ℕ, zero, suc, ◌==◌, ◌||◌, List, [], ◌∷◌, ◌++◌, codes, length, take, drop, Option, None, Some, if◌then◌else◌}
 use Rattle.std.specs.Option.{unwrap_or}
 use Rattle.std.specs.Str.{bytes_eq}
 use Rattle.url.specs.Input.{trim_c0_control_and_space}
@@ -27,8 +27,8 @@ part_of Rss name = if bytes_eq name (codes "link") then Content else if bytes_eq
 part_of Atom name = if bytes_eq name (codes "link") then Href else if bytes_eq name (codes "content") then Src else Nothing
 part_of Other name = Nothing
 
--- The text from here to the next tag, without comments, instructions and declarations. So many bytes are passed over, and these
--- come first, since the last markup.
+-- The text from here to the next tag, without comments, instructions and declarations. `skip` bytes are passed over, and `run` is
+-- what came since the last markup.
 abbrev pub text_from : ℕ → List ℕ → List ℕ → List ℕ
 text_from skip run [] = unescaped run
 text_from (suc skip) run (b ∷ bytes) = text_from skip run bytes
@@ -72,7 +72,7 @@ links_at kind markup len bytes more =
     let next = kind_after markup kind (take len bytes) in
     markup_links markup next (take len bytes) (drop len bytes) ++ more next
 
--- the links from here on, after so many bytes that are passed over
+-- the links from here on, after `skip` bytes
 abbrev pub links_from : Option FeedKind → ℕ → List ℕ → List (List ℕ)
 links_from kind skip [] = []
 links_from kind (suc skip) (b ∷ bytes) = links_from kind skip bytes

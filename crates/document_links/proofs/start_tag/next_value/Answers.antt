@@ -1,4 +1,4 @@
-use Rattle.document_links.proofs.Prelude.{◌≡◌, ◌∙◌, ◌==◌, false, true, not, drop, length, ap, sym, subst, arith, length-drop}
+use Rattle.document_links.proofs.Prelude.{◌≡◌, ◌∙◌, ◌==◌, false, not, length, ap, sym, subst, arith, length-drop}
 use Rattle.std.proofs.lemmas.Bool.{not-false}
 use Rattle.html_links.specs.Shown.{Stopped, behind}
 use Rattle.html_links.proofs.Jumps.{shorter}

@@ -1,4 +1,4 @@
-use Rattle.document_links.proofs.Prelude.{◌∙◌, rules, tests, reverse, count_from_yields_List, YieldsList-from_take_while, length-prefix_len, take_rest}
+use Rattle.document_links.proofs.Prelude.{◌∙◌, rules, tests, reverse, count_from_yields_List, YieldsList-from_take_while, length-prefix_len}
 use Rattle.std.proofs.lemmas.Iterator.Adapters.{YieldsList-from_rev_slice}
 use Rattle.document_links.specs.Markup.{is_gap}
 use Rattle.document_links.proofs.start_tag.without_gap.Goals as goal

@@ -1,4 +1,4 @@
-use Rattle.document_links.proofs.Prelude.{◌≡◌, ◌∙◌, ◌==◌, not, arith}
+use Rattle.document_links.proofs.Prelude.{◌∙◌, ◌==◌, not, arith}
 use Rattle.html_links.proofs.Documents.{cut_shorter}
 use Rattle.document_links.proofs.Runs.{appended}
 use Rattle.document_links.proofs.Unescaping.{to_reference}
