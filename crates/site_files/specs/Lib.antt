@@ -6,6 +6,7 @@ pub mod Kinds
 pub mod Links
 pub mod Listed
 pub mod Names
+pub mod Own
 pub mod Pages
 pub mod Server
 pub mod SiteList
