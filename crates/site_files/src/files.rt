@@ -10,7 +10,7 @@ ghost use Rattle.site_files.specs.Files.{IsOrdered, IsOfNames, document_at, docu
 
 use crate::alias::FolderLink;
 use crate::error::SiteError;
-use crate::kinds::{FileKind, kind_of};
+use crate::kinds::{FileKind, is_page, kind_of};
 use crate::notes::Note;
 use crate::site::{Entry, Rules, Site, Source, split_name};
 use crate::site_list::ListedUrl;
@@ -43,7 +43,7 @@ impl SiteFile<'_> {
     {
         match self.kind {
             FileKind::Html | FileKind::Xml | FileKind::Svg => true,
-            FileKind::Style | FileKind::Unknown => false,
+            FileKind::Style | FileKind::Feed | FileKind::UrlList | FileKind::Unknown => false,
         }
     }
 
@@ -51,10 +51,7 @@ impl SiteFile<'_> {
     pub fn is_page(&self) -> bool
         ensures { result ≡ is_page self.now.kind }
     {
-        match self.kind {
-            FileKind::Html | FileKind::Xml => true,
-            FileKind::Svg | FileKind::Style | FileKind::Unknown => false,
-        }
+        is_page(self.kind)
     }
 }
 
