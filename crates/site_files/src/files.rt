@@ -10,7 +10,7 @@ ghost use Rattle.site_files.specs.Own.{HaveOwn, number_in, own_at, own_of};
 
 use crate::alias::{FolderLink, LinkedFolders};
 use crate::error::SiteError;
-use crate::kinds::{FileKind, kind_of};
+use crate::kinds::{FileKind, is_page, kind_of};
 use crate::notes::Note;
 use crate::own_pages::own_numbers;
 use crate::page_table::{Entry, PageTable, Source};
@@ -47,7 +47,7 @@ impl SiteFile<'_> {
     {
         match self.kind {
             FileKind::Html | FileKind::Xml | FileKind::Svg => true,
-            FileKind::Style | FileKind::Unknown => false,
+            FileKind::Style | FileKind::Feed | FileKind::UrlList | FileKind::Unknown => false,
         }
     }
 
@@ -55,10 +55,7 @@ impl SiteFile<'_> {
     pub fn is_page(&self) -> bool
         ensures { result ≡ is_page self.now.kind }
     {
-        match self.kind {
-            FileKind::Html | FileKind::Xml => true,
-            FileKind::Svg | FileKind::Style | FileKind::Unknown => false,
-        }
+        is_page(self.kind)
     }
 }
 

@@ -75,7 +75,7 @@ impl SiteFiles<'_> {
     }
 
     /// The URL of the file or folder that a server looks up for a URL, or `None` if it looks up none.
-    fn plain_of(&self, alloc: Global, url: &str) -> Result<Option<String>, AllocError>
+    pub(crate) fn plain_of(&self, alloc: Global, url: &str) -> Result<Option<String>, AllocError>
         ensures { IfOk result (λ plain. option_map string_bytes plain ≡ plain_url (server_of self.now) url.now) }
     {
         let (path, query) = split_name(url, true);
@@ -145,7 +145,7 @@ pub fn before_query(url: &str) -> &str
 }
 
 /// The URL with `.html` after its path.
-fn with_html(alloc: Global, url: &str) -> Result<String, AllocError>
+pub(crate) fn with_html(alloc: Global, url: &str) -> Result<String, AllocError>
     ensures { IfOk result (λ html. string_bytes html ≡ with_html url.now) }
 {
     let mut html = String::new(alloc);
