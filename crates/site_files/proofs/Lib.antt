@@ -3,6 +3,7 @@ pub mod ListedPages
 pub mod Listing
 pub mod Lookups
 pub mod OtherNames
+pub mod OtherRules
 pub mod OwnPages
 pub mod Slashes
 pub mod Table

@@ -9,8 +9,7 @@ use Rattle.std.proofs.lemmas.List.Folds.{find-append}
 use Rattle.std.proofs.lemmas.Option.{slice_get-get_or, slice_get-map, slice_get_within}
 use Rattle.crawl_keys.specs.CanonicalText.{canonical}
 use Rattle.crawl_keys.specs.declared.error.KeyError.{KeyError}
-use Rattle.site_files.specs.Entries.{IsEntryAt, IsTable, entry_at, response_of, texts, url_in}
-use Rattle.site_files.specs.Files.{file_in}
+use Rattle.site_files.specs.Entries.{IsEntryAt, IsTable, entry_at, file_in, response_of, texts, url_in}
 use Rattle.site_files.specs.Own.{AreOwnNumbers, FindsOwn, HasOwn, HaveOwn, IsOwnAt, IsOwnNumber, IsPageAt, is_file_at, is_page_in, is_some_file, number_in, own_among, own_of, page_url}
 use Rattle.site_files.specs.Pages.{Found, Missing, Moved, Page, Response, file_page, folder_texts, index_page, index_pages, index_text, ends_in_slash, folder_page, is_found, is_page_of, is_result, is_text_of, moved_page, named_page, named_pages, own_text, page_at, pages, response_in, texts_of}
 use Rattle.site_files.specs.Server.{Server}

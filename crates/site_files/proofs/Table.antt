@@ -1,6 +1,6 @@
 -- The table of pages by their URLs.
 use Rattle.std.proofs.Common.{◌≡◌, ℕ, ◌<◌, Bool, true, false, List, [], ◌∷◌, ◌++◌, if◌then◌else◌, Result, Ok, Err, get_or, length, map, refl, sym, ap, ◌∙◌, subst, inl, inr}
-use Rattle.std.specs.Prelude.{find, slice_get, Some}
+use Rattle.std.specs.Prelude.{find, slice_get, Some, None, option_and_then}
 use Rattle.std.specs.declared.cmp.Ordering.TheVariants.{Equal}
 use Rattle.std.specs.Cmp.{IsStrictWeakOrder}
 use Rattle.std.specs.Cmp.Lexicographic.{slice_cmp}
@@ -12,10 +12,12 @@ use Rattle.std.specs.Str.{bytes_eq}
 use Rattle.std.proofs.lemmas.Bool.{cases_Bool, cond-false, cond-true}
 use Rattle.std.proofs.lemmas.Option.{slice_get-get_or}
 use Rattle.crawl_keys.specs.CanonicalText.{canonical}
-use Rattle.site_files.specs.Entries.{Finds, IsEntryAt, IsInOrder, IsOnce, IsTable, Lists, cmp_urls, entry_at, expected, is_again, listed, response_of, url_in}
-use Rattle.site_files.specs.Pages.{Missing, Page, is_result, is_text_of, pages, response_in}
+use Rattle.site_files.specs.Entries.{Finds, IsEntryAt, IsInOrder, IsOnce, IsTable, Lists, cmp_urls, entry_at, expected, file_in, file_with, is_again, listed, response_of, url_in}
+use Rattle.site_files.specs.Pages.{Missing, Page, found_file, is_result, is_text_of, pages, response_in}
 use Rattle.site_files.specs.Server.{Server}
 use Rattle.site_files.specs.declared.page_table.Entry.{Entry}
+use Rattle.site_files.specs.declared.page_table.Source.{Source}
+use Rattle.site_files.specs.declared.page_table.Source.TheVariants as source
 use Rattle.site_files.specs.declared.page_table.Source.TheVariants.{File}
 use Rattle.site_files.proofs.FirstOnes.{ascends-dedup, first-dedup, first-found, first-missing, first-sort, key_found, keys_rank}
 
@@ -108,7 +110,7 @@ again_at kept front last entry is = ap (λ all. is_again all entry) is ∙ again
 
 -- ---- the pages
 
-first-lists : (url : List ℕ) (entries : List Entry) (pages : List Page) → Lists entries pages → entry_at entries url ≡ response_in (find (λ one. is_text_of url one.text) pages)
+pub first-lists : (url : List ℕ) (entries : List Entry) (pages : List Page) → Lists entries pages → entry_at entries url ≡ response_in (find (λ one. is_text_of url one.text) pages)
 first-lists url [] [] lists = refl
 first-lists url [] (one ∷ pages) lists = cc
 first-lists url (entry ∷ entries) [] lists = cc
@@ -130,6 +132,20 @@ table_of server names given kept lists once = record {
   ascends = once.ascends;
   pages = λ url. once.keeps url ∙ first-lists url given (pages server names) lists;
 }
+
+-- ---- the file of a page
+
+file_found : (from : Source) → file_in from ≡ found_file (response_of from)
+file_found (source.File index) = refl
+file_found (source.Index index) = refl
+file_found (source.Moved url) = refl
+
+pub file_there : (entries : List Entry) (url : List ℕ) (number : ℕ) → IsEntryAt entries url number → file_with entries number ≡ found_file (entry_at entries url)
+file_there entries url number is =
+    ap (option_and_then (λ (entry : Entry). file_in entry.source)) is.there ∙ file_found is.entry.source ∙ ap found_file (sym is.first)
+
+pub no_file : (entries : List Entry) (url : List ℕ) → entry_at entries url ≡ Missing → None ≡ found_file (entry_at entries url)
+no_file entries url missing = ap found_file (sym missing)
 
 -- ---- the search
 

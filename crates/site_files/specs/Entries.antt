@@ -1,5 +1,5 @@
 -- The pages that the code lists, as those of the definitions.
-use Rattle.std.specs.Prelude.{◌≡◌, ℕ, Bool, false, List, [], ◌∷◌, ◌++◌, bytes_eq, map, Option, Some, MatchOption, Result, Ok, String, slice_get, string_bytes}
+use Rattle.std.specs.Prelude.{◌≡◌, ℕ, Bool, false, List, [], ◌∷◌, ◌++◌, bytes_eq, map, Option, Some, None, option_and_then, MatchOption, Result, Ok, String, slice_get, string_bytes}
 use Rattle.std.specs.List.Sorted.{IsSorted, IsStrictlySortedBy}
 use Rattle.std.specs.declared.cmp.Ordering.{Ordering}
 use Rattle.std.specs.declared.alloc.Global.{Global}
@@ -37,6 +37,16 @@ abbrev pub response_of : Source → Response
 response_of (source.File index) = Found index
 response_of (source.Index index) = Found index
 response_of (source.Moved url) = Moved (string_bytes url)
+
+-- the index of the file among the names; a redirect has none
+abbrev pub file_in : Source → Option ℕ
+file_in (source.File index) = Some index
+file_in (source.Index index) = Some index
+file_in (source.Moved url) = None
+
+-- the same, of the page with this number
+abbrev pub file_with : List Entry → ℕ → Option ℕ
+file_with entries number = option_and_then (λ entry. file_in entry.source) (slice_get entries number)
 
 -- a URL, and what is returned for it
 pub record Listed : Type 0 where

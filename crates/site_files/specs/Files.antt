@@ -13,7 +13,7 @@ use Rattle.site_files.specs.declared.page_table.Source.{Source}
 use Rattle.site_files.specs.declared.page_table.Source.TheVariants.{File, Index, Moved}
 use Rattle.site_files.specs.declared.site_list.ListedUrl.{ListedUrl}
 use Rattle.site_files.specs.declared.site_list.SiteList.{SiteList}
-use Rattle.site_files.specs.Entries.{server_at}
+use Rattle.site_files.specs.Entries.{file_in, server_at}
 use Rattle.site_files.specs.Kinds.{if_read, kind_of}
 use Rattle.site_files.specs.Below.{IsTop, begins}
 use Rattle.site_files.specs.Pages.{ends_in_slash, path_in}
@@ -27,11 +27,6 @@ pub record PageFile : Type 0 where
 
 abbrev pub page_file : List ℕ → Option ℕ → PageFile
 page_file url file = record { url = url; file = file }
-
-abbrev pub file_in : Source → Option ℕ
-file_in (File index) = Some index
-file_in (Index index) = Some index
-file_in (Moved url) = None
 
 abbrev pub page_of : Entry → PageFile
 page_of entry = page_file entry.url (file_in entry.source)

@@ -63,9 +63,12 @@ kind_by suffix =
     else if is_packed suffix || is_other suffix then None
     else Some Unknown
 
--- the name begins as that of a sitemap does
+-- the name begins with a text, in any case
+abbrev pub begins_with : List ℕ → List ℕ → Bool
+begins_with front name = nat_le (length front) (length name) && str_eq_ignore_ascii_case (take (length front) name) front
+
 abbrev pub is_sitemap : List ℕ → Bool
-is_sitemap name = nat_le 7 (length name) && str_eq_ignore_ascii_case (take 7 name) (codes "sitemap")
+is_sitemap name = begins_with (codes "sitemap") name
 
 -- `sitemap*.txt` is a list of URLs
 abbrev pub kind_with : List ℕ → List ℕ → Option FileKind
@@ -141,6 +144,15 @@ is_feed_kind Feed = true
 is_feed_kind UrlList = true
 is_feed_kind Unknown = false
 
+abbrev pub is_unknown : FileKind → Bool
+is_unknown Html = false
+is_unknown Xml = false
+is_unknown Svg = false
+is_unknown Style = false
+is_unknown Feed = false
+is_unknown UrlList = false
+is_unknown Unknown = true
+
 -- the kind, if files of it are read; style sheets only if the rules say so
 abbrev pub if_read : Bool → FileKind → Option FileKind
 if_read styles kind = if is_style kind && not styles then None else Some kind
@@ -163,3 +175,17 @@ is_start path = option_map_or (is_start_with (last_name path)) (suffix_of path) 
 -- a check starts at a file of this kind, whose own URL this is
 abbrev pub starts_at : FileKind → List ℕ → Bool
 starts_at kind url = is_page kind || is_feed_kind kind && is_start (before_query url)
+
+-- ---- index files with names that the rules do not have
+
+-- the names of index files usually begin so
+abbrev pub is_home_name : List ℕ → Bool
+is_home_name name = begins_with (codes "index.") name || begins_with (codes "default.") name || begins_with (codes "home.") name
+
+-- the file with this path is a page, or it may be one
+abbrev pub may_be_page : List ℕ → Bool
+may_be_page path = option_map_or (λ kind. is_page kind || is_unknown kind) (kind_of path) false
+
+-- the file with this path may be the page of its folder
+abbrev pub is_home : List ℕ → Bool
+is_home path = is_home_name (last_name path) && may_be_page path

@@ -2,6 +2,7 @@ pub mod Below
 pub mod Entries
 pub mod Files
 pub mod Firsts
+pub mod Hints
 pub mod Kinds
 pub mod Links
 pub mod Listed

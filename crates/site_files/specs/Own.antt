@@ -1,11 +1,14 @@
 -- The own URLs of files, as the code holds them.
-use Rattle.std.specs.Prelude.{◌≡◌, ℕ, Bool, false, List, find, map, MatchOption, Option, Some, None, option_and_then, option_map, Result, Ok, Err, slice_get}
+use Rattle.std.specs.Prelude.{◌≡◌, ℕ, ◌&&◌, Bool, false, List, bytes_eq, if◌then◌else◌, find, map, MatchOption, Option, Some, None, option_and_then, option_map, Result, Ok, Err, slice_get}
+use Rattle.std.specs.Option.{option_map_or}
 use Rattle.crawl_keys.specs.CanonicalText.{canonical}
 use Rattle.crawl_keys.specs.declared.error.KeyError.{KeyError}
-use Rattle.site_files.specs.Entries.{entry_at, response_of}
-use Rattle.site_files.specs.Files.{file_in}
+use Rattle.site_files.specs.Entries.{entry_at, file_in, response_of}
+use Rattle.site_files.specs.Files.{Document, document_at, url_of}
+use Rattle.site_files.specs.Kinds.{starts_at}
 use Rattle.site_files.specs.Pages.{folder_texts, is_found, own_text}
 use Rattle.site_files.specs.Server.{Server}
+use Rattle.site_files.specs.declared.files.SiteFiles.{SiteFiles}
 use Rattle.site_files.specs.declared.page_table.Entry.{Entry}
 
 abbrev pub is_some_file : Option Entry → ℕ → Bool
@@ -70,6 +73,9 @@ own_of entries own entry = option_and_then (λ file. page_url entries entry (num
 abbrev pub own_at : List Entry → List (Option ℕ) → ℕ → Option (List ℕ)
 own_at entries own number = option_and_then (own_of entries own) (slice_get entries number)
 
+abbrev pub own_url_at : SiteFiles → ℕ → Option (List ℕ)
+own_url_at files number = own_at files.pages files.own.items number
+
 -- the own URL of the file of each page is that of the text that is defined
 pub record HasOwn (server : Server) (names : List (List ℕ)) (entries : List Entry) (own : List (Option ℕ)) (entry : Entry) (file : ℕ) : Type 0 where
   pub text : List ℕ
@@ -80,3 +86,16 @@ pub record HasOwn (server : Server) (names : List (List ℕ)) (entries : List En
 
 abbrev pub HaveOwn : Server → List (List ℕ) → List Entry → List (Option ℕ) → Type 0
 HaveOwn server names entries own = (number : ℕ) (entry : Entry) (file : ℕ) → slice_get entries number ≡ Some entry → file_in entry.source ≡ Some file → HasOwn server names entries own entry file
+
+-- ---- where a check starts
+
+abbrev pub is_own_url : SiteFiles → ℕ → List ℕ → Bool
+is_own_url files number url = option_map_or (λ own. bytes_eq own url) (own_url_at files number) false
+
+-- the URL of a page, if a check starts at its file and the URL is the file's own
+abbrev pub start_of : SiteFiles → ℕ → List ℕ → Document → Option (List ℕ)
+start_of files number url file = if starts_at file.kind url && is_own_url files number url then Some url else None
+
+-- the URL of the page with this number, if a check starts there
+abbrev pub start_at : SiteFiles → ℕ → Option (List ℕ)
+start_at files number = option_and_then (λ url. option_and_then (start_of files number url) (document_at files number)) (url_of files number)

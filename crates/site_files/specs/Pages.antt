@@ -22,6 +22,12 @@ pub data Response : Type 0 where
   Moved : List ℕ → Response  -- a redirect to this URL
   Found : ℕ → Response  -- the file with this index among the names
 
+-- the file that is returned, if it is a file
+abbrev pub found_file : Response → Option ℕ
+found_file Missing = None
+found_file (Moved url) = None
+found_file (Found file) = Some file
+
 -- what is returned for the URL of a text
 pub record Page : Type 0 where
   pub text : List ℕ

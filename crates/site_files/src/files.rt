@@ -2,18 +2,20 @@
 ghost use Rattle.std.specs.Prelude.{◌≡◌, IfErr, IfOk, true, length, slice_get, string_bytes, option_map};
 ghost use Rattle.site_files.specs.Below.{IsTop};
 ghost use Rattle.site_files.specs.Files.{IsOfFiles};
-ghost use Rattle.site_files.specs.Entries.{Finds, IsTable, texts};
+ghost use Rattle.site_files.specs.Entries.{Finds, IsTable, entry_at, texts};
+ghost use Rattle.site_files.specs.Hints.{HasHomes};
 ghost use Rattle.site_files.specs.Kinds.{is_document, is_page, is_style};
 ghost use Rattle.site_files.specs.Links.{IsLinked};
-ghost use Rattle.site_files.specs.Files.{IsOfNames, document_at, document_of, file_in, file_kind, has_file, kind_at, line_kind, moved_to, name_at, named_kind, page_file, page_of, pages_of, server_of, site_file, target_in, url_of};
-ghost use Rattle.site_files.specs.Own.{HaveOwn, number_in, own_at, own_of};
+ghost use Rattle.site_files.specs.Files.{IsOfNames, document_at, document_of, file_kind, has_file, kind_at, line_kind, moved_to, name_at, named_kind, page_file, page_of, pages_of, server_of, site_file, target_in, url_of};
+ghost use Rattle.site_files.specs.Own.{HaveOwn, number_in, own_of, own_url_at};
+ghost use Rattle.site_files.specs.Pages.{found_file};
 
 use crate::alias::{FolderLink, LinkedFolders};
 use crate::error::SiteError;
 use crate::kinds::{FileKind, is_page, kind_of};
 use crate::notes::Note;
 use crate::own_pages::own_numbers;
-use crate::page_table::{Entry, PageTable, Source};
+use crate::page_table::{Entry, PageTable, Source, file_in};
 use crate::pages::{ends_in_slash, note_doubles};
 use crate::rules::{Rules, split_name};
 use crate::site::Site;
@@ -64,6 +66,8 @@ impl SiteFile<'_> {
 pub struct SiteFiles<'a> {
     pub(crate) site: Site,
     pub(crate) pages: PageTable,
+    /// The pages that folders have under other rules.
+    pub(crate) homes: PageTable,
     /// For each name the number of the page at the URL of its folder, if that page is the file with this name.
     pub(crate) own: Vec<Option<usize>>,
     /// The folders to which symbolic links lead.
@@ -91,6 +95,7 @@ impl<'a> SiteFiles<'a> {
         ensures table { IfOk result (λ files. IsTable (server_of files) (texts input.entry.names.now) files.pages) }
         ensures own { IfOk result (λ files. HaveOwn (server_of files) (texts input.entry.names.now) files.pages files.own.items) }
         ensures links { IfOk result (λ files. IsLinked (string_bytes files.site.top) input.entry.links.now files.linked) }
+        ensures homes { IfOk result (λ files. HasHomes (server_of files) (texts input.entry.names.now) files.homes) }
     {
         let SiteNames {
             names,
@@ -108,9 +113,11 @@ impl<'a> SiteFiles<'a> {
         note_doubles(doubles.as_slice(), names, rules, &mut notes)?;
         let own = own_numbers(&site, &pages, names, rules)?;
         let linked = site.linked_folders(links)?;
+        let homes = site.homes(names, rules)?;
         Ok(SiteFiles {
             site,
             pages,
+            homes,
             own,
             linked,
             names,
@@ -178,7 +185,7 @@ impl<'a> SiteFiles<'a> {
 
     /// The own URL of the file of the page with this number, or `None` for a redirect.
     pub fn own_url(&self, number: usize) -> Option<&CanonUrl>
-        ensures { option_map (λ url. url.now) result ≡ own_at self.now.pages self.now.own.items number }
+        ensures { option_map (λ url. url.now) result ≡ own_url_at self.now number }
     {
         match self.pages.get(number) {
             Some(entry) => self.own_url_of(entry),
@@ -282,13 +289,16 @@ impl<'a> SiteFiles<'a> {
     }
 
     /// The index of the file of the page at a URL, or `None`. Pages at other spellings or with a query are not found.
-    pub fn file_of(&self, url: &str) -> Option<usize> {
-        let (_, file) = self.page(self.find(url)?)?;
-        file
+    pub fn file_of(&self, url: &str) -> Option<usize>
+        ensures { result ≡ found_file (entry_at self.now.pages url.now) }
+    {
+        self.pages.file_at(url)
     }
 
     /// The rules by which the names become pages.
-    pub fn rules(&self) -> &Rules {
+    pub fn rules(&self) -> &Rules
+        ensures { result.now ≡ self.now.rules.now }
+    {
         self.rules
     }
 
@@ -335,17 +345,6 @@ fn page_of(entry: &Entry) -> (&str, Option<usize>)
     ensures { page_file result.0.now result.1 ≡ page_of entry.now }
 {
     (entry.url.as_str(), file_in(&entry.source))
-}
-
-/// The index of the file among the names; a redirect has none.
-fn file_in(source: &Source) -> Option<usize>
-    ensures { result ≡ file_in source.now }
-{
-    match source {
-        Source::File(index) => Some(*index),
-        Source::Index(index) => Some(*index),
-        Source::Moved(_) => None,
-    }
 }
 
 /// The target of a redirect.

@@ -1,7 +1,7 @@
 //! The kind of a file, by its name or its media type.
 ghost use Rattle.std.specs.Prelude.{◌≡◌, option_map};
 ghost use Rattle.std.specs.List.{before_first, list_all};
-ghost use Rattle.site_files.specs.Kinds.{is_among, is_dot, is_feed, is_feed_name, is_feed_only, is_feed_type, is_html, is_other, is_packed, is_page, is_semicolon, is_sitemap, is_start, is_start_with, is_xhtml, kind_by, kind_of, kind_of_type, kind_with, last_name, suffix_of};
+ghost use Rattle.site_files.specs.Kinds.{begins_with, is_among, is_dot, is_feed, is_feed_name, is_feed_only, is_feed_type, is_home, is_home_name, is_html, is_other, is_packed, is_page, is_semicolon, is_sitemap, is_start, is_start_with, is_unknown, is_xhtml, kind_by, kind_of, kind_of_type, kind_with, last_name, may_be_page, suffix_of};
 ghost use Rattle.url.specs.Input.{rsplit_once};
 
 /// The kind of a file that can have links.
@@ -115,6 +115,13 @@ pub(crate) fn is_page(kind: FileKind) -> bool
     matches!(kind, FileKind::Html | FileKind::Xml)
 }
 
+/// Whether the kind of a file follows from its first bytes only.
+fn is_unknown(kind: FileKind) -> bool
+    ensures { result ≡ is_unknown kind }
+{
+    matches!(kind, FileKind::Unknown)
+}
+
 /// Whether the suffix is one of `OTHERS`.
 fn is_other(suffix: &[u8]) -> bool
     ensures { result ≡ is_other suffix.now }
@@ -202,8 +209,39 @@ fn is_feed_name(name: &[u8]) -> bool
 fn is_sitemap(name: &[u8]) -> bool
     ensures { result ≡ is_sitemap name.now }
 {
-    let front = b"sitemap";
+    begins_with(name, b"sitemap")
+}
+
+/// Whether a name begins with a text. Case does not matter.
+fn begins_with(name: &[u8], front: &[u8]) -> bool
+    ensures { result ≡ begins_with front.now name.now }
+{
     name.len() >= front.len() && name[..front.len()].eq_ignore_ascii_case(front)
+}
+
+/// Whether the file with this path may be the page of its folder under a rule that names it: it has a usual name of an index file, and
+/// it is a page or of unknown kind.
+pub(crate) fn is_home(path: &[u8]) -> bool
+    ensures { result ≡ is_home path.now }
+{
+    is_home_name(last_name(path)) && may_be_page(path)
+}
+
+/// Whether the name begins as that of an index file usually does.
+fn is_home_name(name: &[u8]) -> bool
+    ensures { result ≡ is_home_name name.now }
+{
+    begins_with(name, b"index.") || begins_with(name, b"default.") || begins_with(name, b"home.")
+}
+
+/// Whether the file with this path is a page or of unknown kind.
+fn may_be_page(path: &[u8]) -> bool
+    ensures { result ≡ may_be_page path.now }
+{
+    match kind_of(path) {
+        Some(kind) => is_page(kind) || is_unknown(kind),
+        None => false,
+    }
 }
 
 /// What comes after the last dot of a file's name, if something other than dots comes before it.
@@ -217,7 +255,7 @@ fn suffix_of(path: &[u8]) -> Option<&[u8]>
 }
 
 /// The last name on a path.
-fn last_name(path: &[u8]) -> &[u8]
+pub(crate) fn last_name(path: &[u8]) -> &[u8]
     ensures { result.now ≡ last_name path.now }
 {
     let (_, name) = rsplit_once(path, b'/');

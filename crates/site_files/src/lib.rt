@@ -9,6 +9,7 @@ mod escapes;
 mod files;
 mod folder;
 mod hint;
+mod homes;
 mod kinds;
 pub mod laws;
 mod listed;

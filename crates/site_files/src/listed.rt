@@ -53,6 +53,7 @@ impl<'a> SiteFiles<'a> {
         Ok(SiteFiles {
             site,
             pages,
+            homes: PageTable::empty(alloc),
             own: Vec::new(alloc),
             linked,
             names,

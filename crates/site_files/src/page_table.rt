@@ -1,9 +1,10 @@
 //! The pages of a site by their URLs.
-ghost use Rattle.std.specs.Prelude.{◌≡◌, IfOk, IsSorted, length, option_map, slice_get};
-ghost use Rattle.site_files.specs.Entries.{Finds, IsInOrder, IsOnce, cmp_urls, is_again};
+ghost use Rattle.std.specs.Prelude.{◌≡◌, [], IfOk, IsSorted, length, option_map, slice_get};
+ghost use Rattle.site_files.specs.Entries.{Finds, IsInOrder, IsOnce, cmp_urls, entry_at, file_in, file_with, is_again};
+ghost use Rattle.site_files.specs.Pages.{found_file};
 
 use crawl_keys::CanonUrl;
-use std::alloc::AllocError;
+use std::alloc::{AllocError, Global};
 use std::marker::Model;
 
 /// What a server returns for a URL.
@@ -44,6 +45,15 @@ impl Model for PageTable {
 }
 
 impl PageTable {
+    /// No pages.
+    pub(crate) fn empty(alloc: Global) -> PageTable
+        ensures { result ≡ [] }
+    {
+        PageTable {
+            entries: Vec::new(alloc),
+        }
+    }
+
     /// The first page with each URL. The others are added to `doubles`, in the order of their URLs.
     #[tactic(auto, using(crate::proofs::Table::once_in_order))]
     pub(crate) fn new(
@@ -80,6 +90,27 @@ impl PageTable {
             .binary_search_by(|entry| entry.url.as_str().cmp(url))
             .ok()
     }
+
+    /// The index of the file of the page with this URL, if there is such a page and it has a file.
+    #[tactic(auto, using(crate::proofs::Table::file_there, crate::proofs::Table::no_file))]
+    pub(crate) fn file_at(&self, url: &str) -> Option<usize>
+        ensures { result ≡ found_file (entry_at self.now url.now) }
+    {
+        match self.find(url) {
+            Some(number) => self.file(number),
+            None => None,
+        }
+    }
+
+    /// The index of the file of the page with this number.
+    fn file(&self, number: usize) -> Option<usize>
+        ensures { result ≡ file_with self.now number }
+    {
+        match self.get(number) {
+            Some(entry) => file_in(&entry.source),
+            None => None,
+        }
+    }
 }
 
 /// The pages in the order of their URLs. Of those with one URL, the first stays the first.
@@ -106,6 +137,17 @@ fn first_of_each(entries: Vec<Entry>, doubles: &mut Vec<Entry>) -> Result<Vec<En
         }
     }
     Ok(kept)
+}
+
+/// The index of the file among the names; a redirect has none.
+pub(crate) fn file_in(source: &Source) -> Option<usize>
+    ensures { result ≡ file_in source.now }
+{
+    match source {
+        Source::File(index) => Some(*index),
+        Source::Index(index) => Some(*index),
+        Source::Moved(_) => None,
+    }
 }
 
 /// Whether the last of the pages has the URL of this one.

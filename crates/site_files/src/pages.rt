@@ -143,7 +143,7 @@ impl Site {
     }
 
     /// Adds the page at a path.
-    fn push(
+    pub(crate) fn push(
         &self,
         path: &[u8],
         query: Option<&str>,

@@ -1,6 +1,7 @@
 //! The pages at which a check starts.
-ghost use Rattle.std.specs.Prelude.{◌≡◌};
+ghost use Rattle.std.specs.Prelude.{◌≡◌, option_map};
 ghost use Rattle.site_files.specs.Kinds.{is_feed_kind, starts_at};
+ghost use Rattle.site_files.specs.Own.{is_own_url, start_at};
 
 use crate::files::SiteFiles;
 use crate::kinds::{FileKind, is_page, is_start};
@@ -10,13 +11,25 @@ use crawl_keys::CanonUrl;
 impl SiteFiles<'_> {
     /// The URL of the page with this number, if it is the own URL of a file at which a check starts: an HTML or XHTML document, or
     /// a sitemap or feed that has a usual name of one.
-    pub fn start(&self, number: usize) -> Option<&CanonUrl> {
+    pub fn start(&self, number: usize) -> Option<&CanonUrl>
+        ensures { option_map (λ url. url.now) result ≡ start_at self.now number }
+    {
         let url = self.url(number)?;
         let file = self.document(number)?;
-        if starts_at(file.kind, url.as_str()) && self.own_url(number)? == url {
+        if starts_at(file.kind, url.as_str()) && self.is_own_url(number, url) {
             Some(url)
         } else {
             None
+        }
+    }
+
+    /// Whether this is the own URL of the file of the page with this number.
+    fn is_own_url(&self, number: usize, url: &CanonUrl) -> bool
+        ensures { result ≡ is_own_url self.now number url.now }
+    {
+        match self.own_url(number) {
+            Some(own) => own.as_str() == url.as_str(),
+            None => false,
         }
     }
 }
