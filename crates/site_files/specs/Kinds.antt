@@ -105,16 +105,6 @@ kind_of_type text = kind_by_type (before_first is_semicolon text)
 
 -- ---- which files are read
 
--- known to be a document
-abbrev pub is_document : FileKind → Bool
-is_document Html = true
-is_document Xml = true
-is_document Svg = true
-is_document Style = false
-is_document Feed = false
-is_document UrlList = false
-is_document Unknown = false
-
 -- known to be a page
 abbrev pub is_page : FileKind → Bool
 is_page Html = true
@@ -157,7 +147,7 @@ is_unknown Unknown = true
 abbrev pub if_read : Bool → FileKind → Option FileKind
 if_read styles kind = if is_style kind && not styles then None else Some kind
 
--- ---- where a check starts
+-- ---- the starts of a check
 
 -- usual names of feeds
 abbrev pub is_feed_name : List ℕ → Bool

@@ -87,7 +87,7 @@ pub record HasOwn (server : Server) (names : List (List ℕ)) (entries : List En
 abbrev pub HaveOwn : Server → List (List ℕ) → List Entry → List (Option ℕ) → Type 0
 HaveOwn server names entries own = (number : ℕ) (entry : Entry) (file : ℕ) → slice_get entries number ≡ Some entry → file_in entry.source ≡ Some file → HasOwn server names entries own entry file
 
--- ---- where a check starts
+-- ---- the starts of a check
 
 abbrev pub is_own_url : SiteFiles → ℕ → List ℕ → Bool
 is_own_url files number url = option_map_or (λ own. bytes_eq own url) (own_url_at files number) false

@@ -4,7 +4,7 @@ ghost use Rattle.site_files.specs.Below.{IsTop};
 ghost use Rattle.site_files.specs.Files.{IsOfFiles};
 ghost use Rattle.site_files.specs.Entries.{Finds, IsTable, entry_at, texts};
 ghost use Rattle.site_files.specs.Hints.{HasHomes};
-ghost use Rattle.site_files.specs.Kinds.{is_document, is_page, is_style};
+ghost use Rattle.site_files.specs.Kinds.{is_page, is_style};
 ghost use Rattle.site_files.specs.Links.{IsLinked};
 ghost use Rattle.site_files.specs.Files.{IsOfNames, document_at, document_of, file_kind, has_file, kind_at, line_kind, moved_to, name_at, named_kind, page_file, page_of, pages_of, server_of, site_file, target_in, url_of};
 ghost use Rattle.site_files.specs.Own.{HaveOwn, number_in, own_of, own_url_at};
@@ -43,16 +43,6 @@ pub struct SiteFile<'a> {
 }
 
 impl SiteFile<'_> {
-    /// Whether it is known to be a document. A file of unknown kind is one if its first bytes are those of a document.
-    pub fn is_document(&self) -> bool
-        ensures { result ≡ is_document self.now.kind }
-    {
-        match self.kind {
-            FileKind::Html | FileKind::Xml | FileKind::Svg => true,
-            FileKind::Style | FileKind::Feed | FileKind::UrlList | FileKind::Unknown => false,
-        }
-    }
-
     /// Whether it is known to be a page: an HTML or XHTML document.
     pub fn is_page(&self) -> bool
         ensures { result ≡ is_page self.now.kind }

@@ -21,7 +21,7 @@ pub fn kinds()
     ensures { Kinds }
 {}
 
-/// Where a check starts, by the URLs of files.
+/// Which of some files a check starts at, by their own URLs.
 pub fn starts()
     ensures { Starts }
 {}
