@@ -16,7 +16,7 @@ use crate::kinds::{FileKind, is_page, kind_of};
 use crate::notes::Note;
 use crate::own_pages::own_numbers;
 use crate::page_table::{Entry, PageTable, Source, file_in};
-use crate::pages::{ends_in_slash, note_doubles};
+use crate::pages::ends_in_slash;
 use crate::rules::{Rules, split_name};
 use crate::site::Site;
 use crate::site_list::ListedUrl;
@@ -75,7 +75,7 @@ impl<'a> SiteFiles<'a> {
     ///
     /// # Errors
     /// `NoFiles` if no name is that of a file, which is tested first; `BadBase`; `NoMemory`.
-    #[tactic(auto, using(crate::proofs::Table::table_of, crate::proofs::OwnPages::have_own))]
+    #[tactic(auto, using(crate::proofs::OwnPages::have_own))]
     pub fn new(alloc: Global, input: SiteNames<'a>) -> Result<SiteFiles<'a>, SiteError>
         ensures error { IfErr result (IsOfFiles (texts input.entry.names.now)) }
         ensures files { IfOk result (λ _. has_file (texts input.entry.names.now) ≡ true) }
@@ -97,10 +97,8 @@ impl<'a> SiteFiles<'a> {
             return Err(SiteError::NoFiles);
         }
         let site = Site::at(alloc, base)?;
-        let mut doubles = Vec::new(alloc);
-        let pages = PageTable::new(site.pages(names, rules)?, &mut doubles)?;
         let mut notes = Vec::new(alloc);
-        note_doubles(doubles.as_slice(), names, rules, &mut notes)?;
+        let pages = site.table(names, rules, &mut notes)?;
         let own = own_numbers(&site, &pages, names, rules)?;
         let linked = site.linked_folders(links)?;
         let homes = site.homes(names, rules)?;

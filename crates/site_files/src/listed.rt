@@ -22,7 +22,6 @@ impl<'a> SiteFiles<'a> {
     ///
     /// # Errors
     /// `BadBase`; `NoneListed` if no URL is below the top; `NoMemory`.
-    #[tactic(auto, using(crate::proofs::ListedPages::listed_once))]
     pub fn listed(
         alloc: Global,
         list: &'a SiteList,
@@ -43,12 +42,8 @@ impl<'a> SiteFiles<'a> {
         if !has_own(site.top.as_str(), urls) {
             return Err(SiteError::NoneListed);
         }
-        let entries = entries_below(alloc, site.top.as_str(), urls, names)?;
         let mut notes = Vec::new(alloc);
-        note_others(&site.top_url, urls.len(), entries.len(), &mut notes)?;
-        let mut doubles = Vec::new(alloc);
-        let pages = PageTable::new(entries, &mut doubles)?;
-        note_repeated(doubles.as_slice(), &mut notes)?;
+        let pages = site.listed(urls, names, &mut notes)?;
         let linked = site.linked_folders(&[])?;
         Ok(SiteFiles {
             site,
@@ -61,6 +56,27 @@ impl<'a> SiteFiles<'a> {
             listed: Some(urls),
             notes,
         })
+    }
+}
+
+impl Site {
+    /// The pages of the listed URLs below the top, each URL once. Adds notes about the lines that have no page.
+    #[tactic(auto, using(crate::proofs::ListedPages::listed_once))]
+    fn listed(
+        &self,
+        urls: &[ListedUrl],
+        names: &[String],
+        notes: &mut Vec<Note>,
+    ) -> Result<PageTable, AllocError>
+        ensures { IfOk result (IsListed (string_bytes self.now.top) urls.now (texts names.now)) }
+    {
+        let alloc = *self.top.allocator();
+        let entries = entries_below(alloc, self.top.as_str(), urls, names)?;
+        note_others(&self.top_url, urls.len(), entries.len(), notes)?;
+        let mut doubles = Vec::new(alloc);
+        let pages = PageTable::new(entries, &mut doubles)?;
+        note_repeated(doubles.as_slice(), notes)?;
+        Ok(pages)
     }
 }
 

@@ -1,7 +1,7 @@
 //! The pages of a site, by the names of its files.
 ghost use Rattle.std.specs.Prelude.{◌≡◌, ◌++◌, ◌∷◌, ◌<◌, [], IfErr, IfOk, None, Ok, OnOk, filter_map, length, option_to_list, string_bytes, true, option_map};
 ghost use Rattle.std.specs.List.{flat_map, list_any};
-ghost use Rattle.site_files.specs.Entries.{Adds, Lists, response_of, server_at, texts};
+ghost use Rattle.site_files.specs.Entries.{Adds, IsTable, Lists, response_of, server_at, texts};
 ghost use Rattle.site_files.specs.Files.{IsOfUrl};
 ghost use Rattle.site_files.specs.Pages.{Found, ends_in_slash, folder_of, index_page, index_pages, moved_page, named_page, named_pages, page, pages};
 ghost use Rattle.site_files.specs.Server.{key_with, url_of};
@@ -9,14 +9,32 @@ ghost use Rattle.site_files.specs.Server.{key_with, url_of};
 use crate::below::is_slash;
 use crate::error::SiteError;
 use crate::notes::{Left, Note};
-use crate::page_table::{Entry, Source};
+use crate::page_table::{Entry, PageTable, Source};
 use crate::rules::{Rules, split_name};
 use crate::site::{Site, url_at};
 use std::alloc::AllocError;
 
 impl Site {
+    /// The pages of files with these names, each URL once. Adds a note about each file that has no page because another file has its
+    /// URL.
+    #[tactic(auto, using(crate::proofs::Table::table_of))]
+    pub(crate) fn table(
+        &self,
+        names: &[String],
+        rules: &Rules,
+        notes: &mut Vec<Note>,
+    ) -> Result<PageTable, SiteError>
+        ensures error { IfErr result IsOfUrl }
+        ensures table { IfOk result (IsTable (server_at rules.now self.now) (texts names.now)) }
+    {
+        let mut doubles = Vec::new(*self.top.allocator());
+        let pages = PageTable::new(self.pages(names, rules)?, &mut doubles)?;
+        note_doubles(doubles.as_slice(), names, rules, notes)?;
+        Ok(pages)
+    }
+
     /// The pages of files with these names: at their names, at those of their folders, and those of folders without their slashes.
-    pub(crate) fn pages(&self, names: &[String], rules: &Rules) -> Result<Vec<Entry>, SiteError>
+    fn pages(&self, names: &[String], rules: &Rules) -> Result<Vec<Entry>, SiteError>
         ensures error { IfErr result IsOfUrl }
         ensures pages { IfOk result (λ entries. Lists entries.items (pages (server_at rules.now self.now) (texts names.now))) }
     {
@@ -209,7 +227,7 @@ pub(crate) fn ends_in_slash(name: &[u8]) -> bool
 }
 
 /// Adds a note about each file that has no page because another file has its URL. `doubles` are the pages that are left out.
-pub(crate) fn note_doubles(
+fn note_doubles(
     doubles: &[Entry],
     names: &[String],
     rules: &Rules,
