@@ -5,6 +5,7 @@ pub mod Lookups
 pub mod OtherNames
 pub mod OtherRules
 pub mod OwnPages
+pub mod Serving
 pub mod Slashes
 pub mod Table
 pub mod Ways

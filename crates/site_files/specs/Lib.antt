@@ -10,6 +10,7 @@ pub mod Names
 pub mod Own
 pub mod Pages
 pub mod Server
+pub mod Serving
 pub mod SiteList
 pub mod Urls
 pub mod Vectors

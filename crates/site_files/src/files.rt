@@ -9,6 +9,7 @@ ghost use Rattle.site_files.specs.Links.{IsLinked};
 ghost use Rattle.site_files.specs.Files.{IsOfNames, document_at, document_of, file_kind, has_file, kind_at, line_kind, moved_to, name_at, named_kind, page_file, page_of, pages_of, server_of, site_file, target_in, url_of};
 ghost use Rattle.site_files.specs.Own.{HaveOwn, number_in, own_of, own_url_at};
 ghost use Rattle.site_files.specs.Pages.{found_file};
+ghost use Rattle.site_files.specs.Serving.{Serves, folder_with};
 
 use crate::alias::{FolderLink, LinkedFolders};
 use crate::error::SiteError;
@@ -75,7 +76,7 @@ impl<'a> SiteFiles<'a> {
     ///
     /// # Errors
     /// `NoFiles` if no name is that of a file, which is tested first; `BadBase`; `NoMemory`.
-    #[tactic(auto, using(crate::proofs::OwnPages::have_own))]
+    #[tactic(auto, using(crate::proofs::OwnPages::have_own, crate::proofs::Serving::serves_folder))]
     pub fn new(alloc: Global, input: SiteNames<'a>) -> Result<SiteFiles<'a>, SiteError>
         ensures error { IfErr result (IsOfFiles (texts input.entry.names.now)) }
         ensures files { IfOk result (λ _. has_file (texts input.entry.names.now) ≡ true) }
@@ -85,6 +86,7 @@ impl<'a> SiteFiles<'a> {
         ensures table { IfOk result (λ files. IsTable (server_of files) (texts input.entry.names.now) files.pages) }
         ensures own { IfOk result (λ files. HaveOwn (server_of files) (texts input.entry.names.now) files.pages files.own.items) }
         ensures links { IfOk result (λ files. IsLinked (string_bytes files.site.top) input.entry.links.now files.linked) }
+        ensures server { IfOk result (λ files. Serves (server_of files) (folder_with input.entry.names.now input.entry.links.now) files.pages files.linked) }
         ensures homes { IfOk result (λ files. HasHomes (server_of files) (texts input.entry.names.now) files.homes) }
     {
         let SiteNames {
