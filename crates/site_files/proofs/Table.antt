@@ -24,6 +24,10 @@ use Rattle.site_files.proofs.FirstOnes.{ascends-dedup, first-dedup, first-found,
 pub urls_rank : IsStrictWeakOrder (λ a b. is_lt (cmp_urls a b))
 urls_rank = keys_rank url_in
 
+pub none_ascend : IsStrictlySortedBy cmp_urls []
+unfolding IsStrictlySortedBy
+none_ascend = tt
+
 pub in_order_from_sort : (given ordered : List Entry) → IsSorted cmp_urls ordered → IsStableBy (λ a b. is_lt (cmp_urls a b)) given ordered → IsInOrder given ordered
 in_order_from_sort given ordered ascends stable = record {
   ascends = ascends;

@@ -46,6 +46,7 @@ impl Model for PageTable {
 
 impl PageTable {
     /// No pages.
+    #[tactic(auto, using(crate::proofs::Table::none_ascend))]
     pub(crate) fn empty(alloc: Global) -> PageTable
         ensures { result ≡ [] }
     {
