@@ -1,5 +1,5 @@
 //! The location of a site: the URL of its folder.
-ghost use Rattle.std.specs.Prelude.{◌≡◌, ◌++◌, ◌∷◌, ℕ, List, [], IfErr, IfOk, None, Ok, map, string_bytes, true, option_map};
+ghost use Rattle.std.specs.Prelude.{◌≡◌, ◌++◌, ◌∷◌, ℕ, List, [], IfErr, IfOk, None, Ok, false, map, string_bytes, true, option_map};
 ghost use Rattle.std.specs.List.{list_any};
 ghost use Rattle.crawl_keys.specs.CanonicalText.{canonical};
 ghost use Rattle.percent_encoding.specs.Percent.{percent_decode};
