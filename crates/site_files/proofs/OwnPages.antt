@@ -1,5 +1,5 @@
 -- The own URLs of files: what is found among their texts, and that it is what is defined.
-use Rattle.std.proofs.Common.{◌≡◌, ◌≢◌, ◌⊎◌, ℕ, ◌+◌, ◌<◌, zero, suc, Bool, true, false, Global, String, Option, Some, None, Result, Ok, Err, List, [], ◌∷◌, ◌++◌, drop, find, get_or, length, length-append, map, option_and_then, string_bytes, refl, sym, ap, subst, ◌∙◌, inl, inr, add-one, suc-le-suc, zero-le, arith}
+use Rattle.std.proofs.Common.{◌≡◌, ◌≢◌, ◌⊎◌, ℕ, ◌+◌, ◌<◌, ◌≤◌, zero, suc, Bool, true, false, Global, String, Option, Some, None, Result, Ok, Err, List, [], ◌∷◌, ◌++◌, drop, find, get_or, length, length-append, map, option_and_then, string_bytes, refl, sym, ap, subst, ◌∙◌, inl, inr, add-one, suc-le-suc, zero-le, arith}
 use Rattle.std.specs.Prelude.{filter_map, flat_map, is_some, slice_get, option_map}
 use Rattle.std.specs.List.{AllByRecursion, cons_option, enumerate_from}
 use Rattle.std.specs.Option.{option_or, option_to_list}
@@ -199,7 +199,7 @@ of_moved server names name one is file found = elim (cases_Bool (ends_in_slash n
 
 of_index : (server : Server) (names : List (List ℕ)) (index : List ℕ) (k i : ℕ) (name : List ℕ) (one : Page) → slice_get server.host.indices k ≡ Some index → slice_get names i ≡ Some name → index_page server index i name ≡ Some one → HasOrigin server names one
 of_index server names index k i name one listed there is file found =
-    let same : i ≡ file = found_same i file (index_response server index i name one is ∙ found) in
+    let same : i ≡ file = found_same i file (sym (index_response server index i name one is) ∙ found) in
     let text : index_text server file name index ≡ Some one.text = ap (λ n. index_text server n name index) (sym same) ∙ ap (option_map (λ (p : Page). p.text)) is in
     record {
       name = name;
@@ -210,10 +210,10 @@ of_index server names index k i name one listed there is file found =
 origins : (server : Server) (names : List (List ℕ)) → AllByRecursion (HasOrigin server names) (pages server names)
 origins server names =
     all-append (HasOrigin server names) (named_pages server names) (flat_map (index_pages server names) server.host.indices ++ filter_map (moved_page server.top) names)
-    (all-numbered (HasOrigin server names) (named_page server) 0 names (λ i name one there is. of_name server names i name one there is))
+    (all-numbered (HasOrigin server names) (named_page server) 0 names (λ i name one there is. let same : i ≡ 0 + i = omega arith in of_name server names i name one there (ap (λ k. named_page server k name) same ∙ is)))
     (all-append (HasOrigin server names) (flat_map (index_pages server names) server.host.indices) (filter_map (moved_page server.top) names)
     (all-flat_map (HasOrigin server names) (index_pages server names) server.host.indices
-    (λ k index listed. all-numbered (HasOrigin server names) (index_page server index) 0 names (λ i name one there is. of_index server names index k i name one listed there is)))
+    (λ k index listed. all-numbered (HasOrigin server names) (index_page server index) 0 names (λ i name one there is. let same : i ≡ 0 + i = omega arith in of_index server names index k i name one listed there (ap (λ n. index_page server index n name) same ∙ is))))
     (all-filter_map (HasOrigin server names) (moved_page server.top) names (λ name one is. of_moved server names name one is)))
 
 find_all : {X : Type 0} (P : X → Type 0) (p : X → Bool) (xs : List X) (x : X) → AllByRecursion P xs → find p xs ≡ Some x → P x × (p x ≡ true)

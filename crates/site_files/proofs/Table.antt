@@ -51,7 +51,7 @@ once_in_order given ordered kept order once = record {
 abbrev pub same_url : Entry → Entry → Bool
 same_url a b = bytes_eq a.url b.url
 
-with_next : List Entry → Entry → List Entry
+abbrev with_next : List Entry → Entry → List Entry
 with_next kept entry = if is_again kept entry then kept else kept ++ entry ∷ []
 
 if_cons : (b : Bool) (first : Entry) (xs ys : List Entry) → (if b then first ∷ xs else first ∷ ys) ≡ first ∷ (if b then xs else ys)

@@ -102,11 +102,11 @@ IsOfUrl wrong.NoMemory = Unit {0}
 IsOfUrl (wrong.Io error) = ⊥
 
 -- some name is that of a file
-abbrev pub has_file : List (List ℕ) → Bool
-has_file names = list_any (λ name. not (ends_in_slash name)) names
+abbrev pub has_file : List (String Global) → Bool
+has_file names = list_any (λ name. not (ends_in_slash (string_bytes name))) names
 
 -- the error of names that make no site: `NoFiles` exactly if none of them is that of a file
-abbrev pub IsOfFiles : List (List ℕ) → SiteError → Type 0
+abbrev pub IsOfFiles : List (String Global) → SiteError → Type 0
 IsOfFiles names wrong.BadBase = has_file names ≡ true
 IsOfFiles names wrong.NoFiles = has_file names ≡ false
 IsOfFiles names wrong.NoneListed = ⊥

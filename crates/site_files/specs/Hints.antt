@@ -1,7 +1,8 @@
 -- What a server with other rules returns for a URL without a page.
-use Rattle.std.specs.Prelude.{◌≡◌, ℕ, ◌&&◌, ◌||◌, Bool, is_some, false, not, true, List, [], bytes_eq, filter_map, find, if◌then◌else◌, Option, Some, None, option_and_then, option_map}
+use Rattle.std.specs.Prelude.{◌≡◌, ℕ, ◌&&◌, ◌||◌, Bool, is_some, false, not, true, List, [], bytes_eq, filter_map, find, if◌then◌else◌, Option, Some, None, option_and_then, option_map, String, string_bytes}
 use Rattle.std.specs.List.{enumerate_from, list_any}
 use Rattle.std.specs.Option.{option_or}
+use Rattle.std.specs.declared.alloc.Global.{Global}
 use Rattle.site_files.specs.Entries.{entry_at}
 use Rattle.site_files.specs.Files.{server_of}
 use Rattle.site_files.specs.Kinds.{is_home, last_name}
@@ -14,6 +15,10 @@ use Rattle.site_files.specs.declared.hint.Hint.TheVariants.{HtmlFallback, IndexF
 use Rattle.site_files.specs.declared.page_table.Entry.{Entry}
 
 -- ---- the pages of folders under other rules
+
+-- one of some texts is this name
+abbrev pub has_name : List ℕ → List (String Global) → Bool
+has_name name texts = list_any (λ text. bytes_eq name (string_bytes text)) texts
 
 -- the file with this path may be the page of its folder, and the rules do not have its name
 abbrev pub is_unlisted_home : List (List ℕ) → List ℕ → Bool

@@ -70,10 +70,12 @@ begins_with front name = nat_le (length front) (length name) && str_eq_ignore_as
 abbrev pub is_sitemap : List ℕ → Bool
 is_sitemap name = begins_with (codes "sitemap") name
 
--- `sitemap*.txt` is a list of URLs
+-- `sitemap*.txt` has one URL per line
+abbrev pub is_url_list : List ℕ → List ℕ → Bool
+is_url_list name suffix = is_sitemap name && str_eq_ignore_ascii_case suffix (codes "txt")
+
 abbrev pub kind_with : List ℕ → List ℕ → Option FileKind
-kind_with name suffix =
-    if is_sitemap name && str_eq_ignore_ascii_case suffix (codes "txt") then Some UrlList else kind_by suffix
+kind_with name suffix = if is_url_list name suffix then Some UrlList else kind_by suffix
 
 -- the kind of the file with this path
 abbrev pub kind_of : List ℕ → Option FileKind

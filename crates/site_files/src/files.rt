@@ -78,8 +78,8 @@ impl<'a> SiteFiles<'a> {
     /// `NoFiles` if no name is that of a file, which is tested first; `BadBase`; `NoMemory`.
     #[tactic(auto, using(crate::proofs::OwnPages::have_own, crate::proofs::Serving::serves_folder))]
     pub fn new(alloc: Global, input: SiteNames<'a>) -> Result<SiteFiles<'a>, SiteError>
-        ensures error { IfErr result (IsOfFiles (texts input.entry.names.now)) }
-        ensures files { IfOk result (λ _. has_file (texts input.entry.names.now) ≡ true) }
+        ensures error { IfErr result (IsOfFiles input.entry.names.now) }
+        ensures files { IfOk result (λ _. has_file input.entry.names.now ≡ true) }
         ensures top { IfOk result (λ files. IsTop input.entry.base.now (string_bytes files.site.top)) }
         ensures names { IfOk result (IsOfNames input.entry.names.now input.entry.rules.now) }
         ensures url { IfOk result (λ files. files.site.top_url ≡ string_bytes files.site.top) }
@@ -318,7 +318,7 @@ fn named_kind(rules: &Rules, name: &str) -> Option<FileKind>
 
 /// Whether some name is that of a file.
 fn has_file(names: &[String]) -> bool
-    ensures { result ≡ has_file (texts names.now) }
+    ensures { result ≡ has_file names.now }
 {
     names.iter().any(|name| !ends_in_slash(name.as_bytes()))
 }

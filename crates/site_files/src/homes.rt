@@ -1,9 +1,8 @@
 //! The pages that folders have under other rules.
-ghost use Rattle.std.specs.Prelude.{◌≡◌, bytes_eq, IfErr, IfOk, OnOk, option_to_list};
-ghost use Rattle.std.specs.List.{list_any};
+ghost use Rattle.std.specs.Prelude.{◌≡◌, IfErr, IfOk, OnOk, option_to_list};
 ghost use Rattle.site_files.specs.Entries.{Adds, server_at, texts};
 ghost use Rattle.site_files.specs.Files.{IsOfUrl};
-ghost use Rattle.site_files.specs.Hints.{HasHomes, home_page, home_pages, is_unlisted_home};
+ghost use Rattle.site_files.specs.Hints.{HasHomes, has_name, home_page, home_pages, is_unlisted_home};
 
 use crate::error::SiteError;
 use crate::kinds::{is_home, last_name};
@@ -65,6 +64,7 @@ impl Site {
 }
 
 /// Whether the file with this path may be the page of its folder, and the rules do not have its name.
+#[tactic(auto, using(crate::proofs::OtherRules::name_listed))]
 fn is_unlisted_home(path: &[u8], rules: &Rules) -> bool
     ensures { result ≡ is_unlisted_home (texts rules.now.index_files.items) path.now }
 {
@@ -73,7 +73,7 @@ fn is_unlisted_home(path: &[u8], rules: &Rules) -> bool
 
 /// Whether the rules have this name of an index file.
 fn is_listed(name: &[u8], rules: &Rules) -> bool
-    ensures { result ≡ list_any (bytes_eq name.now) (texts rules.now.index_files.items) }
+    ensures { result ≡ has_name name.now rules.now.index_files.items }
 {
     rules.index_files.iter().any(|one| name == one.as_bytes())
 }

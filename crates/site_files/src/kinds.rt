@@ -1,7 +1,7 @@
 //! The kind of a file, by its name or its media type.
 ghost use Rattle.std.specs.Prelude.{◌≡◌, option_map};
 ghost use Rattle.std.specs.List.{before_first, list_all};
-ghost use Rattle.site_files.specs.Kinds.{begins_with, is_among, is_dot, is_feed, is_feed_name, is_feed_only, is_feed_type, is_home, is_home_name, is_html, is_other, is_packed, is_page, is_semicolon, is_sitemap, is_start, is_start_with, is_unknown, is_xhtml, kind_by, kind_of, kind_of_type, kind_with, last_name, may_be_page, suffix_of};
+ghost use Rattle.site_files.specs.Kinds.{begins_with, is_among, is_dot, is_feed, is_feed_name, is_feed_only, is_feed_type, is_home, is_home_name, is_html, is_other, is_packed, is_page, is_semicolon, is_sitemap, is_start, is_start_with, is_unknown, is_url_list, is_xhtml, kind_by, kind_of, kind_of_type, kind_with, last_name, may_be_page, suffix_of};
 ghost use Rattle.url.specs.Input.{rsplit_once};
 
 /// The kind of a file that can have links.
@@ -41,11 +41,18 @@ pub(crate) fn kind_of(path: &[u8]) -> Option<FileKind>
 fn kind_with(name: &[u8], suffix: &[u8]) -> Option<FileKind>
     ensures { result ≡ kind_with name.now suffix.now }
 {
-    if is_sitemap(name) && suffix.eq_ignore_ascii_case(b"txt") {
+    if is_url_list(name, suffix) {
         Some(FileKind::UrlList)
     } else {
         kind_by(suffix)
     }
+}
+
+/// Whether a file with this name and suffix is a sitemap with one URL per line.
+fn is_url_list(name: &[u8], suffix: &[u8]) -> bool
+    ensures { result ≡ is_url_list name.now suffix.now }
+{
+    is_sitemap(name) && suffix.eq_ignore_ascii_case(b"txt")
 }
 
 /// The kind of a file with this suffix. Case matters only for packed files.

@@ -1,5 +1,13 @@
-use Rattle.site_files.proofs.Table.{kept_again, kept_next, once_from_dedup}
+use Rattle.std.proofs.Common.{ap, sym, ◌∙◌}
+use Rattle.std.specs.List.{dedup}
+use Rattle.std.proofs.lemmas.Iterator.Adapters.{YieldsList-from_vec}
+use Rattle.std.proofs.lemmas.Iterator.Consumers.{YieldsList-end}
+use Rattle.std.proofs.lemmas.List.{map-id}
+use Rattle.site_files.proofs.Table.{once_from_dedup, same_url}
 use Rattle.site_files.proofs.page_table.first_of_each.Goals as goal
 
 pub returns : goal.returns
-returns c = once_from_dedup _ _ c.requires c.entries.invariant
+returns c =
+    let steps = YieldsList-from_vec c.args.entries.items c.into_iter.ensures.items (c.into_iter.ensures.len ∙ c.args.entries.ok.0) in
+    let all = YieldsList-end steps c.entries.yielded _ c.entries.yielded_by _ _ c.in-None.is c.next.ensures.steps in
+    once_from_dedup _ _ c.requires (c.entries.invariant ∙ ap (dedup same_url) (sym (map-id c.entries.yielded) ∙ all.0))

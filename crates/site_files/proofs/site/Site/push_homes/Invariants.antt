@@ -2,7 +2,7 @@ use Rattle.std.proofs.Common.{◌++◌, drop, map}
 use Rattle.site_files.specs.Entries.{expected, listed, server_at, texts}
 use Rattle.site_files.specs.Hints.{home_page, home_pages}
 use Rattle.site_files.proofs.Listing.{Leaves, numbered_pages}
-use Rattle.site_files.proofs.homes.Site.push_homes.Given as goal
+use Rattle.site_files.proofs.site.Site.push_homes.Given as goal
 
 abbrev pub invariant-names : goal.invariant-names
 invariant-names l =

@@ -2,7 +2,7 @@ use Rattle.std.proofs.Common.{◌++◌, drop, map}
 use Rattle.site_files.specs.Entries.{expected, listed, server_at, texts}
 use Rattle.site_files.specs.Pages.{index_page, index_pages}
 use Rattle.site_files.proofs.Listing.{Leaves, numbered_pages}
-use Rattle.site_files.proofs.pages.Site.push_index_files.Given as goal
+use Rattle.site_files.proofs.site.Site.push_index_files.Given as goal
 
 abbrev pub invariant-names : goal.invariant-names
 invariant-names l =

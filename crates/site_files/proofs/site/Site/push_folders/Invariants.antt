@@ -3,7 +3,7 @@ use Rattle.std.specs.List.{filter_map}
 use Rattle.site_files.specs.Entries.{expected, listed, texts}
 use Rattle.site_files.specs.Pages.{moved_page}
 use Rattle.site_files.proofs.Listing.{Leaves}
-use Rattle.site_files.proofs.pages.Site.push_folders.Given as goal
+use Rattle.site_files.proofs.site.Site.push_folders.Given as goal
 
 abbrev pub invariant-names : goal.invariant-names
 invariant-names l =

@@ -3,7 +3,7 @@ use Rattle.std.specs.Option.{option_to_list}
 use Rattle.site_files.specs.Entries.{Adds, expected, listed, server_at, texts}
 use Rattle.site_files.specs.Pages.{Page, index_page, index_pages}
 use Rattle.site_files.proofs.Listing.{Leaves, gone_on, numbered_left}
-use Rattle.site_files.proofs.pages.Site.push_index_files.Goals as goal
+use Rattle.site_files.proofs.site.Site.push_index_files.Goals as goal
 
 pub names-preserved : goal.names-preserved
 names-preserved c =

@@ -3,7 +3,7 @@ use Rattle.std.specs.List.{flat_map}
 use Rattle.site_files.specs.Entries.{expected, listed, server_at, texts}
 use Rattle.site_files.specs.Pages.{index_pages}
 use Rattle.site_files.proofs.Listing.{Leaves}
-use Rattle.site_files.proofs.pages.Site.push_indices.Given as goal
+use Rattle.site_files.proofs.site.Site.push_indices.Given as goal
 
 abbrev pub invariant-indices : goal.invariant-indices
 invariant-indices l =

@@ -2,7 +2,7 @@ use Rattle.std.proofs.Common.{◌++◌, drop, map}
 use Rattle.site_files.specs.Entries.{expected, listed, server_at, texts}
 use Rattle.site_files.specs.Pages.{named_page, named_pages}
 use Rattle.site_files.proofs.Listing.{Leaves, numbered_pages}
-use Rattle.site_files.proofs.pages.Site.push_files.Given as goal
+use Rattle.site_files.proofs.site.Site.push_files.Given as goal
 
 abbrev pub invariant-names : goal.invariant-names
 invariant-names l =
