@@ -209,12 +209,14 @@ of_index server names index k i name one listed there is file found =
 
 origins : (server : Server) (names : List (List ℕ)) → AllByRecursion (HasOrigin server names) (pages server names)
 origins server names =
-    all-append (HasOrigin server names) (named_pages server names) (flat_map (index_pages server names) server.host.indices ++ filter_map (moved_page server.top) names)
-    (all-numbered (HasOrigin server names) (named_page server) 0 names (λ i name one there is. let same : i ≡ 0 + i = omega arith in of_name server names i name one there (ap (λ k. named_page server k name) same ∙ is)))
-    (all-append (HasOrigin server names) (flat_map (index_pages server names) server.host.indices) (filter_map (moved_page server.top) names)
+    all-append (HasOrigin server names) (named_pages server names ++ flat_map (index_pages server names) server.host.indices) (filter_map (moved_page server.top) names)
+    (all-append (HasOrigin server names) (named_pages server names) (flat_map (index_pages server names) server.host.indices)
+    (all-numbered (HasOrigin server names) (named_page server) 0 names
+    (λ i name one there is. let same : i ≡ 0 + i = omega arith in of_name server names i name one there (ap (λ k. named_page server k name) same ∙ is)))
     (all-flat_map (HasOrigin server names) (index_pages server names) server.host.indices
-    (λ k index listed. all-numbered (HasOrigin server names) (index_page server index) 0 names (λ i name one there is. let same : i ≡ 0 + i = omega arith in of_index server names index k i name one listed there (ap (λ n. index_page server index n name) same ∙ is))))
-    (all-filter_map (HasOrigin server names) (moved_page server.top) names (λ name one is. of_moved server names name one is)))
+    (λ k index listed. all-numbered (HasOrigin server names) (index_page server index) 0 names
+    (λ i name one there is. let same : i ≡ 0 + i = omega arith in of_index server names index k i name one listed there (ap (λ n. index_page server index n name) same ∙ is)))))
+    (all-filter_map (HasOrigin server names) (moved_page server.top) names (λ name one is. of_moved server names name one is))
 
 find_all : {X : Type 0} (P : X → Type 0) (p : X → Bool) (xs : List X) (x : X) → AllByRecursion P xs → find p xs ≡ Some x → P x × (p x ≡ true)
 find_all P p [] x all is = absurd (none_some _ is)

@@ -8,6 +8,7 @@ use Rattle.site_files.proofs.page_table.first_of_each.Goals as goal
 
 pub returns : goal.returns
 returns c =
-    let steps = YieldsList-from_vec c.args.entries.items c.into_iter.ensures.items (c.into_iter.ensures.len ∙ c.args.entries.ok.0) in
+    let gives = c.into_iter-entry-iterator.ensures.into_iter_gives in
+    let steps = YieldsList-from_vec c.args.entries.items gives.0 (gives.1 ∙ c.args.entries.ok.0) in
     let all = YieldsList-end steps c.entries.yielded _ c.entries.yielded_by _ _ c.in-None.is c.next.ensures.steps in
     once_from_dedup _ _ c.requires (c.entries.invariant ∙ ap (dedup same_url) (sym (map-id c.entries.yielded) ∙ all.0))
