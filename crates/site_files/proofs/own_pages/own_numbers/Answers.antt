@@ -1,5 +1,5 @@
 use Rattle.std.proofs.Common.{ℕ, ◌+◌, Option, List, arith, string_bytes, subst, sym}
-use Rattle.std.proofs.Math.ListN.{length-map}
+use Rattle.std.proofs.lemmas.List.{length-map}
 use Rattle.site_files.specs.Entries.{server_at, texts}
 use Rattle.site_files.specs.Own.{FindsOwn}
 use Rattle.site_files.specs.Pages.{folder_texts}
@@ -22,4 +22,4 @@ names-preserved c =
 pub returns-clause-own : goal.returns-clause-own
 returns-clause-own c =
     all_own _ _ (texts c.args.names.now) _ c.names.index
-    (omega (arith, c.names-test.false, length-map string_bytes c.args.names.now)) c.names.invariant
+    (omega (arith, c.names-test.false, length-map c.args.names.now string_bytes)) c.names.invariant
