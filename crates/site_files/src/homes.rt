@@ -14,7 +14,6 @@ use crate::site::Site;
 impl Site {
     /// The files that may be the pages of their folders but whose names the rules do not have, at the URLs of their folders. Of several in
     /// one folder the first counts.
-    #[tactic(auto, using(crate::proofs::OtherRules::homes_of))]
     pub(crate) fn homes(&self, names: &[String], rules: &Rules) -> Result<PageTable, SiteError>
         ensures error { IfErr result IsOfUrl }
         ensures homes { IfOk result (HasHomes (server_at rules.now self.now) (texts names.now)) }
@@ -22,7 +21,8 @@ impl Site {
         let mut entries = Vec::new(*self.top.allocator());
         self.push_homes(names, rules, &mut entries)?;
         let mut others = Vec::new(*self.top.allocator());
-        Ok(PageTable::new(entries, &mut others)?)
+        let homes = PageTable::new(entries, &mut others)?;
+        Ok(homes)
     }
 
     /// Adds the page of each such file at the URL of its folder.

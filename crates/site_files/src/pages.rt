@@ -17,7 +17,6 @@ use std::alloc::AllocError;
 impl Site {
     /// The pages of files with these names, each URL once. Adds a note about each file that has no page because another file has its
     /// URL.
-    #[tactic(auto, using(crate::proofs::Table::table_of))]
     pub(crate) fn table(
         &self,
         names: &[String],
