@@ -151,6 +151,7 @@ fn place_in(alloc: Global, name: &str, place: TextPlace) -> Result<Place, NoMemo
         file: String::from_str(alloc, name)?,
         line: place.line,
         column: place.column,
+        written: None,
     })
 }
 

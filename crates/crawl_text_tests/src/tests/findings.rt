@@ -52,6 +52,7 @@ const TARGETS: &[Target] = &[
 
 const TOTALS: Totals = Totals {
     pages: 4,
+    files: 1,
     aliases: 3,
     links: 20,
     broken_links: 5,
@@ -296,6 +297,7 @@ fn places(alloc: Global, rows: &[(&str, u64, u64)]) -> Option<Vec<Place>> {
                 file,
                 line: *line,
                 column: *column,
+                written: None,
             })
             .ok()?;
     }
@@ -312,6 +314,7 @@ fn target(alloc: Global, row: &Target) -> Option<Broken> {
         pages: 3,
         places,
         same_name,
+        hint: None,
     })
 }
 
@@ -399,6 +402,7 @@ fn printed(alloc: Global) -> Option<[bool; 4]> {
         },
         external: Some(&others),
         folder: "s:te",
+        source_url: "",
     };
     Some(forms(alloc, &findings, contents))
 }
@@ -419,6 +423,7 @@ fn nothing(alloc: Global) -> Option<bool> {
         lists: Lists::default(),
         external: None,
         folder: "",
+        source_url: "",
     };
     let text = print_text(alloc, &findings, contents, true).ok()?;
     Some(text.as_slice() == NOTHING.as_bytes())
@@ -439,6 +444,7 @@ fn annotated(alloc: Global, folder: &str) -> Option<Vec<u8>> {
         lists: Lists::default(),
         external: None,
         folder,
+        source_url: "",
     };
     print_annotations(alloc, &findings, contents).ok()
 }
@@ -476,6 +482,7 @@ fn seen(alloc: Global, row: &Seen) -> Option<[bool; 3]> {
         lists: Lists::default(),
         external: None,
         folder: "",
+        source_url: "",
     };
     let text = print_text(alloc, &findings, contents, false).ok()?;
     let page = print_page(alloc, &findings, contents).ok()?;
@@ -491,6 +498,7 @@ fn seen(alloc: Global, row: &Seen) -> Option<[bool; 3]> {
 fn counted(row: &Heading) -> Totals {
     Totals {
         pages: 1,
+        files: 0,
         aliases: 0,
         links: 9,
         broken_links: row.0,
@@ -517,6 +525,7 @@ fn is_headed(alloc: Global, row: &Heading) -> Option<bool> {
         lists: Lists::default(),
         external: None,
         folder: "",
+        source_url: "",
     };
     let page = print_page(alloc, &findings, contents).ok()?;
     let text = print_text(alloc, &findings, contents, true).ok()?;
