@@ -169,6 +169,7 @@ fn place_in(alloc: Global, name: &str, place: &TextPlace) -> Result<Place, NoMem
         file: String::from_str(alloc, name)?,
         line: place.line,
         column: place.column,
+        written: None,
     })
 }
 
