@@ -1,4 +1,5 @@
 //! The settings of a check.
+use crawl_keys::CanonUrl;
 use crawl_pages::PageResult;
 use document_links::{LinkPlaces, PageAnchors};
 use site_files::Alias;
@@ -12,6 +13,8 @@ pub struct CheckInput<'a> {
     pub ignores: &'a [String],
     /// The aliases of the site, in the order of their URLs.
     pub aliases: &'a [Alias],
+    /// The own URLs of the site's HTML and XHTML documents, in the order of their URLs. The other pages at own URLs are files.
+    pub documents: &'a [CanonUrl],
     /// The anchors of the site's documents, in the order of their URLs. If there are none, no missing anchor is reported.
     pub anchors: &'a [PageAnchors],
     /// The positions of the links in the site's documents and their invalid links, in the order of the documents' URLs. If there are
