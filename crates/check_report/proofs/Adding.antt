@@ -1,8 +1,14 @@
 -- Bytes that are printed one joined the other.
-use Rattle.check_report.proofs.Prelude.{common_steps, ◌≡◌, ℕ, ◌+◌, ◌<◌, ◌≤◌, List, [], ◌∷◌, ◌++◌, length, map, take, get_or, Result, IfOk, OnOk, Vec, Global, append-nil, sym, ap, subst, ◌∙◌, arith, Option, append_assoc, map_more, take_more, take_all, flat_map-append, flat_map, Adds, Line, begin, edge, finish, in_part}
+use Rattle.check_report.proofs.Prelude.{common_steps, ◌≡◌, ℕ, ◌+◌, ◌<◌, ◌≤◌, List, [], ◌∷◌, ◌++◌, length, map, take, get_or, Result, IfOk, OnOk, Vec, Global, append-nil, sym, ap, subst, ◌∙◌, arith, Bor, Bool, true, false, Option, append_assoc, flat_map-map, map-map, map_more, take-map, take_more, take_all, flat_map-append, flat_map, Adds, Line, bare_lines, begin, edge, file_lines, finish, in_part, link_line, place, place_lines, rest_lines, target_lines}
 use Rattle.check_report.specs.Json.{count_if_at, count_tokens}
+use Rattle.check_report.specs.Order.{link_of, links_by_file, shown_places}
 use Rattle.check_report.specs.declared.form.Form.{Form}
+use Rattle.check_report.specs.declared.ordered.Link.{Link}
 use Rattle.check_report.specs.declared.row.Part.{Part}
+use Rattle.check_report.specs.declared.value.Broken.{Broken}
+use Rattle.check_report.specs.declared.value.Place.{Place}
+use Rattle.check_report.specs.declared.view.View.{View}
+use Rattle.check_report.proofs.Sorting.{shown-map}
 use Rattle.json.specs.Json.{Members}
 use Rattle.json.specs.Tree.{members_tokens}
 
@@ -48,11 +54,46 @@ then_more how answer out mid xs ys before after = grind (arith, adds_both)
 pub part_more : {E : Type 0} (how : Form) (answer : Result (Vec ℕ Global) E) (out begun listed : List ℕ) (of_part : Part) (rows : ℕ) (lines : List Line) → Adds how out begun (edge rows (begin of_part)) → Adds how begun listed lines → IfOk answer (λ more. Adds how listed more.items (edge rows (finish of_part))) → IfOk answer (λ more. Adds how out more.items (in_part of_part rows lines))
 part_more how answer out begun listed of_part rows lines first middle last = grind (arith, then_more, adds_both)
 
+-- the same rows in other words, after an allocation that may fail
+pub then_same : {E : Type 0} (how : Form) (answer : Result (Vec ℕ Global) E) (out : List ℕ) (xs ys : List Line) → xs ≡ ys → IfOk answer (λ more. Adds how out more.items xs) → IfOk answer (λ more. Adds how out more.items ys)
+then_same how answer out xs ys same is = subst (λ zs. IfOk answer (λ more. Adds how out more.items zs)) same is
+
+-- the locations of a target that are listed, by reference
+pub adds_listed : {E : Type 0} (how : Form) (answer : Result (Vec ℕ Global) E) (out : List ℕ) (target : Broken) (all : Bool) (listed : List Place) (places shown : List (Bor Place)) → map (λ (p : Bor Place). p.now) places ≡ listed → shown ≡ shown_places all places
+    → IfOk answer (λ more. Adds how out more.items (map (λ (p : Bor Place). place target p.now) shown)) → IfOk answer (λ more. Adds how out more.items (place_lines target (shown_places all listed)))
+adds_listed how answer out target all listed places shown same first is =
+    then_same how answer out _ _
+    (sym (map-map (place target) (λ (p : Bor Place). p.now) shown) ∙ ap (λ ps. place_lines target (map (λ (p : Bor Place). p.now) ps)) first
+    ∙ ap (place_lines target) (sym (shown-map (λ (p : Bor Place). p.now) all places) ∙ ap (shown_places all) same)) is
+
+-- the targets by reference, each with its locations
+pub adds_targets : {E : Type 0} (how : Form) (answer : Result (Vec ℕ Global) E) (out : List ℕ) (view : View) (targets : List Broken) (ordered : List (Bor Broken)) → map (λ (t : Bor Broken). t.now) ordered ≡ targets
+    → IfOk answer (λ more. Adds how out more.items (flat_map (λ (t : Bor Broken). target_lines view t.now) ordered)) → IfOk answer (λ more. Adds how out more.items (flat_map (target_lines view) targets))
+adds_targets how answer out view targets ordered same is =
+    then_same how answer out _ _ (sym (flat_map-map (target_lines view) (λ (t : Bor Broken). t.now) ordered) ∙ ap (flat_map (target_lines view)) same) is
+
+-- the links, then the targets without locations, then those of which not all locations are listed
+pub adds_files : {E : Type 0} (how : Form) (answer : Result (Vec ℕ Global) E) (out linked bare : List ℕ) (all : Bool) (targets : List (Bor Broken)) (links : List Link)
+    → map link_of links ≡ links_by_file all (map (λ (t : Bor Broken). t.now) targets) → Adds how out linked (map (λ (l : Link). link_line (link_of l)) links)
+    → Adds how linked bare (flat_map (λ (t : Bor Broken). bare_lines t.now) targets) → IfOk answer (λ more. Adds how bare more.items (flat_map (λ (t : Bor Broken). rest_lines all t.now) targets))
+    → IfOk answer (λ more. Adds how out more.items (file_lines all (map (λ (t : Bor Broken). t.now) targets)))
+adds_files how answer out linked bare all targets links same first second third =
+    let of = λ (t : Bor Broken). t.now in
+    then_more how answer out bare _ _
+    (adds_both how out linked bare _ _
+    (adds_same how out linked _ _ (sym (map-map link_line link_of links) ∙ ap (map link_line) same) first)
+    (adds_same how linked bare _ _ (sym (flat_map-map bare_lines of targets)) second))
+    (then_same how answer bare _ _ (sym (flat_map-map (rest_lines all) of targets)) third)
+
 -- Tokens of an object's members
 
 -- a count comes before the other members, if there is one
 pub count_first : (name : List ℕ) (count : Option ℕ) (rest : Members) → count_tokens name count ++ members_tokens rest ≡ members_tokens (count_if_at name count rest)
 count_first name count rest = grind arith
+
+-- what was added, and then more
+pub added : {X : Type 0} (old mid more part : List X) → mid ≡ old ++ part → mid ++ more ≡ old ++ (part ++ more)
+added old mid more part is = ap (λ ts. ts ++ more) is ∙ append_assoc old part more
 
 -- what follows if there is memory
 pub then_ok : {V E P Q : Type 0} (answer : Result V E) → (P → Q) → OnOk answer P → OnOk answer Q

@@ -2,6 +2,7 @@
 use Rattle.std.specs.Prelude.{ℕ, ◌-◌, ◌==◌, List, [], ◌++◌, codes, drop, length, nat_eq, nat_lt, slice_get, string_bytes, if◌then◌else◌, Option, None, Some, bytes_eq}
 use Rattle.std.specs.List.{starts_with}
 use Rattle.check_report.specs.Escape.{escaped}
+use Rattle.check_report.specs.Names.{target_in}
 use Rattle.check_report.specs.Rows as line
 use Rattle.check_report.specs.Rows.{Line}
 use Rattle.check_report.specs.Text.{counted, wrong_of}
@@ -11,7 +12,7 @@ use Rattle.check_report.specs.declared.value.Place.{Place}
 
 -- a target and what is wrong
 abbrev pub message_line : Broken → List ℕ
-message_line b = escaped escape.Data (string_bytes b.target) ++ codes ": " ++ wrong_of escape.Data b ++ codes "\n"
+message_line b = target_in escape.Data b ++ codes ": " ++ wrong_of escape.Data b ++ codes "\n"
 
 -- a folder without a leading `./`
 abbrev pub without_here : List ℕ → List ℕ
@@ -45,6 +46,7 @@ annotation_line folder (line.finish of_part) = []
 annotation_line folder (line.broken b) = broken_annotation b
 annotation_line folder (line.place b p) = place_annotation folder b p
 annotation_line folder (line.more count) = []
+annotation_line folder (line.rest b count) = []
 annotation_line folder (line.worst c) = []
 annotation_line folder (line.redirect r) = []
 annotation_line folder (line.external e) = []

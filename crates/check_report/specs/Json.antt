@@ -12,6 +12,7 @@ use Rattle.check_report.specs.declared.row.Part.TheVariants as part
 use Rattle.check_report.specs.declared.value.Broken.{Broken}
 use Rattle.check_report.specs.declared.value.Kind.{Kind}
 use Rattle.check_report.specs.declared.value.Kind.TheVariants.{NoPage, NoAnchor, NotUrl, UnknownScheme, LocalFile, Leaves, OutsideBase}
+use Rattle.check_report.specs.declared.value.Place.{Place}
 use Rattle.check_report.specs.declared.value.Totals.{Totals}
 
 -- ---- members
@@ -84,6 +85,11 @@ wrong_word LocalFile = codes "local_file"
 wrong_word Leaves = codes "above_folder"
 wrong_word OutsideBase = codes "outside_base"
 
+-- the line and the column, and the link as it is written, or `null`
+abbrev pub place_counts : Place → Members
+place_counts p =
+    count_at (codes "line") p.line (count_at (codes "column") p.column (member (codes "written") (text_or_null (option_map string_bytes p.written)) no_members))
+
 -- the target and what is wrong
 abbrev pub target_at : Broken → Members → Members
 target_at b rest = text_at (codes "target") (string_bytes b.target) (text_at (wrong_key b.kind) (wrong_word b.kind) rest)
@@ -95,6 +101,14 @@ same_name_at b rest = if is_missing b.kind then member (codes "same_name") (text
 -- the tokens of the page that is suggested
 abbrev pub same_name_tokens : Broken → List Token
 same_name_tokens b = if is_missing b.kind then Token.key (codes "same_name") ∷ json_tokens (text_or_null (option_map string_bytes b.same_name)) else []
+
+-- the hint, or `null`; nothing if neither a page nor an anchor is missing
+abbrev pub hint_at : Broken → Members → Members
+hint_at b rest = if is_missing b.kind then member (codes "hint") (text_or_null (option_map string_bytes b.hint)) rest else rest
+
+-- the tokens of the hint
+abbrev pub hint_tokens : Broken → List Token
+hint_tokens b = if is_missing b.kind then Token.key (codes "hint") ∷ json_tokens (text_or_null (option_map string_bytes b.hint)) else []
 
 -- the kind of the rows in a section
 abbrev pub row_kind : Part → List ℕ
@@ -115,19 +129,25 @@ broken_counts t =
 abbrev pub optional_counts : Totals → Counts → Members
 optional_counts t c = count_if_at (codes "unreached") c.unreached (count_if_at (codes "external") c.external (broken_counts t))
 
+-- the counts of the documents, the other files, the aliases, the links and the redirects
+abbrev pub site_counts : Totals → Members → Members
+site_counts t rest =
+    count_at (codes "pages") t.pages (count_at (codes "files") t.files (count_at (codes "aliases") t.aliases (count_at (codes "links") t.links
+    (count_at (codes "redirects") t.moved rest))))
+
 abbrev pub total_members : List ℕ → Totals → Counts → Members
 total_members base t c =
-    kind (codes "total") (text_at (codes "base") base (count_at (codes "pages") t.pages (count_at (codes "aliases") t.aliases
-    (count_at (codes "links") t.links (count_at (codes "redirects") t.moved (optional_counts t c))))))
+    kind (codes "total") (text_at (codes "base") base (site_counts t (optional_counts t c)))
 
 abbrev pub members_of : Line → Members
 members_of (line.total base totals counts) = total_members base totals counts
 members_of (line.begin of_part) = no_members
 members_of (line.finish of_part) = no_members
 members_of (line.broken b) =
-    kind (target_kind b.kind) (target_at b (count_at (codes "pages") b.pages (same_name_at b no_members)))
+    kind (target_kind b.kind) (target_at b (count_at (codes "pages") b.pages (same_name_at b (hint_at b no_members))))
 members_of (line.place b p) =
-    kind (place_kind b.kind) (target_at b (text_at (codes "file") (string_bytes p.file) (count_at (codes "line") p.line (count_at (codes "column") p.column no_members))))
+    kind (place_kind b.kind) (target_at b (text_at (codes "file") (string_bytes p.file) (place_counts p)))
+members_of (line.rest b count) = no_members
 members_of (line.more count) = kind (codes "more") (count_at (codes "places") count no_members)
 members_of (line.worst c) = kind (codes "worst") (text_at (codes "file") (string_bytes c.file) (count_at (codes "links") c.links no_members))
 members_of (line.redirect r) =
@@ -144,6 +164,7 @@ is_object (line.finish of_part) = false
 is_object (line.broken b) = true
 is_object (line.place b p) = true
 is_object (line.more count) = true
+is_object (line.rest b count) = false
 is_object (line.worst c) = true
 is_object (line.redirect r) = true
 is_object (line.external e) = true

@@ -1,6 +1,9 @@
 pub mod Annotations
 pub mod Escape
 pub mod Json
+pub mod Names
+pub mod Natural
+pub mod Order
 pub mod Page
 pub mod Printing
 pub mod Rows

@@ -1,9 +1,10 @@
 -- A row of the HTML page. Untrusted texts are only in elements, and escaped.
 use Rattle.std.specs.Prelude.{ℕ, ◌==◌, Bool, ◌&&◌, ◌||◌, List, [], ◌++◌, codes, decimal, nat_lt, string_bytes, if◌then◌else◌, Option, None, Some, option_map}
 use Rattle.check_report.specs.Escape.{escaped}
+use Rattle.check_report.specs.Names.{page_in, target_in}
 use Rattle.check_report.specs.Rows as line
 use Rattle.check_report.specs.Rows.{Line}
-use Rattle.check_report.specs.Text.{counted, is_broken, linked_from, redirect_target, wrong_of}
+use Rattle.check_report.specs.Text.{counted, is_broken, linked_from, name_in, redirect_target, wrong_of}
 use Rattle.check_report.specs.declared.as_page.parts.TheConstants.{HEAD, SCRIPT, STYLE, TAIL, TOOLS}
 use Rattle.check_report.specs.declared.escape.Escape.TheVariants as escape
 use Rattle.check_report.specs.declared.row.Counts.{Counts}
@@ -82,7 +83,7 @@ abbrev pub total_item : List ℕ → ℕ → List ℕ
 total_item word n = counted word n ++ codes "</b></li>\n"
 
 abbrev pub site_items : Totals → List ℕ
-site_items t = total_item (codes "<li>pages <b>") t.pages ++ total_item (codes "<li>links <b>") t.links ++ total_item (codes "<li>redirects <b>") t.moved
+site_items t = total_item (codes "<li>pages <b>") t.pages ++ total_item (codes "<li>files <b>") t.files ++ total_item (codes "<li>links <b>") t.links ++ total_item (codes "<li>redirects <b>") t.moved
     ++ total_item (codes "<li>other URLs of pages <b>") t.aliases
 
 -- an item if the count is not 0, otherwise nothing
@@ -121,7 +122,7 @@ section_start part.Unused = codes "<section id=unused aria-labelledby=h-unused>\
 -- ---- rows
 
 abbrev pub broken_row : Broken → List ℕ
-broken_row b = codes "<b>" ++ html (string_bytes b.target) ++ codes "</b>\t" ++ wrong_of escape.Html b ++ codes "\n"
+broken_row b = codes "<b>" ++ target_in escape.Html b ++ codes "</b>\t" ++ wrong_of escape.Html b ++ codes "\n"
 
 abbrev pub place_row : Place → List ℕ
 place_row p = codes "\t" ++ html (string_bytes p.file) ++ counted (codes ":") p.line ++ counted (codes ":") p.column ++ codes "\n"
@@ -134,7 +135,7 @@ worst_row c = html (string_bytes c.file) ++ counted (codes "\t") c.links ++ code
 
 abbrev pub redirect_row : Redirect → List ℕ
 redirect_row r =
-    html (string_bytes r.page) ++ codes "\tto " ++ redirect_target escape.Html (option_map string_bytes r.target) ++ codes "\t" ++ linked_from r.pages ++ codes "\n"
+    page_in escape.Html (string_bytes r.page) ++ codes "\tto " ++ redirect_target escape.Html (option_map string_bytes r.target) ++ codes "\t" ++ linked_from r.pages ++ codes "\n"
 
 abbrev pub external_row : External → List ℕ
 external_row e = html (string_bytes e.url) ++ counted (codes "\t") e.links ++ codes "\n"
@@ -146,8 +147,9 @@ page_line (line.finish of_part) = codes "</pre>\n</section>\n"
 page_line (line.broken b) = broken_row b
 page_line (line.place b p) = place_row p
 page_line (line.more count) = more_row count
+page_line (line.rest b count) = []
 page_line (line.worst c) = worst_row c
 page_line (line.redirect r) = redirect_row r
 page_line (line.external e) = external_row e
-page_line (line.name of_part text) = html text ++ codes "\n"
+page_line (line.name of_part text) = name_in escape.Html of_part text ++ codes "\n"
 page_line line.last = tail_part

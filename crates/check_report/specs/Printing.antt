@@ -1,5 +1,5 @@
 -- The bytes of a report: those of its rows, in order.
-use Rattle.std.specs.Prelude.{◌≡◌, ℕ, Bool, true, List, ◌++◌, flat_map}
+use Rattle.std.specs.Prelude.{◌≡◌, ℕ, Bool, true, List, ◌++◌, flat_map, if◌then◌else◌}
 use Rattle.check_report.specs.Annotations.{annotation_line}
 use Rattle.check_report.specs.Json.{json_line}
 use Rattle.check_report.specs.Page.{page_line}
@@ -9,6 +9,10 @@ use Rattle.check_report.specs.declared.form.Form.{Form}
 use Rattle.check_report.specs.declared.form.Form.TheVariants as form
 use Rattle.check_report.specs.declared.value.Findings.{Findings}
 use Rattle.check_report.specs.declared.value.Contents.{Contents}
+use Rattle.check_report.specs.declared.value.Lists.{Lists}
+use Rattle.check_report.specs.declared.view.Order.{Order}
+use Rattle.check_report.specs.declared.view.Order.TheVariants as order
+use Rattle.check_report.specs.declared.view.View.{View}
 
 abbrev pub bytes_of : Form → Line → List ℕ
 bytes_of (form.Text colour) line = text_line colour line
@@ -21,21 +25,25 @@ abbrev pub Adds : Form → List ℕ → List ℕ → List Line → Type 0
 Adds how out more lines = more ≡ out ++ flat_map (bytes_of how) lines
 
 -- the bytes of a report
-abbrev pub printed : Form → Bool → Contents → Findings → List ℕ
-printed how all contents f = flat_map (bytes_of how) (rows_of all contents f)
+abbrev pub printed : Form → View → Contents → Findings → List ℕ
+printed how view contents f = flat_map (bytes_of how) (rows_of view contents f)
 
--- as text, with three locations of each target or with all, and with or without colour
+-- the order of a report as text
+abbrev pub text_order : Lists → Order
+text_order lists = if lists.by_target then order.Target else order.File
+
+-- as text by target or by file, with three locations of each target or with all, and with or without colour
 abbrev pub printed_text : Bool → Contents → Findings → List ℕ
-printed_text colour contents f = printed (form.Text colour) contents.lists.all contents f
+printed_text colour contents f = printed (form.Text colour) (record { order = text_order contents.lists; all = contents.lists.all }) contents f
 
--- as JSON, with all locations
+-- as JSON, with all locations, as they are given
 abbrev pub printed_json : Contents → Findings → List ℕ
-printed_json contents f = printed form.Json true contents f
+printed_json contents f = printed form.Json (record { order = order.Given; all = true }) contents f
 
--- as GitHub annotations, with all locations
+-- as GitHub annotations, with all locations, as they are given
 abbrev pub printed_annotations : Contents → Findings → List ℕ
-printed_annotations contents f = printed (form.Annotations contents.folder) true contents f
+printed_annotations contents f = printed (form.Annotations contents.folder) (record { order = order.Given; all = true }) contents f
 
--- as an HTML page, with all locations
+-- as an HTML page, by target, with all locations
 abbrev pub printed_page : Contents → Findings → List ℕ
-printed_page contents f = printed form.Page true contents f
+printed_page contents f = printed form.Page (record { order = order.Target; all = true }) contents f

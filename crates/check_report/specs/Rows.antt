@@ -1,7 +1,8 @@
 -- The rows of a report, in order.
-use Rattle.std.specs.Prelude.{ℕ, ◌-◌, Bool, true, false, List, [], ◌∷◌, ◌++◌, length, map, take, nat_lt, String, string_bytes, if◌then◌else◌, Option, None, Some, flat_map, option_map}
+use Rattle.std.specs.Prelude.{ℕ, ◌-◌, Bool, true, false, List, [], ◌∷◌, ◌++◌, length, map, nat_lt, String, string_bytes, if◌then◌else◌, Option, None, Some, flat_map, option_map}
 use Rattle.std.specs.Borrow.{Bor}
 use Rattle.std.specs.declared.alloc.Global.{Global}
+use Rattle.check_report.specs.Order.{links_by_file, ordered_places, ordered_targets, places_limit, shown_places}
 use Rattle.check_report.specs.declared.value.Broken.{Broken}
 use Rattle.check_report.specs.declared.value.External.{External}
 use Rattle.check_report.specs.declared.value.FileCount.{FileCount}
@@ -16,6 +17,9 @@ use Rattle.check_report.specs.declared.row.Part.{Part}
 use Rattle.check_report.specs.declared.row.Part.TheVariants as part
 use Rattle.check_report.specs.declared.row.Row.{Row}
 use Rattle.check_report.specs.declared.row.Row.TheVariants as row
+use Rattle.check_report.specs.declared.view.Order.{Order}
+use Rattle.check_report.specs.declared.view.Order.TheVariants as order
+use Rattle.check_report.specs.declared.view.View.{View}
 
 -- a row
 pub data Line : Type 0 where
@@ -27,8 +31,10 @@ pub data Line : Type 0 where
   broken : Broken → Line
   -- a broken link: its target and its location
   place : Broken → Place → Line
-  -- the number of locations that are not listed
+  -- the number of locations of a target that are not listed, after those that are
   more : ℕ → Line
+  -- a target and the number of its locations that are not listed
+  rest : Broken → ℕ → Line
   worst : FileCount → Line
   redirect : Redirect → Line
   external : External → Line
@@ -44,6 +50,7 @@ line_of (row.Finish of_part) = finish of_part
 line_of (row.Broken target) = broken target.now
 line_of (row.Place target at) = place target.now at.now
 line_of (row.More count) = more count
+line_of (row.Rest target count) = rest target.now count
 line_of (row.Worst count) = worst count.now
 line_of (row.Redirect page) = redirect page.now
 line_of (row.External url) = external url.now
@@ -52,28 +59,46 @@ line_of row.Last = last
 
 -- ---- broken links
 
--- the number of locations of a target that a report lists if it does not list all
-abbrev pub places_limit : ℕ
-places_limit = 3
+-- a line for the number of locations that are not listed, if there are any
+abbrev pub left_out : Bool → (ℕ → Line) → ℕ → List Line
+left_out true line places = []
+left_out false line places = if nat_lt places_limit places then line (places - places_limit) ∷ [] else []
 
--- the locations that are listed: the first ones, or all of them
-abbrev pub shown_places : Bool → List Place → List Place
-shown_places true places = places
-shown_places false places = take places_limit places
-
--- the number of locations that are not listed, if there are any
-abbrev pub left_out : Bool → ℕ → List Line
-left_out true places = []
-left_out false places = if nat_lt places_limit places then more (places - places_limit) ∷ [] else []
+-- ---- by target
 
 abbrev pub place_lines : Broken → List Place → List Line
 place_lines target places = map (place target) places
 
-abbrev pub target_lines : Bool → Broken → List Line
-target_lines all target = broken target ∷ place_lines target (shown_places all target.places.items) ++ left_out all (length target.places.items)
+abbrev pub target_lines : View → Broken → List Line
+target_lines view target =
+    broken target ∷ place_lines target (shown_places view.all (ordered_places view.order target.places.items)) ++ left_out view.all more (length target.places.items)
 
-abbrev pub broken_lines : Bool → List Broken → List Line
-broken_lines all targets = flat_map (target_lines all) targets
+-- ---- by file
+
+abbrev pub link_line : Broken × Place → Line
+link_line link = place link.0 link.1
+
+-- a target without locations
+abbrev pub bare_lines : Broken → List Line
+bare_lines target = if nat_lt 0 (length target.places.items) then [] else broken target ∷ []
+
+-- a target of which not all locations are listed
+abbrev pub rest_lines : Bool → Broken → List Line
+rest_lines all target = left_out all (rest target) (length target.places.items)
+
+-- the links, then the targets without locations, then those of which not all locations are listed
+abbrev pub file_lines : Bool → List Broken → List Line
+file_lines all targets = map link_line (links_by_file all targets) ++ flat_map bare_lines targets ++ flat_map (rest_lines all) targets
+
+-- ---- in each order
+
+abbrev pub lines_in : Order → View → List Broken → List Line
+lines_in order.Given view targets = flat_map (target_lines view) targets
+lines_in order.Target view targets = flat_map (target_lines view) targets
+lines_in order.File view targets = file_lines view.all targets
+
+abbrev pub broken_lines : View → List Broken → List Line
+broken_lines view targets = lines_in view.order view (ordered_targets view.order targets)
 
 -- ---- the report
 
@@ -85,8 +110,8 @@ edge rows line = if nat_lt 0 rows then line ∷ [] else []
 abbrev pub in_part : Part → ℕ → List Line → List Line
 in_part of_part rows lines = edge rows (begin of_part) ++ lines ++ edge rows (finish of_part)
 
-abbrev pub broken_part : Bool → List Broken → List Line
-broken_part all targets = in_part part.Broken (length targets) (broken_lines all targets)
+abbrev pub broken_part : View → List Broken → List Line
+broken_part view targets = in_part part.Broken (length targets) (broken_lines view targets)
 
 abbrev pub worst_part : List FileCount → List Line
 worst_part counts = in_part part.Worst (length counts) (map worst counts)
@@ -133,10 +158,10 @@ abbrev pub external_of : Contents → List External
 external_of contents = or_none (option_map (λ urls. urls.now) contents.external)
 
 -- the sections of these findings and external links
-abbrev pub sections_of : Bool → List External → Findings → List Line
-sections_of all urls f =
-    broken_part all f.broken.now ++ worst_part f.worst.now ++ redirect_part f.redirects.now ++ name_part part.Unreached f.unreached.now
+abbrev pub sections_of : View → List External → Findings → List Line
+sections_of view urls f =
+    broken_part view f.broken.now ++ worst_part f.worst.now ++ redirect_part f.redirects.now ++ name_part part.Unreached f.unreached.now
     ++ external_part urls ++ name_part part.Unused f.unused_ignores.now ++ last ∷ []
 
-abbrev pub rows_of : Bool → Contents → Findings → List Line
-rows_of all contents f = total f.base.now f.totals (counts_of contents f) ∷ sections_of all (external_of contents) (listed contents.lists f)
+abbrev pub rows_of : View → Contents → Findings → List Line
+rows_of view contents f = total f.base.now f.totals (counts_of contents f) ∷ sections_of view (external_of contents) (listed contents.lists f)

@@ -1,7 +1,8 @@
 -- A row of the text report.
-use Rattle.std.specs.Prelude.{ℕ, ◌==◌, Bool, true, false, ◌||◌, List, [], ◌∷◌, ◌++◌, codes, length, nat_lt, decimal, string_bytes, if◌then◌else◌, Option, None, Some, option_map}
+use Rattle.std.specs.Prelude.{ℕ, ◌==◌, Bool, true, false, ◌||◌, List, [], ◌∷◌, ◌++◌, bytes_eq, codes, length, nat_lt, decimal, string_bytes, if◌then◌else◌, Option, None, Some, option_map}
 use Rattle.shown_text.specs.Shown.{shown}
 use Rattle.check_report.specs.Escape.{escaped}
+use Rattle.check_report.specs.Names.{page_in, target_in, target_name}
 use Rattle.check_report.specs.Rows as line
 use Rattle.check_report.specs.Rows.{Line}
 use Rattle.check_report.specs.declared.escape.Escape.{Escape}
@@ -50,15 +51,32 @@ message OutsideBase = codes "outside BASE"
 
 abbrev pub same_name_text : Escape → Option (List ℕ) → List ℕ
 same_name_text how None = []
-same_name_text how (Some page) = codes " (did you mean " ++ escaped how page ++ codes "?)"
+same_name_text how (Some page) = codes " (did you mean " ++ page_in how page ++ codes "?)"
+
+-- a word with the opening parenthesis, a text, and the closing parenthesis
+abbrev pub bracketed : Escape → List ℕ → List ℕ → List ℕ
+bracketed how word text = word ++ escaped how text ++ codes ")"
+
+abbrev pub hint_text : Escape → Option (List ℕ) → List ℕ
+hint_text how None = []
+hint_text how (Some hint) = bracketed how (codes " (") hint
+
+-- the page that is suggested, and the hint
+abbrev pub advice : Escape → Broken → List ℕ
+advice how b = same_name_text how (option_map string_bytes b.same_name) ++ hint_text how (option_map string_bytes b.hint)
+
+-- the link as it is written, if that is not the name of its target
+abbrev pub written_text : Escape → Broken → Option (List ℕ) → List ℕ
+written_text how b None = []
+written_text how b (Some link) = if bytes_eq link (target_name b) then [] else bracketed how (codes " (written as ") link
 
 abbrev pub redirect_target : Escape → Option (List ℕ) → List ℕ
 redirect_target how None = codes "-"
-redirect_target how (Some page) = escaped how page
+redirect_target how (Some page) = page_in how page
 
--- what is wrong, and the page that is suggested
+-- what is wrong, and what is suggested
 abbrev pub wrong_of : Escape → Broken → List ℕ
-wrong_of how b = message b.kind ++ same_name_text how (option_map string_bytes b.same_name)
+wrong_of how b = message b.kind ++ advice how b
 
 -- a word and a count
 abbrev pub counted : List ℕ → ℕ → List ℕ
@@ -77,16 +95,26 @@ counted_some word n = if n == 0 then [] else counted word n
 abbrev pub wrong_text : Bool → Kind → List ℕ
 wrong_text colour kind = code colour red ++ message kind ++ code colour plain
 
--- a target, what is wrong with it, and the page that is suggested
+-- a target, and what is wrong with it
+abbrev pub target_start : Bool → Broken → List ℕ
+target_start colour b = target_in escape.Shown b ++ codes ": " ++ wrong_text colour b.kind
+
+-- and what is suggested
 abbrev pub target_text : Bool → Broken → List ℕ
-target_text colour b = shown (string_bytes b.target) ++ codes ": " ++ wrong_text colour b.kind ++ same_name_text escape.Shown (option_map string_bytes b.same_name) ++ codes "\n"
+target_text colour b = target_start colour b ++ advice escape.Shown b ++ codes "\n"
 
 -- a location, as compilers print it
 abbrev pub place_start : Place → List ℕ
 place_start p = shown (string_bytes p.file) ++ counted (codes ":") p.line ++ counted (codes ":") p.column ++ codes ": "
 
+abbrev pub place_head : Bool → Place → List ℕ
+place_head colour p = code colour bold ++ place_start p ++ code colour plain
+
+abbrev pub link_text : Bool → Broken → Place → List ℕ
+link_text colour b p = target_start colour b ++ written_text escape.Shown b (option_map string_bytes p.written) ++ advice escape.Shown b ++ codes "\n"
+
 abbrev pub place_text : Bool → Broken → Place → List ℕ
-place_text colour b p = code colour bold ++ place_start p ++ code colour plain ++ target_text colour b
+place_text colour b p = place_head colour p ++ link_text colour b p
 
 -- a target without locations has its own line
 abbrev pub broken_text : Bool → Broken → List ℕ
@@ -110,7 +138,7 @@ broken_total colour t =
 -- the first line of the totals
 abbrev pub site_total : Totals → Counts → List ℕ
 site_total t c =
-    counted (codes "pages ") t.pages ++ counted (codes ", links ") t.links ++ counted (codes ", redirects ") t.moved
+    counted (codes "pages ") t.pages ++ counted (codes ", files ") t.files ++ counted (codes ", links ") t.links ++ counted (codes ", redirects ") t.moved
     ++ counted (codes ", aliases ") t.aliases ++ counted_if (codes ", unreached files ") c.unreached ++ counted_if (codes ", external URLs ") c.external
 
 unfoldable pub total_text : Bool → Totals → Counts → List ℕ
@@ -133,7 +161,7 @@ worst_text c = counted (codes "  ") c.links ++ codes " " ++ shown (string_bytes 
 
 -- a redirect and its target
 abbrev pub moves_text : Redirect → List ℕ
-moves_text r = codes "  " ++ shown (string_bytes r.page) ++ codes " -> " ++ redirect_target escape.Shown (option_map string_bytes r.target)
+moves_text r = codes "  " ++ page_in escape.Shown (string_bytes r.page) ++ codes " -> " ++ redirect_target escape.Shown (option_map string_bytes r.target)
 
 abbrev pub pages_noun : ℕ → List ℕ
 pages_noun n = if n == 1 then codes " page" else codes " pages"
@@ -152,8 +180,21 @@ external_text e = counted (codes "  ") e.links ++ codes " " ++ shown (string_byt
 abbrev pub more_text : ℕ → List ℕ
 more_text count = counted (codes "  and ") count ++ codes " more\n"
 
-abbrev pub name_text : List ℕ → List ℕ
-name_text text = codes "  " ++ shown text ++ codes "\n"
+-- a target, what is wrong with it, and the number of its locations that are not listed
+abbrev pub rest_text : Bool → Broken → ℕ → List ℕ
+rest_text colour b count = target_start colour b ++ counted (codes ": ") count ++ codes " more\n"
+
+-- a name in a section: a page, or an entry of the ignore list as it is
+abbrev pub name_in : Escape → Part → List ℕ → List ℕ
+name_in how part.Broken text = escaped how text
+name_in how part.Worst text = escaped how text
+name_in how part.Redirects text = escaped how text
+name_in how part.Unreached text = page_in how text
+name_in how part.External text = escaped how text
+name_in how part.Unused text = escaped how text
+
+abbrev pub name_text : Part → List ℕ → List ℕ
+name_text of_part text = codes "  " ++ name_in escape.Shown of_part text ++ codes "\n"
 
 abbrev pub text_line : Bool → Line → List ℕ
 text_line colour (line.total base totals counts) = total_text colour totals counts
@@ -162,8 +203,9 @@ text_line colour (line.finish of_part) = []
 text_line colour (line.broken b) = broken_text colour b
 text_line colour (line.place b p) = place_text colour b p
 text_line colour (line.more count) = more_text count
+text_line colour (line.rest b count) = rest_text colour b count
 text_line colour (line.worst c) = worst_text c
 text_line colour (line.redirect r) = redirect_text r
 text_line colour (line.external e) = external_text e
-text_line colour (line.name of_part text) = name_text text
+text_line colour (line.name of_part text) = name_text of_part text
 text_line colour line.last = []

@@ -5,6 +5,7 @@ ghost use Rattle.check_report.specs.Rows.{line_of};
 
 use crate::as_text::put_wrong_of;
 use crate::escape::{Escape, put_escaped};
+use crate::names::put_target_name;
 use crate::put::{NoMemory, put, put_counted};
 use crate::row::Row;
 use crate::value::{Broken, Place};
@@ -20,6 +21,7 @@ pub fn put_annotation(out: &mut Vec<u8>, folder: &str, row: Row<'_>) -> Result<(
         | Row::Begin(_)
         | Row::Finish(_)
         | Row::More(_)
+        | Row::Rest(_, _)
         | Row::Worst(_)
         | Row::Redirect(_)
         | Row::External(_)
@@ -92,11 +94,11 @@ fn slash_after(folder: &str) -> &str
     }
 }
 
-/// Appends the target, what is wrong with it, and the page that is suggested, and ends the line.
+/// Appends the target, what is wrong with it, and what is suggested, and ends the line.
 fn put_message(out: &mut Vec<u8>, broken: &Broken) -> Result<(), NoMemory>
     ensures { OnOk result (out.new.items ≡ out.old.items ++ message_line broken.now) }
 {
-    put_escaped(out, Escape::Data, broken.target.as_str())?;
+    put_target_name(out, Escape::Data, broken)?;
     put(out, ": ")?;
     put_wrong_of(out, Escape::Data, broken)?;
     put(out, "\n")

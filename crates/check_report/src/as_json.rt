@@ -3,7 +3,7 @@ ghost use Rattle.std.specs.Prelude.{◌≡◌, ◌++◌, ◌∷◌, [], OnOk, If
 ghost use Rattle.json.specs.Json.{object};
 ghost use Rattle.json.specs.Token.{begin_object, end_object, key, string, number};
 ghost use Rattle.json.specs.Tree.{json_tokens, members_tokens};
-ghost use Rattle.check_report.specs.Json.{count_tokens, is_object, json_line, members_of, is_leaving, is_missing, object_line, place_kind, row_kind, same_name_tokens, target_kind, text_or_null, optional_counts, wrong_key, wrong_word};
+ghost use Rattle.check_report.specs.Json.{count_tokens, is_object, json_line, members_of, hint_tokens, is_leaving, is_missing, object_line, place_counts, site_counts, place_kind, row_kind, same_name_tokens, target_kind, text_or_null, optional_counts, wrong_key, wrong_word};
 ghost use Rattle.check_report.specs.Rows as line;
 ghost use Rattle.check_report.specs.Rows.{line_of};
 
@@ -23,12 +23,13 @@ pub fn with_json(out: Vec<u8>, row: Row<'_>) -> Result<Vec<u8>, NoMemory>
     }
 }
 
-/// Whether the row is printed as an object. The start and the end of a section and the end of the report are not.
+/// Whether the row is printed as an object. The start and the end of a section, the number of other locations of a target and the end
+/// of the report are not.
 fn is_object(row: Row<'_>) -> bool
     ensures { result ≡ is_object (line_of row.entry) }
 {
     match row {
-        Row::Begin(_) | Row::Finish(_) | Row::Last => false,
+        Row::Begin(_) | Row::Finish(_) | Row::Rest(_, _) | Row::Last => false,
         Row::Total { .. }
         | Row::Broken(_)
         | Row::Place(_, _)
@@ -72,7 +73,7 @@ fn put_row(out: &mut Writer, row: Row<'_>) -> Result<(), NoMemory>
         Row::Redirect(page) => put_redirect(out, page),
         Row::External(url) => put_external(out, url),
         Row::Name(part, text) => put_name(out, part, text),
-        Row::Begin(_) | Row::Finish(_) | Row::Last => Ok(()),
+        Row::Begin(_) | Row::Finish(_) | Row::Rest(_, _) | Row::Last => Ok(()),
     }
 }
 
@@ -84,7 +85,16 @@ fn put_total(out: &mut Writer, base: &str, totals: Totals, counts: Counts) -> Re
 {
     put_text(out, "kind", "total")?;
     put_text(out, "base", base)?;
+    put_site_counts(out, totals, counts)
+}
+
+/// Writes the counts of the documents, the other files, the aliases, the links and the redirects, and then the other counts.
+fn put_site_counts(out: &mut Writer, totals: Totals, counts: Counts) -> Result<(), NoMemory>
+    ensures tokens { OnOk result (out.new.tokens ++ end_object ∷ [] ≡ out.old.tokens ++ members_tokens (site_counts totals (optional_counts totals counts))) }
+    ensures before { out.new.before ≡ out.old.before }
+{
     put_count(out, "pages", totals.pages)?;
+    put_count(out, "files", totals.files)?;
     put_count(out, "aliases", totals.aliases)?;
     put_count(out, "links", totals.links)?;
     put_count(out, "redirects", totals.moved)?;
@@ -121,7 +131,8 @@ fn put_broken(out: &mut Writer, broken: &Broken) -> Result<(), NoMemory>
 {
     put_target(out, target_kind(broken.kind), broken)?;
     put_count(out, "pages", broken.pages)?;
-    put_same_name(out, broken)
+    put_same_name(out, broken)?;
+    put_hint(out, broken)
 }
 
 /// Writes the page that is suggested for a missing page or anchor, null if there is none. Other rows have no such member.
@@ -136,7 +147,20 @@ fn put_same_name(out: &mut Writer, broken: &Broken) -> Result<(), NoMemory>
     }
 }
 
-/// Writes the members for the location of a link: the target, what is wrong, the file, the line and the column.
+/// Writes the hint for a missing page or anchor, null if there is none. Other rows have no such member.
+fn put_hint(out: &mut Writer, broken: &Broken) -> Result<(), NoMemory>
+    ensures tokens { OnOk result (out.new.tokens ≡ out.old.tokens ++ hint_tokens broken.now) }
+    ensures before { out.new.before ≡ out.old.before }
+{
+    if is_missing(broken.kind) {
+        put_text_or_null(out, "hint", &broken.hint)
+    } else {
+        Ok(())
+    }
+}
+
+/// Writes the members for the location of a link: the target, what is wrong, the file, the line, the column, and the link as it is
+/// written.
 fn put_place(out: &mut Writer, broken: &Broken, place: &Place) -> Result<(), NoMemory>
     requires { out.old.tokens ≡ begin_object ∷ [] }
     ensures tokens { OnOk result (out.new.tokens ++ end_object ∷ [] ≡ json_tokens (object (members_of (line.place broken.now place.now)))) }
@@ -144,8 +168,17 @@ fn put_place(out: &mut Writer, broken: &Broken, place: &Place) -> Result<(), NoM
 {
     put_target(out, place_kind(broken.kind), broken)?;
     put_text(out, "file", place.file.as_str())?;
+    put_place_counts(out, place)
+}
+
+/// Writes the line and the column of a link, and the link as it is written, null if that is its target.
+fn put_place_counts(out: &mut Writer, place: &Place) -> Result<(), NoMemory>
+    ensures tokens { OnOk result (out.new.tokens ++ end_object ∷ [] ≡ out.old.tokens ++ members_tokens (place_counts place.now)) }
+    ensures before { out.new.before ≡ out.old.before }
+{
     put_count(out, "line", place.line)?;
-    put_count(out, "column", place.column)
+    put_count(out, "column", place.column)?;
+    put_text_or_null(out, "written", &place.written)
 }
 
 /// Writes the members for the number of locations that are not listed.

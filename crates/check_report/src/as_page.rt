@@ -2,11 +2,14 @@
 ghost use Rattle.std.specs.Prelude.{◌≡◌, ◌++◌, OnOk, codes};
 ghost use Rattle.check_report.specs.Page.{broken_items, broken_row, count_items, external_row, head_part, html, item_if, item_some, counts_links, invalid_noun, leaving_noun, links_noun, other_count, other_noun, missing_noun, more_row, page_heading, page_line, page_start, page_total, place_row, redirect_row, script_part, section_start, site_items, style_part, tail_part, title_count, title_noun, optional_items, tools_part, total_item, verdict_start, worst_row};
 ghost use Rattle.check_report.specs.Rows.{line_of};
+ghost use Rattle.check_report.specs.Text.{name_in};
+ghost use Rattle.check_report.specs.declared.escape.Escape.TheVariants as escape;
 
 mod parts;
 
-use crate::as_text::{is_broken, put_linked_from, put_redirect_target, put_wrong_of};
+use crate::as_text::{is_broken, put_linked_from, put_name_in, put_redirect_target, put_wrong_of};
 use crate::escape::{Escape, put_escaped};
+use crate::names::{put_page_name, put_target_name};
 use crate::put::{NoMemory, put, put_count, put_counted};
 use crate::row::{Counts, Part, Row};
 use crate::value::{Broken, External, FileCount, Place, Redirect, Totals};
@@ -27,10 +30,11 @@ pub fn put_page(out: &mut Vec<u8>, row: Row<'_>) -> Result<(), NoMemory>
         Row::Broken(broken) => put_broken(out, broken),
         Row::Place(_, place) => put_place(out, place),
         Row::More(count) => put_more(out, count as u64),
+        Row::Rest(_, _) => Ok(()),
         Row::Worst(count) => put_worst(out, count),
         Row::Redirect(page) => put_redirect(out, page),
         Row::External(url) => put_external(out, url),
-        Row::Name(_, text) => put_name(out, text),
+        Row::Name(part, text) => put_name(out, part, text),
         Row::Last => put(out, tail_part()),
     }
 }
@@ -255,11 +259,12 @@ fn put_count_items(out: &mut Vec<u8>, totals: Totals, counts: Counts) -> Result<
     put_optional_items(out, counts)
 }
 
-/// Appends the numbers of pages, links, redirects and aliases, each as an item.
+/// Appends the numbers of pages, other files, links, redirects and aliases, each as an item.
 fn put_site_items(out: &mut Vec<u8>, totals: Totals) -> Result<(), NoMemory>
     ensures { OnOk result (out.new.items ≡ out.old.items ++ site_items totals) }
 {
     put_item(out, "<li>pages <b>", totals.pages)?;
+    put_item(out, "<li>files <b>", totals.files)?;
     put_item(out, "<li>links <b>", totals.links)?;
     put_item(out, "<li>redirects <b>", totals.moved)?;
     put_item(out, "<li>other URLs of pages <b>", totals.aliases)
@@ -322,12 +327,12 @@ fn put_html(out: &mut Vec<u8>, text: &str) -> Result<(), NoMemory>
     put_escaped(out, Escape::Html, text)
 }
 
-/// Appends the line of a target: the target, a tab, what is wrong with it, and the page that is suggested.
+/// Appends the line of a target: the target, a tab, what is wrong with it, and what is suggested.
 fn put_broken(out: &mut Vec<u8>, broken: &Broken) -> Result<(), NoMemory>
     ensures { OnOk result (out.new.items ≡ out.old.items ++ broken_row broken.now) }
 {
     put(out, "<b>")?;
-    put_html(out, broken.target.as_str())?;
+    put_target_name(out, Escape::Html, broken)?;
     put(out, "</b>\t")?;
     put_wrong_of(out, Escape::Html, broken)?;
     put(out, "\n")
@@ -365,7 +370,7 @@ fn put_worst(out: &mut Vec<u8>, count: &FileCount) -> Result<(), NoMemory>
 fn put_redirect(out: &mut Vec<u8>, page: &Redirect) -> Result<(), NoMemory>
     ensures { OnOk result (out.new.items ≡ out.old.items ++ redirect_row page.now) }
 {
-    put_html(out, page.page.as_str())?;
+    put_page_name(out, Escape::Html, page.page.as_str())?;
     put(out, "\tto ")?;
     put_redirect_target(out, Escape::Html, &page.target)?;
     put(out, "\t")?;
@@ -383,9 +388,9 @@ fn put_external(out: &mut Vec<u8>, url: &External) -> Result<(), NoMemory>
 }
 
 /// Appends the line of an unreached file or of an unused entry of the ignore list.
-fn put_name(out: &mut Vec<u8>, text: &str) -> Result<(), NoMemory>
-    ensures { OnOk result (out.new.items ≡ out.old.items ++ html text.now ++ codes "\n") }
+fn put_name(out: &mut Vec<u8>, part: Part, text: &str) -> Result<(), NoMemory>
+    ensures { OnOk result (out.new.items ≡ out.old.items ++ name_in escape.Html part text.now ++ codes "\n") }
 {
-    put_html(out, text)?;
+    put_name_in(out, Escape::Html, part, text)?;
     put(out, "\n")
 }

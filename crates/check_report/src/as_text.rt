@@ -1,13 +1,16 @@
 //! Prints a row as text.
-ghost use Rattle.std.specs.Prelude.{◌≡◌, ◌++◌, OnOk, string_bytes, option_map};
+ghost use Rattle.std.specs.Prelude.{◌≡◌, ◌++◌, IfOk, OnOk, Some, bytes_eq, option_map, string_bytes};
+ghost use Rattle.check_report.specs.Names.{target_name};
 ghost use Rattle.check_report.specs.Rows.{line_of};
-ghost use Rattle.check_report.specs.Text.{begin_text, broken_text, broken_total, external_text, is_broken, linked_from, message, more_text, moves_text, name_text, pages_noun, place_start, place_text, redirect_target, redirect_text, same_name_text, site_total, target_text, text_line, title, total_text, verdict, worst_text, wrong_of, wrong_text};
+ghost use Rattle.check_report.specs.Text.{advice, begin_text, bracketed, broken_text, broken_total, external_text, hint_text, is_broken, link_text, linked_from, message, more_text, moves_text, name_in, name_text, pages_noun, place_head, place_start, place_text, redirect_target, redirect_text, rest_text, same_name_text, site_total, target_start, target_text, text_line, title, total_text, verdict, worst_text, written_text, wrong_of, wrong_text};
 
 use crate::escape::{Escape, put_escaped};
+use crate::names::{put_page_name, put_target_name, target_name};
 use crate::put::{NoMemory, put, put_code, put_counted, put_counted_if, put_counted_some};
 use crate::row::{Counts, Part, Row};
 use crate::value::{Broken, External, FileCount, Kind, Place, Redirect, Totals};
 use shown_text::put_shown;
+use std::alloc::Global;
 
 const BOLD: &str = "\x1b[1m";
 
@@ -27,16 +30,16 @@ pub fn put_text(out: &mut Vec<u8>, row: Row<'_>, colour: bool) -> Result<(), NoM
         Row::Broken(broken) => put_broken(out, broken, colour),
         Row::Place(broken, place) => put_place(out, broken, place, colour),
         Row::More(count) => put_more(out, count as u64),
+        Row::Rest(broken, count) => put_rest(out, broken, count as u64, colour),
         Row::Worst(count) => put_worst(out, count),
         Row::Redirect(redirect) => put_redirect(out, redirect),
         Row::External(url) => put_external(out, url),
-        Row::Name(_, text) => put_name(out, text),
+        Row::Name(part, text) => put_name(out, part, text),
         Row::Finish(_) | Row::Last => Ok(()),
     }
 }
 
 /// Appends the two lines of the totals: the counts of the site, and the counts of what is broken.
-#[tactic(auto, unfolding(crate::specs::Text::total_text))]
 fn put_total(
     out: &mut Vec<u8>,
     totals: Totals,
@@ -56,6 +59,7 @@ fn put_site_total(out: &mut Vec<u8>, totals: Totals, counts: Counts) -> Result<(
     ensures { OnOk result (out.new.items ≡ out.old.items ++ site_total totals counts) }
 {
     put_counted(out, "pages ", totals.pages)?;
+    put_counted(out, ", files ", totals.files)?;
     put_counted(out, ", links ", totals.links)?;
     put_counted(out, ", redirects ", totals.moved)?;
     put_counted(out, ", aliases ", totals.aliases)?;
@@ -131,7 +135,7 @@ fn put_broken(out: &mut Vec<u8>, broken: &Broken, colour: bool) -> Result<(), No
     }
 }
 
-/// Appends the line of a broken link: the location, which is bold if the report has colour, and the target.
+/// Appends the line of a broken link: the location, the target, and the link as it is written.
 fn put_place(
     out: &mut Vec<u8>,
     broken: &Broken,
@@ -140,10 +144,27 @@ fn put_place(
 ) -> Result<(), NoMemory>
     ensures { OnOk result (out.new.items ≡ out.old.items ++ place_text colour broken.now place.now) }
 {
+    put_place_head(out, place, colour)?;
+    put_link(out, broken, place, colour)
+}
+
+/// Appends a location, which is bold if the report has colour.
+fn put_place_head(out: &mut Vec<u8>, place: &Place, colour: bool) -> Result<(), NoMemory>
+    ensures { OnOk result (out.new.items ≡ out.old.items ++ place_head colour place.now) }
+{
     put_code(out, colour, BOLD)?;
     put_place_start(out, place)?;
-    put_code(out, colour, PLAIN)?;
-    put_target(out, broken, colour)
+    put_code(out, colour, PLAIN)
+}
+
+/// Appends the target of a link, the link as it is written, and what is suggested, and ends the line.
+fn put_link(out: &mut Vec<u8>, broken: &Broken, place: &Place, colour: bool) -> Result<(), NoMemory>
+    ensures { OnOk result (out.new.items ≡ out.old.items ++ link_text colour broken.now place.now) }
+{
+    put_target_start(out, broken, colour)?;
+    put_written(out, Escape::Shown, broken, &place.written)?;
+    put_advice(out, Escape::Shown, broken)?;
+    put(out, "\n")
 }
 
 /// Appends the file, the line and the column, as compilers print a location.
@@ -156,15 +177,22 @@ fn put_place_start(out: &mut Vec<u8>, place: &Place) -> Result<(), NoMemory>
     put(out, ": ")
 }
 
-/// Appends the target, what is wrong with it, and the page that is suggested, and ends the line.
+/// Appends the target, what is wrong with it, and what is suggested, and ends the line.
 fn put_target(out: &mut Vec<u8>, broken: &Broken, colour: bool) -> Result<(), NoMemory>
     ensures { OnOk result (out.new.items ≡ out.old.items ++ target_text colour broken.now) }
 {
-    put_shown(out, broken.target.as_str())?;
-    put(out, ": ")?;
-    put_wrong(out, broken.kind, colour)?;
-    put_same_name(out, Escape::Shown, &broken.same_name)?;
+    put_target_start(out, broken, colour)?;
+    put_advice(out, Escape::Shown, broken)?;
     put(out, "\n")
+}
+
+/// Appends the target, and what is wrong with it.
+fn put_target_start(out: &mut Vec<u8>, broken: &Broken, colour: bool) -> Result<(), NoMemory>
+    ensures { OnOk result (out.new.items ≡ out.old.items ++ target_start colour broken.now) }
+{
+    put_target_name(out, Escape::Shown, broken)?;
+    put(out, ": ")?;
+    put_wrong(out, broken.kind, colour)
 }
 
 /// Appends what is wrong, in red if the report has colour.
@@ -191,12 +219,20 @@ fn message(kind: Kind) -> &'static str
     }
 }
 
-/// Appends what is wrong, and the page that is suggested.
+/// Appends what is wrong, and what is suggested.
 pub fn put_wrong_of(out: &mut Vec<u8>, how: Escape, broken: &Broken) -> Result<(), NoMemory>
     ensures { OnOk result (out.new.items ≡ out.old.items ++ wrong_of how broken.now) }
 {
     put(out, message(broken.kind))?;
-    put_same_name(out, how, &broken.same_name)
+    put_advice(out, how, broken)
+}
+
+/// Appends the page that is suggested, and the hint.
+fn put_advice(out: &mut Vec<u8>, how: Escape, broken: &Broken) -> Result<(), NoMemory>
+    ensures { OnOk result (out.new.items ≡ out.old.items ++ advice how broken.now) }
+{
+    put_same_name(out, how, &broken.same_name)?;
+    put_hint(out, how, &broken.hint)
 }
 
 /// Appends the page that is suggested, in parentheses, or nothing if there is none.
@@ -206,11 +242,69 @@ fn put_same_name(out: &mut Vec<u8>, how: Escape, page: &Option<String>) -> Resul
     match page {
         Some(page) => {
             put(out, " (did you mean ")?;
-            put_escaped(out, how, page.as_str())?;
+            put_page_name(out, how, page.as_str())?;
             put(out, "?)")
         }
         None => Ok(()),
     }
+}
+
+/// Appends the hint, in parentheses, or nothing if there is none.
+fn put_hint(out: &mut Vec<u8>, how: Escape, hint: &Option<String>) -> Result<(), NoMemory>
+    ensures { OnOk result (out.new.items ≡ out.old.items ++ hint_text how (option_map string_bytes hint.now)) }
+{
+    match hint {
+        Some(hint) => put_bracketed(out, " (", how, hint.as_str()),
+        None => Ok(()),
+    }
+}
+
+/// Appends the link as it is written, in parentheses; nothing if that is not known, or is the name of the target.
+pub fn put_written(
+    out: &mut Vec<u8>,
+    how: Escape,
+    broken: &Broken,
+    link: &Option<String>,
+) -> Result<(), NoMemory>
+    ensures { OnOk result (out.new.items ≡ out.old.items ++ written_text how broken.now (option_map string_bytes link.now)) }
+{
+    match link {
+        Some(link) => put_link_written(out, how, broken, link.as_str()),
+        None => Ok(()),
+    }
+}
+
+/// Appends the link as it is written, in parentheses, unless it is the name of the target.
+fn put_link_written(
+    out: &mut Vec<u8>,
+    how: Escape,
+    broken: &Broken,
+    link: &str,
+) -> Result<(), NoMemory>
+    ensures { OnOk result (out.new.items ≡ out.old.items ++ written_text how broken.now (Some link.now)) }
+{
+    if is_name(*out.allocator(), broken, link)? {
+        Ok(())
+    } else {
+        put_bracketed(out, " (written as ", how, link)
+    }
+}
+
+/// Whether the text is the name of the target.
+fn is_name(alloc: Global, broken: &Broken, text: &str) -> Result<bool, NoMemory>
+    ensures { IfOk result (λ is. is ≡ bytes_eq text.now (target_name broken.now)) }
+{
+    let name = target_name(alloc, broken)?;
+    Ok(text == name.as_str())
+}
+
+/// Appends a word with the opening parenthesis, a text, and the closing parenthesis.
+fn put_bracketed(out: &mut Vec<u8>, word: &str, how: Escape, text: &str) -> Result<(), NoMemory>
+    ensures { OnOk result (out.new.items ≡ out.old.items ++ bracketed how word.now text.now) }
+{
+    put(out, word)?;
+    put_escaped(out, how, text)?;
+    put(out, ")")
 }
 
 /// Appends the line for the number of locations that are not listed.
@@ -218,6 +312,15 @@ fn put_more(out: &mut Vec<u8>, count: u64) -> Result<(), NoMemory>
     ensures { OnOk result (out.new.items ≡ out.old.items ++ more_text count) }
 {
     put_counted(out, "  and ", count)?;
+    put(out, " more\n")
+}
+
+/// Appends the line of a target of which not all locations are listed: what is wrong with it, and the number of the others.
+fn put_rest(out: &mut Vec<u8>, broken: &Broken, count: u64, colour: bool) -> Result<(), NoMemory>
+    ensures { OnOk result (out.new.items ≡ out.old.items ++ rest_text colour broken.now count) }
+{
+    put_target_start(out, broken, colour)?;
+    put_counted(out, ": ", count)?;
     put(out, " more\n")
 }
 
@@ -247,7 +350,7 @@ fn put_moves(out: &mut Vec<u8>, redirect: &Redirect) -> Result<(), NoMemory>
     ensures { OnOk result (out.new.items ≡ out.old.items ++ moves_text redirect.now) }
 {
     put(out, "  ")?;
-    put_shown(out, redirect.page.as_str())?;
+    put_page_name(out, Escape::Shown, redirect.page.as_str())?;
     put(out, " -> ")?;
     put_redirect_target(out, Escape::Shown, &redirect.target)
 }
@@ -261,7 +364,7 @@ pub fn put_redirect_target(
     ensures { OnOk result (out.new.items ≡ out.old.items ++ redirect_target how (option_map string_bytes page.now)) }
 {
     match page {
-        Some(page) => put_escaped(out, how, page.as_str()),
+        Some(page) => put_page_name(out, how, page.as_str()),
         None => put(out, "-"),
     }
 }
@@ -292,10 +395,22 @@ fn put_external(out: &mut Vec<u8>, url: &External) -> Result<(), NoMemory>
 }
 
 /// Appends the line of an unreached file or of an unused entry of the ignore list.
-fn put_name(out: &mut Vec<u8>, text: &str) -> Result<(), NoMemory>
-    ensures { OnOk result (out.new.items ≡ out.old.items ++ name_text text.now) }
+fn put_name(out: &mut Vec<u8>, part: Part, text: &str) -> Result<(), NoMemory>
+    ensures { OnOk result (out.new.items ≡ out.old.items ++ name_text part text.now) }
 {
     put(out, "  ")?;
-    put_shown(out, text)?;
+    put_name_in(out, Escape::Shown, part, text)?;
     put(out, "\n")
+}
+
+/// Appends a name in a section: a page, or an entry of the ignore list as it is.
+pub fn put_name_in(out: &mut Vec<u8>, how: Escape, part: Part, text: &str) -> Result<(), NoMemory>
+    ensures { OnOk result (out.new.items ≡ out.old.items ++ name_in how part text.now) }
+{
+    match part {
+        Part::Unreached => put_page_name(out, how, text),
+        Part::Broken | Part::Worst | Part::Redirects | Part::External | Part::Unused => put_escaped(
+            out, how, text,
+        ),
+    }
 }

@@ -1,24 +1,38 @@
 //! Prints a report.
-ghost use Rattle.std.specs.Prelude.{◌≡◌, [], ◌∷◌, IfOk, map, string_bytes};
-ghost use Rattle.check_report.specs.Printing.{Adds, printed, printed_annotations, printed_json, printed_page, printed_text};
+ghost use Rattle.std.specs.Prelude.{◌≡◌, ℕ, [], ◌∷◌, IfOk, flat_map, map, string_bytes};
+ghost use Rattle.check_report.specs.Printing.{Adds, printed, printed_annotations, printed_json, printed_page, printed_text, text_order};
+ghost use Rattle.check_report.specs.Order.{link_of, ordered_places, shown_places};
 ghost use Rattle.check_report.specs.Rows as line;
-ghost use Rattle.check_report.specs.Rows.{line_of, broken_lines, broken_part, counts_of, edge, external_of, external_part, if_listed, left_out, listed, name_part, place_lines, redirect_part, shown_places, target_lines, worst_part};
+ghost use Rattle.check_report.specs.Rows.{line_of, bare_lines, broken_lines, broken_part, counts_of, edge, external_of, external_part, file_lines, if_listed, left_out, lines_in, link_line, listed, name_part, place_lines, redirect_part, rest_lines, target_lines, worst_part};
 
 use crate::as_annotations::put_annotation;
 use crate::as_json::with_json;
 use crate::as_page::put_page;
 use crate::as_text::put_text;
 use crate::form::Form;
+use crate::ordered::{
+    Link, PLACES_LIMIT, links_by_file, ordered_places, ordered_targets, shown_places,
+};
 use crate::put::NoMemory;
 use crate::row::{Counts, Part, Row};
 use crate::value::{Broken, Contents, External, FileCount, Findings, Lists, Place, Redirect};
+use crate::view::{Order, View};
 use std::alloc::Global;
 
-/// The number of locations of a target that a report lists if it does not list all.
-const PLACES_LIMIT: usize = 3;
+/// All locations of each target, as they are given.
+const GIVEN: View = View {
+    order: Order::Given,
+    all: true,
+};
 
-/// Prints a report as text: the totals, the broken links, the files with the most of them, and the other sections that have rows.
-/// Colour is ANSI escape codes.
+/// All locations of each target, by target.
+const BY_TARGET: View = View {
+    order: Order::Target,
+    all: true,
+};
+
+/// Prints a report as text: the totals, the broken links by file or by target, the files with the most of them, and the other sections
+/// that have rows. Colour is ANSI escape codes.
 ///
 /// # Errors
 /// Out of memory.
@@ -30,13 +44,22 @@ pub fn print_text(
 ) -> Result<Vec<u8>, NoMemory>
     ensures { IfOk result (λ text. text.items ≡ printed_text colour contents.entry findings.now) }
 {
-    print(
-        alloc,
-        findings,
-        contents,
-        contents.lists.all,
-        Form::Text(colour),
-    )
+    let view = View {
+        order: text_order(contents.lists),
+        all: contents.lists.all,
+    };
+    print(alloc, findings, contents, view, Form::Text(colour))
+}
+
+/// The order of a report as text.
+fn text_order(lists: Lists) -> Order
+    ensures { result ≡ text_order lists }
+{
+    if lists.by_target {
+        Order::Target
+    } else {
+        Order::File
+    }
 }
 
 /// Prints a report as JSON, one object per line.
@@ -50,7 +73,7 @@ pub fn print_json(
 ) -> Result<Vec<u8>, NoMemory>
     ensures { IfOk result (λ text. text.items ≡ printed_json contents.entry findings.now) }
 {
-    print(alloc, findings, contents, true, Form::Json)
+    print(alloc, findings, contents, GIVEN, Form::Json)
 }
 
 /// Prints a report as GitHub annotations: an `::error` command for each location of a broken link.
@@ -68,7 +91,7 @@ pub fn print_annotations(
         alloc,
         findings,
         contents,
-        true,
+        GIVEN,
         Form::Annotations(contents.folder),
     )
 }
@@ -85,22 +108,22 @@ pub fn print_page(
 ) -> Result<Vec<u8>, NoMemory>
     ensures { IfOk result (λ text. text.items ≡ printed_page contents.entry findings.now) }
 {
-    print(alloc, findings, contents, true, Form::Page)
+    print(alloc, findings, contents, BY_TARGET, Form::Page)
 }
 
-/// Prints the report in this form: the totals, and then each section that has rows. If `all`, it lists all locations.
+/// Prints the report in this form: the totals, and then each section that has rows. The view says how broken links are listed.
 fn print(
     alloc: Global,
     findings: &Findings<'_>,
     contents: Contents<'_>,
-    all: bool,
+    view: View,
     form: Form<'_>,
 ) -> Result<Vec<u8>, NoMemory>
-    ensures { IfOk result (λ text. text.items ≡ printed form.entry all contents.entry findings.now) }
+    ensures { IfOk result (λ text. text.items ≡ printed form.entry view contents.entry findings.now) }
 {
     let shown = listed(findings, contents.lists);
     let begun = with(Vec::new(alloc), form, total_of(findings, contents))?;
-    let broken = with_broken(begun, form, shown.broken, all)?;
+    let broken = with_broken(begun, form, shown.broken, view)?;
     let worst = with_worst(broken, form, shown.worst)?;
     let redirects = with_redirects(worst, form, shown.redirects)?;
     let unreached = with_names(redirects, form, Part::Unreached, shown.unreached)?;
@@ -201,63 +224,95 @@ fn with_edge(out: Vec<u8>, form: Form<'_>, row: Row<'_>, rows: usize) -> Result<
     }
 }
 
-/// Appends the section of the missing pages and anchors, if there are any.
+/// Appends the section of the broken links, if there are any.
 #[tactic(auto, using(crate::proofs::Adding::part_more))]
 fn with_broken(
     out: Vec<u8>,
     form: Form<'_>,
     targets: &[Broken],
-    all: bool,
+    view: View,
 ) -> Result<Vec<u8>, NoMemory>
-    ensures { IfOk result (λ more. Adds form.entry out.items more.items (broken_part all targets.now)) }
+    ensures { IfOk result (λ more. Adds form.entry out.items more.items (broken_part view targets.now)) }
 {
     let rows = targets.len();
     let begun = with_edge(out, form, Row::Begin(Part::Broken), rows)?;
-    let listed = with_targets(begun, form, targets, all)?;
+    let listed = with_ordered(begun, form, targets, view)?;
     with_edge(listed, form, Row::Finish(Part::Broken), rows)
 }
 
-/// Appends the rows of each missing page or anchor.
+/// Appends the rows of the broken links, by file or by target.
+fn with_ordered(
+    out: Vec<u8>,
+    form: Form<'_>,
+    targets: &[Broken],
+    view: View,
+) -> Result<Vec<u8>, NoMemory>
+    ensures { IfOk result (λ more. Adds form.entry out.items more.items (broken_lines view targets.now)) }
+{
+    let ordered = ordered_targets(*out.allocator(), targets, view.order)?;
+    with_lines(out, form, ordered.as_slice(), view)
+}
+
+/// Appends the rows of these targets, by file or one target after the other.
+fn with_lines(
+    out: Vec<u8>,
+    form: Form<'_>,
+    targets: &[&Broken],
+    view: View,
+) -> Result<Vec<u8>, NoMemory>
+    ensures { IfOk result (λ more. Adds form.entry out.items more.items (lines_in view.order view (map (λ target. target.now) targets.now))) }
+{
+    match view.order {
+        Order::File => with_files(out, form, targets, view.all),
+        Order::Given => with_targets(out, form, targets, view),
+        Order::Target => with_targets(out, form, targets, view),
+    }
+}
+
+// ---- by target
+
+/// Appends the rows of each target.
 #[tactic(auto, using(crate::proofs::Adding::adds_none, crate::proofs::Adding::rows_more, crate::proofs::Adding::rows_all))]
 fn with_targets(
     mut out: Vec<u8>,
     form: Form<'_>,
-    targets: &[Broken],
-    all: bool,
+    targets: &[&Broken],
+    view: View,
 ) -> Result<Vec<u8>, NoMemory>
-    ensures { IfOk result (λ more. Adds form.entry out.items more.items (broken_lines all targets.now)) }
+    ensures { IfOk result (λ more. Adds form.entry out.items more.items (flat_map (λ target. target_lines view target.now) targets.now)) }
 {
     for target in targets {
-        out = with_target(out, form, target, all)?;
+        out = with_target(out, form, *target, view)?;
     }
     Ok(out)
 }
 
-/// Appends a missing page or anchor, its locations, and the number of locations that are not listed.
+/// Appends a target, its locations, and the number of locations that are not listed.
 #[tactic(auto, using(crate::proofs::Adding::then_more, crate::proofs::Adding::adds_both, crate::proofs::Adding::adds_same))]
 fn with_target(
     out: Vec<u8>,
     form: Form<'_>,
     target: &Broken,
-    all: bool,
+    view: View,
 ) -> Result<Vec<u8>, NoMemory>
-    ensures { IfOk result (λ more. Adds form.entry out.items more.items (target_lines all target.now)) }
+    ensures { IfOk result (λ more. Adds form.entry out.items more.items (target_lines view target.now)) }
 {
-    let places = target.places.as_slice();
     let begun = with(out, form, Row::Broken(target))?;
-    let listed = with_places(begun, form, target, shown_places(places, all))?;
-    with_left_out(listed, form, places.len(), all)
+    let listed = with_listed(begun, form, target, view)?;
+    with_left_out(listed, form, target.places.len(), view.all)
 }
 
-/// The locations that are listed: the first ones, or all of them.
-fn shown_places(places: &[Place], all: bool) -> &[Place]
-    ensures { result.now ≡ shown_places all places.now }
+/// Appends a row for each location of the target that is listed.
+fn with_listed(
+    out: Vec<u8>,
+    form: Form<'_>,
+    target: &Broken,
+    view: View,
+) -> Result<Vec<u8>, NoMemory>
+    ensures { IfOk result (λ more. Adds form.entry out.items more.items (place_lines target.now (shown_places view.all (ordered_places view.order target.now.places.items)))) }
 {
-    if all || places.len() <= PLACES_LIMIT {
-        places
-    } else {
-        &places[..PLACES_LIMIT]
-    }
+    let places = ordered_places(*out.allocator(), target.places.as_slice(), view.order)?;
+    with_places(out, form, target, shown_places(places.as_slice(), view.all))
 }
 
 /// Appends a row for each of these locations of links to the target.
@@ -266,12 +321,12 @@ fn with_places(
     mut out: Vec<u8>,
     form: Form<'_>,
     target: &Broken,
-    places: &[Place],
+    places: &[&Place],
 ) -> Result<Vec<u8>, NoMemory>
-    ensures { IfOk result (λ more. Adds form.entry out.items more.items (place_lines target.now places.now)) }
+    ensures { IfOk result (λ more. Adds form.entry out.items more.items (map (λ place. line.place target.now place.now) places.now)) }
 {
     for place in places {
-        out = with(out, form, Row::Place(target, place))?;
+        out = with(out, form, Row::Place(target, *place))?;
     }
     Ok(out)
 }
@@ -283,7 +338,7 @@ fn with_left_out(
     places: usize,
     all: bool,
 ) -> Result<Vec<u8>, NoMemory>
-    ensures { IfOk result (λ more. Adds form.entry out.items more.items (left_out all places)) }
+    ensures { IfOk result (λ more. Adds form.entry out.items more.items (left_out all line.more places)) }
 {
     if all || places <= PLACES_LIMIT {
         Ok(out)
@@ -291,6 +346,87 @@ fn with_left_out(
         with(out, form, Row::More(places - PLACES_LIMIT))
     }
 }
+
+// ---- by file
+
+/// Appends the links to these targets by file, then the targets without locations, then those of which not all locations are listed.
+fn with_files(
+    out: Vec<u8>,
+    form: Form<'_>,
+    targets: &[&Broken],
+    all: bool,
+) -> Result<Vec<u8>, NoMemory>
+    ensures { IfOk result (λ more. Adds form.entry out.items more.items (file_lines all (map (λ target. target.now) targets.now))) }
+{
+    let links = links_by_file(*out.allocator(), targets, all)?;
+    let linked = with_links(out, form, links.as_slice())?;
+    let bare = with_bare(linked, form, targets)?;
+    with_rests(bare, form, targets, all)
+}
+
+/// Appends a row for each of these links.
+#[tactic(auto, using(crate::proofs::Adding::adds_none, crate::proofs::Adding::row_more, crate::proofs::Adding::rows_all))]
+fn with_links(mut out: Vec<u8>, form: Form<'_>, links: &[Link<'_>]) -> Result<Vec<u8>, NoMemory>
+    ensures { IfOk result (λ more. Adds form.entry out.items more.items (map (λ link. link_line (link_of link)) links.now)) }
+{
+    for link in links {
+        out = with(out, form, Row::Place(link.target, link.place))?;
+    }
+    Ok(out)
+}
+
+/// Appends a row for each target without locations.
+#[tactic(auto, using(crate::proofs::Adding::adds_none, crate::proofs::Adding::rows_more, crate::proofs::Adding::rows_all))]
+fn with_bare(mut out: Vec<u8>, form: Form<'_>, targets: &[&Broken]) -> Result<Vec<u8>, NoMemory>
+    ensures { IfOk result (λ more. Adds form.entry out.items more.items (flat_map (λ target. bare_lines target.now) targets.now)) }
+{
+    for target in targets {
+        out = with_bare_target(out, form, *target)?;
+    }
+    Ok(out)
+}
+
+/// Appends a row for the target if it has no locations.
+#[tactic(auto, using(crate::proofs::Adding::adds_none))]
+fn with_bare_target(out: Vec<u8>, form: Form<'_>, target: &Broken) -> Result<Vec<u8>, NoMemory>
+    ensures { IfOk result (λ more. Adds form.entry out.items more.items (bare_lines target.now)) }
+{
+    if target.places.len() > 0 {
+        Ok(out)
+    } else {
+        with(out, form, Row::Broken(target))
+    }
+}
+
+/// Appends a row for each target of which not all locations are listed.
+#[tactic(auto, using(crate::proofs::Adding::adds_none, crate::proofs::Adding::rows_more, crate::proofs::Adding::rows_all))]
+fn with_rests(
+    mut out: Vec<u8>,
+    form: Form<'_>,
+    targets: &[&Broken],
+    all: bool,
+) -> Result<Vec<u8>, NoMemory>
+    ensures { IfOk result (λ more. Adds form.entry out.items more.items (flat_map (λ target. rest_lines all target.now) targets.now)) }
+{
+    for target in targets {
+        out = with_rest(out, form, *target, all)?;
+    }
+    Ok(out)
+}
+
+/// Appends a row for the target if not all of its locations are listed.
+fn with_rest(out: Vec<u8>, form: Form<'_>, target: &Broken, all: bool) -> Result<Vec<u8>, NoMemory>
+    ensures { IfOk result (λ more. Adds form.entry out.items more.items (rest_lines all target.now)) }
+{
+    let places = target.places.len();
+    if all || places <= PLACES_LIMIT {
+        Ok(out)
+    } else {
+        with(out, form, Row::Rest(target, places - PLACES_LIMIT))
+    }
+}
+
+// ---- other sections
 
 /// Appends the section of the files with the most broken links, if there are any.
 #[tactic(auto, using(crate::proofs::Adding::part_more))]

@@ -34,8 +34,10 @@ pub enum Row<'r> {
     Broken(&'r Broken),
     /// A broken link: its target and its location.
     Place(&'r Broken, &'r Place),
-    /// The number of locations that are not listed.
+    /// The number of locations of a target that are not listed, after those that are.
     More(usize),
+    /// A target and the number of its locations that are not listed.
+    Rest(&'r Broken, usize),
     Worst(&'r FileCount),
     Redirect(&'r Redirect),
     External(&'r External),

@@ -25,6 +25,8 @@ pub struct Lists {
     pub all: bool,
     /// Whether the report counts and lists unreached files.
     pub unreached: bool,
+    /// Whether a report as text lists the broken links by target, not by file.
+    pub by_target: bool,
 }
 
 /// The optional contents of a report.
@@ -35,13 +37,17 @@ pub struct Contents<'a> {
     pub external: Option<&'a [External]>,
     /// The folder that annotations put before a file's name; empty for none.
     pub folder: &'a str,
+    /// The URL of the folder's sources, to which the HTML page and SARIF link each location; empty for none.
+    pub source_url: &'a str,
 }
 
 /// The counts of a check.
 #[derive(Clone, Copy)]
 pub struct Totals {
-    /// The files that were found, each at its own URL.
+    /// The documents that were found, each at its own URL.
     pub pages: u64,
+    /// The other files that were found, each at its own URL.
+    pub files: u64,
     /// The other URLs of these files that links lead to.
     pub aliases: u64,
     /// The links in these files.
@@ -92,6 +98,8 @@ pub struct Broken {
     pub places: Vec<Place>,
     /// The page of the site with the same file name, if the page is missing and there is exactly one.
     pub same_name: Option<String>,
+    /// A file that another rule of the host would find, and that rule, such as `about.html exists: --fallback html`.
+    pub hint: Option<String>,
 }
 
 /// The location of a link.
@@ -103,6 +111,8 @@ pub struct Place {
     pub line: u64,
     /// The column in characters, from 1.
     pub column: u64,
+    /// The link as it is written in the file, if it differs from the target.
+    pub written: Option<String>,
 }
 
 /// A redirect.

@@ -223,6 +223,7 @@ fn report_of(
         lists: options.lists,
         external: slice_of(others),
         folder: settings.folder,
+        source_url: "",
     };
     let findings = checked.findings(settings.name);
     let text = print_check(alloc, &findings, contents, options.form)?;

@@ -77,6 +77,7 @@ abbrev pub totals_by : (List ℕ → Bool) → List PageResult → List Broken �
 totals_by is_other results broken redirects =
     record {
       pages = count_by (is_own_page is_other) results;
+      files = 0;
       aliases = count_by (is_alias_page is_other) results;
       links = link_count is_other results;
       broken_links = place_count is_missing broken;

@@ -168,6 +168,7 @@ fn push_anchor(
         pages: anchor.pages,
         places,
         same_name: None,
+        hint: None,
     })?;
     Ok(())
 }

@@ -298,6 +298,7 @@ fn push_row(
         pages: text.pages,
         places,
         same_name: None,
+        hint: None,
     })?;
     Ok(())
 }

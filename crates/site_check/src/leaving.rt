@@ -271,6 +271,7 @@ fn push_row(
         pages: one.linked.pages,
         places,
         same_name: None,
+        hint: None,
     })?;
     Ok(())
 }

@@ -95,6 +95,7 @@ fn push_missing<'n>(
         pages,
         places,
         same_name: name,
+        hint: None,
     })?;
     Ok(())
 }

@@ -37,6 +37,7 @@ fn totals_by<'a>(
     let rows = row_counts(broken);
     Totals {
         pages: pages.own,
+        files: 0,
         aliases: pages.aliases,
         links: pages.links,
         broken_links: rows.broken_links,

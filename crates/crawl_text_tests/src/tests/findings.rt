@@ -52,6 +52,7 @@ const TARGETS: &[Target] = &[
 
 const TOTALS: Totals = Totals {
     pages: 4,
+    files: 1,
     aliases: 3,
     links: 20,
     broken_links: 5,
@@ -62,24 +63,25 @@ const TOTALS: Totals = Totals {
     moved: 2,
 };
 
-/// The text with three locations of each target, without colour.
-const TEXT: &str = "pages 4, links 20, redirects 2, aliases 3, unreached files 1, external URLs 2
+/// The text with three locations of each target, by file, without colour.
+const TEXT: &str =
+    "pages 4, files 1, links 20, redirects 2, aliases 3, unreached files 1, external URLs 2
 broken links 5, missing pages 2, missing anchors 1, invalid links 4, leaving links 3
 
+a.html:7:9: C:\\x: local file
+a.html:8:9: http://[<b>: not a URL
+a.html:9:9: ../../doc/x,y.css: leaves the folder
 a.html:41:12: down.html: no such page (did you mean lib/down.html?)
 b.html:3:1: down.html: no such page (did you mean lib/down.html?)
 b.html:4:1: down.html: no such page (did you mean lib/down.html?)
-  and 1 more
-d,e:f%\\u{d}.html:1:2: a<b>&\"'.html#x\\u{a}: no such anchor
-start.html: no such page
-a.html:7:9: C:\\x: local file
-a.html:8:9: http://[<b>: not a URL
 b.html:5:2: http://[<b>: not a URL
 b.html:6:2: htp://a,b: unknown scheme
-a.html:9:9: ../../doc/x,y.css: leaves the folder
 b.html:7:2: http://s.test/<b>: outside BASE
 c.html:1:1: http://s.test/<b>: outside BASE
+d,e:f%\\u{d}.html:1:2: a<b>&\"'.html#x\\u{a}: no such anchor
+start.html: no such page
 ../: leaves the folder
+down.html: no such page: 1 more
 
 files with the most broken links:
   2 b.html
@@ -99,28 +101,46 @@ unused --ignore entries:
   http://a.test/
 ";
 
+/// The broken links in the text by target.
+const BY_TARGET: &str = "
+a.html:41:12: down.html: no such page (did you mean lib/down.html?)
+b.html:3:1: down.html: no such page (did you mean lib/down.html?)
+b.html:4:1: down.html: no such page (did you mean lib/down.html?)
+  and 1 more
+start.html: no such page
+d,e:f%\\u{d}.html:1:2: a<b>&\"'.html#x\\u{a}: no such anchor
+a.html:7:9: C:\\x: local file
+b.html:6:2: htp://a,b: unknown scheme
+a.html:8:9: http://[<b>: not a URL
+b.html:5:2: http://[<b>: not a URL
+../: leaves the folder
+a.html:9:9: ../../doc/x,y.css: leaves the folder
+b.html:7:2: http://s.test/<b>: outside BASE
+c.html:1:1: http://s.test/<b>: outside BASE
+";
+
 const JSON: &str =
-    "{\"kind\":\"total\",\"base\":\"http://s.test\",\"pages\":4,\"aliases\":3,\"links\":20,\"redirects\":2,\"unreached\":1,\"external\":2,\"broken\":5,\"missing_pages\":2,\"missing_anchors\":1,\"invalid\":4,\"leaving\":3}
-{\"kind\":\"broken\",\"target\":\"down.html\",\"missing\":\"page\",\"pages\":3,\"same_name\":\"lib/down.html\"}
-{\"kind\":\"place\",\"target\":\"down.html\",\"missing\":\"page\",\"file\":\"a.html\",\"line\":41,\"column\":12}
-{\"kind\":\"place\",\"target\":\"down.html\",\"missing\":\"page\",\"file\":\"b.html\",\"line\":3,\"column\":1}
-{\"kind\":\"place\",\"target\":\"down.html\",\"missing\":\"page\",\"file\":\"b.html\",\"line\":4,\"column\":1}
-{\"kind\":\"place\",\"target\":\"down.html\",\"missing\":\"page\",\"file\":\"c.html\",\"line\":5,\"column\":6}
-{\"kind\":\"broken\",\"target\":\"a<b>&\\\"'.html#x\\n\",\"missing\":\"anchor\",\"pages\":3,\"same_name\":null}
-{\"kind\":\"place\",\"target\":\"a<b>&\\\"'.html#x\\n\",\"missing\":\"anchor\",\"file\":\"d,e:f%\\r.html\",\"line\":1,\"column\":2}
-{\"kind\":\"broken\",\"target\":\"start.html\",\"missing\":\"page\",\"pages\":3,\"same_name\":null}
+    "{\"kind\":\"total\",\"base\":\"http://s.test\",\"pages\":4,\"files\":1,\"aliases\":3,\"links\":20,\"redirects\":2,\"unreached\":1,\"external\":2,\"broken\":5,\"missing_pages\":2,\"missing_anchors\":1,\"invalid\":4,\"leaving\":3}
+{\"kind\":\"broken\",\"target\":\"down.html\",\"missing\":\"page\",\"pages\":3,\"same_name\":\"lib/down.html\",\"hint\":null}
+{\"kind\":\"place\",\"target\":\"down.html\",\"missing\":\"page\",\"file\":\"a.html\",\"line\":41,\"column\":12,\"written\":null}
+{\"kind\":\"place\",\"target\":\"down.html\",\"missing\":\"page\",\"file\":\"b.html\",\"line\":3,\"column\":1,\"written\":null}
+{\"kind\":\"place\",\"target\":\"down.html\",\"missing\":\"page\",\"file\":\"b.html\",\"line\":4,\"column\":1,\"written\":null}
+{\"kind\":\"place\",\"target\":\"down.html\",\"missing\":\"page\",\"file\":\"c.html\",\"line\":5,\"column\":6,\"written\":null}
+{\"kind\":\"broken\",\"target\":\"a<b>&\\\"'.html#x\\n\",\"missing\":\"anchor\",\"pages\":3,\"same_name\":null,\"hint\":null}
+{\"kind\":\"place\",\"target\":\"a<b>&\\\"'.html#x\\n\",\"missing\":\"anchor\",\"file\":\"d,e:f%\\r.html\",\"line\":1,\"column\":2,\"written\":null}
+{\"kind\":\"broken\",\"target\":\"start.html\",\"missing\":\"page\",\"pages\":3,\"same_name\":null,\"hint\":null}
 {\"kind\":\"invalid\",\"target\":\"C:\\\\x\",\"reason\":\"local_file\",\"pages\":3}
-{\"kind\":\"invalid_place\",\"target\":\"C:\\\\x\",\"reason\":\"local_file\",\"file\":\"a.html\",\"line\":7,\"column\":9}
+{\"kind\":\"invalid_place\",\"target\":\"C:\\\\x\",\"reason\":\"local_file\",\"file\":\"a.html\",\"line\":7,\"column\":9,\"written\":null}
 {\"kind\":\"invalid\",\"target\":\"http://[<b>\",\"reason\":\"not_url\",\"pages\":3}
-{\"kind\":\"invalid_place\",\"target\":\"http://[<b>\",\"reason\":\"not_url\",\"file\":\"a.html\",\"line\":8,\"column\":9}
-{\"kind\":\"invalid_place\",\"target\":\"http://[<b>\",\"reason\":\"not_url\",\"file\":\"b.html\",\"line\":5,\"column\":2}
+{\"kind\":\"invalid_place\",\"target\":\"http://[<b>\",\"reason\":\"not_url\",\"file\":\"a.html\",\"line\":8,\"column\":9,\"written\":null}
+{\"kind\":\"invalid_place\",\"target\":\"http://[<b>\",\"reason\":\"not_url\",\"file\":\"b.html\",\"line\":5,\"column\":2,\"written\":null}
 {\"kind\":\"invalid\",\"target\":\"htp://a,b\",\"reason\":\"unknown_scheme\",\"pages\":3}
-{\"kind\":\"invalid_place\",\"target\":\"htp://a,b\",\"reason\":\"unknown_scheme\",\"file\":\"b.html\",\"line\":6,\"column\":2}
+{\"kind\":\"invalid_place\",\"target\":\"htp://a,b\",\"reason\":\"unknown_scheme\",\"file\":\"b.html\",\"line\":6,\"column\":2,\"written\":null}
 {\"kind\":\"leaving\",\"target\":\"../../doc/x,y.css\",\"reason\":\"above_folder\",\"pages\":3}
-{\"kind\":\"leaving_place\",\"target\":\"../../doc/x,y.css\",\"reason\":\"above_folder\",\"file\":\"a.html\",\"line\":9,\"column\":9}
+{\"kind\":\"leaving_place\",\"target\":\"../../doc/x,y.css\",\"reason\":\"above_folder\",\"file\":\"a.html\",\"line\":9,\"column\":9,\"written\":null}
 {\"kind\":\"leaving\",\"target\":\"http://s.test/<b>\",\"reason\":\"outside_base\",\"pages\":3}
-{\"kind\":\"leaving_place\",\"target\":\"http://s.test/<b>\",\"reason\":\"outside_base\",\"file\":\"b.html\",\"line\":7,\"column\":2}
-{\"kind\":\"leaving_place\",\"target\":\"http://s.test/<b>\",\"reason\":\"outside_base\",\"file\":\"c.html\",\"line\":1,\"column\":1}
+{\"kind\":\"leaving_place\",\"target\":\"http://s.test/<b>\",\"reason\":\"outside_base\",\"file\":\"b.html\",\"line\":7,\"column\":2,\"written\":null}
+{\"kind\":\"leaving_place\",\"target\":\"http://s.test/<b>\",\"reason\":\"outside_base\",\"file\":\"c.html\",\"line\":1,\"column\":1,\"written\":null}
 {\"kind\":\"leaving\",\"target\":\"../\",\"reason\":\"above_folder\",\"pages\":3}
 {\"kind\":\"worst\",\"file\":\"b.html\",\"links\":2}
 {\"kind\":\"redirect\",\"page\":\"guide\",\"to\":\"guide/\",\"pages\":7}
@@ -158,22 +178,22 @@ const PAGE: &str = "</form>
 \tb.html:3:1
 \tb.html:4:1
 \tc.html:5:6
+<b>start.html</b>\tno such page
 <b>a&lt;b&gt;&amp;&#34;&#39;.html#x\\u{a}</b>\tno such anchor
 \td,e:f%\\u{d}.html:1:2
-<b>start.html</b>\tno such page
 <b>C:\\x</b>\tlocal file
 \ta.html:7:9
+<b>htp://a,b</b>\tunknown scheme
+\tb.html:6:2
 <b>http://[&lt;b&gt;</b>\tnot a URL
 \ta.html:8:9
 \tb.html:5:2
-<b>htp://a,b</b>\tunknown scheme
-\tb.html:6:2
+<b>../</b>\tleaves the folder
 <b>../../doc/x,y.css</b>\tleaves the folder
 \ta.html:9:9
 <b>http://s.test/&lt;b&gt;</b>\toutside BASE
 \tb.html:7:2
 \tc.html:1:1
-<b>../</b>\tleaves the folder
 </pre>
 </section>
 <section id=worst aria-labelledby=h-worst>
@@ -215,7 +235,7 @@ http://a.test/
 ";
 
 /// The text of a report without rows, with colour: only the totals.
-const NOTHING: &str = "pages 4, links 20, redirects 2, aliases 3
+const NOTHING: &str = "pages 4, files 1, links 20, redirects 2, aliases 3
 \x1b[31mbroken links 5\x1b[0m, missing pages 2, missing anchors 1, invalid links 4, leaving links 3
 ";
 
@@ -276,6 +296,37 @@ const HEADINGS: &[Heading] = &[
 const AFTER_NAME: &[u8] =
     b"\n</pre>\n</section>\n</main>\n<footer id=end></footer>\n</body>\n</html>\n";
 
+/// The files of links to one page, in natural order, and how the links are written; empty if as the name of the page.
+const NAMES: &[(&str, &str)] = &[
+    ("", ""),
+    ("-1", ""),
+    ("007", ""),
+    ("7", ""),
+    ("18446744073709551615", ""),
+    ("18446744073709551616", ""),
+    ("100000000000000000000000", ""),
+    ("A1", ""),
+    ("a1-2", ""),
+    ("a1.5", ""),
+    ("a01b", ""),
+    ("a1b", ""),
+    ("a01c", ""),
+    ("page-02.html", "../%D7%A9/p%20q.html"),
+    ("page-2.html", ""),
+    ("page-10.html", ""),
+    ("page-10a.html", ""),
+    ("\u{e9}2", ""),
+    ("\u{e9}10", ""),
+];
+
+/// The URL of the page: only a space and characters beyond ASCII that are not hidden are decoded.
+const NAMED_URL: &str = "%D7%A9/p%20q%2F%ff%C2%85.html";
+
+const NAMED: &str = "\u{5e9}/p q%2F%ff%C2%85.html";
+
+/// The end of the line of each link to the page.
+const ADVICE: &str = " (did you mean \u{e4}%0A.html?) (about.html exists: --fallback html)\n";
+
 fn text(alloc: Global, text: &str) -> Option<String> {
     String::from_str(alloc, text).ok()
 }
@@ -296,6 +347,7 @@ fn places(alloc: Global, rows: &[(&str, u64, u64)]) -> Option<Vec<Place>> {
                 file,
                 line: *line,
                 column: *column,
+                written: None,
             })
             .ok()?;
     }
@@ -312,6 +364,7 @@ fn target(alloc: Global, row: &Target) -> Option<Broken> {
         pages: 3,
         places,
         same_name,
+        hint: None,
     })
 }
 
@@ -350,6 +403,16 @@ fn is(form: Result<Vec<u8>, NoMemory>, expected: &str) -> bool {
     }
 }
 
+fn has(form: Result<Vec<u8>, NoMemory>, expected: &str) -> bool {
+    match form {
+        Ok(form) => match str::from_utf8(form.as_slice()) {
+            Ok(text) => text.contains(expected),
+            Err(_) => false,
+        },
+        Err(_) => false,
+    }
+}
+
 fn ends(form: Result<Vec<u8>, NoMemory>, expected: &str) -> bool {
     match form {
         Ok(form) => form.as_slice().ends_with(expected.as_bytes()),
@@ -358,19 +421,40 @@ fn ends(form: Result<Vec<u8>, NoMemory>, expected: &str) -> bool {
 }
 
 /// The forms of a report, in the order of `forms`.
-const FORMS: [&str; 4] = ["text", "JSON", "annotations", "end of the HTML page"];
+const FORMS: [&str; 5] = [
+    "text",
+    "text by target",
+    "JSON",
+    "annotations",
+    "end of the HTML page",
+];
+
+/// The contents, with the text by target.
+fn by_target(contents: Contents<'_>) -> Contents<'_> {
+    Contents {
+        lists: Lists {
+            by_target: true,
+            ..contents.lists
+        },
+        ..contents
+    }
+}
 
 /// Which forms are printed as expected.
-fn forms(alloc: Global, findings: &Findings<'_>, contents: Contents<'_>) -> [bool; 4] {
+fn forms(alloc: Global, findings: &Findings<'_>, contents: Contents<'_>) -> [bool; 5] {
     [
         is(print_text(alloc, findings, contents, false), TEXT),
+        has(
+            print_text(alloc, findings, by_target(contents), false),
+            BY_TARGET,
+        ),
         is(print_json(alloc, findings, contents), JSON),
         is(print_annotations(alloc, findings, contents), ANNOTATIONS),
         ends(print_page(alloc, findings, contents), PAGE),
     ]
 }
 
-fn printed(alloc: Global) -> Option<[bool; 4]> {
+fn printed(alloc: Global) -> Option<[bool; 5]> {
     let broken = targets(alloc)?;
     let worst = [count(alloc, "b.html", 2)?];
     let redirects = [
@@ -399,6 +483,7 @@ fn printed(alloc: Global) -> Option<[bool; 4]> {
         },
         external: Some(&others),
         folder: "s:te",
+        source_url: "",
     };
     Some(forms(alloc, &findings, contents))
 }
@@ -419,6 +504,7 @@ fn nothing(alloc: Global) -> Option<bool> {
         lists: Lists::default(),
         external: None,
         folder: "",
+        source_url: "",
     };
     let text = print_text(alloc, &findings, contents, true).ok()?;
     Some(text.as_slice() == NOTHING.as_bytes())
@@ -439,6 +525,7 @@ fn annotated(alloc: Global, folder: &str) -> Option<Vec<u8>> {
         lists: Lists::default(),
         external: None,
         folder,
+        source_url: "",
     };
     print_annotations(alloc, &findings, contents).ok()
 }
@@ -476,6 +563,7 @@ fn seen(alloc: Global, row: &Seen) -> Option<[bool; 3]> {
         lists: Lists::default(),
         external: None,
         folder: "",
+        source_url: "",
     };
     let text = print_text(alloc, &findings, contents, false).ok()?;
     let page = print_page(alloc, &findings, contents).ok()?;
@@ -491,6 +579,7 @@ fn seen(alloc: Global, row: &Seen) -> Option<[bool; 3]> {
 fn counted(row: &Heading) -> Totals {
     Totals {
         pages: 1,
+        files: 0,
         aliases: 0,
         links: 9,
         broken_links: row.0,
@@ -517,6 +606,7 @@ fn is_headed(alloc: Global, row: &Heading) -> Option<bool> {
         lists: Lists::default(),
         external: None,
         folder: "",
+        source_url: "",
     };
     let page = print_page(alloc, &findings, contents).ok()?;
     let text = print_text(alloc, &findings, contents, true).ok()?;
@@ -525,6 +615,84 @@ fn is_headed(alloc: Global, row: &Heading) -> Option<bool> {
         .contains("\x1b[31mbroken");
     let has_heading = str::from_utf8(page.as_slice()).ok()?.contains(row.4);
     Some(has_heading && is_red == row.4.contains("bad"))
+}
+
+/// The page of `NAMES`, with the links in the reverse order.
+fn named_target(alloc: Global) -> Option<Broken> {
+    let mut places = Vec::new(alloc);
+    for (file, written) in NAMES.iter().rev() {
+        let written = if written.is_empty() { NAMED } else { *written };
+        let file = text(alloc, file)?;
+        let written = Some(text(alloc, written)?);
+        places
+            .push(Place {
+                file,
+                line: 1,
+                column: 1,
+                written,
+            })
+            .ok()?;
+    }
+    let target = text(alloc, NAMED_URL)?;
+    let same_name = Some(text(alloc, "%C3%A4%0A.html")?);
+    let hint = Some(text(alloc, "about.html exists: --fallback html")?);
+    Some(Broken {
+        target,
+        kind: Kind::NoPage,
+        pages: 3,
+        places,
+        same_name,
+        hint,
+    })
+}
+
+/// The lines of the links in `NAMES`.
+fn named_lines(alloc: Global) -> Option<String> {
+    let mut lines = String::new(alloc);
+    for (file, written) in NAMES {
+        lines.push_str(file).ok()?;
+        lines.push_str(":1:1: ").ok()?;
+        lines.push_str(NAMED).ok()?;
+        lines.push_str(": no such page").ok()?;
+        if !written.is_empty() {
+            lines.push_str(" (written as ").ok()?;
+            lines.push_str(written).ok()?;
+            lines.push_str(")").ok()?;
+        }
+        lines.push_str(ADVICE).ok()?;
+    }
+    Some(lines)
+}
+
+/// Whether the text has the links by file, in natural order.
+fn is_by_file(alloc: Global) -> Option<bool> {
+    let broken = [named_target(alloc)?];
+    let findings = Findings {
+        base: "",
+        totals: TOTALS,
+        broken: &broken,
+        worst: &[],
+        redirects: &[],
+        unreached: &[],
+        unused_ignores: &[],
+    };
+    let contents = Contents {
+        lists: Lists {
+            all: true,
+            ..Lists::default()
+        },
+        external: None,
+        folder: "",
+        source_url: "",
+    };
+    let lines = named_lines(alloc)?;
+    let text = print_text(alloc, &findings, contents, false).ok()?;
+    Some(text.as_slice().ends_with(lines.as_str().as_bytes()))
+}
+
+#[test]
+fn lists_links_by_file(rt: HostRuntime) {
+    assert!(rt; is_by_file(rt.alloc()) == Some(true));
 }
 
 #[test]
@@ -555,7 +723,7 @@ fn annotates_files_of_folders(rt: HostRuntime) {
 
 #[test]
 fn prints_each_form(rt: HostRuntime) {
-    let are_printed = printed(rt.alloc()).unwrap_or([false; 4]);
+    let are_printed = printed(rt.alloc()).unwrap_or([false; 5]);
     for (form, is_printed) in FORMS.iter().zip(are_printed.iter()) {
         assert!(rt; *is_printed, "{form}");
     }

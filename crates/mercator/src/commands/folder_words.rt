@@ -270,6 +270,7 @@ fn lists_of(found: &ArgMatches<'_>) -> Lists {
     Lists {
         all: found.get_flag("all-sources"),
         unreached: found.get_flag("unreached"),
+        by_target: false,
     }
 }
 

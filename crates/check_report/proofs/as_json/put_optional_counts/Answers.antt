@@ -1,7 +1,5 @@
 use Rattle.std.proofs.Common.{[], ◌∷◌, ◌++◌, ap, codes, decimal, ◌∙◌}
-use Rattle.json.specs.Json.{Members}
 use Rattle.json.specs.Token.{end_object, key, number}
-use Rattle.json.specs.Tree.{members_tokens}
 use Rattle.check_report.specs.Json.{broken_counts, count_if_at, count_tokens}
 use Rattle.check_report.proofs.Prelude.{append_assoc}
 use Rattle.check_report.proofs.Adding.{joined, last_joined, count_first, then_ok}

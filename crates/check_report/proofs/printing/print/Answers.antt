@@ -20,7 +20,7 @@ returns c =
     let external = c.in_ok-external.external.items in
     let unused = c.in_ok-unused.unused.items in
     let sum = total f.base.now f.totals (counts_of contents f) in
-    let a = broken_part c.args.all shown.broken.now in
+    let a = broken_part c.args.view shown.broken.now in
     let b = worst_part shown.worst.now in
     let d = redirect_part shown.redirects.now in
     let e = name_part part.Unreached shown.unreached.now in
@@ -35,8 +35,8 @@ returns c =
     (adds_same how unreached external _ x (ap external_part c.external_of.ensures) c.in_ok-external.ensures) in
     let seventh = adds_both how empty external unused (sum ∷ a ++ b ++ d ++ e ++ x) g sixth c.in_ok-unused.ensures in
     let whole = adds_both how empty unused c.in_ok-all.all.items (sum ∷ a ++ b ++ d ++ e ++ x ++ g) (last ∷ []) seventh c.in_ok-all.ensures in
-    let sections : sections_of c.args.all (external_of contents) shown ≡ sections_of c.args.all (external_of contents) own =
-    λ i. broken_part c.args.all (same.broken i) ++ worst_part (same.worst i) ++ redirect_part (same.redirects i) ++ name_part part.Unreached (same.unreached i)
+    let sections : sections_of c.args.view (external_of contents) shown ≡ sections_of c.args.view (external_of contents) own =
+    λ i. broken_part c.args.view (same.broken i) ++ worst_part (same.worst i) ++ redirect_part (same.redirects i) ++ name_part part.Unreached (same.unreached i)
     ++ x ++ name_part part.Unused (same.unused i) ++ last ∷ [] in
     whole ∙ ap (λ rows. empty ++ flat_map (bytes_of how) (sum ∷ rows)) sections
-    ∙ ap (λ t. t ++ flat_map (bytes_of how) (rows_of c.args.all contents f)) c.new.ensures.items
+    ∙ ap (λ t. t ++ flat_map (bytes_of how) (rows_of c.args.view contents f)) c.new.ensures.items
