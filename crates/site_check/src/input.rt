@@ -9,7 +9,7 @@ use site_files::Alias;
 pub struct CheckInput<'a> {
     /// The prefix that is removed from URLs that begin with it.
     pub front: &'a str,
-    /// The ignore list: each entry matches the targets that begin with it.
+    /// The ignore list. An entry with a `*` is a pattern for a whole target; any other matches the targets that begin with it.
     pub ignores: &'a [String],
     /// The aliases of the site, in the order of their URLs.
     pub aliases: &'a [Alias],
@@ -17,8 +17,8 @@ pub struct CheckInput<'a> {
     pub documents: &'a [CanonUrl],
     /// The anchors of the site's documents, in the order of their URLs. If there are none, no missing anchor is reported.
     pub anchors: &'a [PageAnchors],
-    /// The positions of the links in the site's documents and their invalid links, in the order of the documents' URLs. If there are
-    /// none, links to missing pages are reported without locations.
+    /// The indices of the links in the site's documents and their invalid links, in the order of the documents' URLs. If there are none,
+    /// links to missing pages are reported without locations.
     pub places: &'a [LinkPlaces],
     /// Whether invalid links are reported.
     pub invalid: bool,
