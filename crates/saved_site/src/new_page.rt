@@ -28,6 +28,8 @@ pub(crate) struct NewPage {
     pub(crate) spellings: Vec<Task>,
     /// The own URL of the file, if the page is an alias.
     pub(crate) own: Option<CanonUrl>,
+    /// Whether the URL is the own one of an HTML or XHTML document.
+    pub(crate) is_document: bool,
     /// Its anchors and the targets of its links to anchors, if the rules ask for them, the page is a document, and they are known.
     pub(crate) anchors: Option<SiteAnchors>,
     /// The positions of its links and its invalid links, if the rules ask for them.
@@ -60,6 +62,15 @@ pub(crate) fn file_page(
     }
     let document = file_document(alloc, files, &task.url, kind, body, room)?;
     document_page(alloc, files, task, document)
+}
+
+/// Whether a file of this kind with these contents is an HTML or XHTML document. Of a file that cannot be read there are no contents.
+pub(crate) fn is_html(kind: FileKind, body: &[u8]) -> bool {
+    match kind {
+        FileKind::Html | FileKind::Xml => true,
+        FileKind::Unknown => is_document(body),
+        FileKind::Svg | FileKind::Style => false,
+    }
 }
 
 /// Makes a page without links.
@@ -243,6 +254,7 @@ impl NewPage {
             page,
             spellings: Vec::new(alloc),
             own: None,
+            is_document: false,
             anchors: None,
             positions: Vec::new(alloc),
             invalid: Vec::new(alloc),

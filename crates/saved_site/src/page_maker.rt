@@ -1,5 +1,5 @@
 //! Makes pages in threads, each of which reads the files of its pages.
-use crate::new_page::{NewPage, alias_page, empty_page, file_page, moved_page};
+use crate::new_page::{NewPage, alias_page, empty_page, file_page, is_html, moved_page};
 use crate::page::PageSink;
 use crate::task::{Response, Task};
 use document_links::RawLinks;
@@ -146,7 +146,7 @@ impl<S: PageSink> PageMaker<S> {
         Ok(page)
     }
 
-    /// Makes the page of the task with this number, whose links are in a file. If the file cannot be read, there are none.
+    /// Makes the page of the task with this number, whose links are in a file. If the file cannot be read, the page has no links.
     fn page_in<B: FileBytes>(
         &mut self,
         files: &SiteFiles<'_>,
@@ -155,11 +155,15 @@ impl<S: PageSink> PageMaker<S> {
         task: &Task,
         file: SiteFile<'_>,
     ) -> Result<NewPage, AllocError> {
-        if !self.read(bytes, number, file)? {
-            return empty_page(self.alloc, task);
-        }
+        let is_read = self.read(bytes, number, file)?;
         let body = self.body.as_slice();
-        file_page(self.alloc, files, task, file.kind, body, &mut self.room)
+        let mut page = if is_read {
+            file_page(self.alloc, files, task, file.kind, body, &mut self.room)?
+        } else {
+            empty_page(self.alloc, task)?
+        };
+        page.is_document = is_html(file.kind, body);
+        Ok(page)
     }
 
     /// Reads the file of the task with this number into the empty body, and returns whether it can be read.

@@ -22,6 +22,7 @@ pub(crate) struct SiteData<S> {
     pub(crate) parts: Vec<S>,
     pub(crate) notes: Vec<Note>,
     pub(crate) aliases: Vec<Alias>,
+    pub(crate) documents: Vec<CanonUrl>,
     pub(crate) anchors: Vec<PageAnchors>,
     pub(crate) places: Vec<LinkPlaces>,
     /// The notes about the pages of a round that has not ended.
@@ -35,6 +36,7 @@ impl<S: PageSink> SiteData<S> {
             parts: Vec::new(alloc),
             notes: Vec::new(alloc),
             aliases: Vec::new(alloc),
+            documents: Vec::new(alloc),
             anchors: Vec::new(alloc),
             places: Vec::new(alloc),
             page_notes: Vec::new(alloc),
@@ -55,6 +57,7 @@ impl<S: PageSink> SiteData<S> {
         let NewPage {
             url,
             own,
+            is_document,
             anchors,
             positions,
             invalid,
@@ -62,6 +65,9 @@ impl<S: PageSink> SiteData<S> {
             ..
         } = page;
         self.push_alias(&url, own)?;
+        if is_document {
+            self.documents.push(url.clone()?)?;
+        }
         self.push_places(&url, positions, invalid)?;
         self.push_notes(&url, notes)?;
         if let Some(SiteAnchors { anchors, targets }) = anchors {
@@ -122,6 +128,8 @@ impl<S: PageSink> SiteData<S> {
     pub(crate) fn sort(&mut self) -> Result<(), AllocError> {
         let aliases = &mut self.aliases;
         aliases.sort_by(|a: &Alias, b: &Alias| a.url.as_str().cmp(b.url.as_str()))?;
+        let documents = &mut self.documents;
+        documents.sort_by(|a: &CanonUrl, b: &CanonUrl| a.as_str().cmp(b.as_str()))?;
         let places = &mut self.places;
         places.sort_by(|a: &LinkPlaces, b: &LinkPlaces| a.url.as_str().cmp(b.url.as_str()))?;
         let anchors = &mut self.anchors;
