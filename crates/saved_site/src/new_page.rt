@@ -69,7 +69,7 @@ pub(crate) fn is_html(kind: FileKind, body: &[u8]) -> bool {
     match kind {
         FileKind::Html | FileKind::Xml => true,
         FileKind::Unknown => is_document(body),
-        FileKind::Svg | FileKind::Style => false,
+        FileKind::Svg | FileKind::Style | FileKind::Feed | FileKind::UrlList => false,
     }
 }
 
