@@ -29,6 +29,9 @@ IsRoot files root = IfSome root (λ path. string_bytes files.site.top ≡ string
 -- what is read of a file of this kind: not more links than the largest saved web has
 pub record AreOptions (files : SiteFiles) (kind : FileKind) (options : ReadOptions) : Type 0 where
   pub syntax : options.syntax ≡ syntax_of kind
+  pub styles : options.styles ≡ files.rules.now.styles
+  pub anchors : options.anchors ≡ files.rules.now.anchors
+  pub places : options.places ≡ files.rules.now.places
   pub root : IsRoot files options.root
   pub limit : options.byte_limit ≡ 2 ^ 30
 
