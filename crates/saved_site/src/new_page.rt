@@ -4,7 +4,7 @@ ghost use Rattle.saved_site.specs.FileLinks.{IsFilePage, IsPageOf};
 ghost use Rattle.saved_site.specs.SiteTexts.{begins_slash, is_path, is_url, link_to, redirect_to, target_at, text_to, with_query, without_origin};
 ghost use Rattle.saved_site.specs.declared.page.Under.TheVariants.{Links};
 ghost use Rattle.site_files.specs.Files.{url_of};
-ghost use Rattle.site_files.specs.Server.{query_of};
+ghost use Rattle.site_files.specs.Server.{after_front, query_of};
 
 use crate::file_document::file_document;
 use crate::page::{LineText, SitePage, Under};
@@ -269,14 +269,20 @@ fn moved_to(alloc: Global, task: &Task, text: &str) -> Result<NewPage, AllocErro
 }
 
 /// The URL without its scheme and authority, if they are those of the site. Two slashes after them stay, because they would begin a host.
-#[tactic(auto, using(crate::proofs::SiteTexts::path_after))]
 fn without_origin<'a>(url: &'a str, origin: &str) -> &'a str
     ensures { result.now ≡ without_origin origin.now url.now }
 {
-    match url.strip_prefix(origin) {
-        Some(path) if is_path(path.as_bytes()) => path,
-        _ => url,
-    }
+    let Some(path) = after_origin(url, origin) else {
+        return url;
+    };
+    if is_path(path.as_bytes()) { path } else { url }
+}
+
+/// What is after the origin in a URL. A function of its own, so that a lemma gives its result.
+fn after_origin<'a>(url: &'a str, origin: &str) -> Option<&'a str>
+    ensures { option_map (λ path. path.now) result ≡ after_front origin.now url.now }
+{
+    url.strip_prefix(origin)
 }
 
 /// Whether a text begins with one slash, as a path does.
