@@ -113,8 +113,9 @@ fn data_of<R: Threads + Sync, B: FileBytes + Sync, S: PageSink>(
 ) -> Result<SiteData<S>, SiteError>
     ensures { IfErr result IsOfWeb }
 {
-    let mut none = SiteData::new(alloc);
-    files.copy_doubles(&mut none.notes)?;
-    let queue = TaskQueue::new(alloc, files, seeds)?;
-    make_all(rt, files, bytes, queue, none)
+    let mut data = SiteData::new(alloc);
+    files.copy_doubles(&mut data.notes)?;
+    let mut queue = TaskQueue::new(alloc, files, seeds)?;
+    make_all(rt, files, bytes, &mut queue, &mut data)?;
+    Ok(data)
 }
