@@ -237,17 +237,23 @@ impl<S: PageSink> Batch<S> {
         parts: Vec<Result<PageMaker<S>, AllocError>>,
     ) -> Result<Batch<S>, AllocError> {
         let mut batch = Batch::new(alloc);
-        let mut unread: Vec<UnreadFile> = Vec::new(alloc);
         for part in parts {
-            let mut maker = part?;
-            batch.pages.append(&mut maker.pages)?;
-            unread.append(&mut maker.unread)?;
-            batch.makers.push(maker)?;
+            batch.makers.push(part?)?;
         }
-        let pages = &mut batch.pages;
-        pages.sort_by(|a: &NewPage, b: &NewPage| a.number.cmp(&b.number))?;
-        batch.add_notes(unread)?;
+        batch.take_pages()?;
         Ok(batch)
+    }
+
+    /// Takes over the pages of the makers, and the notes about files that cannot be read, in the order of their tasks.
+    fn take_pages(&mut self) -> Result<(), AllocError> {
+        let mut unread: Vec<UnreadFile> = Vec::new(*self.notes.allocator());
+        for maker in self.makers.iter_mut() {
+            self.pages.append(&mut maker.pages)?;
+            unread.append(&mut maker.unread)?;
+        }
+        let pages = &mut self.pages;
+        pages.sort_by(|a: &NewPage, b: &NewPage| a.number.cmp(&b.number))?;
+        self.add_notes(unread)
     }
 
     /// Adds the notes about these files, which cannot be read, in the order of their tasks.
