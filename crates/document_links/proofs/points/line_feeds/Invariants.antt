@@ -1,5 +1,5 @@
 use Rattle.document_links.proofs.Prelude.{◌≡◌, ◌+◌, length, count_by, is_lf}
-use Rattle.document_links.proofs.places.line_feeds.Given as goal
+use Rattle.document_links.proofs.points.line_feeds.Given as goal
 
 abbrev pub decreases-runs : goal.decreases-runs
 decreases-runs l = length l.rest
