@@ -3,7 +3,7 @@ use Rattle.std.specs.Ordering.{is_lt}
 use Rattle.std.proofs.lemmas.List.Sorted.{answers_always}
 use Rattle.site_files.specs.Entries.{cmp_urls}
 use Rattle.site_files.proofs.Table.{in_order_from_sort, urls_rank}
-use Rattle.site_files.proofs.site.in_order.Goals as goal
+use Rattle.site_files.proofs.page_table.in_order.Goals as goal
 
 pub returns : goal.returns
 returns c =
