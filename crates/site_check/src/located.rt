@@ -153,6 +153,8 @@ fn text_kind(kind: FileKind, styles: bool) -> TextKind {
             styles,
         },
         FileKind::Style => TextKind::StyleSheet,
+        FileKind::Feed => TextKind::Feed,
+        FileKind::UrlList => TextKind::UrlList,
     }
 }
 

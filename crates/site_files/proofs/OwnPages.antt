@@ -1,8 +1,8 @@
 -- The own URLs of files: what is found among their texts, and that it is what is defined.
-use Rattle.std.proofs.Common.{◌≡◌, ◌≢◌, ◌⊎◌, ℕ, ◌+◌, ◌<◌, ◌≤◌, zero, suc, Bool, true, false, Global, String, Option, Some, None, Result, Ok, Err, List, [], ◌∷◌, ◌++◌, drop, find, get_or, length, length-append, map, option_and_then, string_bytes, refl, sym, ap, subst, ◌∙◌, inl, inr, add-one, suc-le-suc, zero-le, arith}
+use Rattle.std.proofs.Common.{◌≡◌, ◌⊎◌, ℕ, ◌+◌, ◌<◌, ◌≤◌, zero, suc, Bool, true, false, Global, String, Option, Some, None, Result, Ok, Err, List, [], ◌∷◌, ◌++◌, find, get_or, length, length-append, option_and_then, string_bytes, refl, sym, ap, subst, ◌∙◌, inl, inr, arith}
 use Rattle.std.specs.Prelude.{filter_map, flat_map, is_some, slice_get, option_map}
 use Rattle.std.specs.List.{AllByRecursion, cons_option, enumerate_from}
-use Rattle.std.specs.Option.{option_or, option_to_list}
+use Rattle.std.specs.Option.{option_or}
 use Rattle.std.proofs.lemmas.Bool.{cases_Bool, cases_lt, cond-false, cond-true, eq-eqb, true≢false}
 use Rattle.std.proofs.lemmas.Slice.Eq.{bytes_eq-Decides}
 use Rattle.std.proofs.lemmas.List.Folds.{find-append}
@@ -10,14 +10,13 @@ use Rattle.std.proofs.lemmas.Option.{slice_get-get_or, slice_get-map, slice_get_
 use Rattle.crawl_keys.specs.CanonicalText.{canonical}
 use Rattle.crawl_keys.specs.declared.error.KeyError.{KeyError}
 use Rattle.site_files.specs.Entries.{IsEntryAt, IsTable, entry_at, file_in, response_of, texts, url_in}
-use Rattle.site_files.specs.Own.{AreOwnNumbers, FindsOwn, HasOwn, HaveOwn, IsOwnAt, IsOwnNumber, IsPageAt, is_file_at, is_page_in, is_some_file, number_in, own_among, own_of, page_url}
-use Rattle.site_files.specs.Pages.{Found, Missing, Moved, Page, Response, file_page, folder_texts, index_page, index_pages, index_text, ends_in_slash, folder_page, is_found, is_page_of, is_result, is_text_of, moved_page, named_page, named_pages, own_text, page_at, pages, response_in, texts_of}
+use Rattle.site_files.specs.Own.{AreOwnNumbers, FindsOwn, HasOwn, HaveOwn, IsOwnNumber, is_file_at, is_page_in, is_some_file, number_in, own_among, own_of, page_url}
+use Rattle.site_files.specs.Pages.{Found, Missing, Moved, Page, file_page, folder_texts, index_page, index_pages, index_text, ends_in_slash, folder_page, is_found, is_page_of, is_result, is_text_of, moved_page, named_page, named_pages, own_text, pages, response_in, texts_of}
 use Rattle.site_files.specs.Server.{Server}
 use Rattle.site_files.specs.declared.page_table.Entry.{Entry}
 use Rattle.site_files.specs.declared.page_table.Source.{Source}
 use Rattle.site_files.specs.declared.page_table.Source.TheVariants as source
 use Rattle.site_files.proofs.FirstOnes.{first-found}
-use Rattle.site_files.proofs.Listing.{made_left}
 
 some_same : {X : Type 0} (x y : X) → Some x ≡ Some y → x ≡ y
 some_same x y is = cc

@@ -1,5 +1,5 @@
 -- What a server with other rules returns for a URL without a page.
-use Rattle.std.specs.Prelude.{◌≡◌, ℕ, ◌&&◌, ◌||◌, Bool, is_some, false, not, true, List, [], bytes_eq, filter_map, find, if◌then◌else◌, Option, Some, None, option_and_then, option_map, String, string_bytes}
+use Rattle.std.specs.Prelude.{◌≡◌, ℕ, ◌&&◌, ◌||◌, Bool, is_some, false, not, true, List, [], bytes_eq, filter_map, find, if◌then◌else◌, Option, None, option_and_then, option_map, String, string_bytes}
 use Rattle.std.specs.List.{enumerate_from, list_any}
 use Rattle.std.specs.Option.{option_or}
 use Rattle.std.specs.declared.alloc.Global.{Global}

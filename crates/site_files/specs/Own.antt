@@ -1,5 +1,5 @@
 -- The own URLs of files, as the code holds them.
-use Rattle.std.specs.Prelude.{◌≡◌, ℕ, ◌&&◌, Bool, false, List, bytes_eq, if◌then◌else◌, find, map, MatchOption, Option, Some, None, option_and_then, option_map, Result, Ok, Err, slice_get}
+use Rattle.std.specs.Prelude.{◌≡◌, ℕ, ◌&&◌, Bool, false, List, bytes_eq, if◌then◌else◌, find, MatchOption, Option, Some, None, option_and_then, option_map, Result, Ok, Err, slice_get}
 use Rattle.std.specs.Option.{option_map_or}
 use Rattle.crawl_keys.specs.CanonicalText.{canonical}
 use Rattle.crawl_keys.specs.declared.error.KeyError.{KeyError}

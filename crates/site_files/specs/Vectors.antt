@@ -4,7 +4,7 @@ use Rattle.std.specs.Prelude.{◌≡◌, ℕ, false, true, List, [], ◌∷◌, 
 use Rattle.percent_encoding.specs.Percent.{percent_decode}
 use Rattle.site_files.specs.Hints.{home_page}
 use Rattle.site_files.specs.Kinds.{kind_of, starts_at}
-use Rattle.site_files.specs.Pages.{Folder, Page, Response, Missing, Moved, Found, own_text, page, response_at}
+use Rattle.site_files.specs.Pages.{Folder, Response, Missing, Moved, Found, own_text, page, response_at}
 use Rattle.site_files.specs.Server.{Host, Server, looked_up}
 use Rattle.site_files.specs.declared.kinds.FileKind.TheVariants.{Html, Xml, Svg, Style, Feed, UrlList, Unknown}
 
