@@ -5,9 +5,9 @@ use Rattle.saved_site.proofs.file_document.options_of.Goals as goal
 pub returns : goal.returns
 returns c = record {
   syntax = c.syntax_of.ensures;
-  styles = ap (λ (rules : Rules). rules.styles) c.rules.ensures;
-  anchors = ap (λ (rules : Rules). rules.anchors) c.rules.ensures;
-  places = ap (λ (rules : Rules). rules.places) c.rules.ensures;
+  styles = ap (λ (rules : Rules). rules.styles) c.rules-rules.ensures;
+  anchors = ap (λ (rules : Rules). rules.anchors) c.rules-rules.ensures;
+  places = ap (λ (rules : Rules). rules.places) c.rules-rules.ensures;
   root = c.root_of.ensures;
   limit = refl;
 }
