@@ -8,5 +8,6 @@ pub mod Linkers
 pub mod Parts
 pub mod Says
 pub mod SiteSource
+pub mod SiteTexts
 pub mod Sound
 pub mod WebTexts

@@ -3,7 +3,7 @@ use Rattle.std.specs.Prelude.{◌≡◌, ◌⊎◌, ◌^◌, ℕ, List, [], ◌+
 use Rattle.std.specs.Borrow.{Bor}
 use Rattle.html_links.specs.declared.context.Syntax.{Syntax}
 use Rattle.html_links.specs.declared.context.Syntax.TheVariants as syntax
-use Rattle.document_links.specs.Encoding.{HasLinkTexts, HasSheet}
+use Rattle.document_links.specs.Encoding.{HasFeed, HasLinkTexts, HasSheet, HasUrlList}
 use Rattle.document_links.specs.declared.document.ReadOptions.{ReadOptions}
 use Rattle.site_files.specs.declared.files.SiteFiles.{SiteFiles}
 use Rattle.site_files.specs.declared.kinds.FileKind.{FileKind}
@@ -12,7 +12,7 @@ use Rattle.saved_site.specs.declared.page.SitePage.{SitePage}
 use Rattle.saved_site.specs.declared.page.Under.{Under}
 use Rattle.saved_site.specs.declared.page.Under.TheVariants.{Links}
 
--- a document that is found by its first bytes is HTML
+-- a document that is found by its first bytes is HTML. Style sheets, feeds and lists of URLs are read without a syntax
 abbrev pub syntax_of : FileKind → Syntax
 syntax_of Html = syntax.Html
 syntax_of Xml = syntax.Xhtml
@@ -29,6 +29,9 @@ IsRoot files root = IfSome root (λ path. string_bytes files.site.top ≡ string
 -- what is read of a file of this kind: not more links than the largest saved web has
 pub record AreOptions (files : SiteFiles) (kind : FileKind) (options : ReadOptions) : Type 0 where
   pub syntax : options.syntax ≡ syntax_of kind
+  pub styles : options.styles ≡ files.rules.now.styles
+  pub anchors : options.anchors ≡ files.rules.now.anchors
+  pub places : options.places ≡ files.rules.now.places
   pub root : IsRoot files options.root
   pub limit : options.byte_limit ≡ 2 ^ 30
 
@@ -38,8 +41,8 @@ HasFileLinks Html options body links = HasLinkTexts options body links
 HasFileLinks Xml options body links = HasLinkTexts options body links
 HasFileLinks Svg options body links = HasLinkTexts options body links
 HasFileLinks Style options body links = HasSheet options body links
-HasFileLinks Feed options body links = HasLinkTexts options body links
-HasFileLinks UrlList options body links = HasLinkTexts options body links
+HasFileLinks Feed options body links = HasFeed options body links
+HasFileLinks UrlList options body links = HasUrlList options body links
 HasFileLinks Unknown options body links = HasLinkTexts options body links
 
 pub record IsFileDocument (files : SiteFiles) (kind : FileKind) (body : List ℕ) (links : List (List ℕ)) : Type 0 where

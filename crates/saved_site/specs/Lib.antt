@@ -6,4 +6,5 @@ pub mod Linked
 pub mod LinkedPages
 pub mod Meaning
 pub mod Pages
+pub mod SiteTexts
 pub mod WebTexts

@@ -4,11 +4,14 @@ ghost use Rattle.saved_site.specs.FileLinks.{AreOptions, IsFileDocument, IsRoot,
 
 use crate::web_text::WEB_LIMIT;
 use crawl_keys::CanonUrl;
-use document_links::{Document, RawLinks, ReadOptions, Syntax, read_document, read_style_sheet};
+use document_links::{
+    Document, RawLinks, ReadOptions, Syntax, read_document, read_feed, read_style_sheet,
+    read_url_list,
+};
 use site_files::{FileKind, SiteFiles};
 use std::alloc::{AllocError, Global};
 
-/// Reads the style sheet or the document in a file of this kind, at its own URL. `room` is memory for its links.
+/// Reads the document, style sheet, feed, sitemap or list of URLs in a file of this kind, at its own URL. `room` is memory for its links.
 pub(crate) fn file_document(
     alloc: Global,
     files: &SiteFiles<'_>,
@@ -22,12 +25,11 @@ pub(crate) fn file_document(
     let options = options_of(files, kind);
     match kind {
         FileKind::Style => read_style_sheet(alloc, body, url, options, room),
-        FileKind::Html
-        | FileKind::Xml
-        | FileKind::Svg
-        | FileKind::Feed
-        | FileKind::UrlList
-        | FileKind::Unknown => { read_document(alloc, body, url, options, room) }
+        FileKind::Feed => read_feed(alloc, body, url, options, room),
+        FileKind::UrlList => read_url_list(alloc, body, url, options, room),
+        FileKind::Html | FileKind::Xml | FileKind::Svg | FileKind::Unknown => {
+            read_document(alloc, body, url, options, room)
+        }
     }
 }
 
@@ -47,7 +49,8 @@ fn options_of<'a>(files: &'a SiteFiles<'_>, kind: FileKind) -> ReadOptions<'a>
     }
 }
 
-/// The syntax of a document in a file of this kind. A document that is found by its first bytes is HTML.
+/// The syntax of a document in a file of this kind. A document that is found by its first bytes is HTML. Style sheets, feeds and lists of
+/// URLs are read without a syntax.
 fn syntax_of(kind: FileKind) -> Syntax
     ensures { result ≡ syntax_of kind }
 {

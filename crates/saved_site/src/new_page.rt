@@ -1,7 +1,10 @@
 //! Makes the page of a task from the contents of its file.
-ghost use Rattle.std.specs.Prelude.{[], IfOk, IfSome};
+ghost use Rattle.std.specs.Prelude.{◌≡◌, [], IfOk, IfSome, option_map, string_bytes};
 ghost use Rattle.saved_site.specs.FileLinks.{IsFilePage, IsPageOf};
+ghost use Rattle.saved_site.specs.SiteTexts.{begins_slash, is_path, is_url, link_to, redirect_to, target_at, text_to, with_query, without_origin};
 ghost use Rattle.saved_site.specs.declared.page.Under.TheVariants.{Links};
+ghost use Rattle.site_files.specs.Files.{url_of};
+ghost use Rattle.site_files.specs.Server.{after_front, query_of};
 
 use crate::file_document::file_document;
 use crate::page::{LineText, SitePage, Under};
@@ -28,6 +31,8 @@ pub(crate) struct NewPage {
     pub(crate) spellings: Vec<Task>,
     /// The own URL of the file, if the page is an alias.
     pub(crate) own: Option<CanonUrl>,
+    /// Whether the URL is the own one of an HTML or XHTML document.
+    pub(crate) is_document: bool,
     /// Its anchors and the targets of its links to anchors, if the rules ask for them, the page is a document, and they are known.
     pub(crate) anchors: Option<SiteAnchors>,
     /// The positions of its links and its invalid links, if the rules ask for them.
@@ -62,6 +67,15 @@ pub(crate) fn file_page(
     document_page(alloc, files, task, document)
 }
 
+/// Whether a file of this kind with these contents is an HTML or XHTML document. Of a file that cannot be read there are no contents.
+pub(crate) fn is_html(kind: FileKind, body: &[u8]) -> bool {
+    match kind {
+        FileKind::Html | FileKind::Xml => true,
+        FileKind::Unknown => is_document(body),
+        FileKind::Svg | FileKind::Style | FileKind::Feed | FileKind::UrlList => false,
+    }
+}
+
 /// Makes a page without links.
 pub(crate) fn empty_page(alloc: Global, task: &Task) -> Result<NewPage, AllocError>
     ensures { IfOk result (λ new. IfSome new.page (IsPageOf task.now.url (Links []))) }
@@ -88,9 +102,10 @@ fn document_page(
     } = document;
     let notes = document_notes(alloc, task, has_skipped, encoding)?;
     let spellings = link_spellings(alloc, files, &task.url, &links)?;
+    let anchors = site_anchors(files, anchors)?;
     let mut new = NewPage::new(task, Under::Links(links), notes)?;
     new.spellings = spellings;
-    new.anchors = site_anchors(files, anchors)?;
+    new.anchors = anchors;
     new.positions = positions;
     new.invalid = invalid;
     Ok(new)
@@ -146,9 +161,10 @@ pub(crate) fn alias_page(
     files: &SiteFiles<'_>,
     task: &Task,
     own: &CanonUrl,
-) -> Result<NewPage, AllocError> {
-    let mut links = LinkTexts::new(alloc);
-    push_own(files, own, &mut links)?;
+) -> Result<NewPage, AllocError>
+    ensures { IfOk result (λ new. IfSome new.page (IsPageOf task.now.url (Links (link_to (text_to files.now own.now))))) }
+{
+    let links = own_link(alloc, files, own)?;
     let mut new = NewPage::new(task, Under::Links(links), Vec::new(alloc))?;
     if new.page.is_some() {
         new.own = Some(own.clone()?);
@@ -156,17 +172,16 @@ pub(crate) fn alias_page(
     Ok(new)
 }
 
-/// Appends a link to a URL of the site, if it fits in a line.
-fn push_own(
-    files: &SiteFiles<'_>,
-    own: &CanonUrl,
-    links: &mut LinkTexts,
-) -> Result<(), AllocError> {
+/// A link to a URL of the site, if it fits in a line.
+fn own_link(alloc: Global, files: &SiteFiles<'_>, own: &CanonUrl) -> Result<LinkTexts, AllocError>
+    ensures { IfOk result (λ links. links ≡ link_to (text_to files.now own.now)) }
+{
+    let mut links = LinkTexts::new(alloc);
     let text = without_origin(own.as_str(), files.origin()).as_bytes();
     if fits(LINK_FRONT, text) {
         links.push(text)?;
     }
-    Ok(())
+    Ok(links)
 }
 
 /// Makes the page of a redirect to this target. Other spellings of the redirect's URL and those with a query lead to the target with
@@ -176,12 +191,10 @@ pub(crate) fn moved_page(
     files: &SiteFiles<'_>,
     task: &Task,
     target: &str,
-) -> Result<NewPage, AllocError> {
-    let target = if files.url(task.entry) == Some(&task.url) {
-        String::from_str(alloc, target)?
-    } else {
-        with_query(alloc, target, task.url.as_str())?
-    };
+) -> Result<NewPage, AllocError>
+    ensures { IfOk result (λ new. IfSome new.page (IsPageOf task.now.url (redirect_to (text_to files.now (target_at files.now task.now.entry task.now.url target.now))))) }
+{
+    let target = target_of(alloc, files, task, target)?;
     let text = without_origin(target.as_str(), files.origin());
     let mut new = moved_to(alloc, task, text)?;
     if files.can_spell(text)
@@ -192,18 +205,58 @@ pub(crate) fn moved_page(
     Ok(new)
 }
 
-/// The target with the query of a URL, if that has one.
-fn with_query(alloc: Global, target: &str, url: &str) -> Result<String, AllocError> {
-    let mut target = String::from_str(alloc, target)?;
-    if let Some((_, query)) = url.split_once('?') {
-        target.push('?')?;
-        target.push_str(query)?;
+/// The target of a redirect, with the query of the URL if that is not the redirect's own.
+fn target_of(
+    alloc: Global,
+    files: &SiteFiles<'_>,
+    task: &Task,
+    target: &str,
+) -> Result<String, AllocError>
+    ensures { IfOk result (λ own. string_bytes own ≡ target_at files.now task.now.entry task.now.url target.now) }
+{
+    if is_at_own_url(files, task) {
+        String::from_str(alloc, target)
+    } else {
+        with_query(alloc, target, task.url.as_str())
     }
-    Ok(target)
+}
+
+/// Whether the URL of a task is that of its page.
+fn is_at_own_url(files: &SiteFiles<'_>, task: &Task) -> bool
+    ensures { result ≡ is_url task.now.url (url_of files.now task.now.entry) }
+{
+    match files.url(task.entry) {
+        Some(url) => *url == task.url,
+        None => false,
+    }
+}
+
+/// The target with the query of a URL, if that has one.
+fn with_query(alloc: Global, target: &str, url: &str) -> Result<String, AllocError>
+    ensures { IfOk result (λ text. string_bytes text ≡ with_query target.now url.now) }
+{
+    let mut text = String::from_str(alloc, target)?;
+    if let Some(query) = query_of(url) {
+        text.push_str("?")?;
+        text.push_str(query)?;
+    }
+    Ok(text)
+}
+
+/// The query of a URL.
+fn query_of(url: &str) -> Option<&str>
+    ensures { option_map (λ query. query.now) result ≡ query_of url.now }
+{
+    match url.split_once('?') {
+        Some((_, query)) => Some(query),
+        None => None,
+    }
 }
 
 /// A redirect to this text. A text that does not fit in a line is skipped with a note, and the page has no link.
-fn moved_to(alloc: Global, task: &Task, text: &str) -> Result<NewPage, AllocError> {
+fn moved_to(alloc: Global, task: &Task, text: &str) -> Result<NewPage, AllocError>
+    ensures { IfOk result (λ new. IfSome new.page (IsPageOf task.now.url (redirect_to text.now))) }
+{
     let mut notes = Vec::new(alloc);
     let under = match LineText::new(alloc, text.as_bytes())? {
         Some(text) => Under::Moved(text),
@@ -216,11 +269,37 @@ fn moved_to(alloc: Global, task: &Task, text: &str) -> Result<NewPage, AllocErro
 }
 
 /// The URL without its scheme and authority, if they are those of the site. Two slashes after them stay, because they would begin a host.
-fn without_origin<'a>(url: &'a str, origin: &str) -> &'a str {
-    match url.strip_prefix(origin) {
-        Some(path) if path.starts_with('/') && !path.starts_with("//") => path,
-        _ => url,
+fn without_origin<'a>(url: &'a str, origin: &str) -> &'a str
+    ensures { result.now ≡ without_origin origin.now url.now }
+{
+    let Some(path) = after_origin(url, origin) else {
+        return url;
+    };
+    if is_path(path.as_bytes()) { path } else { url }
+}
+
+/// What is after the origin in a URL. A function of its own, so that a lemma gives its result.
+fn after_origin<'a>(url: &'a str, origin: &str) -> Option<&'a str>
+    ensures { option_map (λ path. path.now) result ≡ after_front origin.now url.now }
+{
+    url.strip_prefix(origin)
+}
+
+/// Whether a text begins with one slash, as a path does.
+fn is_path(text: &[u8]) -> bool
+    ensures { result ≡ is_path text.now }
+{
+    match text {
+        [b'/', rest @ ..] => !begins_slash(rest),
+        _ => false,
     }
+}
+
+/// Whether a text begins with a slash.
+fn begins_slash(text: &[u8]) -> bool
+    ensures { result ≡ begins_slash text.now }
+{
+    matches!(text, [b'/', ..])
 }
 
 impl NewPage {
@@ -229,8 +308,9 @@ impl NewPage {
     fn new(task: &Task, under: Under, notes: Vec<Note>) -> Result<NewPage, AllocError>
         ensures { IfOk result (λ new. IfSome new.page (IsPageOf task.now.url under)) }
     {
+        let own = task.url.clone()?;
         let url = task.url.clone()?;
-        let page = SitePage::new(url, under);
+        let page = SitePage::new(own, under);
         let mut notes = notes;
         let alloc = *notes.allocator();
         if page.is_none() {
@@ -238,11 +318,12 @@ impl NewPage {
         }
         Ok(NewPage {
             number: 0,
-            url: task.url.clone()?,
+            url,
             byte_count: byte_count_of(&page),
             page,
             spellings: Vec::new(alloc),
             own: None,
+            is_document: false,
             anchors: None,
             positions: Vec::new(alloc),
             invalid: Vec::new(alloc),

@@ -89,6 +89,7 @@ impl LineText {
     /// Out of memory.
     pub fn new(alloc: Global, text: &[u8]) -> Result<Option<LineText>, AllocError>
         ensures text { IfOk result (λ found. IfSome found (λ own. own ≡ text.now)) }
+        ensures fit { IfOk result (λ found. IfSome found (λ _. fits 6 text.now ≡ true)) }
         ensures none { IfOk result (λ found. IsNone found → fits 6 text.now ≡ false) }
     {
         if !fits(MOVED_FRONT, text) {

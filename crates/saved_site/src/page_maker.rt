@@ -1,5 +1,5 @@
 //! Makes pages in threads, each of which reads the files of its pages.
-use crate::new_page::{NewPage, alias_page, empty_page, file_page, moved_page};
+use crate::new_page::{NewPage, alias_page, empty_page, file_page, is_html, moved_page};
 use crate::page::PageSink;
 use crate::task::{Response, Task};
 use document_links::RawLinks;
@@ -146,7 +146,7 @@ impl<S: PageSink> PageMaker<S> {
         Ok(page)
     }
 
-    /// Makes the page of the task with this number, whose links are in a file. If the file cannot be read, there are none.
+    /// Makes the page of the task with this number, whose links are in a file. If the file cannot be read, the page has no links.
     fn page_in<B: FileBytes>(
         &mut self,
         files: &SiteFiles<'_>,
@@ -155,11 +155,15 @@ impl<S: PageSink> PageMaker<S> {
         task: &Task,
         file: SiteFile<'_>,
     ) -> Result<NewPage, AllocError> {
-        if !self.read(bytes, number, file)? {
-            return empty_page(self.alloc, task);
-        }
+        let is_read = self.read(bytes, number, file)?;
         let body = self.body.as_slice();
-        file_page(self.alloc, files, task, file.kind, body, &mut self.room)
+        let mut page = if is_read {
+            file_page(self.alloc, files, task, file.kind, body, &mut self.room)?
+        } else {
+            empty_page(self.alloc, task)?
+        };
+        page.is_document = is_html(file.kind, body);
+        Ok(page)
     }
 
     /// Reads the file of the task with this number into the empty body, and returns whether it can be read.
@@ -233,17 +237,23 @@ impl<S: PageSink> Batch<S> {
         parts: Vec<Result<PageMaker<S>, AllocError>>,
     ) -> Result<Batch<S>, AllocError> {
         let mut batch = Batch::new(alloc);
-        let mut unread: Vec<UnreadFile> = Vec::new(alloc);
         for part in parts {
-            let mut maker = part?;
-            batch.pages.append(&mut maker.pages)?;
-            unread.append(&mut maker.unread)?;
-            batch.makers.push(maker)?;
+            batch.makers.push(part?)?;
         }
-        let pages = &mut batch.pages;
-        pages.sort_by(|a: &NewPage, b: &NewPage| a.number.cmp(&b.number))?;
-        batch.add_notes(unread)?;
+        batch.take_pages()?;
         Ok(batch)
+    }
+
+    /// Takes over the pages of the makers, and the notes about files that cannot be read, in the order of their tasks.
+    fn take_pages(&mut self) -> Result<(), AllocError> {
+        let mut unread: Vec<UnreadFile> = Vec::new(*self.notes.allocator());
+        for maker in self.makers.iter_mut() {
+            self.pages.append(&mut maker.pages)?;
+            unread.append(&mut maker.unread)?;
+        }
+        let pages = &mut self.pages;
+        pages.sort_by(|a: &NewPage, b: &NewPage| a.number.cmp(&b.number))?;
+        self.add_notes(unread)
     }
 
     /// Adds the notes about these files, which cannot be read, in the order of their tasks.

@@ -18,21 +18,19 @@ pub(crate) fn make_all<R: Threads + Sync, B: FileBytes + Sync, S: PageSink>(
     rt: &R,
     files: &SiteFiles<'_>,
     bytes: &B,
-    queue: TaskQueue,
-    before: SiteData<S>,
-) -> Result<SiteData<S>, SiteError>
+    queue: &mut TaskQueue,
+    data: &mut SiteData<S>,
+) -> Result<(), SiteError>
     ensures { IfErr result IsOfWeb }
 {
-    let mut queue = queue;
-    let mut data = before;
     'rounds: for _ in 0..u64::MAX {
         let tasks = queue.take();
         if tasks.is_empty() {
             break;
         }
-        data = make_round(rt, files, bytes, tasks.as_slice(), &mut queue, data)?;
+        make_round(rt, files, bytes, tasks.as_slice(), queue, data)?;
     }
-    Ok(data)
+    Ok(())
 }
 
 /// Makes the page of each task.
@@ -42,16 +40,15 @@ fn make_round<R: Threads + Sync, B: FileBytes + Sync, S: PageSink>(
     bytes: &B,
     tasks: &[Task],
     queue: &mut TaskQueue,
-    before: SiteData<S>,
-) -> Result<SiteData<S>, SiteError>
+    data: &mut SiteData<S>,
+) -> Result<(), SiteError>
     ensures { IfErr result IsOfWeb }
 {
-    let (last, data) = make_batches(rt, files, bytes, tasks, queue, before)?;
+    let last = make_batches(rt, files, bytes, tasks, queue, data)?;
     let Batch { pages, makers, .. } = last;
-    let mut data = data.with_all(pages)?;
     data.add_makers(makers)?;
-    data.end_round()?;
-    Ok(data)
+    data.push_all(pages)?;
+    Ok(data.end_round()?)
 }
 
 /// Makes the page of each task, batch by batch. Each batch is counted before the next is made, and added to the data while that is
@@ -62,11 +59,10 @@ fn make_batches<R: Threads + Sync, B: FileBytes + Sync, S: PageSink>(
     bytes: &B,
     tasks: &[Task],
     queue: &mut TaskQueue,
-    before: SiteData<S>,
-) -> Result<(Batch<S>, SiteData<S>), SiteError>
+    data: &mut SiteData<S>,
+) -> Result<Batch<S>, SiteError>
     ensures { IfErr result IsOfWeb }
 {
-    let mut data = before;
     let alloc = *data.notes.allocator();
     let mut batch = Batch::before(alloc, files, files.threads().min(tasks.len()).max(1))?;
     let mut rest = tasks;
@@ -74,14 +70,12 @@ fn make_batches<R: Threads + Sync, B: FileBytes + Sync, S: PageSink>(
         if rest.is_empty() {
             break;
         }
-        let (next, more) = make_batch(rt, files, bytes, rest, batch, data)?;
-        batch = next;
-        data = more;
+        batch = make_batch(rt, files, bytes, rest, batch, data)?;
         data.notes.append(&mut batch.notes)?;
         queue.count(batch.pages.as_mut_slice())?;
         rest = rest.get(batch.pages.len()..).unwrap_or(&[]);
     }
-    Ok((batch, data))
+    Ok(batch)
 }
 
 /// Makes the pages of the first of the tasks in threads. Meanwhile those of the batch before are added to the data.
@@ -91,15 +85,16 @@ fn make_batch<R: Threads + Sync, B: FileBytes + Sync, S: PageSink>(
     bytes: &B,
     tasks: &[Task],
     batch: Batch<S>,
-    before: SiteData<S>,
-) -> Result<(Batch<S>, SiteData<S>), AllocError> {
+    data: &mut SiteData<S>,
+) -> Result<Batch<S>, AllocError> {
     let Batch { pages, makers, .. } = batch;
-    let (next, data) = thread::join(
+    let (next, added) = thread::join(
         rt,
         move || next_batch(rt, files, bytes, tasks, makers),
-        move || before.with_all(pages),
+        move || data.push_all(pages),
     );
-    let next = next?;
-    let data = data?;
-    Ok((next, data))
+    match added {
+        Ok(()) => next,
+        Err(error) => Err(error),
+    }
 }

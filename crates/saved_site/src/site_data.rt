@@ -22,6 +22,7 @@ pub(crate) struct SiteData<S> {
     pub(crate) parts: Vec<S>,
     pub(crate) notes: Vec<Note>,
     pub(crate) aliases: Vec<Alias>,
+    pub(crate) documents: Vec<CanonUrl>,
     pub(crate) anchors: Vec<PageAnchors>,
     pub(crate) places: Vec<LinkPlaces>,
     /// The notes about the pages of a round that has not ended.
@@ -35,77 +36,80 @@ impl<S: PageSink> SiteData<S> {
             parts: Vec::new(alloc),
             notes: Vec::new(alloc),
             aliases: Vec::new(alloc),
+            documents: Vec::new(alloc),
             anchors: Vec::new(alloc),
             places: Vec::new(alloc),
             page_notes: Vec::new(alloc),
         }
     }
 
-    /// The same with what is known of these pages.
-    pub(crate) fn with_all(self, pages: Vec<NewPage>) -> Result<SiteData<S>, AllocError> {
-        let mut data = self;
-        for page in pages {
-            data.push(page)?;
-        }
-        Ok(data)
-    }
-
-    /// Adds what is known of a page, except its lines, which the sink has.
-    fn push(&mut self, page: NewPage) -> Result<(), AllocError> {
-        let NewPage {
-            url,
-            own,
-            anchors,
-            positions,
-            invalid,
-            notes,
-            ..
-        } = page;
-        self.push_alias(&url, own)?;
-        self.push_places(&url, positions, invalid)?;
-        self.push_notes(&url, notes)?;
-        if let Some(SiteAnchors { anchors, targets }) = anchors {
-            self.anchors.push(PageAnchors {
-                url,
-                anchors,
-                targets,
-            })?;
+    /// Adds what is known of these pages.
+    pub(crate) fn push_all(&mut self, pages: Vec<NewPage>) -> Result<(), AllocError> {
+        let mut pages = pages;
+        for page in pages.iter_mut() {
+            self.push(page)?;
         }
         Ok(())
     }
 
+    /// Takes over what is known of a page, except its lines, which the sink has.
+    fn push(&mut self, page: &mut NewPage) -> Result<(), AllocError> {
+        if page.is_document {
+            self.documents.push(page.url.clone()?)?;
+        }
+        self.push_alias(page)?;
+        self.push_places(page)?;
+        self.push_notes(page)?;
+        self.push_anchors(page)
+    }
+
     /// Adds an alias from the page's URL to the own URL of its file, if the page is an alias.
-    fn push_alias(&mut self, url: &CanonUrl, own: Option<CanonUrl>) -> Result<(), AllocError> {
-        if let Some(own) = own {
-            let url = url.clone()?;
+    fn push_alias(&mut self, page: &mut NewPage) -> Result<(), AllocError> {
+        let url = page.url.clone()?;
+        if let Some(own) = page.own.take() {
             self.aliases.push(Alias { url, own })?;
         }
         Ok(())
     }
 
     /// Adds the positions of the page's links and its invalid links, if it has any.
-    fn push_places(
-        &mut self,
-        url: &CanonUrl,
-        indices: Vec<u32>,
-        invalid: Vec<InvalidLink>,
-    ) -> Result<(), AllocError> {
-        if !indices.is_empty() || !invalid.is_empty() {
-            let url = url.clone()?;
-            self.places.push(LinkPlaces {
-                url,
-                indices,
-                invalid,
-            })?;
+    fn push_places(&mut self, page: &mut NewPage) -> Result<(), AllocError> {
+        if page.positions.is_empty() && page.invalid.is_empty() {
+            return Ok(());
         }
+        let alloc = *self.places.allocator();
+        let url = page.url.clone()?;
+        let indices = mem::replace(&mut page.positions, Vec::new(alloc));
+        let invalid = mem::replace(&mut page.invalid, Vec::new(alloc));
+        self.places.push(LinkPlaces {
+            url,
+            indices,
+            invalid,
+        })?;
         Ok(())
     }
 
     /// Adds the notes about a page to those of the round, if there are any.
-    fn push_notes(&mut self, url: &CanonUrl, notes: Vec<Note>) -> Result<(), AllocError> {
-        if !notes.is_empty() {
-            let url = url.clone()?;
-            self.page_notes.push(PageNotes { url, notes })?;
+    fn push_notes(&mut self, page: &mut NewPage) -> Result<(), AllocError> {
+        if page.notes.is_empty() {
+            return Ok(());
+        }
+        let alloc = *self.page_notes.allocator();
+        let url = page.url.clone()?;
+        let notes = mem::replace(&mut page.notes, Vec::new(alloc));
+        self.page_notes.push(PageNotes { url, notes })?;
+        Ok(())
+    }
+
+    /// Adds the anchors of the page and the targets of its links to anchors, if they are known.
+    fn push_anchors(&mut self, page: &mut NewPage) -> Result<(), AllocError> {
+        let url = page.url.clone()?;
+        if let Some(SiteAnchors { anchors, targets }) = page.anchors.take() {
+            self.anchors.push(PageAnchors {
+                url,
+                anchors,
+                targets,
+            })?;
         }
         Ok(())
     }
@@ -122,6 +126,8 @@ impl<S: PageSink> SiteData<S> {
     pub(crate) fn sort(&mut self) -> Result<(), AllocError> {
         let aliases = &mut self.aliases;
         aliases.sort_by(|a: &Alias, b: &Alias| a.url.as_str().cmp(b.url.as_str()))?;
+        let documents = &mut self.documents;
+        documents.sort_by(|a: &CanonUrl, b: &CanonUrl| a.as_str().cmp(b.as_str()))?;
         let places = &mut self.places;
         places.sort_by(|a: &LinkPlaces, b: &LinkPlaces| a.url.as_str().cmp(b.url.as_str()))?;
         let anchors = &mut self.anchors;
@@ -133,9 +139,8 @@ impl<S: PageSink> SiteData<S> {
         let alloc = *self.notes.allocator();
         let mut page_notes = mem::replace(&mut self.page_notes, Vec::new(alloc));
         page_notes.sort_by(|a: &PageNotes, b: &PageNotes| a.url.as_str().cmp(b.url.as_str()))?;
-        for one in page_notes {
-            let PageNotes { mut notes, .. } = one;
-            self.notes.append(&mut notes)?;
+        for one in page_notes.iter_mut() {
+            self.notes.append(&mut one.notes)?;
         }
         Ok(())
     }

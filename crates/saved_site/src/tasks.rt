@@ -92,8 +92,9 @@ impl TaskQueue {
 
     /// Adds a page at another spelling, unless one at its URL was added before.
     fn add(&mut self, spelling: Task) -> Result<(), AllocError> {
-        if !self.spelled.contains(&spelling.url) {
-            self.spelled.insert(spelling.url.clone()?)?;
+        let url = spelling.url.clone()?;
+        let is_new = self.spelled.insert(url)?;
+        if is_new {
             self.tasks.push(spelling)?;
         }
         Ok(())

@@ -12,6 +12,7 @@ use crate::rounds::make_all;
 use crate::site_data::SiteData;
 use crate::tasks::TaskQueue;
 use crate::web_text::WebText;
+use crawl_keys::CanonUrl;
 use document_links::{LinkPlaces, PageAnchors};
 use site_files::{Alias, FileBytes, Note, SiteError, SiteFiles};
 use std::alloc::Global;
@@ -33,6 +34,8 @@ pub struct LinkedSite {
     pub notes: Vec<Note>,
     /// The aliases, in the order of their URLs.
     pub aliases: Vec<Alias>,
+    /// The own URLs of its HTML and XHTML documents, in the order of their URLs.
+    pub documents: Vec<CanonUrl>,
     /// The anchors of its documents, in the order of their URLs, if the rules ask for them and they are known.
     pub anchors: Vec<PageAnchors>,
     /// The positions of the links in its documents and their invalid links, in the order of the documents' URLs, if the rules ask for
@@ -83,6 +86,7 @@ pub fn site_pages<R: Threads + Sync, B: FileBytes + Sync>(
         parts,
         notes,
         aliases,
+        documents,
         anchors,
         places,
         ..
@@ -93,6 +97,7 @@ pub fn site_pages<R: Threads + Sync, B: FileBytes + Sync>(
         pages,
         notes,
         aliases,
+        documents,
         anchors,
         places,
     })
@@ -108,8 +113,9 @@ fn data_of<R: Threads + Sync, B: FileBytes + Sync, S: PageSink>(
 ) -> Result<SiteData<S>, SiteError>
     ensures { IfErr result IsOfWeb }
 {
-    let mut none = SiteData::new(alloc);
-    files.copy_doubles(&mut none.notes)?;
-    let queue = TaskQueue::new(alloc, files, seeds)?;
-    make_all(rt, files, bytes, queue, none)
+    let mut data = SiteData::new(alloc);
+    files.copy_doubles(&mut data.notes)?;
+    let mut queue = TaskQueue::new(alloc, files, seeds)?;
+    make_all(rt, files, bytes, &mut queue, &mut data)?;
+    Ok(data)
 }

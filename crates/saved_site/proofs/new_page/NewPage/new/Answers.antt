@@ -4,5 +4,5 @@ use Rattle.saved_site.proofs.new_page.NewPage.new.Goals as goal
 
 pub returns : goal.returns
 returns c =
-    let same : c.in_ok-url.url ≡ c.args.task.now.url = search rules in
+    let same : c.in_ok-own.own ≡ c.args.task.now.url = search rules in
     IfSome_then c.new-page.result c.new-page.ensures.page (λ page is. (is.0 ∙ same, is.1))
