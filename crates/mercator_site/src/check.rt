@@ -190,6 +190,7 @@ fn input_of<'a>(
         front: settings.front,
         ignores: settings.ignores,
         aliases: site.aliases.as_slice(),
+        documents: &[],
         anchors: site.anchors.as_slice(),
         places: site.places.as_slice(),
         invalid: settings.invalid,

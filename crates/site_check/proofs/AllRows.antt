@@ -1,5 +1,5 @@
 -- The rows of the results that found no page are those of all results.
-use Rattle.site_check.proofs.Prelude.{common_steps, ◌≡◌, ◌∙◌, ℕ, Bool, true, false, not, List, [], ◌∷◌, ◌++◌, map, filter, refl, sym, ap, arith, cases_Bool, flat_map, Page, PageResult, Linked, is_unfound, linked, linked_at, result_at, rows_at, rows_with, broken_of, ways_at, ways_with, redirects_of, missing_texts, text_at, SiteFiles, leaving_of, outside_at, outside_linked, outside_of, outside_row, outside_texts, row_at, shown_at}
+use Rattle.site_check.proofs.Prelude.{common_steps, ◌≡◌, ◌∙◌, ℕ, Bool, true, false, not, ◌&&◌, List, [], ◌∷◌, ◌++◌, map, filter, refl, sym, ap, arith, cases_Bool, flat_map, Page, PageResult, Linked, hint_of, hints_at, hints_of, hints_of_page, is_ignored, is_unfound, shown, linked, linked_at, result_at, rows_at, rows_with, broken_of, ways_at, ways_with, redirects_of, missing_texts, text_at, SiteFiles, leaving_of, outside_at, outside_linked, outside_of, outside_row, outside_texts, row_at, shown_at}
 use Rattle.crawl_pages.proofs.StableSort.{filter-kept, filter-dropped}
 use Rattle.crawl_pages.specs.Pages.{is_found, is_missing}
 use Rattle.site_check.specs.Broken.{Row}
@@ -41,6 +41,24 @@ rows_of_all front entries results = grind (arith, common_steps, flat_linked, no_
 pub ways_of_all : (front : List ℕ) (results : List PageResult) → flat_map (ways_with front) (map (linked results) (filter is_unfound results)) ≡ redirects_of front results
 ways_of_all front results = grind (arith, common_steps, flat_linked, no_way, found_page)
 
+-- a page that is not there and that no entry matches has a row, and no other has one
+
+pub own_row : (front : List ℕ) (entries : List (List ℕ)) (url : List ℕ) (pages : ℕ) (page : Page) → (is_missing page && not (is_ignored entries (shown front url))) ≡ true →
+    rows_at front entries url pages page ≡ record { text = shown front url; pages = pages } ∷ []
+own_row front entries url pages page told = grind (arith, common_steps, cases_Bool)
+
+pub other_row : (front : List ℕ) (entries : List (List ℕ)) (url : List ℕ) (pages : ℕ) (page : Page) → (is_missing page && not (is_ignored entries (shown front url))) ≡ false →
+    rows_at front entries url pages page ≡ []
+other_row front entries url pages page other = grind (arith, common_steps, cases_Bool)
+
+pub own_hint : (front : List ℕ) (entries : List (List ℕ)) (files : SiteFiles) (url : List ℕ) (page : Page) → (is_missing page && not (is_ignored entries (shown front url))) ≡ true →
+    hints_of_page front entries files url page ≡ hint_of files url ∷ []
+own_hint front entries files url page told = grind (arith, common_steps, cases_Bool)
+
+pub other_hint : (front : List ℕ) (entries : List (List ℕ)) (files : SiteFiles) (url : List ℕ) (page : Page) → (is_missing page && not (is_ignored entries (shown front url))) ≡ false →
+    hints_of_page front entries files url page ≡ []
+other_hint front entries files url page other = grind (arith, common_steps, cases_Bool)
+
 -- ---- the texts of the pages that are not there
 
 no_text : (front url : List ℕ) (page : Page) → is_found page ≡ true → text_at front (record { url = url; page = page }) ≡ []
@@ -57,6 +75,21 @@ results_back results (r ∷ rs) = ap (λ l. r ∷ l) (results_back results rs)
 pub texts_of_all : (front : List ℕ) (results : List PageResult) (all : List code.Linked) → map linked_at all ≡ map (linked results) (filter is_unfound results) →
     missing_texts front results ≡ flat_map (text_at front) (map result_at all)
 texts_of_all front results all is = grind (arith, common_steps, flat_filter, no_text, found_page, results_at, results_back)
+
+-- ---- the hints
+
+no_hint : (front : List ℕ) (entries : List (List ℕ)) (files : SiteFiles) (url : List ℕ) (page : Page) → is_found page ≡ true → hints_of_page front entries files url page ≡ []
+no_hint front entries files url page found = grind (arith, common_steps)
+
+pub no_hint_there : (front : List ℕ) (entries : List (List ℕ)) (files : SiteFiles) (url : List ℕ) (page : Page) → is_missing page ≡ false → hints_of_page front entries files url page ≡ []
+no_hint_there front entries files url page there = grind (arith, common_steps)
+
+pub hints_of_all : (front : List ℕ) (entries : List (List ℕ)) (files : SiteFiles) (results : List PageResult) (all : List code.Linked) → map linked_at all ≡ map (linked results) (filter is_unfound results) →
+    flat_map (hints_at front entries files) (map result_at all) ≡ hints_of front entries files results
+hints_of_all front entries files results all is =
+    let result : Linked → PageResult = λ l. l.result in
+    ap (flat_map (hints_at front entries files)) (results_at all ∙ ap (map result) is ∙ results_back results (filter is_unfound results))
+    ∙ flat_filter is_unfound (hints_at front entries files) (λ r unfound. no_hint front entries files r.url r.page (found_page r.page unfound)) results
 
 -- ---- the links that lead out of the site
 

@@ -8,7 +8,7 @@ use Rattle.site_check.specs.declared.linked.Linked as code
 
 -- ---- lists after one another
 
-no_more : {X : Type 0} (xs : List X) → xs ++ [] ≡ xs
+pub no_more : {X : Type 0} (xs : List X) → xs ++ [] ≡ xs
 no_more [] = refl
 no_more (x ∷ xs) = ap (λ l. x ∷ l) (no_more xs)
 

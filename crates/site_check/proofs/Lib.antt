@@ -1,9 +1,11 @@
 pub mod Prelude
 pub mod AllRows
 pub mod Counting
+pub mod FileNames
 pub mod Fronts
 pub mod LeadsFound
 pub mod Namesakes
 pub mod Outsides
+pub mod Patterns
 pub mod TextsOnce
 pub mod Verdicts

@@ -1,7 +1,9 @@
 -- URLs outside a site, and their paths from its top.
-use Rattle.site_check.proofs.Prelude.{common_steps, ◌≡◌, ◌∙◌, ℕ, suc, ◌<◌, Bool, true, false, List, [], ◌∷◌, ◌++◌, length, map, drop, take, get_or, refl, sym, ap, inl, inr, arith, append_assoc, cases_Bool, cond-true, cond-false, take-append-drop, bytes_eq-Decides, Bor, PageResult, begins, linked, pointed, SiteFiles}
+use Rattle.site_check.proofs.Prelude.{common_steps, ◌≡◌, ◌∙◌, ℕ, suc, ◌+◌, ◌<◌, Bool, true, false, List, [], ◌∷◌, ◌++◌, length, length-take-le, map, drop, take, take_more, get_or, refl, sym, ap, inl, inr, arith, append_assoc, cases_Bool, cond-true, cond-false, take-append-drop, bytes_eq-Decides, Bor, PageResult, Target, begins, linked, outside_number, outside_targets, pointed, to_number, SiteFiles}
 use Rattle.std.proofs.Common.{codes, ◌≢◌, eqb, eq-eqb, eqb-true, ne_eqb}
+use Rattle.site_check.proofs.LeadsFound.{no_more}
 use Rattle.site_check.specs.Leaving.{outside_row, path_after, path_from, steps_up}
+use Rattle.site_check.specs.declared.leaving.Outside.{Outside}
 
 -- ---- on the host
 
@@ -32,16 +34,33 @@ pub none_outside : (rooted : Bool) (files : SiteFiles) (results rs : List PageRe
 none_outside rooted files results rs [] none are = ap (λ own. map (outside_row rooted files) (map (linked results) own)) are
 none_outside rooted files results rs (r ∷ found) none are = absurd (omega (arith, none))
 
+-- ---- their numbers
+
+numbers_behind : (entries : List (List ℕ)) (n : ℕ) (xs ys : List Outside) →
+    outside_targets entries n (xs ++ ys) ≡ outside_targets entries n xs ++ outside_targets entries (n + length xs) ys
+numbers_behind entries n [] ys = ap (λ k. outside_targets entries k ys) (omega arith)
+numbers_behind entries n (x ∷ xs) ys =
+    let here : List Target = to_number x.linked.result.now.url (outside_number entries n x) in
+    let place : (n + 1) + length xs ≡ n + length (x ∷ xs) = omega arith in
+    ap (λ l. here ++ l) (numbers_behind entries (n + 1) xs ys)
+    ∙ sym (append_assoc here (outside_targets entries (n + 1) xs) (outside_targets entries ((n + 1) + length xs) ys))
+    ∙ ap (λ k. (here ++ outside_targets entries (n + 1) xs) ++ outside_targets entries k ys) place
+
+-- one URL more
+pub outside_more : (entries : List (List ℕ)) (n : ℕ) (outside : List Outside) (i : ℕ) (one : Outside) → i < length outside → one ≡ get_or outside i one →
+    outside_targets entries n (take (i + 1) outside) ≡ outside_targets entries n (take i outside) ++ to_number one.linked.result.now.url (outside_number entries (n + i) one)
+outside_more entries n outside i one below is = grind (arith, common_steps, length-take-le, take_more, numbers_behind, no_more)
+
 -- ---- paths
 
 -- there is no slash in the text
 abbrev pub IsName : List ℕ → Type 0
 IsName text = (i : ℕ) → i < length text → get_or text i 0 ≢ 47
 
-more_name : (b : ℕ) (text : List ℕ) → IsName (b ∷ text) → IsName text
+pub more_name : (b : ℕ) (text : List ℕ) → IsName (b ∷ text) → IsName text
 more_name b text free = λ i below. free (suc i) (omega (arith, below))
 
-first_free : (b : ℕ) (text : List ℕ) → IsName (b ∷ text) → eqb b 47 ≡ false
+pub first_free : (b : ℕ) (text : List ℕ) → IsName (b ∷ text) → eqb b 47 ≡ false
 first_free b text free = ne_eqb b 47 (free 0 (omega arith))
 
 same_name : (up rest name below behind : List ℕ) → IsName name → path_after up rest (name ++ 47 ∷ below) (name ++ 47 ∷ behind) ≡ path_from below behind

@@ -1,5 +1,5 @@
 -- The texts of a sorted list, each once.
-use Rattle.site_check.proofs.Prelude.{common_steps, ◌≡◌, ◌∙◌, ℕ, suc, ◌+◌, ◌<◌, ◌≤◌, Bool, true, false, not, ◌||◌, cond, List, [], ◌∷◌, ◌++◌, length, map, filter, drop, get_or, Option, Some, None, refl, sym, subst, ap, arith, cases_Bool, cond-true, cond-false, bytes_eq, bytes_eq-Decides, list_any, AreTexts, PageLink, PageResult, ascends, begins, missing_texts, not_ignored, unused, ascends_after, link_text, next_text, once, once_after, once_next, rises, rises_after}
+use Rattle.site_check.proofs.Prelude.{common_steps, ◌≡◌, ◌∙◌, ℕ, suc, ◌+◌, ◌<◌, ◌≤◌, Bool, true, false, not, ◌||◌, cond, List, [], ◌∷◌, ◌++◌, length, map, filter, drop, get_or, Option, Some, None, refl, sym, subst, ap, arith, cases_Bool, cond-true, cond-false, bytes_eq, bytes_eq-Decides, list_any, AreTexts, PageLink, PageResult, ascends, matches, missing_texts, not_ignored, unused, ascends_after, link_text, next_text, once, once_after, once_next, rises, rises_after}
 use Rattle.std.proofs.Common.{Less, Equal, Greater, Ordering, add-one, drop-cons, true≢false}
 use Rattle.std.specs.Cmp.Lexicographic.{slice_cmp}
 use Rattle.std.specs.List.Sorted.{IsSortedBy}
@@ -62,7 +62,7 @@ are_unused front entries results anchors texts all others shown told pages unuse
     record {
       anchors = anchors;
       told_anchors = are;
-      exact = exact ∙ (λ i. filter (λ entry. not (same_both (begins entry) anchors texts all shown pages (each.same (begins entry)) i)) entries)
+      exact = exact ∙ (λ i. filter (λ entry. not (same_both (matches entry) anchors texts all shown pages (each.same (matches entry)) i)) entries)
           ∙ (λ i. unused entries (((anchors ++ all) ++ sym same i) ++ sym missing i));
     }
 

@@ -1,5 +1,5 @@
 -- By the totals of a check something is broken if and only if there is a row.
-use Rattle.site_check.proofs.Prelude.{common_steps, ◌≡◌, ◌∙◌, ℕ, ◌+◌, Bool, true, not, ◌||◌, cond, List, [], ◌∷◌, length, ap, arith, PageResult, capped, is_alias, is_invalid, is_leaving, is_page, is_anchor, totals_by, totals_of}
+use Rattle.site_check.proofs.Prelude.{common_steps, ◌≡◌, ◌∙◌, ℕ, ◌+◌, Bool, true, not, ◌||◌, cond, List, [], ◌∷◌, length, ap, arith, PageResult, capped, is_alias, is_document, is_invalid, is_leaving, is_page, is_anchor, totals_by, totals_of}
 use Rattle.std.proofs.Common.{◌==◌, lt-ltb, max, nat_lt}
 use Rattle.check_report.specs.Text.{is_broken}
 use Rattle.check_report.specs.declared.value.Broken.{Broken}
@@ -25,11 +25,11 @@ counted LocalFile w n urls anchors invalid leaving = let some = some_capped n in
 counted Leaves w n urls anchors invalid leaving = let some = some_capped n leaving in grind (arith, common_steps)
 counted OutsideBase w n urls anchors invalid leaving = let some = some_capped n leaving in grind (arith, common_steps)
 
-by_rows : (is_other : List ℕ → Bool) (results : List PageResult) (broken : List Broken) (redirects : List Redirect) →
-    is_broken (totals_by is_other results broken redirects) ≡ not (length broken == 0)
-by_rows is_other results [] redirects = grind (arith, common_steps)
-by_rows is_other results (b ∷ more) redirects = grind (arith, common_steps, counted)
+by_rows : (is_other is_text : List ℕ → Bool) (results : List PageResult) (broken : List Broken) (redirects : List Redirect) →
+    is_broken (totals_by is_other is_text results broken redirects) ≡ not (length broken == 0)
+by_rows is_other is_text results [] redirects = grind (arith, common_steps)
+by_rows is_other is_text results (b ∷ more) redirects = grind (arith, common_steps, counted)
 
-pub verdict_of_rows : (totals : Totals) (aliases : List Alias) (results : List PageResult) (broken : List Broken) (redirects : List Redirect) →
-    totals ≡ totals_of aliases results broken redirects → is_broken totals ≡ not (length broken == 0)
-verdict_of_rows totals aliases results broken redirects is = ap is_broken is ∙ by_rows (is_alias aliases) results broken redirects
+pub verdict_of_rows : (totals : Totals) (aliases : List Alias) (documents : List (List ℕ)) (results : List PageResult) (broken : List Broken) (redirects : List Redirect) →
+    totals ≡ totals_of aliases documents results broken redirects → is_broken totals ≡ not (length broken == 0)
+verdict_of_rows totals aliases documents results broken redirects is = ap is_broken is ∙ by_rows (is_alias aliases) (is_document documents) results broken redirects

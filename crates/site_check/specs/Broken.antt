@@ -1,5 +1,5 @@
 -- What a check reports of the results of a crawl: the pages that are missing, and those that moved, with how many pages link to them.
-use Rattle.std.specs.Prelude.{◌==◌, ℕ, Bool, not, if◌then◌else◌, List, [], ◌∷◌, length, take, drop, codes, Option, option_map, bytes_eq}
+use Rattle.std.specs.Prelude.{◌==◌, ◌-◌, ℕ, Bool, true, false, not, ◌||◌, ◌&&◌, if◌then◌else◌, List, [], ◌∷◌, length, take, drop, codes, Option, option_map, bytes_eq}
 use Rattle.std.specs.List.{list_any, flat_map}
 use Rattle.crawl_sources.specs.Sources.{sources_of}
 use Rattle.crawl_pages.specs.Pages.{is_found}
@@ -43,9 +43,35 @@ shown front url = or_top (if begins front url then drop (length front) url else 
 
 -- ---- what is known to be broken
 
--- an entry matches the texts that begin with it
+abbrev pub is_star : ℕ → Bool
+is_star byte = byte == 42
+
+-- the text, or what is left of it after some of its first bytes, passes the test
+abbrev pub any_end : (List ℕ → Bool) → List ℕ → Bool
+any_end test [] = test []
+any_end test (byte ∷ text) = test (byte ∷ text) || any_end test text
+
+-- the text begins with the byte, and what is after it passes the test
+abbrev pub after_byte : ℕ → (List ℕ → Bool) → List ℕ → Bool
+after_byte byte test [] = false
+after_byte byte test (first ∷ text) = first == byte && test text
+
+-- the pattern is the whole text if each `*` in it is replaced by some text or none
+abbrev pub fits : List ℕ → List ℕ → Bool
+fits [] [] = true
+fits [] (first ∷ text) = false
+fits (byte ∷ pattern) text = if is_star byte then any_end (fits pattern) text else after_byte byte (fits pattern) text
+
+-- without a `*`, a pattern fits what is left if it is at the end
+abbrev pub is_last : List ℕ → List ℕ → Bool
+is_last pattern text = not (list_any is_star pattern) && bytes_eq pattern (drop (length text - length pattern) text)
+
+-- an entry with a `*` is a pattern; any other matches the texts that begin with it
+abbrev pub matches : List ℕ → List ℕ → Bool
+matches entry text = if list_any is_star entry then fits entry text else begins entry text
+
 abbrev pub is_ignored : List (List ℕ) → List ℕ → Bool
-is_ignored entries text = list_any (λ entry. begins entry text) entries
+is_ignored entries text = list_any (λ entry. matches entry text) entries
 
 -- ---- the rows
 

@@ -9,7 +9,7 @@ use Rattle.check_report.specs.declared.value.Kind.{Kind}
 use Rattle.check_report.specs.declared.value.Kind.TheVariants.{NoAnchor}
 use Rattle.crawl_pages.specs.Pages.{is_missing}
 use Rattle.crawl_pages.specs.declared.page.PageResult.{PageResult}
-use Rattle.site_check.specs.Broken.{begins, is_ignored, shown}
+use Rattle.site_check.specs.Broken.{begins, is_ignored, matches, shown}
 
 -- a text that is empty or begins with `#` is no entry
 abbrev pub has_no_entry : List ℕ → Bool
@@ -34,9 +34,9 @@ without_mark bytes = if begins mark bytes then drop 3 bytes else bytes
 abbrev pub entries_in : List ℕ → List (List ℕ)
 entries_in bytes = flat_map entry_in (lines (without_mark bytes))
 
--- the entries that none of the texts begins with
+-- the entries that match none of the texts
 abbrev pub unused : List (List ℕ) → List (List ℕ) → List (List ℕ)
-unused entries texts = filter (λ entry. not (list_any (begins entry) texts)) entries
+unused entries texts = filter (λ entry. not (list_any (matches entry) texts)) entries
 
 -- the missing pages, as they are reported
 abbrev pub text_at : List ℕ → PageResult → List (List ℕ)

@@ -63,7 +63,7 @@ targets_of front entries results =
 
 -- ---- the links to them
 
--- a link of the result with this number whose value begins at the index
+-- a link of the result with this number that has the index among the links of its file
 abbrev pub lead_to : ℕ → ℕ → Option ℕ → List Lead
 lead_to source index None = []
 lead_to source index (Some number) = record { source = source; index = index; number = number } ∷ []
@@ -73,13 +73,13 @@ leads_at number_of source [] indices = []
 leads_at number_of source (url ∷ urls) [] = []
 leads_at number_of source (url ∷ urls) (index ∷ indices) = lead_to source index (number_of url) ++ leads_at number_of source urls indices
 
--- there is no link that is at an index
+-- there is no link that has an index
 abbrev pub HasNoLink : List (List ℕ) → List ℕ → Type 0
 HasNoLink [] indices = Unit {0}
 HasNoLink (url ∷ urls) [] = Unit {0}
 HasNoLink (url ∷ urls) (index ∷ indices) = ⊥
 
--- those of a page that was found, whose links are at these indices by its URL
+-- those of a page that was found, whose links have these indices by its URL
 abbrev pub leads_of : (List ℕ → Option ℕ) → (List ℕ → List ℕ) → ℕ → List ℕ → Page → List Lead
 leads_of number_of indices_of source url (Found links skipped) = leads_at number_of source links (indices_of url)
 leads_of number_of indices_of source url (Moved to) = []
@@ -90,7 +90,7 @@ abbrev pub leads_from : (List ℕ → Option ℕ) → (List ℕ → List ℕ) �
 leads_from number_of indices_of source [] = []
 leads_from number_of indices_of source (r ∷ more) = leads_of number_of indices_of source r.url r.page ++ leads_from number_of indices_of (source + 1) more
 
--- the positions of the links in the document at a URL, of the last of these with the URL
+-- the indices of the links in the document at a URL, of the last of these with the URL
 abbrev pub indices_with : List ℕ → List ℕ → LinkPlaces → List ℕ
 indices_with url before p = if bytes_eq p.url url then p.indices.items else before
 

@@ -1,12 +1,13 @@
 -- The links that lead out of a site: to URLs on its host that are not below its top.
-use Rattle.std.specs.Prelude.{◌==◌, ℕ, Bool, not, ◌&&◌, if◌then◌else◌, List, [], ◌∷◌, ◌++◌, codes, filter, map, string_bytes}
+use Rattle.std.specs.Prelude.{◌==◌, ◌+◌, ℕ, Bool, not, ◌&&◌, if◌then◌else◌, List, [], ◌∷◌, ◌++◌, codes, filter, map, Option, None, Some, string_bytes}
 use Rattle.std.specs.List.{flat_map}
 use Rattle.check_report.specs.declared.value.Broken.{Broken}
 use Rattle.check_report.specs.declared.value.Kind.{Kind}
 use Rattle.check_report.specs.declared.value.Kind.TheVariants.{Leaves, OutsideBase}
 use Rattle.crawl_pages.specs.Pages.{is_missing}
 use Rattle.crawl_pages.specs.declared.page.PageResult.{PageResult}
-use Rattle.site_check.specs.Broken.{Linked, Row, begins, linked, row_for}
+use Rattle.site_check.specs.Broken.{Linked, Row, begins, is_ignored, linked, row_for}
+use Rattle.site_check.specs.Leads.{Target, to_number}
 use Rattle.site_check.specs.declared.leaving.Outside.{Outside}
 use Rattle.site_files.specs.declared.files.SiteFiles.{SiteFiles}
 
@@ -80,6 +81,17 @@ row_at entries row = row_for entries row.text row.pages
 -- the rows of these results, without those that an entry matches
 abbrev pub leaving_of : List (List ℕ) → Bool → SiteFiles → List PageResult → List PageResult → List Row
 leaving_of entries rooted files results found = flat_map (λ r. row_at entries (outside_row rooted files (linked results r))) (outside_of files found)
+
+-- ---- which links lead to them
+
+-- the number, unless an entry matches the text of the URL
+abbrev pub outside_number : List (List ℕ) → ℕ → Outside → Option ℕ
+outside_number entries number one = if is_ignored entries (string_bytes one.text) then None else Some number
+
+-- the URLs that no entry matches, numbered among all of these, the first of which has this number
+abbrev pub outside_targets : List (List ℕ) → ℕ → List Outside → List Target
+outside_targets entries number [] = []
+outside_targets entries number (one ∷ more) = to_number one.linked.result.now.url (outside_number entries number one) ++ outside_targets entries (number + 1) more
 
 -- ---- how they are found
 

@@ -1,6 +1,7 @@
 pub mod Aliases
 pub mod Anchors
 pub mod Broken
+pub mod Hints
 pub mod Ignored
 pub mod Invalid
 pub mod Leads

@@ -9,7 +9,7 @@ use Rattle.crawl_pages.specs.declared.page.Page.{Page}
 use Rattle.crawl_pages.specs.declared.page.Page.TheVariants.{Found, Moved, Missing}
 use Rattle.crawl_pages.specs.declared.page.PageResult.{PageResult}
 use Rattle.site_files.specs.declared.alias.Alias.{Alias}
-use Rattle.site_check.specs.Aliases.{is_alias, is_alias_page, is_own_page}
+use Rattle.site_check.specs.Aliases.{is_alias, is_alias_page, is_document, is_document_page, is_file_page, is_own_page}
 
 -- a count stops at the greatest number of 64 bits
 abbrev pub capped : ℕ → ℕ
@@ -72,12 +72,13 @@ anchor_count broken = count_by (λ b. is_anchor b.kind) broken
 abbrev pub url_count : List Broken → ℕ
 url_count broken = count_by (λ b. is_page b.kind) broken
 
--- the pages at files' own URLs and their links, the pages at aliases, and the rows
-abbrev pub totals_by : (List ℕ → Bool) → List PageResult → List Broken → List Redirect → Totals
-totals_by is_other results broken redirects =
+-- the documents and the other files at their own URLs and their links, the pages at aliases, and the rows; `is_other` is true of
+-- aliases, and `is_text` of documents
+abbrev pub totals_by : (List ℕ → Bool) → (List ℕ → Bool) → List PageResult → List Broken → List Redirect → Totals
+totals_by is_other is_text results broken redirects =
     record {
-      pages = count_by (is_own_page is_other) results;
-      files = 0;
+      pages = count_by (is_document_page is_other is_text) results;
+      files = count_by (is_file_page is_other is_text) results;
       aliases = count_by (is_alias_page is_other) results;
       links = link_count is_other results;
       broken_links = place_count is_missing broken;
@@ -88,5 +89,5 @@ totals_by is_other results broken redirects =
       moved = length redirects;
     }
 
-abbrev pub totals_of : List Alias → List PageResult → List Broken → List Redirect → Totals
-totals_of aliases results broken redirects = totals_by (is_alias aliases) results broken redirects
+abbrev pub totals_of : List Alias → List (List ℕ) → List PageResult → List Broken → List Redirect → Totals
+totals_of aliases documents results broken redirects = totals_by (is_alias aliases) (is_document documents) results broken redirects

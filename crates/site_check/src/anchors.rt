@@ -1,6 +1,7 @@
 //! Links to anchors that documents do not have.
 ghost use Rattle.std.specs.Prelude.{◌≡◌, ◌∷◌, ◌++◌, ℕ, List, [], IfOk, OnOk, map, string_bytes};
 ghost use Rattle.site_files.specs.declared.files.SiteFiles.{SiteFiles};
+ghost use Rattle.site_check.specs.Hints.{hints_in};
 ghost use Rattle.site_check.specs.Ignored.{not_ignored, anchors_in};
 ghost use Rattle.site_check.specs.Invalid.{invalid_rows_in};
 ghost use Rattle.site_check.specs.Leaving.{leaving_in};
@@ -136,10 +137,12 @@ pub(crate) fn anchor_rows(
     ensures anchors { IfOk result (λ all. anchors_in all.items ≡ not_ignored (map string_bytes ignores.now) (map anchor_text anchors.now)) }
     ensures invalid { IfOk result (λ all. invalid_rows_in all.items ≡ []) }
     ensures leaving { IfOk result (λ all. leaving_in all.items ≡ []) }
+    ensures hints { IfOk result (λ all. hints_in all.items ≡ []) }
 {
     let mut all = Vec::new(alloc);
     for (index, anchor) in anchors.iter().enumerate() {
-        let places = take_places(alloc, found, before.saturating_add(index));
+        let number = before.saturating_add(index);
+        let places = take_places(alloc, found, number, anchor.text.as_str());
         push_anchor(ignores, anchor, places, &mut all)?;
     }
     Ok(all)
@@ -157,6 +160,7 @@ fn push_anchor(
     ensures anchors { OnOk result (anchors_in all.new.items ≡ anchors_in all.old.items ++ not_ignored (map string_bytes ignores.now) (anchor_text anchor.now ∷ [])) }
     ensures invalid { OnOk result (invalid_rows_in all.new.items ≡ invalid_rows_in all.old.items) }
     ensures leaving { OnOk result (leaving_in all.new.items ≡ leaving_in all.old.items) }
+    ensures hints { OnOk result (hints_in all.new.items ≡ hints_in all.old.items) }
 {
     if is_ignored(ignores, anchor.text.as_str()) {
         return Ok(());

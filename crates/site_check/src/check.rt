@@ -5,6 +5,7 @@ ghost use Rattle.crawl_sources.specs.Tallies.{pointed};
 ghost use Rattle.crawl_pages.specs.declared.page.PageResult.{PageResult};
 ghost use Rattle.site_files.specs.declared.files.SiteFiles.{SiteFiles};
 ghost use Rattle.site_check.specs.Broken.{broken_of, linked_at, redirects_of, result_at, rows_with, ways_with};
+ghost use Rattle.site_check.specs.Hints.{hints_at, hints_in, hints_of};
 ghost use Rattle.site_check.specs.Ignored.{AreUnused, missing_texts, not_ignored, anchors_in, text_at, unused};
 ghost use Rattle.site_check.specs.Invalid.{AreInvalid, AreTexts, invalid_rows_in, row_of, text_of, texts_if};
 ghost use Rattle.site_check.specs.Leads.{indices_in, leads_from, number_in, targets_of};
@@ -84,7 +85,7 @@ impl Checked {
 ///
 /// # Errors
 /// Out of memory.
-#[tactic(auto, using(crate::proofs::AllRows::rows_of_all, crate::proofs::AllRows::ways_of_all, crate::proofs::AllRows::texts_of_all, crate::proofs::AllRows::leaving_of_all, crate::proofs::AllRows::outside_texts_of_all))]
+#[tactic(auto, using(crate::proofs::AllRows::rows_of_all, crate::proofs::AllRows::ways_of_all, crate::proofs::AllRows::texts_of_all, crate::proofs::AllRows::hints_of_all, crate::proofs::AllRows::leaving_of_all, crate::proofs::AllRows::outside_texts_of_all))]
 pub fn check_site<'f, R: Threads + Sync, B: FileBytes + Sync>(
     rt: &R,
     alloc: Global,
@@ -100,6 +101,8 @@ pub fn check_site<'f, R: Threads + Sync, B: FileBytes + Sync>(
     ensures redirects { IfOk result (λ checked. map way_of checked.redirects.items ≡ redirects_of input.entry.front.now results.now) }
     // For a missing page the only page with its file name is suggested, unless a link to the missing page is in the file of that page.
     ensures names { IfOk result (λ checked. AreNamed input.entry.front.now files.now checked.broken.items) }
+    // The hint of such a row is what a server with other rules finds for the page. No other row has one.
+    ensures hints { IfOk result (λ checked. hints_in checked.broken.items ≡ hints_of input.entry.front.now (map string_bytes input.entry.ignores.now) files.now results.now) }
     // The rows of invalid links are those of the texts of such links in found pages, each text once and in ascending order, without
     // those that an entry matches, if the check lists invalid links.
     ensures invalid { IfOk result (λ checked. AreInvalid (map string_bytes input.entry.ignores.now) (texts_if input.entry.invalid input.entry.places.now results.now) (invalid_rows_in checked.broken.items)) }
@@ -108,8 +111,8 @@ pub fn check_site<'f, R: Threads + Sync, B: FileBytes + Sync>(
     ensures leaving { IfOk result (λ checked. leaving_in checked.broken.items ≡ leaving_of (map string_bytes input.entry.ignores.now) input.entry.rooted files.now results.now input.entry.found.now) }
     // The unused entries are those that match no missing page, no missing anchor, no invalid link and no link that leads out of the site.
     ensures ignores { IfOk result (λ checked. AreUnused input.entry.front.now (map string_bytes input.entry.ignores.now) results.now (texts_if input.entry.invalid input.entry.places.now results.now) (outside_texts input.entry.rooted files.now input.entry.found.now) (anchors_in checked.broken.items) (map string_bytes checked.unused_ignores.items)) }
-    // The totals count the pages at files' own URLs, their links, the pages at aliases, and the rows.
-    ensures totals { IfOk result (λ checked. checked.totals ≡ totals_of input.entry.aliases.now results.now checked.broken.items checked.redirects.items) }
+    // The totals count the documents and the other files at their own URLs, their links, the pages at aliases, and the rows.
+    ensures totals { IfOk result (λ checked. checked.totals ≡ totals_of input.entry.aliases.now input.entry.documents.now results.now checked.broken.items checked.redirects.items) }
     // By the totals something is broken if and only if there is a row.
     ensures verdict { IfOk result (λ checked. is_broken checked.totals ≡ not (length checked.broken.items == 0)) }
 {
@@ -227,10 +230,11 @@ fn told(
     ensures broken { IfOk result (λ checked. rows_in checked.broken.items ≡ flat_map (rows_with input.entry.front.now (map string_bytes input.entry.ignores.now)) (map linked_at linked.now)) }
     ensures redirects { IfOk result (λ checked. map way_of checked.redirects.items ≡ flat_map (ways_with input.entry.front.now) (map linked_at linked.now)) }
     ensures names { IfOk result (λ checked. AreNamed input.entry.front.now site.entry.files.now checked.broken.items) }
+    ensures hints { IfOk result (λ checked. hints_in checked.broken.items ≡ flat_map (hints_at input.entry.front.now (map string_bytes input.entry.ignores.now) site.entry.files.now) (map result_at linked.now)) }
     ensures invalid { IfOk result (λ checked. invalid_rows_in checked.broken.items ≡ map row_of (not_ignored (map string_bytes input.entry.ignores.now) (map text_of sought.now.invalid.items))) }
     ensures leaving { IfOk result (λ checked. leaving_in checked.broken.items ≡ flat_map (row_at (map string_bytes input.entry.ignores.now)) (map outside_at sought.now.outside.items)) }
     ensures ignores { IfOk result (λ checked. (results : List PageResult) (links others : List (List ℕ)) → missing_texts input.entry.front.now results ≡ flat_map (text_at input.entry.front.now) (map result_at linked.now) → AreTexts links (map text_of sought.now.invalid.items) → others ≡ map shown_at sought.now.outside.items → AreUnused input.entry.front.now (map string_bytes input.entry.ignores.now) results links others (anchors_in checked.broken.items) (map string_bytes checked.unused_ignores.items)) }
-    ensures totals { IfOk result (λ checked. checked.totals ≡ totals_of input.entry.aliases.now site.entry.pages.results.now checked.broken.items checked.redirects.items) }
+    ensures totals { IfOk result (λ checked. checked.totals ≡ totals_of input.entry.aliases.now input.entry.documents.now site.entry.pages.results.now checked.broken.items checked.redirects.items) }
 {
     let results = site.pages.results;
     let others = Others {
@@ -245,6 +249,7 @@ fn told(
     let totals = totals_of(
         alloc,
         input.aliases,
+        input.documents,
         results,
         broken.as_slice(),
         redirects.as_slice(),
@@ -291,6 +296,7 @@ fn broken_all(
 ) -> Result<Vec<Broken>, NoMemory>
     ensures rows { IfOk result (λ all. rows_in all.items ≡ flat_map (rows_with input.entry.front.now (map string_bytes input.entry.ignores.now)) (map linked_at linked.now)) }
     ensures names { IfOk result (λ all. AreNamed input.entry.front.now site.entry.files.now all.items) }
+    ensures hints { IfOk result (λ all. hints_in all.items ≡ flat_map (hints_at input.entry.front.now (map string_bytes input.entry.ignores.now) site.entry.files.now) (map result_at linked.now)) }
     ensures anchors { IfOk result (λ all. anchors_in all.items ≡ not_ignored (map string_bytes input.entry.ignores.now) (map anchor_text others.entry.anchors.now)) }
     ensures invalid { IfOk result (λ all. invalid_rows_in all.items ≡ map row_of (not_ignored (map string_bytes input.entry.ignores.now) (map text_of others.entry.invalid.now))) }
     ensures leaving { IfOk result (λ all. leaving_in all.items ≡ flat_map (row_at (map string_bytes input.entry.ignores.now)) (map outside_at others.entry.outside.now)) }
@@ -319,6 +325,7 @@ fn missing_rows(
 ) -> Result<Vec<Broken>, NoMemory>
     ensures rows { IfOk result (λ all. rows_in all.items ≡ flat_map (rows_with input.entry.front.now (map string_bytes input.entry.ignores.now)) (map linked_at linked.now)) }
     ensures names { IfOk result (λ all. AreNamed input.entry.front.now site.entry.files.now all.items) }
+    ensures hints { IfOk result (λ all. hints_in all.items ≡ flat_map (hints_at input.entry.front.now (map string_bytes input.entry.ignores.now) site.entry.files.now) (map result_at linked.now)) }
     ensures anchors { IfOk result (λ all. anchors_in all.items ≡ []) }
     ensures invalid { IfOk result (λ all. invalid_rows_in all.items ≡ []) }
     ensures leaving { IfOk result (λ all. leaving_in all.items ≡ []) }
@@ -334,10 +341,11 @@ fn missing_rows(
     broken_rows(alloc, input, named, linked, found)
 }
 
-/// Whether none of the results is that of a missing page, so that there is no row.
-#[tactic(auto, using(crate::proofs::AllRows::no_row_there))]
+/// Whether none of the results is that of a missing page, so that there is no row and no hint.
+#[tactic(auto, using(crate::proofs::AllRows::no_row_there, crate::proofs::AllRows::no_hint_there))]
 fn has_none(linked: &[Linked<'_>]) -> bool
-    ensures { result ≡ true → (front : List ℕ) (entries : List (List ℕ)) → flat_map (rows_with front entries) (map linked_at linked.now) ≡ [] }
+    ensures rows { result ≡ true → (front : List ℕ) (entries : List (List ℕ)) → flat_map (rows_with front entries) (map linked_at linked.now) ≡ [] }
+    ensures hints { result ≡ true → (front : List ℕ) (entries : List (List ℕ)) (files : SiteFiles) → flat_map (hints_at front entries files) (map result_at linked.now) ≡ [] }
 {
     for one in linked {
         if one.result.page.is_missing() {
@@ -351,6 +359,7 @@ fn has_none(linked: &[Linked<'_>]) -> bool
 fn joined(rows: Vec<Broken>, others: Vec<Broken>) -> Result<Vec<Broken>, NoMemory>
     ensures rows { IfOk result (λ all. rows_in all.items ≡ rows_in rows.items ++ rows_in others.items) }
     ensures names { IfOk result (λ all. (front : List ℕ) (files : SiteFiles) → AreNamed front files rows.items → AreNamed front files others.items → AreNamed front files all.items) }
+    ensures hints { IfOk result (λ all. hints_in all.items ≡ hints_in rows.items ++ hints_in others.items) }
     ensures anchors { IfOk result (λ all. anchors_in all.items ≡ anchors_in rows.items ++ anchors_in others.items) }
     ensures invalid { IfOk result (λ all. invalid_rows_in all.items ≡ invalid_rows_in rows.items ++ invalid_rows_in others.items) }
     ensures leaving { IfOk result (λ all. leaving_in all.items ≡ leaving_in rows.items ++ leaving_in others.items) }

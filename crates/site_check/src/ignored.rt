@@ -2,17 +2,18 @@
 ghost use Rattle.std.specs.Prelude.{◌≡◌, ◌∷◌, ◌++◌, [], IfOk, MatchOption, OnOk, map, string_bytes};
 ghost use Rattle.std.specs.List.{list_any};
 ghost use Rattle.crawl_sources.specs.Tallies.{pointed};
-ghost use Rattle.site_check.specs.Broken.{begins, is_ignored};
+ghost use Rattle.site_check.specs.Broken.{is_ignored, matches};
 ghost use Rattle.site_check.specs.Ignored.{entries_in, entry_in, entry_of, has_no_entry, unused, without_mark};
 
 use crate::names::split_byte;
-use crate::shown::begins;
+use crate::pattern::matches;
 use crawl_pages::NoMemory;
 use std::alloc::Global;
 use text_lines::first_line;
 
-/// Reads an ignore list, one entry per line. An entry matches the targets that begin with it. Empty lines and lines that start with
-/// `#` are skipped; white space around an entry and a byte order mark at the start are ignored.
+/// Reads an ignore list, one entry per line. An entry with a `*` is a pattern for a whole target, in which `*` matches any text, also
+/// none; any other entry matches the targets that begin with it. Empty lines and lines that start with `#` are skipped; white space
+/// around an entry and a byte order mark at the start are ignored.
 ///
 /// # Errors
 /// Out of memory.
@@ -75,7 +76,7 @@ pub(crate) fn is_ignored(entries: &[String], text: &str) -> bool
 {
     let mut rest = entries;
     'entries: while let Some((entry, more)) = split_entry(rest) {
-        if begins(entry.as_str(), text) {
+        if matches(entry.as_str(), text) {
             return true;
         }
         rest = more;
@@ -112,10 +113,10 @@ pub(crate) fn unused(
 
 /// Whether the entry matches one of these texts.
 fn is_used(entry: &str, texts: &[&str]) -> bool
-    ensures { result ≡ list_any (begins entry.now) (pointed texts.now) }
+    ensures { result ≡ list_any (matches entry.now) (pointed texts.now) }
 {
     for text in texts {
-        if begins(entry, text) {
+        if matches(entry, text) {
             return true;
         }
     }

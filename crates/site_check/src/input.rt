@@ -1,4 +1,5 @@
 //! The settings of a check.
+use crawl_keys::CanonUrl;
 use crawl_pages::PageResult;
 use document_links::{LinkPlaces, PageAnchors};
 use site_files::Alias;
@@ -8,14 +9,16 @@ use site_files::Alias;
 pub struct CheckInput<'a> {
     /// The prefix that is removed from URLs that begin with it.
     pub front: &'a str,
-    /// The ignore list: each entry matches the targets that begin with it.
+    /// The ignore list. An entry with a `*` is a pattern for a whole target; any other matches the targets that begin with it.
     pub ignores: &'a [String],
     /// The aliases of the site, in the order of their URLs.
     pub aliases: &'a [Alias],
+    /// The own URLs of the site's HTML and XHTML documents, in the order of their URLs. The other pages at own URLs are files.
+    pub documents: &'a [CanonUrl],
     /// The anchors of the site's documents, in the order of their URLs. If there are none, no missing anchor is reported.
     pub anchors: &'a [PageAnchors],
-    /// The positions of the links in the site's documents and their invalid links, in the order of the documents' URLs. If there are
-    /// none, links to missing pages are reported without locations.
+    /// The indices of the links in the site's documents and their invalid links, in the order of the documents' URLs. If there are none,
+    /// links to missing pages are reported without locations.
     pub places: &'a [LinkPlaces],
     /// Whether invalid links are reported.
     pub invalid: bool,

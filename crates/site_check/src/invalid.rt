@@ -4,6 +4,7 @@ ghost use Rattle.std.specs.Cmp.Lexicographic.{slice_cmp};
 ghost use Rattle.std.specs.List.{list_any};
 ghost use Rattle.std.specs.Ordering.{nat_cmp};
 ghost use Rattle.site_files.specs.declared.files.SiteFiles.{SiteFiles};
+ghost use Rattle.site_check.specs.Hints.{hints_in};
 ghost use Rattle.site_check.specs.Ignored.{not_ignored, anchors_in};
 ghost use Rattle.site_check.specs.Invalid.{AreTexts, invalid_at, invalid_in, invalid_rows_in, invalid_with, link_text, link_texts, next_text, once, rises, row_kind, row_of, text_of, texts_if, texts_in};
 ghost use Rattle.site_check.specs.Leaving.{leaving_in};
@@ -265,10 +266,12 @@ pub(crate) fn invalid_rows(
     ensures anchors { IfOk result (λ all. anchors_in all.items ≡ []) }
     ensures invalid { IfOk result (λ all. invalid_rows_in all.items ≡ map row_of (not_ignored (map string_bytes ignores.now) (map text_of texts.now))) }
     ensures leaving { IfOk result (λ all. leaving_in all.items ≡ []) }
+    ensures hints { IfOk result (λ all. hints_in all.items ≡ []) }
 {
     let mut all = Vec::new(alloc);
     for (index, text) in texts.iter().enumerate() {
-        let places = take_places(alloc, found, before.saturating_add(index));
+        let number = before.saturating_add(index);
+        let places = take_places(alloc, found, number, text.text());
         push_row(ignores, *text, places, &mut all)?;
     }
     Ok(all)
@@ -286,6 +289,7 @@ fn push_row(
     ensures anchors { OnOk result (anchors_in all.new.items ≡ anchors_in all.old.items) }
     ensures invalid { OnOk result (invalid_rows_in all.new.items ≡ invalid_rows_in all.old.items ++ map row_of (not_ignored (map string_bytes ignores.now) (text_of text.entry ∷ []))) }
     ensures leaving { OnOk result (leaving_in all.new.items ≡ leaving_in all.old.items) }
+    ensures hints { OnOk result (hints_in all.new.items ≡ hints_in all.old.items) }
 {
     let link = text.link;
     if is_ignored(ignores, link.text.as_str()) {

@@ -18,7 +18,7 @@ use std::collections::BTreeMap;
 pub(crate) struct Lead {
     /// The number of the result that has it.
     pub(crate) source: usize,
-    /// The index in the document's text at which its value begins.
+    /// Its index among the links of its file.
     pub(crate) index: usize,
     /// The number of what it leads to.
     pub(crate) number: usize,
@@ -81,14 +81,14 @@ fn own_number(front: &str, ignores: &[String], number: usize, one: &PageResult) 
 }
 
 /// Whether the page is missing and is reported, because no entry of the ignore list matches it.
-fn is_told(front: &str, ignores: &[String], one: &PageResult) -> bool
+pub(crate) fn is_told(front: &str, ignores: &[String], one: &PageResult) -> bool
     ensures { result ≡ is_told front.now (map string_bytes ignores.now) one.now }
 {
     one.page.is_missing() && !is_ignored(ignores, shown(front, one.url.as_str()))
 }
 
 /// Appends the URL as a target, if it has a number.
-fn push_target<'a>(
+pub(crate) fn push_target<'a>(
     url: &'a CanonUrl,
     number: Option<usize>,
     all: &mut Vec<Target<'a>>,
@@ -105,7 +105,10 @@ fn push_target<'a>(
 }
 
 /// Adds these targets to the table. The last of several targets with one URL decides its number.
-fn insert_all<'a>(numbers: &mut TargetNumbers<'a>, targets: &[Target<'a>]) -> Result<(), NoMemory>
+pub(crate) fn insert_all<'a>(
+    numbers: &mut TargetNumbers<'a>,
+    targets: &[Target<'a>],
+) -> Result<(), NoMemory>
     ensures { OnOk result ((url : List ℕ) → number_at numbers.new url ≡ fold (number_with url) (number_at numbers.old url) (map target_at targets.now)) }
 {
     for target in targets {
@@ -150,10 +153,10 @@ fn number_of<'a>(numbers: &TargetNumbers<'a>, url: &'a CanonUrl) -> Option<usize
     numbers.get(&url.hashed()).copied()
 }
 
-/// The positions of the links of documents, by their URLs.
+/// The indices of the links of documents that have a canonical URL, among all links of their files, by the URLs of the documents.
 pub(crate) type LinkIndices<'a> = BTreeMap<HashedText<'a>, &'a [u32]>;
 
-/// Returns a table of the positions of each document's links, by the document's URL.
+/// Returns a table of the indices of each document's links, by the document's URL.
 pub(crate) fn link_indices(
     alloc: Global,
     places: &[LinkPlaces],
@@ -210,7 +213,7 @@ fn push_page<'p>(
     }
 }
 
-/// Returns the positions of the links of the document at this URL; none if they are not known.
+/// Returns the indices of the links of the document at this URL; none if they are not known.
 fn indices_of<'p>(indices: &LinkIndices<'p>, url: &'p CanonUrl) -> &'p [u32]
     ensures { result.now ≡ indices_at indices.now url.now }
 {
@@ -220,7 +223,7 @@ fn indices_of<'p>(indices: &LinkIndices<'p>, url: &'p CanonUrl) -> &'p [u32]
     }
 }
 
-/// Appends those of these links, which are at these indices, that lead to targets.
+/// Appends those of these links, which have these indices, that lead to targets.
 #[tactic(auto, using(crate::proofs::LeadsFound::link_more, crate::proofs::LeadsFound::link_end))]
 fn push_leads<'p>(
     numbers: &TargetNumbers<'p>,
@@ -245,7 +248,7 @@ fn push_leads<'p>(
     }
 }
 
-/// Appends a link of the result `source` at this position, if it leads to a target.
+/// Appends a link of the result `source` with this index, if it leads to a target.
 fn push_lead(
     source: usize,
     index: usize,
@@ -276,7 +279,7 @@ struct First<'p, 'i> {
     behind: &'i [u32],
 }
 
-/// Splits off the first link and its position. `None` if there are no more links, or no more positions.
+/// Splits off the first link and its index. `None` if there are no more links, or no more indices.
 fn first_link<'p, 'i>(urls: &'p [CanonUrl], indices: &'i [u32]) -> Option<First<'p, 'i>>
     ensures { MatchOption result (HasNoLink urls.now indices.now) (λ first. (urls.now ≡ first.url.now ∷ first.more.now) × (indices.now ≡ first.index ∷ first.behind.now)) }
 {

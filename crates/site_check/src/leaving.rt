@@ -1,19 +1,21 @@
 //! Links that lead out of the site: to URLs on its host that are not below its top.
-ghost use Rattle.std.specs.Prelude.{◌≡◌, ◌∷◌, ◌++◌, ◌<◌, ℕ, List, [], true, IfOk, MatchOption, OnOk, length, map, string_bytes};
+ghost use Rattle.std.specs.Prelude.{◌≡◌, ◌∷◌, ◌++◌, ◌+◌, ◌<◌, ◌^◌, ℕ, List, [], true, IfOk, MatchOption, OnOk, length, map, string_bytes};
 ghost use Rattle.std.specs.List.{flat_map};
 ghost use Rattle.crawl_sources.specs.Tallies.{pointed};
 ghost use Rattle.site_files.specs.declared.files.SiteFiles.{SiteFiles};
 ghost use Rattle.site_check.specs.Broken.{begins, linked_at};
+ghost use Rattle.site_check.specs.Hints.{hints_in};
 ghost use Rattle.site_check.specs.Ignored.{anchors_in};
 ghost use Rattle.site_check.specs.Invalid.{invalid_rows_in};
-ghost use Rattle.site_check.specs.Leaving.{is_left, is_outside, leaving_in, outside_at, outside_linked, outside_of, outside_row, outside_text, path_from, row_at, steps_up};
+ghost use Rattle.site_check.specs.Leads.{indices_in, leads_from, number_at, number_in, target_at};
+ghost use Rattle.site_check.specs.Leaving.{is_left, is_outside, leaving_in, outside_at, outside_linked, outside_number, outside_of, outside_row, outside_targets, outside_text, path_from, row_at, steps_up};
 ghost use Rattle.site_check.specs.Names.{AreNamed};
 ghost use Rattle.site_check.specs.Told.{rows_in};
 ghost use Rattle.site_check.specs.Totals.{is_leaving};
 
 use crate::ignored::is_ignored;
 use crate::input::CheckInput;
-use crate::leads::{Lead, Maps, TargetNumbers, link_indices};
+use crate::leads::{Lead, Maps, Target, TargetNumbers, insert_all, link_indices, push_target};
 use crate::linked::{Linked, linked_among};
 use crate::located::take_places;
 use crate::shown::begins;
@@ -182,7 +184,9 @@ pub(crate) fn outside_leads<'a, R: Threads + Sync>(
     site: Site<'a, '_>,
     outside: &'a [Outside<'a>],
     before: usize,
-) -> Result<Vec<Lead>, NoMemory> {
+) -> Result<Vec<Lead>, NoMemory>
+    ensures { before + length outside.now < 2 ^ 64 → IfOk result (λ all. all.items ≡ leads_from (number_in (outside_targets (map string_bytes input.entry.ignores.now) before outside.now)) (indices_in input.entry.places.now) 0 site.entry.pages.results.now) }
+{
     let numbers = outside_numbers(alloc, input.ignores, outside, before)?;
     if numbers.is_empty() {
         return Ok(Vec::new(alloc));
@@ -201,14 +205,43 @@ fn outside_numbers<'a>(
     ignores: &[String],
     outside: &'a [Outside<'a>],
     before: usize,
-) -> Result<TargetNumbers<'a>, NoMemory> {
+) -> Result<TargetNumbers<'a>, NoMemory>
+    ensures { before + length outside.now < 2 ^ 64 → IfOk result (λ numbers. (url : List ℕ) → number_at numbers url ≡ number_in (outside_targets (map string_bytes ignores.now) before outside.now) url) }
+{
+    let targets = outside_targets(alloc, ignores, outside, before)?;
     let mut numbers = BTreeMap::new(alloc);
-    for (index, one) in outside.iter().enumerate() {
-        if !is_ignored(ignores, one.text.as_str()) {
-            numbers.insert(one.linked.result.url.hashed(), before.saturating_add(index))?;
-        }
-    }
+    insert_all(&mut numbers, targets.as_slice())?;
     Ok(numbers)
+}
+
+/// These URLs with their numbers, from `before` on, without those that an entry matches.
+#[tactic(auto, using(crate::proofs::Outsides::outside_more))]
+fn outside_targets<'a>(
+    alloc: Global,
+    ignores: &[String],
+    outside: &'a [Outside<'a>],
+    before: usize,
+) -> Result<Vec<Target<'a>>, NoMemory>
+    ensures { before + length outside.now < 2 ^ 64 → IfOk result (λ all. map target_at all.items ≡ outside_targets (map string_bytes ignores.now) before outside.now) }
+{
+    let mut all = Vec::new(alloc);
+    for (index, one) in outside.iter().enumerate() {
+        let number = outside_number(ignores, before.saturating_add(index), one);
+        push_target(&one.linked.result.url, number, &mut all)?;
+    }
+    Ok(all)
+}
+
+/// The number, unless an entry matches the URL.
+fn outside_number(ignores: &[String], number: usize, one: &Outside<'_>) -> Option<usize>
+    ensures { result ≡ outside_number (map string_bytes ignores.now) number one.now }
+{
+    let text = one.text.as_str();
+    if is_ignored(ignores, text) {
+        None
+    } else {
+        Some(number)
+    }
 }
 
 /// The kind of the rows.
@@ -236,11 +269,13 @@ pub(crate) fn outside_rows(
     ensures anchors { IfOk result (λ all. anchors_in all.items ≡ []) }
     ensures invalid { IfOk result (λ all. invalid_rows_in all.items ≡ []) }
     ensures leaving { IfOk result (λ all. leaving_in all.items ≡ flat_map (row_at (map string_bytes input.entry.ignores.now)) (map outside_at outside.now)) }
+    ensures hints { IfOk result (λ all. hints_in all.items ≡ []) }
 {
     let kind = kind_of(input.rooted);
     let mut all = Vec::new(alloc);
     for (index, one) in outside.iter().enumerate() {
-        let places = take_places(alloc, found, before.saturating_add(index));
+        let number = before.saturating_add(index);
+        let places = take_places(alloc, found, number, one.text.as_str());
         push_row(input.ignores, kind, one, places, &mut all)?;
     }
     Ok(all)
@@ -260,6 +295,7 @@ fn push_row(
     ensures anchors { OnOk result (anchors_in all.new.items ≡ anchors_in all.old.items) }
     ensures invalid { OnOk result (invalid_rows_in all.new.items ≡ invalid_rows_in all.old.items) }
     ensures leaving { OnOk result (leaving_in all.new.items ≡ leaving_in all.old.items ++ row_at (map string_bytes ignores.now) (outside_at one.now)) }
+    ensures hints { OnOk result (hints_in all.new.items ≡ hints_in all.old.items) }
 {
     if is_ignored(ignores, one.text.as_str()) {
         return Ok(());

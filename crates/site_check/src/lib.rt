@@ -1,9 +1,9 @@
 //! Finds the broken links of a site in the results of a crawl of its saved web, and their locations.
 #![tactic(auto)]
 
-mod aliases;
 mod anchors;
 mod check;
+mod hints;
 mod ignored;
 mod input;
 mod invalid;
@@ -13,12 +13,14 @@ mod linked;
 mod located;
 mod missing_anchors;
 mod names;
+mod pattern;
 mod rows;
 mod shown;
 mod site_pages;
 mod threads;
 mod totals;
 mod unreached;
+mod url_sets;
 mod worst;
 
 pub use check::{Checked, check_site};

@@ -9,11 +9,31 @@ use std::alloc::Global;
 use std::mem;
 use std::sync::atomic::{AtomicUsize, Ordering};
 
-/// Takes the locations of the links to the target with this number.
-pub(crate) fn take_places(alloc: Global, found: &mut [Vec<Place>], number: usize) -> Vec<Place> {
-    match found.get_mut(number) {
-        Some(places) => mem::replace(places, Vec::new(alloc)),
-        None => Vec::new(alloc),
+/// Takes the locations of the links to the target with this number, which is reported with this text. A link that is written as this
+/// text loses its text.
+pub(crate) fn take_places(
+    alloc: Global,
+    found: &mut [Vec<Place>],
+    number: usize,
+    target: &str,
+) -> Vec<Place> {
+    let Some(places) = found.get_mut(number) else {
+        return Vec::new(alloc);
+    };
+    let mut places = mem::replace(places, Vec::new(alloc));
+    for place in places.iter_mut() {
+        if is_written(place, target) {
+            place.written = None;
+        }
+    }
+    places
+}
+
+/// Whether the link at a location is written as this text.
+fn is_written(place: &Place, target: &str) -> bool {
+    match &place.written {
+        Some(text) => text.as_str() == target,
+        None => false,
     }
 }
 
@@ -133,7 +153,7 @@ fn push_places(
     let indices = indices_of(alloc, leads)?;
     let kind = text_kind(file.kind, site.files.rules().styles);
     let places = text_places(alloc, body, kind, indices.as_slice())?;
-    for (lead, place) in leads.iter().zip(places.iter()) {
+    for (lead, place) in leads.iter().zip(places) {
         let place = place_in(alloc, file.name, place)?;
         let number = lead.number;
         all.push(TargetPlace { number, place })?;
@@ -163,13 +183,23 @@ fn indices_of(alloc: Global, leads: &[Lead]) -> Result<Vec<usize>, NoMemory> {
     leads.iter().map(|lead| lead.index).collect(alloc)
 }
 
-/// A location in the file with this name.
-fn place_in(alloc: Global, name: &str, place: &TextPlace) -> Result<Place, NoMemory> {
+/// A location in the file with this name. The text of the link is empty if the file has no link there any more.
+fn place_in(alloc: Global, name: &str, place: TextPlace) -> Result<Place, NoMemory> {
+    let TextPlace {
+        line,
+        column,
+        written,
+    } = place;
+    let file = String::from_str(alloc, name)?;
     Ok(Place {
-        file: String::from_str(alloc, name)?,
-        line: place.line,
-        column: place.column,
-        written: None,
+        file,
+        line,
+        column,
+        written: if written.is_empty() {
+            None
+        } else {
+            Some(written)
+        },
     })
 }
 

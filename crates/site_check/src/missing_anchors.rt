@@ -24,8 +24,8 @@ impl Anchor<'_> {
     }
 }
 
-/// An anchor that a document lacks, and a link to it: the number of the result that has it, and the position of its value if that is
-/// known.
+/// An anchor that a document lacks, and a link to it: the number of the result that has it, and its index among the links of its file if
+/// that is known.
 #[derive(Clone, Copy)]
 pub(crate) struct MissingAnchorLink<'a> {
     pub(crate) anchor: Anchor<'a>,
@@ -128,7 +128,7 @@ fn anchor_text(
     Ok(text)
 }
 
-/// Appends the links whose positions are known as links to the target with this number.
+/// Appends the links whose indices are known as links to the target with this number.
 fn push_leads(
     links: &[MissingAnchorLink<'_>],
     number: usize,

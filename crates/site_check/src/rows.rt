@@ -1,14 +1,16 @@
 //! The rows of a check: pages that are not there, and pages that moved.
 ghost use Rattle.std.specs.Prelude.{◌≡◌, ◌++◌, ◌∷◌, [], OnOk, IfOk, map, string_bytes, flat_map, option_map};
-ghost use Rattle.site_check.specs.Broken.{linked_at, row_for, rows_with, shown, ways_with};
-ghost use Rattle.site_check.specs.Ignored.{anchors_in};
-ghost use Rattle.site_check.specs.Invalid.{invalid_rows_in};
-ghost use Rattle.site_check.specs.Leaving.{leaving_in};
-ghost use Rattle.site_check.specs.Names.{AreNamed, AreNames};
-ghost use Rattle.site_check.specs.Told.{rows_in, way_of};
+ghost use Rattle.site_check.specs.Broken.{linked_at, result_at, rows_with, shown, ways_with};
+ghost use Rattle.site_check.specs.Hints.{hint_of, hints_at, hints_in, hints_in_row};
+ghost use Rattle.site_check.specs.Ignored.{anchor_in, anchors_in};
+ghost use Rattle.site_check.specs.Invalid.{invalid_row_in, invalid_rows_in};
+ghost use Rattle.site_check.specs.Leaving.{leaving_in, leaving_row_in};
+ghost use Rattle.site_check.specs.Names.{AreNamed, AreNames, own_name, told_name};
+ghost use Rattle.site_check.specs.Told.{row_in, rows_in, way_of};
 
-use crate::ignored::is_ignored;
+use crate::hints::hint_of;
 use crate::input::CheckInput;
+use crate::leads::is_told;
 use crate::linked::Linked;
 use crate::located::take_places;
 use crate::names::{Named, same_name};
@@ -32,16 +34,19 @@ pub(crate) fn broken_rows<'n>(
     ensures anchors { IfOk result (λ all. anchors_in all.items ≡ []) }
     ensures invalid { IfOk result (λ all. invalid_rows_in all.items ≡ []) }
     ensures leaving { IfOk result (λ all. leaving_in all.items ≡ []) }
+    ensures hints { IfOk result (λ all. hints_in all.items ≡ flat_map (hints_at input.entry.front.now (map string_bytes input.entry.ignores.now) named.entry.files.now) (map result_at linked.now)) }
 {
     let mut all = Vec::new(alloc);
     for (index, one) in linked.iter().enumerate() {
-        let places = take_places(alloc, found, index);
+        let text = shown(input.front, one.result.url.as_str());
+        let places = take_places(alloc, found, index, text);
         push_row(alloc, input, named, one, places, &mut all)?;
     }
     Ok(all)
 }
 
-/// Appends the row of a result's page, if the page is missing and not ignored.
+/// Appends the row of a result's page, if the page is missing and no entry matches it.
+#[tactic(auto, using(crate::proofs::AllRows::own_row, crate::proofs::AllRows::other_row, crate::proofs::AllRows::own_hint, crate::proofs::AllRows::other_hint))]
 fn push_row<'n>(
     alloc: Global,
     input: CheckInput<'_>,
@@ -56,48 +61,45 @@ fn push_row<'n>(
     ensures anchors { OnOk result (anchors_in all.new.items ≡ anchors_in all.old.items) }
     ensures invalid { OnOk result (invalid_rows_in all.new.items ≡ invalid_rows_in all.old.items) }
     ensures leaving { OnOk result (leaving_in all.new.items ≡ leaving_in all.old.items) }
+    ensures hints { OnOk result (hints_in all.new.items ≡ hints_in all.old.items ++ hints_at input.entry.front.now (map string_bytes input.entry.ignores.now) named.entry.files.now one.now.result.now) }
 {
-    match one.result.page {
-        Page::Missing => {
-            let text = shown(input.front, one.result.url.as_str());
-            push_missing(alloc, input, named, (text, one.pages), places, all)
-        }
-        Page::Moved { .. } => Ok(()),
-        Page::Found { .. } => Ok(()),
-    }
-}
-
-/// Appends a row for a missing page, with its text and how many pages link to it, unless that is known.
-fn push_missing<'n>(
-    alloc: Global,
-    input: CheckInput<'_>,
-    named: Named<'_, 'n>,
-    told: (&'n str, u64),
-    places: Vec<Place>,
-    all: &mut Vec<Broken>,
-) -> Result<(), NoMemory>
-    requires { AreNames named.files.now named.names.now }
-    ensures rows { OnOk result (rows_in all.new.items ≡ rows_in all.old.items ++ row_for (map string_bytes input.entry.ignores.now) told.entry.0.now told.entry.1) }
-    ensures names { OnOk result (AreNamed input.entry.front.now named.entry.files.now all.old.items → AreNamed input.entry.front.now named.entry.files.now all.new.items) }
-    ensures anchors { OnOk result (anchors_in all.new.items ≡ anchors_in all.old.items) }
-    ensures invalid { OnOk result (invalid_rows_in all.new.items ≡ invalid_rows_in all.old.items) }
-    ensures leaving { OnOk result (leaving_in all.new.items ≡ leaving_in all.old.items) }
-{
-    let (text, pages) = told;
-    if is_ignored(input.ignores, text) {
+    if !is_told(input.front, input.ignores, one.result) {
         return Ok(());
     }
-    let name = same_name(alloc, input.front, named, text, places.as_slice())?;
+    let row = missing_row(alloc, input.front, named, one, places)?;
+    all.push(row)?;
+    Ok(())
+}
+
+/// The row of a missing page, with the locations of the links to it.
+fn missing_row<'n>(
+    alloc: Global,
+    front: &str,
+    named: Named<'_, 'n>,
+    one: &Linked<'n>,
+    places: Vec<Place>,
+) -> Result<Broken, NoMemory>
+    requires { AreNames named.files.now named.names.now }
+    ensures row { IfOk result (λ row. row_in row ≡ record { text = shown front.now one.now.result.now.url; pages = one.now.pages } ∷ []) }
+    ensures name { IfOk result (λ row. told_name row ≡ own_name front.now named.entry.files.now row) }
+    ensures anchor { IfOk result (λ row. anchor_in row ≡ []) }
+    ensures invalid { IfOk result (λ row. invalid_row_in row ≡ []) }
+    ensures leaving { IfOk result (λ row. leaving_row_in row ≡ []) }
+    ensures hint { IfOk result (λ row. hints_in_row row ≡ hint_of named.entry.files.now one.now.result.now.url ∷ []) }
+{
+    let url = one.result.url.as_str();
+    let text = shown(front, url);
+    let name = same_name(alloc, front, named, text, places.as_slice())?;
+    let hint = hint_of(alloc, named.files, url)?;
     let target = String::from_str(alloc, text)?;
-    all.push(Broken {
+    Ok(Broken {
         target,
         kind: Kind::NoPage,
-        pages,
+        pages: one.pages,
         places,
         same_name: name,
-        hint: None,
-    })?;
-    Ok(())
+        hint,
+    })
 }
 
 /// The rows of the pages that moved and are linked to, in order.

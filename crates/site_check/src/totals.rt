@@ -1,43 +1,47 @@
 //! The totals of a check.
 ghost use Rattle.std.specs.Prelude.{◌≡◌, if◌then◌else◌, IfOk, count_by, length, max};
-ghost use Rattle.site_check.specs.Aliases.{is_alias_page, is_in, is_own_page};
+ghost use Rattle.site_check.specs.Aliases.{is_alias_page, is_document_page, is_file_page, is_in, is_own_page};
 ghost use Rattle.site_check.specs.Totals.{capped, is_invalid, is_leaving, is_missing, is_page, is_anchor, link_count, links_in, anchor_count, place_count, row_links, totals_by, totals_of, url_count};
 
-use crate::aliases::{AliasUrls, alias_urls};
+use crate::url_sets::{UrlSet, alias_urls, document_urls};
 use check_report::{Broken, Kind, Redirect, Totals};
+use crawl_keys::CanonUrl;
 use crawl_pages::{NoMemory, Page, PageResult};
 use site_files::Alias;
 use std::alloc::Global;
 
-/// The totals of a crawl's results, of a site with these aliases, and of these rows.
+/// The totals of a crawl's results, of a site with these aliases and documents, and of these rows.
 pub(crate) fn totals_of<'a>(
     alloc: Global,
     aliases: &'a [Alias],
+    documents: &'a [CanonUrl],
     results: &'a [PageResult],
     broken: &[Broken],
     redirects: &[Redirect],
 ) -> Result<Totals, NoMemory>
-    ensures { IfOk result (λ totals. totals ≡ totals_of aliases.now results.now broken.now redirects.now) }
+    ensures { IfOk result (λ totals. totals ≡ totals_of aliases.now documents.now results.now broken.now redirects.now) }
 {
-    let urls = alias_urls(alloc, aliases)?;
-    let totals = totals_by(&urls, results, broken, redirects);
+    let others = alias_urls(alloc, aliases)?;
+    let texts = document_urls(alloc, documents)?;
+    let totals = totals_by(&others, &texts, results, broken, redirects);
     Ok(totals)
 }
 
-/// Returns the totals. `urls` are the URLs of the aliases.
+/// Returns the totals. `others` are the URLs of the aliases, and `texts` those of the documents.
 fn totals_by<'a>(
-    urls: &AliasUrls<'a>,
+    others: &UrlSet<'a>,
+    texts: &UrlSet<'a>,
     results: &'a [PageResult],
     broken: &[Broken],
     redirects: &[Redirect],
 ) -> Totals
-    ensures { result ≡ totals_by (is_in urls.now) results.now broken.now redirects.now }
+    ensures { result ≡ totals_by (is_in others.now) (is_in texts.now) results.now broken.now redirects.now }
 {
-    let pages = page_counts(urls, results);
+    let pages = page_counts(others, texts, results);
     let rows = row_counts(broken);
     Totals {
-        pages: pages.own,
-        files: 0,
+        pages: pages.documents,
+        files: pages.files,
         aliases: pages.aliases,
         links: pages.links,
         broken_links: rows.broken_links,
@@ -52,45 +56,80 @@ fn totals_by<'a>(
 /// The counts of the pages that were found.
 #[derive(Clone, Copy)]
 struct PageCounts {
-    /// At the own URLs of files.
-    own: u64,
+    /// At the own URLs of documents.
+    documents: u64,
+    /// At the own URLs of other files.
+    files: u64,
     /// At aliases.
     aliases: u64,
     /// The links in the pages at own URLs.
     links: u64,
 }
 
-/// Counts the pages that were found, and the links in those at the own URLs of files.
-fn page_counts<'a>(urls: &AliasUrls<'a>, results: &'a [PageResult]) -> PageCounts
-    ensures own { result.own ≡ count_by (is_own_page (is_in urls.now)) results.now }
-    ensures aliases { result.aliases ≡ count_by (is_alias_page (is_in urls.now)) results.now }
-    ensures links { result.links ≡ link_count (is_in urls.now) results.now }
+/// Counts the pages that were found, and the links in those at the own URLs of files. `others` are the URLs of the aliases, and `texts`
+/// those of the documents.
+fn page_counts<'a>(others: &UrlSet<'a>, texts: &UrlSet<'a>, results: &'a [PageResult]) -> PageCounts
+    ensures documents { result.documents ≡ count_by (is_document_page (is_in others.now) (is_in texts.now)) results.now }
+    ensures files { result.files ≡ count_by (is_file_page (is_in others.now) (is_in texts.now)) results.now }
+    ensures aliases { result.aliases ≡ count_by (is_alias_page (is_in others.now)) results.now }
+    ensures links { result.links ≡ link_count (is_in others.now) results.now }
 {
-    let mut own: u64 = 0;
+    let mut documents: u64 = 0;
+    let mut files: u64 = 0;
     let mut aliases: u64 = 0;
     let mut links: u64 = 0;
     for one in results {
-        let (is_own, is_alias) = place_of(urls, one);
-        own += number_of(is_own);
-        aliases += number_of(is_alias);
-        links = links.saturating_add(links_if(is_own, &one.page));
+        let kind = kind_of(others, texts, one);
+        documents += number_of(kind.is_document);
+        files += number_of(kind.is_file);
+        aliases += number_of(kind.is_alias);
+        links = links.saturating_add(links_if(kind.is_own, &one.page));
     }
     PageCounts {
-        own,
+        documents,
+        files,
         aliases,
         links,
     }
 }
 
-/// Whether a page was found at the own URL of a file, and whether one was found at an alias.
-fn place_of<'a>(urls: &AliasUrls<'a>, one: &'a PageResult) -> (bool, bool)
-    ensures own { result.0 ≡ is_own_page (is_in urls.now) one.now }
-    ensures alias { result.1 ≡ is_alias_page (is_in urls.now) one.now }
+/// What a result's page is, if one was found.
+#[derive(Clone, Copy)]
+struct PageKind {
+    /// A page at the own URL of a file.
+    is_own: bool,
+    is_document: bool,
+    /// A page at the own URL of a file that is no document.
+    is_file: bool,
+    is_alias: bool,
+}
+
+/// What a result's page is. `others` are the URLs of the aliases, and `texts` those of the documents.
+fn kind_of<'a>(others: &UrlSet<'a>, texts: &UrlSet<'a>, one: &'a PageResult) -> PageKind
+    ensures own { result.is_own ≡ is_own_page (is_in others.now) one.now }
+    ensures document { result.is_document ≡ is_document_page (is_in others.now) (is_in texts.now) one.now }
+    ensures file { result.is_file ≡ is_file_page (is_in others.now) (is_in texts.now) one.now }
+    ensures alias { result.is_alias ≡ is_alias_page (is_in others.now) one.now }
+{
+    let (is_own, is_alias) = place_of(others, one);
+    let is_text = texts.contains(&one.url.hashed());
+    PageKind {
+        is_own,
+        is_document: is_own && is_text,
+        is_file: is_own && !is_text,
+        is_alias,
+    }
+}
+
+/// Whether a page was found at the own URL of a file, and whether one was found at an alias. `others` are the URLs of the aliases.
+fn place_of<'a>(others: &UrlSet<'a>, one: &'a PageResult) -> (bool, bool)
+    ensures own { result.0 ≡ is_own_page (is_in others.now) one.now }
+    ensures alias { result.1 ≡ is_alias_page (is_in others.now) one.now }
 {
     if !one.page.is_found() {
         return (false, false);
     }
-    let is_other = urls.contains(&one.url.hashed());
+    let is_other = others.contains(&one.url.hashed());
     (!is_other, is_other)
 }
 

@@ -7,5 +7,5 @@ use Rattle.site_check.proofs.check.check_site.Goals as goal
 pub returns-clause-verdict : goal.returns-clause-verdict
 returns-clause-verdict g c =
     IfOk-weaker c.told.result _ _
-    (λ (checked : Checked) own. verdict_of_rows checked.totals c.args.input.aliases.now c.site_of-site.result.pages.results.now checked.broken.items checked.redirects.items own)
+    (λ (checked : Checked) own. verdict_of_rows checked.totals c.args.input.aliases.now c.args.input.documents.now c.site_of-site.result.pages.results.now checked.broken.items checked.redirects.items own)
     c.told.ensures.totals

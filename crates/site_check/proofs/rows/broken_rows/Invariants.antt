@@ -1,4 +1,4 @@
-use Rattle.site_check.proofs.Prelude.{◌≡◌, [], take, map, string_bytes, flat_map, linked_at, rows_with, anchors_in, invalid_rows_in, leaving_in, AreNamed, rows_in}
+use Rattle.site_check.proofs.Prelude.{◌≡◌, [], take, map, string_bytes, flat_map, hints_at, hints_in, linked_at, result_at, rows_with, anchors_in, invalid_rows_in, leaving_in, AreNamed, rows_in}
 use Rattle.site_check.proofs.rows.broken_rows.Given as goal
 
 abbrev pub invariant-loop-index : goal.invariant-loop-index
@@ -8,4 +8,5 @@ invariant-loop-index l = record {
   anchors : anchors_in l.all.items ≡ [];
   invalid : invalid_rows_in l.all.items ≡ [];
   leaving : leaving_in l.all.items ≡ [];
+  hints : hints_in l.all.items ≡ flat_map (hints_at l.input.front.now (map string_bytes l.input.ignores.now) l.named.files.now) (map result_at (take l.index l.linked));
 }

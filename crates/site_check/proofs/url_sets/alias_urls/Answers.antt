@@ -1,7 +1,7 @@
 use Rattle.site_check.proofs.Prelude.{◌||◌, [], ◌∷◌, ◌++◌, take, sym, ap, ◌∙◌, take_more, bytes_eq, is_alias}
 use Rattle.crawl_sources.proofs.Counts.{any_push, set_put}
 use Rattle.site_files.specs.declared.alias.Alias.{Alias}
-use Rattle.site_check.proofs.aliases.alias_urls.Goals as goal
+use Rattle.site_check.proofs.url_sets.alias_urls.Goals as goal
 
 pub loop-alias-preserved : goal.loop-alias-preserved
 loop-alias-preserved c = λ url.

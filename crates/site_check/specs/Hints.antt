@@ -1,0 +1,68 @@
+-- Hints: what a server with other rules finds for a page that is missing, as it is reported with the page.
+use Rattle.std.specs.Prelude.{ℕ, ◌-◌, Bool, if◌then◌else◌, List, [], ◌∷◌, ◌++◌, codes, length, take, Option, Some, None, unwrap_or, string_bytes, option_map}
+use Rattle.std.specs.List.{flat_map, list_any}
+use Rattle.check_report.specs.declared.value.Broken.{Broken}
+use Rattle.check_report.specs.declared.value.Kind.{Kind}
+use Rattle.check_report.specs.declared.value.Kind.TheVariants.{NoPage}
+use Rattle.crawl_pages.specs.declared.page.Page.{Page}
+use Rattle.crawl_pages.specs.declared.page.Page.TheVariants.{Missing}
+use Rattle.crawl_pages.specs.declared.page.PageResult.{PageResult}
+use Rattle.site_check.specs.Broken.{is_ignored, shown}
+use Rattle.site_check.specs.Names.{behind_slashes, is_slash}
+use Rattle.site_files.specs.Files.{name_at}
+use Rattle.site_files.specs.Hints.{hint_at}
+use Rattle.site_files.specs.declared.files.SiteFiles.{SiteFiles}
+use Rattle.site_files.specs.declared.hint.Hint.{Hint}
+use Rattle.site_files.specs.declared.hint.Hint.TheVariants.{HtmlFallback, IndexFile}
+
+-- ---- the texts
+
+-- the folder of a file's name, without the slash
+abbrev pub folder_in : List ℕ → List ℕ
+folder_in name = if list_any is_slash name then take (length name - length (behind_slashes name) - 1) name else codes "."
+
+abbrev pub fallback_text : List ℕ → List ℕ
+fallback_text name = name ++ codes " exists: --fallback html"
+
+abbrev pub index_text : List ℕ → List ℕ
+index_text name = folder_in name ++ codes "/ has " ++ behind_slashes name ++ codes ": --index-file " ++ behind_slashes name
+
+-- the name of the file with this index
+abbrev pub name_in : SiteFiles → ℕ → List ℕ
+name_in files index = unwrap_or (name_at files index) []
+
+abbrev pub hint_text : SiteFiles → Hint → List ℕ
+hint_text files (HtmlFallback index) = fallback_text (name_in files index)
+hint_text files (IndexFile index) = index_text (name_in files index)
+
+-- what is reported with the missing page at a URL
+abbrev pub hint_of : SiteFiles → List ℕ → Option (List ℕ)
+hint_of files url = option_map (hint_text files) (hint_at files url)
+
+-- ---- the hints of all rows
+
+-- that of a missing page with this URL and text, which has a row unless an entry matches it
+abbrev pub hint_for : List (List ℕ) → SiteFiles → List ℕ → List ℕ → List (Option (List ℕ))
+hint_for entries files url text = if is_ignored entries text then [] else hint_of files url ∷ []
+
+abbrev pub hints_of_page : List ℕ → List (List ℕ) → SiteFiles → List ℕ → Page → List (Option (List ℕ))
+hints_of_page front entries files url Missing = hint_for entries files url (shown front url)
+hints_of_page front entries files url _ = []
+
+abbrev pub hints_at : List ℕ → List (List ℕ) → SiteFiles → PageResult → List (Option (List ℕ))
+hints_at front entries files r = hints_of_page front entries files r.url r.page
+
+abbrev pub hints_of : List ℕ → List (List ℕ) → SiteFiles → List PageResult → List (Option (List ℕ))
+hints_of front entries files results = flat_map (hints_at front entries files) results
+
+-- the hint of a row of a missing page, and any hint of another row
+abbrev pub hints_with : Kind → Option (List ℕ) → List (Option (List ℕ))
+hints_with NoPage hint = hint ∷ []
+hints_with _ None = []
+hints_with _ (Some text) = Some text ∷ []
+
+abbrev pub hints_in_row : Broken → List (Option (List ℕ))
+hints_in_row b = hints_with b.kind (option_map string_bytes b.hint)
+
+abbrev pub hints_in : List Broken → List (Option (List ℕ))
+hints_in all = flat_map hints_in_row all

@@ -1,0 +1,73 @@
+//! What a server with other rules finds for a missing page.
+ghost use Rattle.std.specs.Prelude.{◌≡◌, ◌++◌, [], IfOk, codes, unwrap_or, option_map, string_bytes};
+ghost use Rattle.site_files.specs.Files.{name_at};
+ghost use Rattle.site_check.specs.Hints.{fallback_text, hint_of, hint_text, index_text, name_in};
+
+use crawl_pages::NoMemory;
+use site_files::{Hint, SiteFiles};
+use std::alloc::Global;
+
+/// The hint that is reported with the missing page at a URL, if there is one.
+pub(crate) fn hint_of(
+    alloc: Global,
+    files: &SiteFiles<'_>,
+    url: &str,
+) -> Result<Option<String>, NoMemory>
+    ensures { IfOk result (λ hint. option_map string_bytes hint ≡ hint_of files.now url.now) }
+{
+    match files.hint(alloc, url)? {
+        Some(hint) => {
+            let text = hint_text(alloc, files, hint)?;
+            Ok(Some(text))
+        }
+        None => Ok(None),
+    }
+}
+
+/// The file that is found, and the option with which it is.
+fn hint_text(alloc: Global, files: &SiteFiles<'_>, hint: Hint) -> Result<String, NoMemory>
+    ensures { IfOk result (λ text. string_bytes text ≡ hint_text files.now hint) }
+{
+    match hint {
+        Hint::HtmlFallback(index) => fallback_text(alloc, name_in(files, index)),
+        Hint::IndexFile(index) => index_text(alloc, name_in(files, index)),
+    }
+}
+
+/// The name of the file with this index, which is that of a file.
+fn name_in<'a>(files: &SiteFiles<'a>, index: usize) -> &'a str
+    ensures { result.now ≡ name_in files.now index }
+{
+    files.name(index).unwrap_or("")
+}
+
+/// The hint for a page whose file has this name: the fallback finds it.
+fn fallback_text(alloc: Global, name: &str) -> Result<String, NoMemory>
+    ensures { IfOk result (λ text. string_bytes text ≡ fallback_text name.now) }
+{
+    let mut text = String::from_str(alloc, name)?;
+    text.push_str(" exists: --fallback html")?;
+    Ok(text)
+}
+
+/// The hint for a folder that has the file with this name: it is an index file under other rules.
+fn index_text(alloc: Global, name: &str) -> Result<String, NoMemory>
+    ensures { IfOk result (λ text. string_bytes text ≡ index_text name.now) }
+{
+    match name.rsplit_once('/') {
+        Some((folder, file)) => folder_text(alloc, folder, file),
+        None => folder_text(alloc, ".", name),
+    }
+}
+
+/// The hint for a folder that has a file.
+fn folder_text(alloc: Global, folder: &str, file: &str) -> Result<String, NoMemory>
+    ensures { IfOk result (λ text. string_bytes text ≡ folder.now ++ codes "/ has " ++ file.now ++ codes ": --index-file " ++ file.now) }
+{
+    let mut text = String::from_str(alloc, folder)?;
+    text.push_str("/ has ")?;
+    text.push_str(file)?;
+    text.push_str(": --index-file ")?;
+    text.push_str(file)?;
+    Ok(text)
+}

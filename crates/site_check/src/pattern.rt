@@ -1,0 +1,52 @@
+//! The entries of an ignore list as patterns.
+ghost use Rattle.std.specs.Prelude.{◌≡◌, ◌<◌, MatchOption, length};
+ghost use Rattle.site_check.specs.Broken.{any_end, fits, is_last, matches};
+
+use crate::shown::begins;
+
+/// Whether an entry matches a text. An entry with a `*` is a pattern for the whole text; any other matches what begins with it.
+pub(crate) fn matches(entry: &str, text: &str) -> bool
+    ensures { result ≡ matches entry.now text.now }
+{
+    match entry.split_once('*') {
+        Some((front, pattern)) => match text.strip_prefix(front) {
+            Some(rest) => is_end(pattern, rest),
+            None => false,
+        },
+        None => begins(entry, text),
+    }
+}
+
+/// Whether a pattern fits a text from one of its bytes on. Of each piece of the pattern before a `*`, the first occurrence is taken: if
+/// the other pieces come after a later one, they come after the first one too.
+fn is_end(pattern: &str, text: &str) -> bool
+    ensures { result ≡ any_end (fits pattern.now) text.now }
+{
+    let mut pattern = pattern;
+    let mut rest = text;
+    'pieces: while let Some((behind, more)) = next_piece(pattern, rest) {
+        pattern = behind;
+        rest = more;
+    }
+    is_last(pattern, rest)
+}
+
+/// What is after the first `*` of a pattern, and after the piece before that in a text.
+fn next_piece<'p, 't>(pattern: &'p str, text: &'t str) -> Option<(&'p str, &'t str)>
+    ensures { MatchOption result (any_end (fits pattern.now) text.now ≡ is_last pattern.now text.now) (λ x. (any_end (fits pattern.now) text.now ≡ any_end (fits x.0.now) x.1.now) × (length x.0.now < length pattern.now)) }
+{
+    match pattern.split_once('*') {
+        Some((piece, behind)) => match text.split_once(piece) {
+            Some((_, more)) => Some((behind, more)),
+            None => None,
+        },
+        None => None,
+    }
+}
+
+/// Whether a pattern has no `*` and is at the end of a text.
+fn is_last(pattern: &str, text: &str) -> bool
+    ensures { result ≡ is_last pattern.now text.now }
+{
+    !pattern.as_bytes().contains(&b'*') && text.as_bytes().ends_with(pattern.as_bytes())
+}
