@@ -27,6 +27,7 @@ use Rattle.saved_site.specs.Meaning.{IsSiteWeb}
 use Rattle.site_check.specs.Broken.{broken_of, redirects_of}
 use Rattle.site_files.specs.declared.files.SiteFiles.{SiteFiles}
 use Rattle.site_files.specs.declared.alias.Alias.{Alias}
+use Rattle.site_check.specs.Hints.{hints_in, hints_of}
 use Rattle.site_check.specs.Ignored.{AreUnused, anchors_in}
 use Rattle.site_check.specs.Invalid.{AreInvalid, invalid_rows_in, texts_if}
 use Rattle.site_check.specs.Leaving.{leaving_in, leaving_of, outside_texts}
@@ -99,7 +100,8 @@ pub record IsReport (checked : Checked) (others : Option (List Row)) (name : Lis
 
 -- the text reports the missing pages and the redirects of such a crawl below the top, each with the number of pages that link
 -- to it, the invalid links, if they are reported, the missing pages on the site's host that are not below the top, and the entries
--- that match nothing. Its totals count the pages at the own URLs of files, their links, the pages at these aliases, and the rows.
+-- that match nothing. Its totals count the pages at the own URLs of files, those of some documents apart, their links, the pages at
+-- these aliases, and the rows.
 -- Something is broken if there is a row of a missing page or anchor, of an invalid link, or of a link that leads out of the site
 pub record IsCheck (top web : List ℕ) (aliases : List Alias) (asks : Asks) (broken : Bool) (text : List ℕ) : Type 0 where
   pub pages : List PageResult
@@ -109,11 +111,14 @@ pub record IsCheck (top web : List ℕ) (aliases : List Alias) (asks : Asks) (br
   pub found : Findings
   pub rows : rows_in found.broken.now ≡ broken_of asks.front asks.entries own
   pub ways : map way_of found.redirects.now ≡ redirects_of asks.front own
-  pub totals : found.totals ≡ totals_of aliases own found.broken.now found.redirects.now
-  -- the suggested pages are pages of a site with this top, and external links lead to other hosts than the site's
+  -- the own URLs of documents
+  pub documents : List (List ℕ)
+  pub totals : found.totals ≡ totals_of aliases documents own found.broken.now found.redirects.now
+  -- the suggested pages and the hints are those of a site with this top, and external links lead to other hosts than the site's
   pub site : SiteFiles
   pub site_top : string_bytes site.site.top ≡ top
   pub names : AreNamed asks.front site found.broken.now
+  pub hints : hints_in found.broken.now ≡ hints_of asks.front asks.entries site own
   -- what is known of the links of these pages
   pub places : List LinkPlaces
   pub invalid : AreInvalid asks.entries (texts_if asks.invalid places own) (invalid_rows_in found.broken.now)

@@ -182,6 +182,7 @@ fn input_of<'a>(
     ensures front { result.front.now ≡ settings.entry.front.now }
     ensures ignores { result.ignores.now ≡ settings.entry.ignores.now }
     ensures aliases { result.aliases.now ≡ site.now.aliases.items }
+    ensures documents { result.documents.now ≡ site.now.documents.items }
     ensures invalid { result.invalid ≡ settings.entry.invalid }
     ensures found { result.found.now ≡ crawls.now.whole.result }
     ensures rooted { result.rooted ≡ settings.entry.rooted }
@@ -190,7 +191,7 @@ fn input_of<'a>(
         front: settings.front,
         ignores: settings.ignores,
         aliases: site.aliases.as_slice(),
-        documents: &[],
+        documents: site.documents.as_slice(),
         anchors: site.anchors.as_slice(),
         places: site.places.as_slice(),
         invalid: settings.invalid,

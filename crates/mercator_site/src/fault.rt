@@ -26,7 +26,7 @@ pub enum SiteFault {
     BadSeed,
     /// There is no page at this link, which is a seed with its hidden characters escaped, or `./`, the top.
     NoStart(String),
-    /// The folder has no HTML documents.
+    /// The folder has no documents at which a check starts.
     NoDocuments,
     /// The saved web exceeds the limit of a crawl.
     TooLarge,

@@ -147,7 +147,7 @@ fn seed_of(alloc: Global, top: &CanonUrl, link: &str) -> Result<CanonUrl, SiteFa
     }
 }
 
-/// The own URLs of the HTML documents, or none if only what can be reached is checked.
+/// The own URLs of the documents at which a check starts, or none if only what can be reached is checked.
 pub(crate) fn documents(
     alloc: Global,
     top: &CanonUrl,
@@ -163,8 +163,8 @@ pub(crate) fn documents(
     own_documents(alloc, top, files)
 }
 
-/// The own URLs of the files that are HTML documents. All are below the top, which is tested because the contract promises it of any
-/// site.
+/// The own URLs of the HTML and XHTML documents, and of the sitemaps and feeds with a usual name. All are below the top, which is tested
+/// because the contract promises it of any site.
 fn own_documents(
     alloc: Global,
     top: &CanonUrl,
@@ -174,7 +174,7 @@ fn own_documents(
 {
     let mut urls = Vec::new(alloc);
     for number in 0..files.page_count() {
-        if let Some(url) = document_at(files, number) {
+        if let Some(url) = files.start(number) {
             push_own(top, url, &mut urls)?;
         }
     }
@@ -193,17 +193,7 @@ fn push_own(top: &CanonUrl, url: &CanonUrl, urls: &mut Vec<CanonUrl>) -> Result<
     Ok(())
 }
 
-/// Whether a page is an HTML document at its own URL.
+/// Whether the check starts at a document.
 fn has_document(files: &SiteFiles<'_>) -> bool {
-    (0..files.page_count()).any(|number| document_at(files, number).is_some())
-}
-
-/// The URL of the page with this number, if the page is an HTML document and this is its own URL.
-fn document_at<'a>(files: &'a SiteFiles<'_>, number: usize) -> Option<&'a CanonUrl> {
-    let url = files.url(number)?;
-    if files.document(number)?.is_page() && files.own_url(number)? == url {
-        Some(url)
-    } else {
-        None
-    }
+    (0..files.page_count()).any(|number| files.start(number).is_some())
 }

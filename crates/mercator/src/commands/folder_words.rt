@@ -88,6 +88,10 @@ const CHECK_FLAGS: &[Flag] = &[
         help: "Print an HTML page",
     },
     Flag {
+        name: "by-target",
+        help: "List broken links by target, not by file",
+    },
+    Flag {
         name: "all-sources",
         help: "List every location of a broken link, not only the first three",
     },
@@ -97,7 +101,7 @@ const CHECK_FLAGS: &[Flag] = &[
     },
     Flag {
         name: "reachable",
-        help: "Check only what can be reached by following links, not every HTML document",
+        help: "Check only what can be reached by following links, not every document",
     },
     Flag {
         name: "external",
@@ -117,7 +121,7 @@ const CHECK_FLAGS: &[Flag] = &[
 const KNOWN_OPTIONS: &[Valued] = &[Valued {
     name: "ignore",
     value: "LIST",
-    help: "Ignore every target that equals or begins with a line of the file LIST",
+    help: "Ignore each target that begins with a line of the file LIST, or matches a pattern in it",
 }];
 
 /// How file names and URLs correspond, and how the folder is read.
@@ -270,7 +274,7 @@ fn lists_of(found: &ArgMatches<'_>) -> Lists {
     Lists {
         all: found.get_flag("all-sources"),
         unreached: found.get_flag("unreached"),
-        by_target: false,
+        by_target: found.get_flag("by-target"),
     }
 }
 

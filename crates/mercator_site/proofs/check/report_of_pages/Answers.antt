@@ -1,6 +1,7 @@
 use Rattle.mercator_site.proofs.Prelude.{List, map, Ok, refl, sym, ap, subst, ◌∙◌, ◌≡◌, ◌==◌, not, length, string_bytes, err_from_is_err_and, canonical, PageResult, AreOthersListed, IsTopCrawl, host_root, own_of}
 use Rattle.std.proofs.Common.{true≢false}
 use Rattle.site_check.specs.Broken.{broken_of, redirects_of}
+use Rattle.site_check.specs.Hints.{hints_in, hints_of}
 use Rattle.site_check.specs.Ignored.{AreUnused, anchors_in}
 use Rattle.site_check.specs.Invalid.{AreInvalid, invalid_rows_in, texts_if}
 use Rattle.site_check.specs.Leaving.{leaving_in, leaving_of, outside_texts}
@@ -40,6 +41,8 @@ returns-clause-named g c = λ web source.
     let report = c.in_ok-report.ensures in
     let aliases = c.args.site.aliases.items in
     let same_aliases = c.input_of-input.ensures.aliases in
+    let documents = c.args.site.documents.items in
+    let same_documents = c.input_of-input.ensures.documents in
     record {
       check = record {
         pages = all;
@@ -51,12 +54,17 @@ returns-clause-named g c = λ web source.
             ap rows_in report.rows ∙ c.in_ok-checked.ensures.broken ∙ ap (λ f. broken_of f (map string_bytes input.ignores.now) pages) same_front
             ∙ ap (λ es. broken_of front es pages) same_entries;
         ways = ap (map way_of) report.ways ∙ c.in_ok-checked.ensures.redirects ∙ ap (λ f. redirects_of f pages) same_front;
+        documents = documents;
         totals =
-            report.totals ∙ c.in_ok-checked.ensures.totals ∙ ap (λ named. totals_of named pages checked.broken.items checked.redirects.items) same_aliases ∙ ap (λ bs. totals_of aliases pages bs checked.redirects.items) (sym report.rows)
-            ∙ ap (λ ws. totals_of aliases pages report.found.broken.now ws) (sym report.ways);
+            report.totals ∙ c.in_ok-checked.ensures.totals ∙ ap (λ named. totals_of named input.documents.now pages checked.broken.items checked.redirects.items) same_aliases
+            ∙ ap (λ urls. totals_of aliases urls pages checked.broken.items checked.redirects.items) same_documents ∙ ap (λ bs. totals_of aliases documents pages bs checked.redirects.items) (sym report.rows)
+            ∙ ap (λ ws. totals_of aliases documents pages report.found.broken.now ws) (sym report.ways);
         site = c.args.files.now;
         site_top = refl;
         names = subst (λ bs. AreNamed front c.args.files.now bs) (sym report.rows) (subst (λ f. AreNamed f c.args.files.now checked.broken.items) same_front c.in_ok-checked.ensures.names);
+        hints =
+            ap hints_in report.rows ∙ c.in_ok-checked.ensures.hints ∙ ap (λ f. hints_of f (map string_bytes input.ignores.now) files pages) same_front
+            ∙ ap (λ es. hints_of front es files pages) same_entries;
         places = places;
         invalid =
             subst (λ bs. AreInvalid entries links (invalid_rows_in bs)) (sym report.rows)
