@@ -14,7 +14,7 @@ from typing import Any, Dict, Iterator, List, NamedTuple, Optional
 from urllib.parse import quote, unquote, urlsplit
 
 from checking.documents import Document, document_of, form_of, sheet_text, text_of
-from checking.forms import REASONS
+from checking.printing import REASONS
 
 AROUND = 60  # the most characters that are shown on each side of a link's value
 SHOWN = 3  # the most other spellings that are shown
