@@ -669,7 +669,7 @@ KNOWN = [
         "hints with BASE, and for the top",
         {"home.php": "", "a.html": "<a href=/a><a href=a%2F><a href=/>"},
         ["./ a.html:1:33", "a a.html:1:9", "a%2F a.html:1:20"],
-        (*hint("http://docs.test/", "./ has home.php: --index-file home.php"),),
+        hint("./", "./ has home.php: --index-file home.php"),
     ),
     Known(
         "what --fallback html does not find",

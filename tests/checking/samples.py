@@ -84,7 +84,7 @@ class Folder:
     def read_lines(self, file: str) -> List[str]:
         """The lines of a document."""
         body = Path(self.top, file).read_bytes()
-        text, _ = sheet_text(body) if form_of(os.fsencode(file), True) == "css" else text_of(body)
+        text, _ = text_of(body) if form_of(os.fsencode(file), True) in ("html", "xml", "") else sheet_text(body)
         return text.split("\n")
 
     def read_document(self, file: str) -> Document:
