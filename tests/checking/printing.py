@@ -170,10 +170,14 @@ def as_text(rows: List[Row], options: Options) -> str:
     return "".join(shown(line) + "\n" for line in lines)
 
 
+ESCAPED = {"%": "%25", "\r": "%0D", "\n": "%0A"}
+IN_PROPERTIES = {":": "%3A", ",": "%2C"}
+
+
 def escaped(text: str, is_property: bool) -> str:
-    """A text in an annotation. GitHub reads escapes of `%` and line breaks, and in a property also those of `:` and `,`."""
-    text = shown(text).replace("%", "%25")
-    return text.replace(":", "%3A").replace(",", "%2C") if is_property else text
+    """A text in an annotation, by the escapes that GitHub reads, and with those of people for all other control characters."""
+    escapes = {**ESCAPED, **IN_PROPERTIES} if is_property else ESCAPED
+    return "".join(escapes.get(letter) or shown(letter) for letter in text)
 
 
 def as_annotations(rows: List[Row], folder: str) -> str:
