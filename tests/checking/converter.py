@@ -56,8 +56,8 @@ BREAKOUTS = frozenset(
 SVG_POINTS = ("foreignobject", "desc", "title")
 TEXT_POINTS = ("mi", "mo", "mn", "ms", "mtext")
 STYLE_KIND = "text/css"
-FEED_KINDS = {".rss": "application/rss+xml", ".atom": "application/atom+xml", ".xml": "application/xml"}
-LIST_KIND = "text/uri-list"
+FEED_KIND, LIST_KIND = "feed", "list"  # no media types, since other files have those of feeds, too
+FEEDS = (".rss", ".atom", ".xml")
 LIST_NAME = re.compile(r"sitemap.*\.txt", re.I | re.S)  # the names of lists of URLs
 # Python's own table of suffixes without that of the machine, so that it is the same everywhere
 KINDS = mimetypes.MimeTypes()
@@ -710,8 +710,8 @@ def with_base(links: list[str], given: str, url: Url) -> list[str]:
 
 
 def is_feed(kind: Optional[str]) -> bool:
-    """Return whether a media type is that of a sitemap, a feed or a list of URLs."""
-    return kind in (LIST_KIND, *FEED_KINDS.values())
+    """Return whether a file is a sitemap, a feed or a list of URLs."""
+    return kind in (FEED_KIND, LIST_KIND)
 
 
 def is_document(kind: Optional[str], body: bytes) -> bool:
@@ -943,7 +943,7 @@ def kind_of(name: bytes) -> tuple[Optional[str], bool]:
     last = os.path.basename(os.fsdecode(name))
     suffix = os.path.splitext(last)[1]
     kind, packing = KINDS.guess_type("name" + suffix)
-    kind = {**XML_KINDS, **FEED_KINDS}.get(suffix.lower(), kind)
+    kind = FEED_KIND if suffix.lower() in FEEDS else XML_KINDS.get(suffix.lower(), kind)
     return LIST_KIND if LIST_NAME.fullmatch(last) else kind, packing is not None
 
 
