@@ -364,7 +364,7 @@ class Site:
     def response(self, url: str) -> Response:
         """What a server returns for a URL."""
         key = self.key_of(url)
-        if key is None:
+        if key is None or not is_short("page", url):
             return None
         if key.path + b"/" in self.names and key.query is None:
             return Moved(self.url(key._replace(path=key.path + b"/")) + drawn.url_of(url).query)
@@ -384,7 +384,7 @@ class Site:
         if len(request.path) == len(front) or list(map(unquote_to_bytes, request.path[:len(front)])) != list(map(unquote_to_bytes, front)):
             return None
         path = self.path_of([unquote_to_bytes(part) for part in request.path[len(front):]])
-        if path is None or not is_short("page", url):
+        if path is None:
             return None
         key = Key(path, unquote_to_bytes(request.query[1:]) if self.settings.queries and request.query else None)
         if self.settings.exact and url != self.url(key):
@@ -394,11 +394,12 @@ class Site:
     def hint(self, url: str) -> Optional[str]:
         """What another rule would find at a URL without a page, and its option."""
         key = self.key_of(url)
-        if key is None:
+        if key is None or key in self.files:
             return None
-        page = self.files.get(key._replace(path=key.path + b".html"))
         if os.path.basename(key.path):
-            return f"{self.file_of(page)} exists: --fallback html" if page and not self.settings.exact else None
+            page = self.files.get(key._replace(path=key.path + b".html"))
+            is_off = not self.settings.exact and not self.settings.fallback
+            return f"{self.file_of(page)} exists: --fallback html" if page and is_off else None
         index = self.likely_indices.get(key)
         return f"{os.fsdecode(key.path) or './'} has {index}: --index-file {index}" if index else None
 

@@ -181,10 +181,11 @@ def escaped(text: str, is_property: bool) -> str:
 
 
 def as_annotations(rows: List[Row], folder: str) -> str:
-    """The report as annotations. The paths begin with the folder."""
+    """The report as annotations. The paths begin with the folder. A target without a location has an annotation of no file."""
     front = "" if folder == "." else folder.rstrip("/") + "/"
-    return "".join(
-        f"::error file={escaped(front + place['file'], True)},line={place['line']},col={place['column']}::"
-        f"{escaped(row['target'] + ': ' + message(row) + advice(row, True), False)}\n"
-        for row, places in targets(rows) for place in places
-    )
+    lines = []
+    for row, places in targets(rows):
+        text = escaped(row["target"] + ": " + message(row) + advice(row, True), False)
+        files = [f" file={escaped(front + place['file'], True)},line={place['line']},col={place['column']}" for place in places]
+        lines += [f"::error{file}::{text}\n" for file in files or [""]]
+    return "".join(lines)
