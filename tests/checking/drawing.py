@@ -206,7 +206,7 @@ FEED_LINKS = [
     "<link a='1' href = '{}' href='no'/>", "<guid>{}</guid>", "<LOC>{}</LOC>", "<x:link x:href='no' href='{}'/>",
 ]
 FEED_PIECES = [
-    "<!-- <loc>no</loc> -->", "<![CDATA[<loc>no</loc>]]>", "<?xml-stylesheet href='no'?>", "<loc/>", "<loc></loc>", "<loc> <!-- --> </loc>", "<link/>", "<link href=''/>",
+    "<!-- <loc>no</loc> -->", "<!--><loc>gone</loc>", "<?><loc>gone</loc>", "a < b", "<![CDATA[<loc>no</loc>]]>", "<?xml-stylesheet href='no'?>", "<loc/>", "<loc></loc>", "<loc> <!-- --> </loc>", "<link/>", "<link href=''/>",
     "text", "\n", "\r\n", "</x>", "<lastmod>2026-01-01</lastmod>", "<description>&lt;a href='no'&gt;</description>", "<loc>&#x67;one&#45;1</loc>", "<loc>&#0;&nbsp;&amp</loc>",
     "<link href='&quot;&apos;&#x26;'/>", "<loc>x<!-- y -->z<?w?></loc>", "<loc><!-- y -->z</loc>", "\u00fc", "<content src='gone.png'/>", "<enclosure url=\"gone.mp3\"/>",
     "<link>gone&amp;#x</link>", "<loc>\t</loc>", "<link href=' '/>", "<id>no</id>", "<loc>http://[bad/</loc>", "<link>htp:x</link>", "<link href='file:x'/>",

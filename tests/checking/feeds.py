@@ -20,10 +20,12 @@ KINDS: Dict[str, Tuple[Tuple[str, ...], Tuple[Tuple[str, str], ...]]] = {
 STARTS = ("sitemap*", "*.rss", "*.atom", "feed.xml", "rss.xml", "atom.xml", "index.xml")
 LIST = "sitemap*.txt"
 CDATA = "<![CDATA["
-# A comment, a section of text, an instruction, a declaration up to its end or its first bracket, or a tag
+# A comment, a section of text, an instruction, a declaration up to its end or its first bracket, or a tag. What does not end goes to
+# the end of the file
 MARK = re.compile(
-    r"""<!--.*?(?:-->|\Z)|<!\[CDATA\[.*?(?:\]\]>|\Z)|<\?.*?(?:\?>|\Z)|<!(?:"[^"]*"|'[^']*'|[^"'>\[])*(?:[>\[]|\Z)
-    |<(/?)([^\s<>/!?="'][^\s<>/="']*)((?:"[^"]*"|'[^']*'|[^"'>])*)>""",
+    r"""<!(?=--).*?(?:-->|\Z)|<!\[CDATA\[.*?(?:\]\]>|\Z)|<(?=\?).*?(?:\?>|\Z)
+    |<!(?:"[^"]*(?:"|\Z)|'[^']*(?:'|\Z)|[^"'>\[])*(?:[>\[]|\Z)
+    |<(/?)([^\s=/>"']*)((?:"[^"]*(?:"|\Z)|'[^']*(?:'|\Z)|[^"'>])*)(?:>|\Z)""",
     re.DOTALL | re.VERBOSE,
 )
 ATTRIBUTE = re.compile(r"""([^\s=/"']+)\s*=\s*(?:"([^"]*)"|'([^']*)')""")
@@ -82,7 +84,7 @@ def content(text: str, at: int) -> Text:
     for mark in MARK.finditer(text, at):
         found += decoded(text[last:mark.start()])
         last = mark.end()
-        if mark[2]:
+        if mark[2] is not None:
             break
         if mark[0].startswith(CDATA):
             found += mark[0][len(CDATA):].partition("]]>")[0]
@@ -93,7 +95,7 @@ def content(text: str, at: int) -> Text:
 
 def links_of_feed(text: str) -> List[Text]:
     """The links of a sitemap or a feed. A file with another root has none, and neither has an empty text."""
-    tags = [mark for mark in MARK.finditer(text) if mark[2] and not mark[1]]
+    tags = [mark for mark in MARK.finditer(text) if mark[2] is not None and not mark[1]]
     root = local(tags[0]) if tags else ""
     if root not in KINDS:
         return []
