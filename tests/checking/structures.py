@@ -1,15 +1,21 @@
-"""The structure of a report in JUnit's XML, as GitLab and Jenkins document it, and in SARIF 2.1.0: what these formats require."""
+"""The reports in JUnit's XML, as GitLab and Jenkins document it, and in SARIF 2.1.0: what these formats require, and what rows give."""
 
 from __future__ import annotations
 
+import json
 import re
-from typing import Any, Dict, FrozenSet, Iterator, List, NamedTuple, Optional
+from itertools import groupby
+from typing import Any, Dict, FrozenSet, Iterator, List, NamedTuple, Optional, Tuple
+from urllib.parse import quote
 from xml.etree import ElementTree
+
+from checking.model import Row
+from checking.printing import advice, as_written, in_order, message, named, place_order, shown, targets
 
 # A URI reference by RFC 3986, as far as its characters show it
 PCHAR = r"(?:[A-Za-z0-9\-._~!$&'()*+,;=:@]|%[0-9A-Fa-f]{2})"
 SEGMENT = PCHAR.replace(":@", "@")
-RELATIVE = re.compile(rf"(?:{SEGMENT}+(?:/{PCHAR}*)*)?(?:\?(?:{PCHAR}|[/?])*)?(?:#(?:{PCHAR}|[/?])*)?")
+RELATIVE = re.compile(rf"(?:/?{SEGMENT}+(?:/{PCHAR}*)*)?(?:\?(?:{PCHAR}|[/?])*)?(?:#(?:{PCHAR}|[/?])*)?")
 ABSOLUTE = re.compile(rf"[A-Za-z][A-Za-z0-9+.\-]*:(?://[A-Za-z0-9\-._~!$&'()*+,;=:@\[\]%]*)?(?:/{PCHAR}*)*")
 LEVELS = ("none", "note", "warning", "error")
 
@@ -61,12 +67,75 @@ def junit_faults(node: ElementTree.Element) -> Iterator[str]:
         yield from junit_faults(child)
 
 
-def junit_fault(root: ElementTree.Element) -> Optional[str]:
+class Link(NamedTuple):
+    """A broken link: its target, and its location if it has one."""
+
+    row: Row
+    place: Optional[Row]
+
+    def text(self) -> str:
+        """What is wrong with the link."""
+        return f"{named(self.row)}: {message(self.row)}{as_written(self.row, self.place) if self.place else ''}{advice(self.row)}"
+
+    def rule(self) -> str:
+        """The rule that the link breaks."""
+        return message(self.row).replace("no such ", "missing ").replace(" ", "-").lower()
+
+
+def links_of(rows: List[Row]) -> List[Link]:
+    """The broken links by file, line and column, and then the targets without a location."""
+    found = in_order(targets(rows))
+    placed = [(Link(row, place), place_order(place)) for row, places in found for place in places]
+    return [link for link, _ in sorted(placed, key=lambda one: one[1])] + [Link(row, None) for row, places in found if not places]
+
+
+def path_in(folder: str, file: str) -> str:
+    """The path of a file with its folder."""
+    return file if folder == "." else folder.rstrip("/") + "/" + file
+
+
+def in_xml(text: str) -> str:
+    """A text as XML can have it."""
+    return re.sub("[\ufffe\uffff]", lambda one: f"\\u{{{ord(one[0]):x}}}", shown(text))
+
+
+Case = Tuple[Dict[str, str], Optional[Dict[str, str]], str]  # the attributes of a test case and of its failure, and its text
+
+
+def expected_suites(rows: List[Row], folder: str) -> Iterator[Tuple[str, List[Case]]]:
+    """The names of the test suites, and their cases: one suite for each file, and one for targets without a location."""
+    links = links_of(rows)
+    if not links:
+        yield "links", [({"name": "no broken links", "classname": "links"}, None, "")]
+    for file, some in groupby(links, key=lambda link: link.place["file"] if link.place else None):
+        name = "no file" if file is None else in_xml(file)
+        cases: List[Case] = []
+        for link in some:
+            location = f"{link.place['line']}:{link.place['column']}: " if link.place else ""
+            case = {"name": location + in_xml(named(link.row)), "classname": name}
+            case.update({"file": in_xml(path_in(folder, file))} if file is not None else {})
+            cases.append((case, {"type": link.rule(), "message": in_xml(link.text())}, in_xml(link.text())))
+        yield name, cases
+
+
+def actual_case(case: ElementTree.Element) -> Case:
+    """A test case of a report."""
+    failure = case.find("failure")
+    return dict(case.attrib), None if failure is None else dict(failure.attrib), "" if failure is None else failure.text or ""
+
+
+def junit_fault(actual: str, rows: List[Row], folder: str) -> Optional[str]:
     """What is wrong with a report in JUnit's XML. GitLab keeps only the first of several test cases with one name."""
-    cases = [(case.get("classname"), case.get("name")) for case in root.iter("testcase")]
-    twice = [case for case in cases if cases.count(case) > 1] if len(cases) < 1000 else []
-    faults = ["the root is not testsuites"] if root.tag != "testsuites" else []
-    return next(iter([*faults, *junit_faults(root), *(f"two cases {case}" for case in twice)]), None)
+    root = ElementTree.fromstring(actual.encode())
+    faults = list(junit_faults(root)) + [f"the root is {root.tag}"] * (root.tag != "testsuites")
+    if faults:
+        return faults[0]
+    suites = [(suite.attrib["name"], [actual_case(case) for case in suite.iter("testcase")]) for suite in root]
+    for one, other in zip(suites, expected_suites(rows, folder)):
+        if one != other:
+            return f"\n  actual   {one}\n  expected {other}"
+    names = [(case["classname"], case["name"]) for _, cases in suites for case, _, _ in cases]
+    return None if len(suites) == len(list(expected_suites(rows, folder))) and len(set(names)) == len(names) else "suites or names"
 
 
 class Sarif:
@@ -75,7 +144,7 @@ class Sarif:
     def __init__(self, log: Dict[str, Any]) -> None:
         self.faults: List[str] = []
         self.want(log.get("version") == "2.1.0", "version")
-        self.want(str(log.get("$schema", "")).startswith("https://"), "$schema")
+        self.want(str(log.get("$schema", "https://")).startswith("https://"), "$schema")
         runs = log.get("runs")
         self.want(isinstance(runs, list) and len(runs) > 0, "runs")
         for run in runs if isinstance(runs, list) else []:
@@ -92,7 +161,7 @@ class Sarif:
         self.want(isinstance(driver.get("name"), str) and driver["name"], "tool.driver.name")
         self.want(run.get("columnKind") == "unicodeCodePoints", "columnKind")
         rules = [rule.get("id") for rule in driver.get("rules", [])]
-        self.want(all(rules) and len(set(rules)) == len(rules), "rules")
+        self.want(all(isinstance(rule, str) for rule in rules) and len(set(rules)) == len(rules), "rules")
         bases = run.get("originalUriBaseIds", {})
         for base in bases.values():
             uri = base.get("uri", "")
@@ -105,7 +174,7 @@ class Sarif:
         """Reads a result."""
         self.want(isinstance(result.get("message", {}).get("text"), str), "message.text")
         self.want(result.get("level") in LEVELS, "level")
-        self.want(result.get("ruleId") in rules, "ruleId")
+        self.want(result.get("ruleId") in rules if rules else result.get("ruleId"), "ruleId")
         self.want("ruleIndex" not in result or rules[result["ruleIndex"]] == result.get("ruleId"), "ruleIndex")
         for location in result.get("locations", []):
             place = location.get("physicalLocation", {})
@@ -116,6 +185,28 @@ class Sarif:
             self.want(all(isinstance(region.get(name), int) and region[name] > 0 for name in ("startLine", "startColumn")), "region")
 
 
-def sarif_fault(log: Dict[str, Any]) -> Optional[str]:
+def expected_result(link: Link, folder: str, sources: str) -> Row:
+    """A result of a report in SARIF. With the URL of the sources, the URI of its file is below this."""
+    result: Row = {"ruleId": link.rule(), "level": "error", "message": {"text": shown(link.text())}}
+    if link.place:
+        file = {"uri": quote(link.place["file"]), "uriBaseId": "SOURCES"} if sources else {"uri": quote(path_in(folder, link.place["file"]))}
+        region = {"startLine": link.place["line"], "startColumn": link.place["column"]}
+        result["locations"] = [{"physicalLocation": {"artifactLocation": file, "region": region}}]
+    return result
+
+
+def sarif_fault(actual: str, rows: List[Row], folder: str, sources: str = "") -> Optional[str]:
     """What is wrong with a report in SARIF."""
-    return next(iter(Sarif(log).faults), None)
+    log = json.loads(actual)
+    faults = Sarif(log).faults
+    if faults:
+        return faults[0]
+    run = log["runs"][0]
+    bases = {"SOURCES": {"uri": sources.rstrip("/") + "/"}} if sources else None
+    if run.get("originalUriBaseIds") != bases:
+        return f"bases {run.get('originalUriBaseIds')}"
+    results = [expected_result(link, folder, sources) for link in links_of(rows)]
+    for one, other in zip(run["results"], results):
+        if {key: value for key, value in one.items() if key != "ruleIndex"} != other:
+            return f"\n  actual   {one}\n  expected {other}"
+    return None if len(results) == len(run["results"]) else f"{len(run['results'])} results, {len(results)} expected"
