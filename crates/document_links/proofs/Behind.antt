@@ -1,14 +1,14 @@
--- The position after a text that is made longer.
-use Rattle.document_links.proofs.Prelude.{◌≡◌, ◌∙◌, ℕ, ◌+◌, ◌-◌, ◌<◌, ◌≤◌, Bool, true, false, ◌||◌, List, [], ◌∷◌, ◌++◌, length, take, drop, get_or, cond, refl, sym, ap, arith, length-drop, length-take, cases_Bool, cond-true, cond-false, or_parts, list_any-append, list_any_none, list_any_at, sum_by-append, sum_by-cons, count_by-le-length, NoneAfter, Nowhere, Passes, is_byte, begins_character, is_lf, last_line, place_of}
+-- The point after a text that is made longer.
+use Rattle.document_links.proofs.Prelude.{◌≡◌, ◌∙◌, ℕ, ◌+◌, ◌-◌, ◌<◌, ◌≤◌, Bool, true, false, ◌||◌, List, [], ◌∷◌, ◌++◌, length, take, drop, get_or, cond, refl, sym, ap, arith, length-drop, length-take, cases_Bool, cond-true, cond-false, or_parts, list_any-append, list_any_none, list_any_at, sum_by-append, sum_by-cons, count_by-le-length, NoneAfter, Nowhere, Passes, is_byte, begins_character, is_lf, last_line, point_of}
 use Rattle.std.specs.List.{list_any, count_by}
 use Rattle.std.proofs.lemmas.List.{drop-take, take-take, take_more, take-append-drop, get_or-drop, get_or_default}
-use Rattle.document_links.specs.declared.places.TextPlace.{TextPlace}
+use Rattle.document_links.specs.declared.points.Point.{Point}
 
-abbrev made : ℕ → ℕ → TextPlace
+abbrev made : ℕ → ℕ → Point
 made line column = record { line = line; column = column }
 
-pub same_place : {a b c d : ℕ} → a ≡ b → c ≡ d → made a c ≡ made b d
-same_place {b = b} {c = c} e f = ap (λ x. made x c) e ∙ ap (made b) f
+pub same_point : {a b c d : ℕ} → a ≡ b → c ≡ d → made a c ≡ made b d
+same_point {b = b} {c = c} e f = ap (λ x. made x c) e ∙ ap (made b) f
 
 count-append : (p : ℕ → Bool) (xs ys : List ℕ) → count_by p (xs ++ ys) ≡ count_by p xs + count_by p ys
 count-append p xs ys = sum_by-append (λ x. cond (p x) 1 0) xs ys
@@ -30,7 +30,7 @@ no_feed_behind : (xs ys : List ℕ) → list_any is_lf ys ≡ false → last_lin
 no_feed_behind [] ys none = whole_line ys none
 no_feed_behind (x ∷ xs) ys none = grind (arith, list_any-append, or_false, cases_Bool, cond-true, cond-false, no_feed_behind xs ys none)
 
--- ---- how far a place goes
+-- ---- how far a point goes
 
 line_within : (xs : List ℕ) → length (last_line xs) ≤ length xs
 line_within [] = omega arith
@@ -71,12 +71,12 @@ no_count : (ys : List ℕ) → list_any is_lf ys ≡ false → count_by is_lf ys
 no_count [] none = refl
 no_count (y ∷ ys) none = grind (arith, or_parts, cond-false, sum_by-cons, no_count ys)
 
--- ---- the place
+-- ---- the point
 
 pub behind_feed : (front ys : List ℕ) (k : ℕ) → NoneAfter (Passes (is_byte 10) ys) 0 (length ys) k → Passes (is_byte 10) ys k →
-    made ((count_by is_lf front + 1) + count_by is_lf ys) (count_by begins_character (drop (k + 1) ys) + 1) ≡ place_of (front ++ ys)
-behind_feed front ys k last is = grind (arith, list_any_at, feed_behind, line_from, same_place, count-append)
+    made ((count_by is_lf front + 1) + count_by is_lf ys) (count_by begins_character (drop (k + 1) ys) + 1) ≡ point_of (front ++ ys)
+behind_feed front ys k last is = grind (arith, list_any_at, feed_behind, line_from, same_point, count-append)
 
 pub behind_none : (front ys : List ℕ) → Nowhere (Passes (is_byte 10) ys) 0 (length ys) →
-    made (count_by is_lf front + 1) ((count_by begins_character (last_line front) + 1) + count_by begins_character ys) ≡ place_of (front ++ ys)
-behind_none front ys nowhere = grind (arith, no_count, same_place, no_feed_behind, list_any_none, not_byte, sum_by-append)
+    made (count_by is_lf front + 1) ((count_by begins_character (last_line front) + 1) + count_by begins_character ys) ≡ point_of (front ++ ys)
+behind_none front ys nowhere = grind (arith, no_count, same_point, no_feed_behind, list_any_none, not_byte, sum_by-append)

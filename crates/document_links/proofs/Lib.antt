@@ -1,7 +1,11 @@
 pub mod Behind
+pub mod Feeding
 pub mod Fitting
+pub mod Marking
 pub mod Parsing
 pub mod Prelude
 pub mod Rooting
+pub mod Runs
 pub mod Trimming
+pub mod Unescaping
 pub mod WindowsBytes

@@ -1,6 +1,6 @@
 -- The names that most proofs cite, passed on from one place. Declares nothing.
-pub use Rattle.document_links.specs.Encoding.{HasLinks, HasSheetLinks, HasSheetTexts, HasTexts, IsTextIn, character_of, likely_byte, text_in}
-pub use Rattle.document_links.specs.Places.{begins_character, is_lf, last_line, place_at, place_of}
+pub use Rattle.document_links.specs.Encoding.{HasFileLinks, HasFileTexts, HasLinks, HasTexts, IsTextIn, character_of, likely_byte, text_in}
+pub use Rattle.document_links.specs.Places.{begins_character, is_lf, last_line, point_at, point_of}
 pub use Rattle.document_links.specs.Rooted.{begins_path, below_after, depth_after, in_segment, is_slash, kept, path_below, rooted}
 pub use Rattle.document_links.specs.Texts.{fits, is_inner, is_plain}
 pub use Rattle.document_links.specs.Written.{can_write, clean, keeps_links, shortened, without_fragment, written}

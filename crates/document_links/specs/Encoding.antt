@@ -6,10 +6,14 @@ use Rattle.std.specs.declared.alloc.Global.{Global}
 use Rattle.std.specs.List.{list_all}
 use Rattle.html_links.specs.Links.{base_of, links_of}
 use Rattle.html_links.specs.Styles.{style_links_of}
+use Rattle.document_links.specs.Feeds.{feed_links_of}
+use Rattle.document_links.specs.UrlLists.{url_lines_of}
 use Rattle.document_links.specs.declared.charset.Charset.{Charset}
 use Rattle.document_links.specs.declared.charset.TheConstants.{LIKELY, WINDOWS}
 use Rattle.document_links.specs.declared.document.ReadOptions.{ReadOptions}
 use Rattle.document_links.specs.declared.charset.Charset.TheVariants.{Utf8, Utf16Le, Utf16Be, Windows1252, Other}
+use Rattle.document_links.specs.declared.text_kind.TextKind.{TextKind}
+use Rattle.document_links.specs.declared.text_kind.TextKind.TheVariants.{Document, StyleSheet, Feed, UrlList}
 use Rattle.document_links.specs.Rooted.{all_rooted}
 use Rattle.document_links.specs.Written.{AreWritten, byte_count, can_write, is_unicode, written}
 
@@ -58,15 +62,29 @@ pub record HasLinkTexts (options : ReadOptions) (body : List ℕ) (links : List 
   pub marked : has_mark body ≡ true → charset ≡ Utf8
   pub has : HasLinks options charset body links
 
--- ---- style sheets
+-- ---- files without `base`: style sheets, feeds and lists of URLs
 
 -- a style sheet names its encoding after these bytes, if it begins with them
 abbrev pub charset_rule : List ℕ
 charset_rule = codes "@charset " ++ 34 ∷ []
 
--- a style sheet begins with a byte order mark of UTF-16, or with the name of its encoding
-abbrev pub names_encoding : List ℕ → Bool
-names_encoding sheet = bytes_eq (take 2 sheet) (255 ∷ 254 ∷ []) || bytes_eq (take 2 sheet) (254 ∷ 255 ∷ []) || bytes_eq (take 10 sheet) charset_rule
+-- a file begins with a byte order mark of UTF-16
+abbrev pub is_wide : List ℕ → Bool
+is_wide file = bytes_eq (take 2 file) (255 ∷ 254 ∷ []) || bytes_eq (take 2 file) (254 ∷ 255 ∷ [])
+
+-- a file of this kind has that mark or, if it is a style sheet, the name of its encoding. A document may name its encoding later
+abbrev pub names_encoding : TextKind → List ℕ → Bool
+names_encoding (Document syntax styles) file = true
+names_encoding StyleSheet file = is_wide file || bytes_eq (take 10 file) charset_rule
+names_encoding Feed file = is_wide file
+names_encoding UrlList file = is_wide file
+
+-- files of this kind are in Unicode
+abbrev pub is_in_unicode : TextKind → Bool
+is_in_unicode (Document syntax styles) = false
+is_in_unicode StyleSheet = false
+is_in_unicode Feed = true
+is_in_unicode UrlList = true
 
 -- the encoding is a known one, so that all bytes are read
 abbrev pub is_known : Charset → Bool
@@ -76,22 +94,39 @@ is_known Utf16Be = true
 is_known Windows1252 = true
 is_known Other = false
 
--- a style sheet with this text has these link texts
-abbrev pub HasSheetTexts : ReadOptions → Charset → List ℕ → List (List ℕ) → Type 0
-HasSheetTexts options charset text links = is_known charset ≡ true → AreWritten [] (all_rooted options.root (style_links_of text)) links options.byte_limit
+-- the links in a text of this kind
+abbrev pub links_in : TextKind → List ℕ → List (List ℕ)
+links_in (Document syntax styles) text = links_of styles syntax text
+links_in StyleSheet text = style_links_of text
+links_in Feed text = feed_links_of text
+links_in UrlList text = url_lines_of text
 
--- a style sheet in this encoding has these link texts
-pub record HasSheetLinks (options : ReadOptions) (charset : Charset) (sheet : List ℕ) (links : List (List ℕ)) : Type 0 where
+-- a file with this text has these link texts
+abbrev pub HasFileTexts : TextKind → ReadOptions → Charset → List ℕ → List (List ℕ) → Type 0
+HasFileTexts kind options charset text links = is_known charset ≡ true → AreWritten [] (all_rooted options.root (links_in kind text)) links options.byte_limit
+
+-- a file in this encoding has these link texts
+pub record HasFileLinks (kind : TextKind) (options : ReadOptions) (charset : Charset) (file : List ℕ) (links : List (List ℕ)) : Type 0 where
   pub text : List ℕ
-  pub decoded : IsTextIn charset sheet text
-  pub texts : HasSheetTexts options charset text links
+  pub decoded : IsTextIn charset file text
+  pub texts : HasFileTexts kind options charset text links
 
--- a style sheet has these link texts in some encoding, which is UTF-8 unless the sheet names another
-pub record HasSheet (options : ReadOptions) (sheet : List ℕ) (links : List (List ℕ)) : Type 0 where
+-- a file has these link texts in some encoding, which is UTF-8 unless the file names another
+pub record HasFile (kind : TextKind) (options : ReadOptions) (file : List ℕ) (links : List (List ℕ)) : Type 0 where
   pub charset : Charset
-  pub marked : has_mark sheet ≡ true → charset ≡ Utf8
-  pub unnamed : names_encoding sheet ≡ false → charset ≡ Utf8
-  pub has : HasSheetLinks options charset sheet links
+  pub marked : has_mark file ≡ true → charset ≡ Utf8
+  pub unnamed : names_encoding kind file ≡ false → charset ≡ Utf8
+  pub known : is_in_unicode kind ≡ true → is_known charset ≡ true
+  pub has : HasFileLinks kind options charset file links
+
+abbrev pub HasSheet : ReadOptions → List ℕ → List (List ℕ) → Type 0
+HasSheet options sheet links = HasFile StyleSheet options sheet links
+
+abbrev pub HasFeed : ReadOptions → List ℕ → List (List ℕ) → Type 0
+HasFeed options feed links = HasFile Feed options feed links
+
+abbrev pub HasUrlList : ReadOptions → List ℕ → List (List ℕ) → Type 0
+HasUrlList options list links = HasFile UrlList options list links
 
 -- ---- windows-1252
 

@@ -1,6 +1,10 @@
 pub mod Encoding
+pub mod Feeds
+pub mod Markup
 pub mod Places
 pub mod Rooted
 pub mod Schemes
 pub mod Texts
+pub mod Unescaped
+pub mod UrlLists
 pub mod Written

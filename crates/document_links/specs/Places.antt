@@ -1,9 +1,15 @@
--- The position of a byte in a text: the line and the character in it, each from 1.
-use Rattle.std.specs.Prelude.{◌≡◌, map, ℕ, ◌+◌, ◌==◌, Bool, true, false, not, if◌then◌else◌, List, [], ◌∷◌, take, count_by, bit_and}
+-- Points in a text: the line and the character in it, each from 1. The places of links in a file.
+use Rattle.std.specs.Prelude.{◌≡◌, ◌≤◌, map, ℕ, ◌+◌, ◌==◌, Bool, true, false, not, if◌then◌else◌, List, [], ◌∷◌, take, count_by, bit_and, length, slice_index_or, string_bytes, IsAscii}
 use Rattle.std.specs.List.{list_any}
+use Rattle.std.specs.Str.Lossy.{utf8_lossy}
 use Rattle.document_links.specs.declared.charset.Charset.{Charset}
 use Rattle.document_links.specs.declared.charset.Charset.TheVariants.{Utf8, Utf16Le, Utf16Be, Windows1252, Other}
 use Rattle.document_links.specs.declared.places.TextPlace.{TextPlace}
+use Rattle.document_links.specs.declared.points.KnownPoint.{KnownPoint}
+use Rattle.document_links.specs.declared.points.Point.{Point}
+use Rattle.document_links.specs.declared.text_kind.TextKind.{TextKind}
+use Rattle.document_links.specs.Encoding.{IsTextIn, has_mark, is_in_unicode, is_known, links_in, names_encoding}
+use Rattle.document_links.specs.Written.{clean}
 
 abbrev pub is_lf : ℕ → Bool
 is_lf b = b == 10
@@ -17,17 +23,17 @@ abbrev pub last_line : List ℕ → List ℕ
 last_line [] = []
 last_line (b ∷ bs) = if list_any is_lf (b ∷ bs) then last_line bs else b ∷ bs
 
--- the position after a text
-abbrev pub place_of : List ℕ → TextPlace
-place_of front = record { line = count_by is_lf front + 1; column = count_by begins_character (last_line front) + 1 }
+-- the point after a text
+abbrev pub point_of : List ℕ → Point
+point_of front = record { line = count_by is_lf front + 1; column = count_by begins_character (last_line front) + 1 }
 
-abbrev pub place_at : List ℕ → ℕ → TextPlace
-place_at text index = place_of (take index text)
+abbrev pub point_at : List ℕ → ℕ → Point
+point_at text index = point_of (take index text)
 
--- the places of these indices in some text, each in the same one
-pub record ArePlaces (indices : List ℕ) (places : List TextPlace) : Type 0 where
-  pub text : List ℕ
-  pub each : places ≡ map (place_at text) indices
+-- the point at this position of a text is known
+pub record IsKnown (text : List ℕ) (known : KnownPoint) : Type 0 where
+  pub within : known.index ≤ length text
+  pub point : known.point ≡ point_at text known.index
 
 -- ---- encodings
 
@@ -38,3 +44,30 @@ keeps_ascii Utf16Le = false
 keeps_ascii Utf16Be = false
 keeps_ascii Windows1252 = true
 keeps_ascii Other = true
+
+-- ---- links
+
+abbrev pub point_of_place : TextPlace → Point
+point_of_place place = record { line = place.line; column = place.column }
+
+-- the link with this index among those of a text, as written
+abbrev pub written_in : TextKind → List ℕ → ℕ → List ℕ
+written_in kind text index = utf8_lossy (clean (slice_index_or (links_in kind text) index []))
+
+-- These are the places of the links with these indices: each link has a position in the text, and in a known encoding the links as
+-- written are those of the text.
+pub record ArePlacesIn (kind : TextKind) (charset : Charset) (text indices : List ℕ) (places : List TextPlace) : Type 0 where
+  pub position : ℕ → ℕ
+  pub placed : map point_of_place places ≡ map (λ index. point_at text (position index)) indices
+  pub written : is_known charset ≡ true → map (λ place. string_bytes place.written) places ≡ map (written_in kind text) indices
+
+-- these are those places in a file, by its text in some encoding. A text of ASCII is the file itself
+pub record ArePlaces (kind : TextKind) (file indices : List ℕ) (places : List TextPlace) : Type 0 where
+  pub charset : Charset
+  pub marked : has_mark file ≡ true → charset ≡ Utf8
+  pub unnamed : names_encoding kind file ≡ false → charset ≡ Utf8
+  pub known : is_in_unicode kind ≡ true → is_known charset ≡ true
+  pub text : List ℕ
+  pub decoded : IsTextIn charset file text
+  pub ascii : IsAscii file → text ≡ file
+  pub has : ArePlacesIn kind charset text indices places

@@ -13,18 +13,18 @@ use std::alloc::{AllocError, Global};
 pub struct AnchorLink<'a> {
     /// The text after its first `#`.
     pub fragment: &'a [u8],
-    /// The position in the document's text at which the attribute's value starts. `None` if it is beyond 4 GiB.
+    /// Its index among the links of its document. `None` if four bytes cannot hold it.
     pub index: Option<u32>,
 }
 
-/// The start of a link's fragment, which ends at the start of the next, and the position of its value.
+/// The start of a link's fragment, which ends at the start of the next, and the link's index.
 #[derive(Clone, Copy)]
 struct KeptLink {
     fragment: u32,
     index: u32,
 }
 
-/// Means a position beyond 4 GiB.
+/// Means an index that four bytes cannot hold.
 const FAR: u32 = u32::MAX;
 
 /// The anchors of a document, and its links to anchors.
@@ -117,7 +117,7 @@ impl Anchors {
         let begin = self.links.len();
         for link in links {
             let fragment = trimmed_end(fragment_of(raw, *link));
-            self.push_link(fragment, raw.position(link.link), is_own)?;
+            self.push_link(fragment, link.link, is_own)?;
         }
         let end = self.links.len();
         if begin < end {
@@ -154,7 +154,7 @@ impl Anchors {
     }
 }
 
-/// Returns the position, or `None` for the value that means a position beyond 4 GiB.
+/// Returns the index, or `None` for the value that means one that four bytes cannot hold.
 fn known_index(index: u32) -> Option<u32> {
     if index == FAR { None } else { Some(index) }
 }

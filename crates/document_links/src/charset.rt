@@ -1,11 +1,12 @@
 //! The encoding of a document or a style sheet.
 ghost use Rattle.std.specs.Prelude.{◌≡◌, ◌≢◌, ℕ, ◌≤◌, ◌<◌, bytes_eq, false, length, take, true, IsAscii, IfOk, IfSome, IsNone, IsSome};
-ghost use Rattle.document_links.specs.Encoding.{character_of, charset_rule, has_mark, likely_byte, names_encoding};
+ghost use Rattle.document_links.specs.Encoding.{character_of, charset_rule, has_mark, is_in_unicode, is_known, likely_byte, names_encoding};
 ghost use Rattle.document_links.specs.Places.{keeps_ascii};
 ghost use Rattle.document_links.specs.Written.{is_unicode};
 
 use crate::cleaning::trimmed;
 use crate::document_start::{START_LENGTH, behind_first, behind_front, start_of};
+use crate::text_kind::TextKind;
 use crate::words::is_among;
 use memchr::memchr;
 use std::alloc::{AllocError, Global};
@@ -38,18 +39,31 @@ impl Charset {
     }
 }
 
-/// Finds the encoding of a document, by its first bytes, its head, and whether it is UTF-8, or of a style sheet, by its first bytes.
-pub(crate) fn charset_of(body: &[u8], is_style_sheet: bool) -> Charset
+/// Finds the encoding of a document, by its first bytes, its head, and whether it is UTF-8, or of another file, by its first bytes.
+pub(crate) fn charset_of(body: &[u8], kind: TextKind) -> Charset
     ensures ascii { IsAscii body.now → keeps_ascii result ≡ true }
     ensures marked { has_mark body.now ≡ true → result ≡ Charset.Utf8 }
-    ensures unnamed { is_style_sheet ≡ true → names_encoding body.now ≡ false → result ≡ Charset.Utf8 }
+    ensures unnamed { names_encoding kind body.now ≡ false → result ≡ Charset.Utf8 }
+    ensures known { is_in_unicode kind ≡ true → is_known result ≡ true }
 {
     match body {
         [0xef, 0xbb, 0xbf, ..] => Charset::Utf8,
         [0xff, 0xfe, ..] => Charset::Utf16Le,
         [0xfe, 0xff, ..] => Charset::Utf16Be,
-        _ if is_style_sheet => sheet_unmarked(body),
-        _ => charset_unmarked(body),
+        _ => charset_unmarked(body, kind),
+    }
+}
+
+/// The encoding of a file without a byte order mark. Feeds and lists of URLs are in UTF-8.
+fn charset_unmarked(body: &[u8], kind: TextKind) -> Charset
+    ensures ascii { keeps_ascii result ≡ true }
+    ensures unnamed { names_encoding kind body.now ≡ false → result ≡ Charset.Utf8 }
+    ensures known { is_in_unicode kind ≡ true → is_known result ≡ true }
+{
+    match kind {
+        TextKind::Document { .. } => document_unmarked(body),
+        TextKind::StyleSheet => sheet_unmarked(body),
+        TextKind::Feed | TextKind::UrlList => Charset::Utf8,
     }
 }
 
@@ -79,7 +93,7 @@ pub(crate) fn named_in_sheet(body: &[u8]) -> Option<&[u8]>
 }
 
 /// The encoding of a document without a byte order mark.
-fn charset_unmarked(body: &[u8]) -> Charset
+fn document_unmarked(body: &[u8]) -> Charset
     ensures { keeps_ascii result ≡ true }
 {
     match declared(start_of(body)) {

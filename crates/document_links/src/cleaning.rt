@@ -16,7 +16,7 @@ pub(crate) fn trimmed(text: &[u8]) -> &[u8]
 }
 
 /// Returns the text without spaces and control bytes at its start.
-fn trimmed_start(text: &[u8]) -> &[u8]
+pub(crate) fn trimmed_start(text: &[u8]) -> &[u8]
     ensures { result.now ≡ trim_start is_c0_control_or_space text.now }
 {
     let count = text.iter().take_while(|&&byte| is_trimmed(byte)).count();

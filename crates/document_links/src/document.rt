@@ -15,6 +15,7 @@ use crate::link_writer::LinkWriter;
 use crate::positions::InvalidLink;
 use crate::raw_links::{RawIds, RawLinks};
 use crate::root::add_root;
+use crate::text_kind::TextKind;
 use crate::unknown::{ascii_text, has_unknown, keep_known};
 use crawl_keys::CanonUrl;
 use html_links::{Base, Syntax, read_links, read_page, read_places};
@@ -32,10 +33,20 @@ pub struct ReadOptions<'a> {
     pub root: Option<&'a str>,
     /// Whether anchors and links to anchors are read.
     pub anchors: bool,
-    /// Whether the positions of links and the invalid links are kept.
+    /// Whether the indices of links and the invalid links are kept.
     pub places: bool,
     /// The number of bytes of link texts after which no more links are read.
     pub byte_limit: usize,
+}
+
+impl ReadOptions<'_> {
+    /// The kind of a document that is read with these options.
+    fn kind(self) -> TextKind {
+        TextKind::Document {
+            syntax: self.syntax,
+            styles: self.styles,
+        }
+    }
 }
 
 /// What a document has.
@@ -46,9 +57,9 @@ pub struct Document {
     pub has_skipped: bool,
     /// Its anchors, if the options ask for them and they are known.
     pub anchors: Option<AnchorTargets>,
-    /// The positions of its links with a canonical URL, if the options ask for them.
+    /// The indices of the links with a canonical URL among all its links, if the options ask for them.
     pub positions: Vec<u32>,
-    /// Its invalid links, if the options ask for positions.
+    /// Its invalid links, if the options ask for indices.
     pub invalid: Vec<InvalidLink>,
     /// The name of its encoding, if that is not a known one.
     pub encoding: Option<String>,
@@ -101,7 +112,7 @@ pub fn read_document(
     // are below it.
     ensures { IfOk result (λ document. HasLinkTexts options.entry body.now document.links) }
 {
-    let charset = charset_of(body, false);
+    let charset = charset_of(body, options.kind());
     let mut document = document_in(alloc, body, charset, url, options, room)?;
     document.encoding = unknown_encoding(alloc, body, charset)?;
     Ok(document)
@@ -157,14 +168,23 @@ fn text_document(
     // The base also applies to the links before it, so all were found first.
     let mut writer = written_links(alloc, charset, base, url, options, raw)?;
     let mut document = Document::written(&mut writer);
-    // If an id is not known, no link to an anchor is known to be broken.
-    let anchors = if options.anchors && !ids.has_unknown {
-        Some(anchors_of(alloc, &ids.ids, raw, writer, url)?)
-    } else {
-        None
-    };
-    document.anchors = anchors;
+    if options.anchors {
+        document.anchors = known_anchors(&ids, raw, writer, url)?;
+    }
     Ok(document)
+}
+
+/// The anchors of a document, if all its ids are known. If one is not, no link to an anchor is known to be broken.
+fn known_anchors(
+    ids: &RawIds,
+    raw: &RawLinks,
+    writer: LinkWriter,
+    url: &CanonUrl,
+) -> Result<Option<AnchorTargets>, AllocError> {
+    if ids.has_unknown {
+        return Ok(None);
+    }
+    Ok(Some(anchors_of(raw.allocator(), &ids.ids, raw, writer, url)?))
 }
 
 /// Writes the texts of these links of a page with this base.
@@ -219,7 +239,7 @@ fn read_all(
 {
     if options.anchors {
         read_page(alloc, options.syntax, text, options.styles, raw, ids)
-    } else if options.places || options.styles {
+    } else if options.styles {
         read_places(alloc, options.syntax, text, options.styles, raw)
     } else {
         read_links(alloc, options.syntax, text, raw)

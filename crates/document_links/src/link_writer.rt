@@ -28,7 +28,7 @@ pub(crate) struct LinkWriter {
     links: LinkTexts,
     /// Whether a link was skipped because it is too long.
     pub(crate) has_skipped: bool,
-    /// The positions of the links and the invalid links, if the caller asks for them.
+    /// The indices of the links and the invalid links, if the caller asks for them.
     positions: Option<Positions>,
 }
 
@@ -58,7 +58,7 @@ impl LinkWriter {
         })
     }
 
-    /// Makes room for these links of the page at a URL, and for their positions if `places` is set.
+    /// Makes room for these links of the page at a URL, and for their indices if `places` is set.
     pub(crate) fn make_room(
         &mut self,
         url: &CanonUrl,
@@ -86,14 +86,14 @@ impl LinkWriter {
                 return Ok(());
             }
             if let Some(positions) = &mut self.positions {
-                positions.begin_at(raw.position(index));
+                positions.begin_at(index);
             }
             self.push(raw.text(index))?;
         }
         Ok(())
     }
 
-    /// Takes the positions of the links, and the invalid links. No more are kept after that.
+    /// Takes the indices of the links, and the invalid links. No more are kept after that.
     pub(crate) fn take_positions(&mut self) -> (Vec<u32>, Vec<InvalidLink>) {
         match self.positions.take() {
             Some(positions) => positions.into_lists(),
@@ -207,7 +207,7 @@ impl LinkWriter {
         Ok(())
     }
 
-    /// Appends a text that fits in a line, and keeps its position if the caller asks for positions.
+    /// Appends a text that fits in a line, and keeps its index if the caller asks for indices.
     fn push_text(&mut self, text: &[u8]) -> Result<(), AllocError>
         requires { fits 5 text.now ≡ true }
         ensures base { self.new.base ≡ self.old.base }

@@ -32,17 +32,26 @@ pub(crate) fn page_base(
     href: &[u8],
     url: &CanonUrl,
 ) -> Result<PageBase, AllocError> {
-    let text = without_breaks(alloc, trimmed(href))?;
-    let page = base_of(alloc, url)?;
-    match resolved(alloc, &page, text.as_slice())? {
+    match base_target(alloc, url, href)? {
         Some(target) => Ok(PageBase::Url(base_of(alloc, &target)?)),
-        None => scheme_base(alloc, text.as_slice()),
+        None => scheme_base(alloc, href),
     }
 }
 
-/// The base by a text without line breaks that begins with another scheme.
-fn scheme_base(alloc: Global, text: &[u8]) -> Result<PageBase, AllocError> {
-    match scheme_of(text) {
+/// The canonical URL of the `href` of a `base` on the page at a URL, if it has one.
+pub(crate) fn base_target(
+    alloc: Global,
+    url: &CanonUrl,
+    href: &[u8],
+) -> Result<Option<CanonUrl>, AllocError> {
+    let text = without_breaks(alloc, trimmed(href))?;
+    resolved(alloc, &base_of(alloc, url)?, text.as_slice())
+}
+
+/// The base by an `href` that begins with another scheme.
+fn scheme_base(alloc: Global, href: &[u8]) -> Result<PageBase, AllocError> {
+    let text = without_breaks(alloc, trimmed(href))?;
+    match scheme_of(text.as_slice()) {
         Some(scheme) if !is_web(Some(scheme)) && !is_no_base(scheme) => {
             let mut front = scheme.to_vec(alloc)?;
             front.make_ascii_lowercase();

@@ -1,4 +1,4 @@
-//! The positions of a document's links, and its invalid links.
+//! The indices of a document's links with a canonical URL, and its invalid links.
 ghost use Rattle.std.specs.Prelude.{◌≡◌, Some, string_bytes};
 ghost use Rattle.document_links.specs.Schemes.{invalid_kind};
 
@@ -7,11 +7,12 @@ use crate::scheme::{InvalidKind, invalid_kind, is_web, names_host, scheme_of};
 use crawl_keys::{Base, CanonUrl};
 use std::alloc::{AllocError, Global};
 
-/// The positions of the links in the document at a URL, and its invalid links.
+/// The links with a canonical URL in the file at a URL, and its invalid links. A link is named by its index among all links of the
+/// file, and `text_places` finds its place.
 #[derive(Drop)]
 pub struct LinkPlaces {
     pub url: CanonUrl,
-    /// The positions in the document's text at which the values of its links start, in order, for links with a canonical URL.
+    /// The indices of the links with a canonical URL, in order.
     pub indices: Vec<u32>,
     /// The invalid links, in order.
     pub invalid: Vec<InvalidLink>,
@@ -20,7 +21,7 @@ pub struct LinkPlaces {
 /// A link that has no URL, an unknown scheme, or the name of a local file.
 #[derive(Drop)]
 pub struct InvalidLink {
-    /// The position in the document's text at which its value starts.
+    /// Its index among the links of its file.
     pub index: usize,
     pub kind: InvalidKind,
     /// Its text as a crawl reads it.
@@ -28,22 +29,22 @@ pub struct InvalidLink {
     ghost is_its_kind: { invalid_kind (string_bytes text) ≡ Some kind },
 }
 
-/// The positions of the links with a canonical URL, and the invalid links, in order.
+/// The indices of the links with a canonical URL, and the invalid links, in order.
 #[derive(Drop)]
 pub(crate) struct Positions {
     alloc: Global,
     /// The URL of the page, against which links are resolved.
     page: Base,
-    /// The position of the next link.
+    /// The index of the next link.
     index: usize,
     kept: Vec<u32>,
     invalid: Vec<InvalidLink>,
-    /// Whether a position is beyond 4 GiB, so that four bytes cannot hold it.
+    /// Whether four bytes cannot hold an index.
     is_far: bool,
 }
 
 impl Positions {
-    /// No positions, of the page at a URL, with room for those of `links` links.
+    /// No links, of the page at a URL, with room for the indices of `links` links.
     pub(crate) fn new(
         alloc: Global,
         url: &CanonUrl,
@@ -59,12 +60,12 @@ impl Positions {
         })
     }
 
-    /// Sets the position of the next link.
+    /// Sets the index of the next link.
     pub(crate) fn begin_at(&mut self, index: usize) {
         self.index = index;
     }
 
-    /// Keeps the position of the link with this text if it leads to a canonical URL, and the link itself if it is invalid.
+    /// Keeps the index of the link with this text if it leads to a canonical URL, and the link itself if it is invalid.
     pub(crate) fn push(&mut self, text: &[u8]) -> Result<(), AllocError> {
         if !self.has_url(text)? {
             return self.push_invalid(text);
@@ -98,7 +99,7 @@ impl Positions {
         }
     }
 
-    /// The positions, or none if one is beyond 4 GiB, and the invalid links.
+    /// The indices, or none if four bytes cannot hold one, and the invalid links.
     pub(crate) fn into_lists(self) -> (Vec<u32>, Vec<InvalidLink>) {
         let Positions {
             mut kept,

@@ -11,7 +11,7 @@ pub struct RawLinks {
     /// The position of the next link's value.
     index: usize,
     pub(crate) texts: Ids,
-    positions: Vec<usize>,
+    pub(crate) positions: Vec<usize>,
 }
 
 impl RawLinks {
@@ -61,7 +61,9 @@ impl RawLinks {
     }
 
     /// The position of the link with this index.
-    pub(crate) fn position(&self, index: usize) -> usize {
+    pub(crate) fn position(&self, index: usize) -> usize
+        ensures { result ≡ slice_index_or self.now.positions.items index 0 }
+    {
         self.positions.get(index).copied().unwrap_or(0)
     }
 

@@ -6,10 +6,11 @@ ghost use Rattle.html_links.specs.Reads.{base_at};
 ghost use Rattle.document_links.specs.Rooted.{all_rooted, begins_path, below_root, climbs, depth_after, in_segment, is_slash, kept, path_below, path_of, rooted};
 
 use crate::cleaning::{has_breaks, trimmed, without_breaks};
-use crate::page_base::{base_of, resolved};
+use crate::page_base::base_target;
 use crate::raw_links::RawLinks;
 use crawl_keys::CanonUrl;
 use html_links::Base;
+use memchr::memchr_iter;
 use std::alloc::{AllocError, Global};
 
 /// Moves the links and the `base` of the page at a URL below the path of the top, if they begin with one slash. Returns the new base.
@@ -55,17 +56,17 @@ fn rooted_base(
 
 /// Whether a base on the page at a URL has the page's host, or is no URL of a page.
 fn is_on_host(alloc: Global, url: &CanonUrl, base: &[u8]) -> Result<bool, AllocError> {
-    let page = base_of(alloc, url)?;
-    let text = without_breaks(alloc, trimmed(base))?;
-    let Some(target) = resolved(alloc, &page, text.as_slice())? else {
-        return Ok(true);
-    };
-    let own = resolved(alloc, &page, b"/")?;
-    let other = resolved(alloc, &base_of(alloc, &target)?, b"/")?;
-    match (own, other) {
-        (Some(own), Some(other)) => Ok(own.as_str() == other.as_str()),
-        _ => Ok(false),
-    }
+    Ok(match base_target(alloc, url, base)? {
+        Some(target) => origin_of(url.as_str()) == origin_of(target.as_str()),
+        None => true,
+    })
+}
+
+/// The scheme and the host of a canonical URL.
+fn origin_of(url: &str) -> &[u8] {
+    let url = url.as_bytes();
+    let slash = memchr_iter(b'/', url).nth(2).unwrap_or(url.len());
+    url.get(..slash).unwrap_or(url)
 }
 
 /// Moves the links.

@@ -2,7 +2,7 @@
 use Rattle.std.specs.Prelude.{◌≡◌, ◌||◌, true, is_some}
 use Rattle.mercator_site.specs.declared.options.CheckOptions.{CheckOptions}
 use Rattle.mercator_site.specs.declared.options.SiteOptions.{SiteOptions}
-use Rattle.site_files.specs.declared.site.Rules.{Rules}
+use Rattle.site_files.specs.declared.rules.Rules.{Rules}
 
 -- the rules are those of the options; a site list has the exact URL of each page. Nothing is said of the names of index files
 pub record AreRules (options : SiteOptions) (rules : Rules) : Type 0 where

@@ -7,7 +7,7 @@ use Rattle.document_links.specs.Encoding.{HasLinkTexts, HasSheet}
 use Rattle.document_links.specs.declared.document.ReadOptions.{ReadOptions}
 use Rattle.site_files.specs.declared.files.SiteFiles.{SiteFiles}
 use Rattle.site_files.specs.declared.kinds.FileKind.{FileKind}
-use Rattle.site_files.specs.declared.kinds.FileKind.TheVariants.{Html, Xml, Svg, Style, Unknown}
+use Rattle.site_files.specs.declared.kinds.FileKind.TheVariants.{Html, Xml, Svg, Style, Feed, UrlList, Unknown}
 use Rattle.saved_site.specs.declared.page.SitePage.{SitePage}
 use Rattle.saved_site.specs.declared.page.Under.{Under}
 use Rattle.saved_site.specs.declared.page.Under.TheVariants.{Links}
@@ -18,6 +18,8 @@ syntax_of Html = syntax.Html
 syntax_of Xml = syntax.Xhtml
 syntax_of Svg = syntax.Xhtml
 syntax_of Style = syntax.Html
+syntax_of Feed = syntax.Html
+syntax_of UrlList = syntax.Html
 syntax_of Unknown = syntax.Html
 
 -- the path below which absolute paths are, if there is one, is that of the top
@@ -36,6 +38,8 @@ HasFileLinks Html options body links = HasLinkTexts options body links
 HasFileLinks Xml options body links = HasLinkTexts options body links
 HasFileLinks Svg options body links = HasLinkTexts options body links
 HasFileLinks Style options body links = HasSheet options body links
+HasFileLinks Feed options body links = HasLinkTexts options body links
+HasFileLinks UrlList options body links = HasLinkTexts options body links
 HasFileLinks Unknown options body links = HasLinkTexts options body links
 
 pub record IsFileDocument (files : SiteFiles) (kind : FileKind) (body : List ℕ) (links : List (List ℕ)) : Type 0 where

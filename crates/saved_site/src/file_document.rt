@@ -22,9 +22,12 @@ pub(crate) fn file_document(
     let options = options_of(files, kind);
     match kind {
         FileKind::Style => read_style_sheet(alloc, body, url, options, room),
-        FileKind::Html | FileKind::Xml | FileKind::Svg | FileKind::Unknown => {
-            read_document(alloc, body, url, options, room)
-        }
+        FileKind::Html
+        | FileKind::Xml
+        | FileKind::Svg
+        | FileKind::Feed
+        | FileKind::UrlList
+        | FileKind::Unknown => { read_document(alloc, body, url, options, room) }
     }
 }
 
@@ -50,7 +53,8 @@ fn syntax_of(kind: FileKind) -> Syntax
 {
     match kind {
         FileKind::Xml | FileKind::Svg => Syntax::Xhtml,
-        FileKind::Html | FileKind::Style | FileKind::Unknown => Syntax::Html,
+        FileKind::Html | FileKind::Style | FileKind::Feed | FileKind::UrlList | FileKind::Unknown =>
+            Syntax::Html,
     }
 }
 

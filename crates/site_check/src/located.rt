@@ -3,7 +3,7 @@ use crate::leads::Lead;
 use crate::site_pages::Site;
 use check_report::Place;
 use crawl_pages::NoMemory;
-use document_links::{TextPlace, text_places};
+use document_links::{Syntax, TextKind, TextPlace, text_places};
 use site_files::{Body, FileBytes, FileKind, SiteFile};
 use std::alloc::Global;
 use std::mem;
@@ -108,7 +108,7 @@ pub(crate) fn every_place<B: FileBytes>(
         if let Some(file) = file_of(site, *leads) {
             body.clear();
             if bytes.read(file, &mut body)?.is_none() {
-                push_places(alloc, *leads, file, body.as_slice(), &mut all)?;
+                push_places(alloc, site, *leads, file, body.as_slice(), &mut all)?;
             }
         }
     }
@@ -124,29 +124,47 @@ fn file_of<'f>(site: Site<'_, 'f>, leads: &[Lead]) -> Option<SiteFile<'f>> {
 /// Appends the locations of these links in the contents of this file.
 fn push_places(
     alloc: Global,
+    site: Site<'_, '_>,
     leads: &[Lead],
     file: SiteFile<'_>,
     body: &[u8],
     all: &mut Vec<TargetPlace>,
 ) -> Result<(), NoMemory> {
     let indices = indices_of(alloc, leads)?;
-    let is_style_sheet = file.kind == FileKind::Style;
-    let places = text_places(alloc, body, is_style_sheet, indices.as_slice())?;
+    let kind = text_kind(file.kind, site.files.rules().styles);
+    let places = text_places(alloc, body, kind, indices.as_slice())?;
     for (lead, place) in leads.iter().zip(places.iter()) {
-        let place = place_in(alloc, file.name, *place)?;
+        let place = place_in(alloc, file.name, place)?;
         let number = lead.number;
         all.push(TargetPlace { number, place })?;
     }
     Ok(())
 }
 
-/// Returns the positions of these links in the text of their document.
+/// How a file of this kind is written. `styles` is whether the links of styles count.
+fn text_kind(kind: FileKind, styles: bool) -> TextKind {
+    match kind {
+        FileKind::Html | FileKind::Unknown => TextKind::Document {
+            syntax: Syntax::Html,
+            styles,
+        },
+        FileKind::Xml | FileKind::Svg => TextKind::Document {
+            syntax: Syntax::Xhtml,
+            styles,
+        },
+        FileKind::Style => TextKind::StyleSheet,
+        FileKind::Feed => TextKind::Feed,
+        FileKind::UrlList => TextKind::UrlList,
+    }
+}
+
+/// Returns the indices of these links among the links of their file.
 fn indices_of(alloc: Global, leads: &[Lead]) -> Result<Vec<usize>, NoMemory> {
     leads.iter().map(|lead| lead.index).collect(alloc)
 }
 
 /// A location in the file with this name.
-fn place_in(alloc: Global, name: &str, place: TextPlace) -> Result<Place, NoMemory> {
+fn place_in(alloc: Global, name: &str, place: &TextPlace) -> Result<Place, NoMemory> {
     Ok(Place {
         file: String::from_str(alloc, name)?,
         line: place.line,

@@ -3,6 +3,9 @@ pub mod ListedPages
 pub mod Listing
 pub mod Lookups
 pub mod OtherNames
+pub mod OtherRules
+pub mod OwnPages
+pub mod Serving
 pub mod Slashes
 pub mod Table
 pub mod Ways

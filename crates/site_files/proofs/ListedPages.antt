@@ -6,10 +6,10 @@ use Rattle.std.proofs.lemmas.Bool.{cases_Bool, cond-false, cond-true}
 use Rattle.std.proofs.lemmas.List.{drop_all}
 use Rattle.std.proofs.lemmas.Slice.Eq.{bytes_eq-Decides}
 use Rattle.site_files.specs.Below.{begins}
-use Rattle.site_files.specs.Entries.{IsInOrder, IsOnce, entry_at, response_of}
+use Rattle.site_files.specs.Entries.{IsOnce, entry_at, response_of}
 use Rattle.site_files.specs.Listed.{HasListed, IsListed, content_response, first_listed, listed_at}
 use Rattle.site_files.specs.Pages.{Response, Missing, Moved, Found, or_else}
-use Rattle.site_files.specs.declared.site.Entry.{Entry}
+use Rattle.site_files.specs.declared.page_table.Entry.{Entry}
 use Rattle.site_files.specs.declared.site_list.ListedUrl.{ListedUrl}
 use Rattle.site_files.proofs.Lookups.{or_else-some}
 
@@ -110,8 +110,8 @@ all_listed top urls names entries i end so_far = λ url.
 
 -- ---- in order, each URL once
 
-pub listed_once : (top : List ℕ) (urls : List ListedUrl) (names : List (List ℕ)) (given ordered kept : List Entry) → HasListed top urls names given → IsInOrder given ordered → IsOnce ordered kept → IsListed top urls names kept
-listed_once top urls names given ordered kept has order once = record {
+pub listed_once : (top : List ℕ) (urls : List ListedUrl) (names : List (List ℕ)) (given kept : List Entry) → HasListed top urls names given → IsOnce given kept → IsListed top urls names kept
+listed_once top urls names given kept has once = record {
   ascends = once.ascends;
-  pages = λ url. once.keeps url ∙ order.keeps url ∙ has url;
+  pages = λ url. once.keeps url ∙ has url;
 }

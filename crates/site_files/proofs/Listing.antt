@@ -5,7 +5,7 @@ use Rattle.std.specs.Option.{option_to_list}
 use Rattle.std.proofs.lemmas.List.{map-append}
 use Rattle.site_files.specs.Entries.{Adds, Listed, expected, listed, texts}
 use Rattle.site_files.specs.Pages.{Page}
-use Rattle.site_files.specs.declared.site.Entry.{Entry}
+use Rattle.site_files.specs.declared.page_table.Entry.{Entry}
 
 -- what is listed, and what is left to list, are all pages
 pub record Leaves (all : List Listed) (entries : List Entry) (left : List Page) : Type 0 where
@@ -28,7 +28,7 @@ pub texts_left : (names : List (String Global)) (i : ℕ) (name : String Global)
 texts_left names i name below is =
     rw (add-one i) (ap texts (drop-cons names i name below) ∙ ap (λ one. string_bytes one ∷ texts (drop (suc i) names)) is)
 
-cons_is_append : (found : Option Page) (pages : List Page) → cons_option found pages ≡ option_to_list found ++ pages
+cons_is_append : {Y : Type 0} (found : Option Y) (pages : List Y) → cons_option found pages ≡ option_to_list found ++ pages
 cons_is_append None pages = refl
 cons_is_append (Some one) pages = refl
 
@@ -41,7 +41,7 @@ numbered_left f names i name below is =
     ap (numbered_pages f i) (texts_left names i name below is)
     ∙ cons_is_append (f i (string_bytes name)) (numbered_pages f (i + 1) (texts (drop (i + 1) names)))
 
-pub made_left : (f : List ℕ → Option Page) (names : List (String Global)) (i : ℕ) (name : String Global) → i < length names → get_or names i name ≡ name → filter_map f (texts (drop i names)) ≡ option_to_list (f (string_bytes name)) ++ filter_map f (texts (drop (i + 1) names))
+pub made_left : {Y : Type 0} (f : List ℕ → Option Y) (names : List (String Global)) (i : ℕ) (name : String Global) → i < length names → get_or names i name ≡ name → filter_map f (texts (drop i names)) ≡ option_to_list (f (string_bytes name)) ++ filter_map f (texts (drop (i + 1) names))
 made_left f names i name below is =
     ap (filter_map f) (texts_left names i name below is)
     ∙ cons_is_append (f (string_bytes name)) (filter_map f (texts (drop (i + 1) names)))

@@ -2,9 +2,9 @@
 use Rattle.std.proofs.Common.{◌≡◌, ℕ, List, Option, Some, None, refl, sym, ap, ◌∙◌}
 use Rattle.site_files.specs.Entries.{Finds, IsEntryAt, LeadsTo, entry_at, response_of}
 use Rattle.site_files.specs.Pages.{Missing, Response, or_else}
-use Rattle.site_files.specs.declared.site.Entry.{Entry}
-use Rattle.site_files.specs.declared.site.Source.{Source}
-use Rattle.site_files.specs.declared.site.Source.TheVariants as source
+use Rattle.site_files.specs.declared.page_table.Entry.{Entry}
+use Rattle.site_files.specs.declared.page_table.Source.{Source}
+use Rattle.site_files.specs.declared.page_table.Source.TheVariants as source
 
 pub leads-finds : (entries : List Entry) (url : List ℕ) (found : Option ℕ) → Finds entries url found → LeadsTo entries (entry_at entries url) found
 leads-finds entries url None finds = finds

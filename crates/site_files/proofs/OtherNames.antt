@@ -18,7 +18,6 @@ use Rattle.site_files.specs.Links.{FindsLink, IsLinkAt, IsLinkTable, IsLinked, c
 use Rattle.site_files.specs.Pages.{LinkUrls, link_urls, own_folder, own_spelling}
 use Rattle.site_files.specs.Server.{key_with, names_of, url_of}
 use Rattle.site_files.specs.declared.alias.FolderLink.{FolderLink}
-use Rattle.site_files.specs.declared.alias.LinkedFolders.{LinkedFolders}
 use Rattle.site_files.proofs.FirstOnes.{ascends-dedup, first-dedup, first-found, first-missing, first-sort, key_found, keys_rank}
 
 pub names_rank : IsStrictWeakOrder (λ a b. is_lt (cmp_names a b))
@@ -116,6 +115,6 @@ urls_more top links urls i link url all below is name own so_far =
     ∙ append_assoc (urls_in urls) (pair ∷ []) (map (link_urls top) (names_in (drop (i + 1) links)))
     ∙ ap (λ first. urls_in urls ++ (first ∷ map (link_urls top) (names_in (drop (i + 1) links)))) same ∙ whole
 
-pub linked_result : {E : Type 0} (top : List ℕ) (links given : List FolderLink) → urls_in given ≡ map (link_urls top) (names_in links) → (made : Result LinkedFolders E) → IfOk made (λ table. IsLinkTable given table.links.items) → IfOk made (λ table. IsLinked top links table.links.items)
-linked_result top links given urls (Ok table) is = linked top links given table.links.items urls is
+pub linked_result : {E : Type 0} (top : List ℕ) (links given : List FolderLink) → urls_in given ≡ map (link_urls top) (names_in links) → (made : Result (List FolderLink) E) → IfOk made (IsLinkTable given) → IfOk made (IsLinked top links)
+linked_result top links given urls (Ok table) is = linked top links given table urls is
 linked_result top links given urls (Err error) is = tt

@@ -1,5 +1,5 @@
 -- The pages that the code lists, as those of the definitions.
-use Rattle.std.specs.Prelude.{◌≡◌, ℕ, List, ◌++◌, map, Option, Some, MatchOption, Result, Ok, String, slice_get, string_bytes}
+use Rattle.std.specs.Prelude.{◌≡◌, ℕ, Bool, false, List, [], ◌∷◌, ◌++◌, bytes_eq, map, Option, Some, None, option_and_then, MatchOption, Result, Ok, String, slice_get, string_bytes}
 use Rattle.std.specs.List.Sorted.{IsSorted, IsStrictlySortedBy}
 use Rattle.std.specs.declared.cmp.Ordering.{Ordering}
 use Rattle.std.specs.declared.alloc.Global.{Global}
@@ -8,11 +8,11 @@ use Rattle.crawl_keys.specs.declared.error.KeyError.{KeyError}
 use Rattle.site_files.specs.Firsts.{cmp_keys, first_with}
 use Rattle.site_files.specs.Pages.{Page, Response, Missing, Moved, Found, page_at}
 use Rattle.site_files.specs.Server.{Host, Server}
-use Rattle.site_files.specs.declared.site.Entry.{Entry}
-use Rattle.site_files.specs.declared.site.Rules.{Rules}
+use Rattle.site_files.specs.declared.page_table.Entry.{Entry}
+use Rattle.site_files.specs.declared.rules.Rules.{Rules}
 use Rattle.site_files.specs.declared.site.Site.{Site}
-use Rattle.site_files.specs.declared.site.Source.{Source}
-use Rattle.site_files.specs.declared.site.Source.TheVariants as source
+use Rattle.site_files.specs.declared.page_table.Source.{Source}
+use Rattle.site_files.specs.declared.page_table.Source.TheVariants as source
 
 abbrev pub texts : List (String Global) → List (List ℕ)
 texts names = map string_bytes names
@@ -37,6 +37,16 @@ abbrev pub response_of : Source → Response
 response_of (source.File index) = Found index
 response_of (source.Index index) = Found index
 response_of (source.Moved url) = Moved (string_bytes url)
+
+-- the index of the file among the names; a redirect has none
+abbrev pub file_in : Source → Option ℕ
+file_in (source.File index) = Some index
+file_in (source.Index index) = Some index
+file_in (source.Moved url) = None
+
+-- the same, of the page with this number
+abbrev pub file_with : List Entry → ℕ → Option ℕ
+file_with entries number = option_and_then (λ entry. file_in entry.source) (slice_get entries number)
 
 -- a URL, and what is returned for it
 pub record Listed : Type 0 where
@@ -83,6 +93,12 @@ pub record IsInOrder (given ordered : List Entry) : Type 0 where
 pub record IsOnce (given kept : List Entry) : Type 0 where
   pub ascends : IsStrictlySortedBy cmp_urls kept
   pub keeps : KeepsFirst given kept
+
+-- the last of the entries has the URL of this one
+abbrev pub is_again : List Entry → Entry → Bool
+is_again [] entry = false
+is_again (last ∷ []) entry = bytes_eq entry.url last.url
+is_again (first ∷ next ∷ entries) entry = is_again (next ∷ entries) entry
 
 -- the pages of names: at each URL the first, in the order of the URLs
 pub record IsTable (server : Server) (names : List (List ℕ)) (entries : List Entry) : Type 0 where

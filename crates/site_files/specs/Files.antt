@@ -1,22 +1,22 @@
 -- The pages of a site, and the files that they are made of.
-use Rattle.std.specs.Prelude.{◌≡◌, ℕ, List, String, map, Option, Some, None, option_and_then, slice_get, string_bytes, option_map}
+use Rattle.std.specs.Prelude.{◌≡◌, ℕ, Bool, true, false, not, List, String, map, Option, Some, None, option_and_then, slice_get, string_bytes, option_map}
 use Rattle.std.specs.Borrow.{Bor}
-use Rattle.std.specs.List.Sorted.{IsStrictlySortedBy}
+use Rattle.std.specs.List.{list_any}
 use Rattle.std.specs.declared.alloc.Global.{Global}
 use Rattle.site_files.specs.declared.error.SiteError.{SiteError}
 use Rattle.site_files.specs.declared.error.SiteError.TheVariants as wrong
 use Rattle.site_files.specs.declared.files.SiteFiles.{SiteFiles}
 use Rattle.site_files.specs.declared.kinds.FileKind.{FileKind}
-use Rattle.site_files.specs.declared.site.Entry.{Entry}
-use Rattle.site_files.specs.declared.site.Rules.{Rules}
-use Rattle.site_files.specs.declared.site.Source.{Source}
-use Rattle.site_files.specs.declared.site.Source.TheVariants.{File, Index, Moved}
+use Rattle.site_files.specs.declared.page_table.Entry.{Entry}
+use Rattle.site_files.specs.declared.rules.Rules.{Rules}
+use Rattle.site_files.specs.declared.page_table.Source.{Source}
+use Rattle.site_files.specs.declared.page_table.Source.TheVariants.{File, Index, Moved}
 use Rattle.site_files.specs.declared.site_list.ListedUrl.{ListedUrl}
 use Rattle.site_files.specs.declared.site_list.SiteList.{SiteList}
-use Rattle.site_files.specs.Entries.{cmp_urls, server_at}
+use Rattle.site_files.specs.Entries.{file_in, server_at}
 use Rattle.site_files.specs.Kinds.{if_read, kind_of}
-use Rattle.site_files.specs.Links.{cmp_names}
-use Rattle.site_files.specs.Pages.{path_in}
+use Rattle.site_files.specs.Below.{IsTop, begins}
+use Rattle.site_files.specs.Pages.{ends_in_slash, path_in}
 use Rattle.site_files.specs.Server.{Server}
 use Rattle.site_files.specs.SiteList.{kind_in}
 
@@ -28,17 +28,25 @@ pub record PageFile : Type 0 where
 abbrev pub page_file : List ℕ → Option ℕ → PageFile
 page_file url file = record { url = url; file = file }
 
-abbrev pub file_in : Source → Option ℕ
-file_in (File index) = Some index
-file_in (Index index) = Some index
-file_in (Moved url) = None
-
 abbrev pub page_of : Entry → PageFile
 page_of entry = page_file entry.url (file_in entry.source)
 
 -- in the order of their URLs
 abbrev pub pages_of : SiteFiles → List PageFile
-pages_of files = map page_of files.site.entries.items
+pages_of files = map page_of files.pages
+
+-- the URL of the page with this number
+abbrev pub url_of : SiteFiles → ℕ → Option (List ℕ)
+url_of files number = option_map (λ entry. entry.url) (slice_get files.pages number)
+
+abbrev pub target_in : Source → Option (List ℕ)
+target_in (File index) = None
+target_in (Index index) = None
+target_in (Moved url) = Some (string_bytes url)
+
+-- the target of the page with this number, if that is a redirect
+abbrev pub moved_to : SiteFiles → ℕ → Option (List ℕ)
+moved_to files number = option_and_then (λ entry. target_in entry.source) (slice_get files.pages number)
 
 -- the file with this index
 abbrev pub name_at : SiteFiles → ℕ → Option (List ℕ)
@@ -82,10 +90,48 @@ document_of files index = option_and_then (document_in files index) (name_at fil
 abbrev pub document_at : SiteFiles → ℕ → Option Document
 document_at files number = option_and_then (λ page. option_and_then (document_of files) page.file) (slice_get (pages_of files) number)
 
--- the error of names that are no site: any but that of a folder that cannot be read
-abbrev pub IsOfFiles : SiteError → Type 0
-IsOfFiles (wrong.Io error) = ⊥
-IsOfFiles error = Unit {0}
+-- ---- errors
+
+-- the error of a text that is not a URL of a page
+abbrev pub IsOfUrl : SiteError → Type 0
+IsOfUrl wrong.BadBase = Unit {0}
+IsOfUrl wrong.NoFiles = ⊥
+IsOfUrl wrong.NoneListed = ⊥
+IsOfUrl wrong.TooLarge = ⊥
+IsOfUrl wrong.NoMemory = Unit {0}
+IsOfUrl (wrong.Io error) = ⊥
+
+-- some name is that of a file
+abbrev pub has_file : List (String Global) → Bool
+has_file names = list_any (λ name. not (ends_in_slash (string_bytes name))) names
+
+-- the error of names that make no site: `NoFiles` exactly if none of them is that of a file
+abbrev pub IsOfFiles : List (String Global) → SiteError → Type 0
+IsOfFiles names wrong.BadBase = has_file names ≡ true
+IsOfFiles names wrong.NoFiles = has_file names ≡ false
+IsOfFiles names wrong.NoneListed = ⊥
+IsOfFiles names wrong.TooLarge = ⊥
+IsOfFiles names wrong.NoMemory = has_file names ≡ true
+IsOfFiles names (wrong.Io error) = ⊥
+
+-- some URL of a list is below the top
+abbrev pub has_own : List ℕ → List ListedUrl → Bool
+has_own top urls = list_any (λ one. begins top one.url) urls
+
+-- no URL of a list is below the top of BASE
+pub record HasNone (base : List ℕ) (urls : List ListedUrl) : Type 0 where
+  pub top : List ℕ
+  pub is_top : IsTop base top
+  pub none : has_own top urls ≡ false
+
+-- the error of a list that makes no site
+abbrev pub IsOfListed : List ℕ → List ListedUrl → SiteError → Type 0
+IsOfListed base urls wrong.BadBase = Unit {0}
+IsOfListed base urls wrong.NoFiles = ⊥
+IsOfListed base urls wrong.NoneListed = HasNone base urls
+IsOfListed base urls wrong.TooLarge = ⊥
+IsOfListed base urls wrong.NoMemory = Unit {0}
+IsOfListed base urls (wrong.Io error) = ⊥
 
 -- the host and the place of the folder
 abbrev pub server_of : SiteFiles → Server
@@ -102,8 +148,3 @@ pub record IsOfList (list : SiteList) (rules : Rules) (files : SiteFiles) : Type
   pub has_names : files.names.now ≡ list.names.items
   pub has_list : option_map (λ urls. urls.now) files.listed ≡ Some list.urls.items
   pub has_rules : files.rules.now ≡ rules
-
--- the pages and the other names of folders are in order, each once
-pub record IsOrdered (files : SiteFiles) : Type 0 where
-  pub pages : IsStrictlySortedBy cmp_urls files.site.entries.items
-  pub links : IsStrictlySortedBy cmp_names files.site.linked.links.items

@@ -1,11 +1,12 @@
 -- The kinds of files that can have links, by their names or media types.
-use Rattle.std.specs.Prelude.{ℕ, ◌==◌, Bool, true, false, not, ◌||◌, ◌&&◌, List, codes, bytes_eq, Option, Some, None, if◌then◌else◌}
+use Rattle.std.specs.Prelude.{ℕ, ◌==◌, nat_le, Bool, true, false, not, ◌||◌, ◌&&◌, List, length, take, codes, bytes_eq, Option, Some, None, if◌then◌else◌}
 use Rattle.std.specs.List.{before_first, list_all, list_any, slice_split}
 use Rattle.std.specs.Option.{option_map_or}
 use Rattle.std.specs.Str.{str_eq_ignore_ascii_case}
 use Rattle.url.specs.Input.{rsplit_once}
+use Rattle.site_files.specs.Server.{before_query}
 use Rattle.site_files.specs.declared.kinds.FileKind.{FileKind}
-use Rattle.site_files.specs.declared.kinds.FileKind.TheVariants.{Html, Xml, Svg, Style, Unknown}
+use Rattle.site_files.specs.declared.kinds.FileKind.TheVariants.{Html, Xml, Svg, Style, Feed, UrlList, Unknown}
 use Rattle.site_files.specs.declared.kinds.TheConstants.{OTHERS}
 
 abbrev pub is_dot : ℕ → Bool
@@ -32,6 +33,13 @@ is_html suffix = str_eq_ignore_ascii_case suffix (codes "html") || str_eq_ignore
 abbrev pub is_xhtml : List ℕ → Bool
 is_xhtml suffix = str_eq_ignore_ascii_case suffix (codes "xhtml") || str_eq_ignore_ascii_case suffix (codes "xht")
 
+-- a suffix that only feeds have
+abbrev pub is_feed_only : List ℕ → Bool
+is_feed_only suffix = str_eq_ignore_ascii_case suffix (codes "rss") || str_eq_ignore_ascii_case suffix (codes "atom")
+
+abbrev pub is_feed : List ℕ → Bool
+is_feed suffix = is_feed_only suffix || str_eq_ignore_ascii_case suffix (codes "xml")
+
 abbrev pub is_packed : List ℕ → Bool
 is_packed suffix =
     bytes_eq suffix (codes "gz") || bytes_eq suffix (codes "Z") || bytes_eq suffix (codes "bz2") || bytes_eq suffix (codes "xz")
@@ -51,17 +59,37 @@ kind_by suffix =
     else if is_xhtml suffix then Some Xml
     else if str_eq_ignore_ascii_case suffix (codes "svg") then Some Svg
     else if str_eq_ignore_ascii_case suffix (codes "css") then Some Style
+    else if is_feed suffix then Some Feed
     else if is_packed suffix || is_other suffix then None
     else Some Unknown
 
+-- the name begins with a text, in any case
+abbrev pub begins_with : List ℕ → List ℕ → Bool
+begins_with front name = nat_le (length front) (length name) && str_eq_ignore_ascii_case (take (length front) name) front
+
+abbrev pub is_sitemap : List ℕ → Bool
+is_sitemap name = begins_with (codes "sitemap") name
+
+-- `sitemap*.txt` has one URL per line
+abbrev pub is_url_list : List ℕ → List ℕ → Bool
+is_url_list name suffix = is_sitemap name && str_eq_ignore_ascii_case suffix (codes "txt")
+
+abbrev pub kind_with : List ℕ → List ℕ → Option FileKind
+kind_with name suffix = if is_url_list name suffix then Some UrlList else kind_by suffix
+
 -- the kind of the file with this path
 abbrev pub kind_of : List ℕ → Option FileKind
-kind_of path = option_map_or kind_by (suffix_of path) (Some Unknown)
+kind_of path = option_map_or (kind_with (last_name path)) (suffix_of path) (Some Unknown)
 
 -- ---- media types, in any case
 
 abbrev pub is_semicolon : ℕ → Bool
 is_semicolon b = b == 59
+
+abbrev pub is_feed_type : List ℕ → Bool
+is_feed_type name =
+    str_eq_ignore_ascii_case name (codes "application/xml") || str_eq_ignore_ascii_case name (codes "text/xml")
+    || str_eq_ignore_ascii_case name (codes "application/rss+xml") || str_eq_ignore_ascii_case name (codes "application/atom+xml")
 
 -- the kind of a file with this media type, which has no parameters
 abbrev pub kind_by_type : List ℕ → Option FileKind
@@ -70,6 +98,7 @@ kind_by_type name =
     else if str_eq_ignore_ascii_case name (codes "application/xhtml+xml") then Some Xml
     else if str_eq_ignore_ascii_case name (codes "image/svg+xml") then Some Svg
     else if str_eq_ignore_ascii_case name (codes "text/css") then Some Style
+    else if is_feed_type name then Some Feed
     else None
 
 -- parameters come after a semicolon
@@ -78,20 +107,14 @@ kind_of_type text = kind_by_type (before_first is_semicolon text)
 
 -- ---- which files are read
 
--- known to be a document
-abbrev pub is_document : FileKind → Bool
-is_document Html = true
-is_document Xml = true
-is_document Svg = true
-is_document Style = false
-is_document Unknown = false
-
 -- known to be a page
 abbrev pub is_page : FileKind → Bool
 is_page Html = true
 is_page Xml = true
 is_page Svg = false
 is_page Style = false
+is_page Feed = false
+is_page UrlList = false
 is_page Unknown = false
 
 abbrev pub is_style : FileKind → Bool
@@ -99,8 +122,62 @@ is_style Html = false
 is_style Xml = false
 is_style Svg = false
 is_style Style = true
+is_style Feed = false
+is_style UrlList = false
 is_style Unknown = false
+
+-- can be a sitemap or a feed
+abbrev pub is_feed_kind : FileKind → Bool
+is_feed_kind Html = false
+is_feed_kind Xml = false
+is_feed_kind Svg = false
+is_feed_kind Style = false
+is_feed_kind Feed = true
+is_feed_kind UrlList = true
+is_feed_kind Unknown = false
+
+abbrev pub is_unknown : FileKind → Bool
+is_unknown Html = false
+is_unknown Xml = false
+is_unknown Svg = false
+is_unknown Style = false
+is_unknown Feed = false
+is_unknown UrlList = false
+is_unknown Unknown = true
 
 -- the kind, if files of it are read; style sheets only if the rules say so
 abbrev pub if_read : Bool → FileKind → Option FileKind
 if_read styles kind = if is_style kind && not styles then None else Some kind
+
+-- ---- the starts of a check
+
+-- usual names of feeds
+abbrev pub is_feed_name : List ℕ → Bool
+is_feed_name name =
+    str_eq_ignore_ascii_case name (codes "feed.xml") || str_eq_ignore_ascii_case name (codes "rss.xml")
+    || str_eq_ignore_ascii_case name (codes "atom.xml") || str_eq_ignore_ascii_case name (codes "index.xml")
+
+abbrev pub is_start_with : List ℕ → List ℕ → Bool
+is_start_with name suffix = is_sitemap name || is_feed_only suffix || is_feed_name name
+
+-- the path of a sitemap or a feed at which a check starts, by its name
+abbrev pub is_start : List ℕ → Bool
+is_start path = option_map_or (is_start_with (last_name path)) (suffix_of path) false
+
+-- a check starts at a file of this kind, whose own URL this is
+abbrev pub starts_at : FileKind → List ℕ → Bool
+starts_at kind url = is_page kind || is_feed_kind kind && is_start (before_query url)
+
+-- ---- index files with names that the rules do not have
+
+-- the names of index files usually begin so
+abbrev pub is_home_name : List ℕ → Bool
+is_home_name name = begins_with (codes "index.") name || begins_with (codes "default.") name || begins_with (codes "home.") name
+
+-- the file with this path is a page, or it may be one
+abbrev pub may_be_page : List ℕ → Bool
+may_be_page path = option_map_or (λ kind. is_page kind || is_unknown kind) (kind_of path) false
+
+-- the file with this path may be the page of its folder
+abbrev pub is_home : List ℕ → Bool
+is_home path = is_home_name (last_name path) && may_be_page path

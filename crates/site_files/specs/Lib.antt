@@ -2,12 +2,15 @@ pub mod Below
 pub mod Entries
 pub mod Files
 pub mod Firsts
+pub mod Hints
 pub mod Kinds
 pub mod Links
 pub mod Listed
 pub mod Names
+pub mod Own
 pub mod Pages
 pub mod Server
+pub mod Serving
 pub mod SiteList
 pub mod Urls
 pub mod Vectors

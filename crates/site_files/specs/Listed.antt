@@ -6,7 +6,7 @@ use Rattle.site_files.specs.Below.{begins}
 use Rattle.site_files.specs.Entries.{cmp_urls, entry_at}
 use Rattle.site_files.specs.Firsts.{first_with}
 use Rattle.site_files.specs.Pages.{Response, Missing, Moved, Found}
-use Rattle.site_files.specs.declared.site.Entry.{Entry}
+use Rattle.site_files.specs.declared.page_table.Entry.{Entry}
 use Rattle.site_files.specs.declared.site_list.Content.{Content}
 use Rattle.site_files.specs.declared.site_list.Content.TheVariants.{File, Redirect}
 use Rattle.site_files.specs.declared.site_list.ListedUrl.{ListedUrl}

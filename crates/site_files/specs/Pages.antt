@@ -22,6 +22,12 @@ pub data Response : Type 0 where
   Moved : List ℕ → Response  -- a redirect to this URL
   Found : ℕ → Response  -- the file with this index among the names
 
+-- the file that is returned, if it is a file
+abbrev pub found_file : Response → Option ℕ
+found_file Missing = None
+found_file (Moved url) = None
+found_file (Found file) = Some file
+
 -- what is returned for the URL of a text
 pub record Page : Type 0 where
   pub text : List ℕ
@@ -170,11 +176,16 @@ response_at server folder url =
 
 -- ---- the own URL of a file
 
+-- the text of the URL of a file's folder, if the file has the name of this index file
+abbrev pub index_text : Server → ℕ → List ℕ → List ℕ → Option (List ℕ)
+index_text server number name index = option_map (λ one. one.text) (index_page server index number name)
+
+abbrev pub folder_texts : Server → ℕ → List ℕ → List (List ℕ)
+folder_texts server number name = filter_map (index_text server number name) server.host.indices
+
 -- the texts of a file's URLs: those of its folder, then that of its name
 abbrev pub texts_of : Server → ℕ → List ℕ → List (List ℕ)
-texts_of server number name =
-    filter_map (λ index. option_map (λ one. one.text) (index_page server index number name)) server.host.indices
-    ++ (file_page server number name).text ∷ []
+texts_of server number name = folder_texts server number name ++ (file_page server number name).text ∷ []
 
 abbrev pub is_found : ℕ → Response → Bool
 is_found number (Found file) = file == number

@@ -2,10 +2,11 @@
 -- `http.server`, which looked up and returned the same.
 use Rattle.std.specs.Prelude.{◌≡◌, ℕ, false, true, List, [], ◌∷◌, codes, Option, Some, None}
 use Rattle.percent_encoding.specs.Percent.{percent_decode}
-use Rattle.site_files.specs.Kinds.{kind_of}
-use Rattle.site_files.specs.Pages.{Folder, Response, Missing, Moved, Found, own_text, response_at}
+use Rattle.site_files.specs.Hints.{home_page}
+use Rattle.site_files.specs.Kinds.{kind_of, starts_at}
+use Rattle.site_files.specs.Pages.{Folder, Response, Missing, Moved, Found, own_text, page, response_at}
 use Rattle.site_files.specs.Server.{Host, Server, looked_up}
-use Rattle.site_files.specs.declared.kinds.FileKind.TheVariants.{Html, Xml, Svg, Style, Unknown}
+use Rattle.site_files.specs.declared.kinds.FileKind.TheVariants.{Html, Xml, Svg, Style, Feed, UrlList, Unknown}
 
 -- the path that is looked up for the path of a request, which comes without its first slash
 abbrev pub requested : List ℕ → Option (List ℕ)
@@ -141,6 +142,12 @@ pub record Kinds : Type 0 where
   pub xhtml : kind_of (codes "page.xhtml") ≡ Some Xml
   pub svg : kind_of (codes "img/Logo.SVG") ≡ Some Svg
   pub style : kind_of (codes "style.css") ≡ Some Style
+  pub sitemap : kind_of (codes "Sitemap.xml") ≡ Some Feed
+  pub feed : kind_of (codes "blog/feed.RSS") ≡ Some Feed
+  pub atom : kind_of (codes "news.atom") ≡ Some Feed
+  pub sitemap_text : kind_of (codes "a/SiteMap-2.TXT") ≡ Some UrlList
+  pub text_sitemap : kind_of (codes "sitemap.d/a.txt") ≡ None
+  pub sitemap_packed : kind_of (codes "sitemap.xml.gz") ≡ None
   pub text : kind_of (codes "notes.TXT") ≡ None
   pub packed : kind_of (codes "page.html.gz") ≡ None
   pub packed_upper_case : kind_of (codes "page.html.GZ") ≡ Some Unknown
@@ -149,3 +156,28 @@ pub record Kinds : Type 0 where
   pub hidden : kind_of (codes "dir/.html") ≡ Some Unknown
   pub only_dots_before : kind_of (codes "..html") ≡ Some Unknown
   pub suffix_of_folder : kind_of (codes "dir.html/about") ≡ Some Unknown
+
+-- whether a check starts at the own URLs of files
+pub record Starts : Type 0 where
+  pub page : starts_at Html (codes "http://h/a/") ≡ true
+  pub style : starts_at Style (codes "http://h/feed.xml") ≡ false
+  pub unknown : starts_at Unknown (codes "http://h/rss.xml") ≡ false
+  pub sitemap : starts_at Feed (codes "http://h/sitemap-1.xml") ≡ true
+  pub sitemap_text : starts_at UrlList (codes "http://h/a/SITEMAP.txt") ≡ true
+  pub feed : starts_at Feed (codes "http://h/blog/index.xml") ≡ true
+  pub feed_with_query : starts_at Feed (codes "http://h/Atom.XML?page=1") ≡ true
+  pub rss : starts_at Feed (codes "http://h/all.rss") ≡ true
+  pub other : starts_at Feed (codes "http://h/data.xml") ≡ false
+  pub name_of_folder : starts_at Feed (codes "http://h/feed.xml/data.xml") ≡ false
+  pub name_in_query : starts_at Feed (codes "http://h/data.xml?feed.xml") ≡ false
+
+-- the pages of folders by index files that the rules do not have
+pub record Homes : Type 0 where
+  pub default : home_page (server host) 3 (codes "a/Default.htm") ≡ Some (page (codes "http://h/a/") (Found 3))
+  pub home : home_page (server host) 0 (codes "home.php") ≡ Some (page (codes "http://h/") (Found 0))
+  pub in_rules : home_page (server host) 0 (codes "a/index.html") ≡ None
+  pub style : home_page (server host) 0 (codes "a/index.css") ≡ None
+  pub feed : home_page (server host) 0 (codes "a/index.xml") ≡ None
+  pub folder : home_page (server host) 0 (codes "index.d/") ≡ None
+  pub other : home_page (server host) 0 (codes "a/page.html") ≡ None
+  pub query : home_page queries 2 (codes "index.php?a=1") ≡ Some (page (codes "http://h/?a=1") (Found 2))

@@ -1,6 +1,6 @@
 //! The errors of making a saved web.
 use std::alloc::{AllocError, AllocFailed};
-use std::{fmt, io};
+use std::io;
 
 /// Why a saved web cannot be made.
 #[derive(Debug, Drop)]
@@ -17,23 +17,6 @@ pub enum SiteError {
     NoMemory,
     /// The folder cannot be read.
     Io(io::Error),
-}
-
-impl fmt::Display for SiteError {
-    fn fmt<W: fmt::Write>(&self, f: &mut fmt::Formatter<W>) -> fmt::Result {
-        match self {
-            SiteError::BadBase => f.write_str(
-                "the base must be an http or https URL without a query",
-            ),
-            SiteError::NoFiles => f.write_str("no files"),
-            SiteError::NoneListed => f.write_str("no URL of the list is below the base"),
-            SiteError::TooLarge => f.write_str(
-                "the saved web has more than 1073741824 bytes, the most that a crawl reads",
-            ),
-            SiteError::NoMemory => f.write_str("out of memory"),
-            SiteError::Io(error) => write!(f, "{error}"),
-        }
-    }
 }
 
 impl From<AllocError> for SiteError {

@@ -1,18 +1,25 @@
 //! The file of each page of a site.
-ghost use Rattle.std.specs.Prelude.{◌≡◌, IfErr, IfOk, length, slice_get, string_bytes, option_map};
-ghost use Rattle.std.specs.List.Sorted.{IsStrictlySortedBy};
+ghost use Rattle.std.specs.Prelude.{◌≡◌, IfErr, IfOk, true, length, slice_get, string_bytes, option_map};
 ghost use Rattle.site_files.specs.Below.{IsTop};
 ghost use Rattle.site_files.specs.Files.{IsOfFiles};
-ghost use Rattle.site_files.specs.Entries.{Finds, IsTable, cmp_urls, texts};
-ghost use Rattle.site_files.specs.Kinds.{is_document, is_page, is_style};
+ghost use Rattle.site_files.specs.Entries.{Finds, IsTable, entry_at, texts};
+ghost use Rattle.site_files.specs.Hints.{HasHomes};
+ghost use Rattle.site_files.specs.Kinds.{is_page, is_style};
 ghost use Rattle.site_files.specs.Links.{IsLinked};
-ghost use Rattle.site_files.specs.Files.{IsOrdered, IsOfNames, document_at, document_of, file_kind, kind_at, line_kind, name_at, named_kind, page_file, page_of, pages_of, server_of, site_file};
+ghost use Rattle.site_files.specs.Files.{IsOfNames, document_at, document_of, file_kind, has_file, kind_at, line_kind, moved_to, name_at, named_kind, page_file, page_of, pages_of, server_of, site_file, target_in, url_of};
+ghost use Rattle.site_files.specs.Own.{HaveOwn, number_in, own_of, own_url_at};
+ghost use Rattle.site_files.specs.Pages.{found_file};
+ghost use Rattle.site_files.specs.Serving.{Serves, folder_with};
 
-use crate::alias::FolderLink;
+use crate::alias::{FolderLink, LinkedFolders};
 use crate::error::SiteError;
-use crate::kinds::{FileKind, kind_of};
+use crate::kinds::{FileKind, is_page, kind_of};
 use crate::notes::Note;
-use crate::site::{Entry, Rules, Site, Source, split_name};
+use crate::own_pages::own_numbers;
+use crate::page_table::{Entry, PageTable, Source, file_in};
+use crate::pages::ends_in_slash;
+use crate::rules::{Rules, split_name};
+use crate::site::Site;
 use crate::site_list::ListedUrl;
 use crawl_keys::CanonUrl;
 use std::alloc::{AllocError, Global};
@@ -37,24 +44,11 @@ pub struct SiteFile<'a> {
 }
 
 impl SiteFile<'_> {
-    /// Whether it is known to be a document. A file of unknown kind is one if its first bytes are those of a document.
-    pub fn is_document(&self) -> bool
-        ensures { result ≡ is_document self.now.kind }
-    {
-        match self.kind {
-            FileKind::Html | FileKind::Xml | FileKind::Svg => true,
-            FileKind::Style | FileKind::Unknown => false,
-        }
-    }
-
     /// Whether it is known to be a page: an HTML or XHTML document.
     pub fn is_page(&self) -> bool
         ensures { result ≡ is_page self.now.kind }
     {
-        match self.kind {
-            FileKind::Html | FileKind::Xml => true,
-            FileKind::Svg | FileKind::Style | FileKind::Unknown => false,
-        }
+        is_page(self.kind)
     }
 }
 
@@ -62,27 +56,38 @@ impl SiteFile<'_> {
 #[derive(Drop)]
 pub struct SiteFiles<'a> {
     pub(crate) site: Site,
+    pub(crate) pages: PageTable,
+    /// The pages that folders have under other rules.
+    pub(crate) homes: PageTable,
+    /// For each name the number of the page at the URL of its folder, if that page is the file with this name.
+    pub(crate) own: Vec<Option<usize>>,
+    /// The folders to which symbolic links lead.
+    pub(crate) linked: LinkedFolders,
     pub(crate) names: &'a [String],
     pub(crate) rules: &'a Rules,
     /// What the list of the site has, by the indices of names, if there is a list.
     pub(crate) listed: Option<&'a [ListedUrl]>,
     /// The notes about files and listed URLs without a page.
-    pub(crate) doubles: Vec<Note>,
+    pub(crate) notes: Vec<Note>,
 }
 
 impl<'a> SiteFiles<'a> {
     /// The pages and files of a site.
     ///
     /// # Errors
-    /// `BadBase`, `NoFiles`, `NoMemory`.
+    /// `NoFiles` if no name is that of a file, which is tested first; `BadBase`; `NoMemory`.
+    #[tactic(auto, using(crate::proofs::OwnPages::have_own, crate::proofs::Serving::serves_folder))]
     pub fn new(alloc: Global, input: SiteNames<'a>) -> Result<SiteFiles<'a>, SiteError>
-        ensures error { IfErr result IsOfFiles }
+        ensures error { IfErr result (IsOfFiles input.entry.names.now) }
+        ensures files { IfOk result (λ _. has_file input.entry.names.now ≡ true) }
         ensures top { IfOk result (λ files. IsTop input.entry.base.now (string_bytes files.site.top)) }
         ensures names { IfOk result (IsOfNames input.entry.names.now input.entry.rules.now) }
         ensures url { IfOk result (λ files. files.site.top_url ≡ string_bytes files.site.top) }
-        ensures table { IfOk result (λ files. IsTable (server_of files) (texts input.entry.names.now) files.site.entries.items) }
-        ensures links { IfOk result (λ files. IsLinked (string_bytes files.site.top) input.entry.links.now files.site.linked.links.items) }
-        ensures ordered { IfOk result IsOrdered }
+        ensures table { IfOk result (λ files. IsTable (server_of files) (texts input.entry.names.now) files.pages) }
+        ensures own { IfOk result (λ files. HaveOwn (server_of files) (texts input.entry.names.now) files.pages files.own.items) }
+        ensures links { IfOk result (λ files. IsLinked (string_bytes files.site.top) input.entry.links.now files.linked) }
+        ensures server { IfOk result (λ files. Serves (server_of files) (folder_with input.entry.names.now input.entry.links.now) files.pages files.linked) }
+        ensures homes { IfOk result (λ files. HasHomes (server_of files) (texts input.entry.names.now) files.homes) }
     {
         let SiteNames {
             names,
@@ -90,20 +95,31 @@ impl<'a> SiteFiles<'a> {
             base,
             rules,
         } = input;
-        let mut doubles = Vec::new(alloc);
-        let site = Site::new(alloc, base, names, links, rules, &mut doubles)?;
+        if !has_file(names) {
+            return Err(SiteError::NoFiles);
+        }
+        let site = Site::at(alloc, base)?;
+        let mut notes = Vec::new(alloc);
+        let pages = site.table(names, rules, &mut notes)?;
+        let own = own_numbers(&site, &pages, names, rules)?;
+        let linked = site.linked_folders(links)?;
+        let homes = site.homes(names, rules)?;
         Ok(SiteFiles {
             site,
+            pages,
+            homes,
+            own,
+            linked,
             names,
             rules,
             listed: None,
-            doubles,
+            notes,
         })
     }
 
     /// Adds the notes about the files and listed URLs without a page.
     pub fn copy_doubles(&self, notes: &mut Vec<Note>) -> Result<(), AllocError> {
-        for note in &self.doubles {
+        for note in &self.notes {
             notes.push(note.copy()?)?;
         }
         Ok(())
@@ -134,37 +150,58 @@ impl<'a> SiteFiles<'a> {
     pub fn page_count(&self) -> usize
         ensures { result ≡ length (pages_of self.now) }
     {
-        self.site.entries.len()
+        self.pages.len()
     }
 
     /// The URL of a page, and the index of its file in the names, if it has one.
     pub fn page(&self, number: usize) -> Option<(&str, Option<usize>)>
         ensures { option_map (λ page. page_file page.0.now page.1) result ≡ slice_get (pages_of self.now) number }
     {
-        match self.site.entries.get(number) {
+        match self.pages.get(number) {
             Some(entry) => Some(page_of(entry)),
             None => None,
         }
     }
 
     /// The URL of the page with this number.
-    pub fn url(&self, number: usize) -> Option<&CanonUrl> {
-        Some(&self.site.entries.get(number)?.url)
-    }
-
-    /// The own URL of the file of the page with this number, or `None` for a redirect.
-    pub fn own_url(&self, number: usize) -> Option<&CanonUrl> {
-        let entry = self.site.entries.get(number)?;
-        match &entry.source {
-            Source::File(_) => Some(&entry.url),
-            Source::Index(index) => self.own_url_of(*index),
-            Source::Moved(_) => None,
+    pub fn url(&self, number: usize) -> Option<&CanonUrl>
+        ensures { option_map (λ url. url.now) result ≡ url_of self.now number }
+    {
+        match self.pages.get(number) {
+            Some(entry) => Some(&entry.url),
+            None => None,
         }
     }
 
-    /// The own URL of the file with this index.
-    fn own_url_of(&self, index: usize) -> Option<&CanonUrl> {
-        self.url(self.site.own.get(index).copied()??)
+    /// The own URL of the file of the page with this number, or `None` for a redirect.
+    pub fn own_url(&self, number: usize) -> Option<&CanonUrl>
+        ensures { option_map (λ url. url.now) result ≡ own_url_at self.now number }
+    {
+        match self.pages.get(number) {
+            Some(entry) => self.own_url_of(entry),
+            None => None,
+        }
+    }
+
+    /// The own URL of the file of a page.
+    fn own_url_of<'s>(&'s self, entry: &'s Entry) -> Option<&'s CanonUrl>
+        ensures { option_map (λ url. url.now) result ≡ own_of self.now.pages self.now.own.items entry.now }
+    {
+        let file = file_in(&entry.source)?;
+        match self.folder_number(file) {
+            Some(number) => self.url(number),
+            None => Some(&entry.url),
+        }
+    }
+
+    /// The number of the page at the URL of the folder of the file with this index, if that page is the file.
+    fn folder_number(&self, file: usize) -> Option<usize>
+        ensures { result ≡ number_in self.now.own.items file }
+    {
+        match self.own.get(file) {
+            Some(number) => *number,
+            None => None,
+        }
     }
 
     /// The file of the page with this number, if it has one that can have links. Without `Rules.styles`, a style sheet has none.
@@ -209,22 +246,20 @@ impl<'a> SiteFiles<'a> {
     }
 
     /// The URL to which the page with this number is moved, without a query, if the page is a redirect.
-    pub fn moved_to(&self, number: usize) -> Option<&str> {
-        match &self.site.entries.get(number)?.source {
-            Source::Moved(target) => Some(target.as_str()),
-            _ => None,
+    pub fn moved_to(&self, number: usize) -> Option<&str>
+        ensures { option_map (λ target. target.now) result ≡ moved_to self.now number }
+    {
+        match self.pages.get(number) {
+            Some(entry) => target_in(&entry.source),
+            None => None,
         }
     }
 
     /// The page with this URL, by its number.
     pub fn find(&self, url: &str) -> Option<usize>
-        ensures { IsStrictlySortedBy cmp_urls self.now.site.entries.items → Finds self.now.site.entries.items url.now result }
+        ensures { Finds self.now.pages url.now result }
     {
-        self.site
-            .entries
-            .as_slice()
-            .binary_search_by(|entry| entry.url.as_str().cmp(url))
-            .ok()
+        self.pages.find(url)
     }
 
     /// The number of names.
@@ -244,13 +279,16 @@ impl<'a> SiteFiles<'a> {
     }
 
     /// The index of the file of the page at a URL, or `None`. Pages at other spellings or with a query are not found.
-    pub fn file_of(&self, url: &str) -> Option<usize> {
-        let (_, file) = self.page(self.find(url)?)?;
-        file
+    pub fn file_of(&self, url: &str) -> Option<usize>
+        ensures { result ≡ found_file (entry_at self.now.pages url.now) }
+    {
+        self.pages.file_at(url)
     }
 
     /// The rules by which the names become pages.
-    pub fn rules(&self) -> &Rules {
+    pub fn rules(&self) -> &Rules
+        ensures { result.now ≡ self.now.rules.now }
+    {
         self.rules
     }
 
@@ -278,6 +316,13 @@ fn named_kind(rules: &Rules, name: &str) -> Option<FileKind>
     kind_of(path.as_bytes())
 }
 
+/// Whether some name is that of a file.
+fn has_file(names: &[String]) -> bool
+    ensures { result ≡ has_file names.now }
+{
+    names.iter().any(|name| !ends_in_slash(name.as_bytes()))
+}
+
 /// Whether the file is a style sheet.
 fn is_style(kind: FileKind) -> bool
     ensures { result ≡ is_style kind }
@@ -289,9 +334,15 @@ fn is_style(kind: FileKind) -> bool
 fn page_of(entry: &Entry) -> (&str, Option<usize>)
     ensures { page_file result.0.now result.1 ≡ page_of entry.now }
 {
-    match &entry.source {
-        Source::File(index) => (entry.url.as_str(), Some(*index)),
-        Source::Index(index) => (entry.url.as_str(), Some(*index)),
-        Source::Moved(_) => (entry.url.as_str(), None),
+    (entry.url.as_str(), file_in(&entry.source))
+}
+
+/// The target of a redirect.
+fn target_in(source: &Source) -> Option<&str>
+    ensures { option_map (λ target. target.now) result ≡ target_in source.now }
+{
+    match source {
+        Source::Moved(target) => Some(target.as_str()),
+        _ => None,
     }
 }

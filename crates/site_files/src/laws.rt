@@ -1,5 +1,5 @@
 //! What the definitions in `specs/` say of some requests.
-ghost use Rattle.site_files.specs.Vectors.{Kinds, Requests, Responses, Rules};
+ghost use Rattle.site_files.specs.Vectors.{Homes, Kinds, Requests, Responses, Rules, Starts};
 
 /// The paths that are looked up for requests.
 pub fn requests()
@@ -19,4 +19,14 @@ pub fn rules()
 /// The kinds of files by their names.
 pub fn kinds()
     ensures { Kinds }
+{}
+
+/// Which of some files a check starts at, by their own URLs.
+pub fn starts()
+    ensures { Starts }
+{}
+
+/// The pages of folders by index files that the rules do not have.
+pub fn homes()
+    ensures { Homes }
 {}

@@ -1,15 +1,17 @@
 //! The pages of a site that a list has.
-ghost use Rattle.std.specs.Prelude.{◌≡◌, [], IfErr, IfOk, string_bytes};
+ghost use Rattle.std.specs.Prelude.{◌≡◌, [], true, IfErr, IfOk, string_bytes};
 ghost use Rattle.site_files.specs.Below.{IsTop, begins};
 ghost use Rattle.site_files.specs.Entries.{response_of, texts};
-ghost use Rattle.site_files.specs.Files.{IsOfFiles, IsOfList, IsOrdered};
+ghost use Rattle.site_files.specs.Files.{IsOfList, IsOfListed, has_own};
 ghost use Rattle.site_files.specs.Links.{IsLinked};
 ghost use Rattle.site_files.specs.Listed.{HasListed, IsListed, content_response, name_of};
 
 use crate::error::SiteError;
 use crate::files::SiteFiles;
 use crate::notes::{Left, Note};
-use crate::site::{Entry, Rules, Site, Source, in_order, without_doubles};
+use crate::page_table::{Entry, PageTable, Source};
+use crate::rules::Rules;
+use crate::site::Site;
 use crate::site_list::{Content, ListedUrl, SiteList};
 use crawl_keys::CanonUrl;
 use std::alloc::{AllocError, Global};
@@ -19,60 +21,63 @@ impl<'a> SiteFiles<'a> {
     /// `exact` says what a URL leads to: without it, another spelling of a listed URL leads to its page.
     ///
     /// # Errors
-    /// `BadBase`; `NoneListed`; `NoMemory`.
+    /// `BadBase`; `NoneListed` if no URL is below the top; `NoMemory`.
     pub fn listed(
         alloc: Global,
         list: &'a SiteList,
         base: &str,
         rules: &'a Rules,
     ) -> Result<SiteFiles<'a>, SiteError>
-        ensures error { IfErr result IsOfFiles }
+        ensures error { IfErr result (IsOfListed base.now list.now.urls.items) }
+        ensures some { IfOk result (λ files. has_own (string_bytes files.site.top) list.now.urls.items ≡ true) }
         ensures top { IfOk result (λ files. IsTop base.now (string_bytes files.site.top)) }
         ensures url { IfOk result (λ files. files.site.top_url ≡ string_bytes files.site.top) }
         ensures list { IfOk result (IsOfList list.now rules.now) }
-        ensures pages { IfOk result (λ files. IsListed (string_bytes files.site.top) list.now.urls.items (texts list.now.names.items) files.site.entries.items) }
-        ensures links { IfOk result (λ files. IsLinked (string_bytes files.site.top) [] files.site.linked.links.items) }
-        ensures ordered { IfOk result IsOrdered }
+        ensures pages { IfOk result (λ files. IsListed (string_bytes files.site.top) list.now.urls.items (texts list.now.names.items) files.pages) }
+        ensures links { IfOk result (λ files. IsLinked (string_bytes files.site.top) [] files.linked) }
     {
+        let site = Site::at(alloc, base)?;
         let urls = list.urls.as_slice();
         let names = list.names.as_slice();
-        let mut doubles = Vec::new(alloc);
-        let site = listed_site(alloc, urls, names, base, &mut doubles)?;
+        if !has_own(site.top.as_str(), urls) {
+            return Err(SiteError::NoneListed);
+        }
+        let mut notes = Vec::new(alloc);
+        let pages = site.listed(urls, names, &mut notes)?;
+        let linked = site.linked_folders(&[])?;
         Ok(SiteFiles {
             site,
+            pages,
+            homes: PageTable::empty(alloc),
+            own: Vec::new(alloc),
+            linked,
             names,
             rules,
             listed: Some(urls),
-            doubles,
+            notes,
         })
     }
 }
 
-/// The site of listed URLs with these names.
-#[tactic(auto, using(crate::proofs::ListedPages::listed_once))]
-fn listed_site(
-    alloc: Global,
-    urls: &[ListedUrl],
-    names: &[String],
-    base: &str,
-    notes: &mut Vec<Note>,
-) -> Result<Site, SiteError>
-    ensures error { IfErr result IsOfFiles }
-    ensures top { IfOk result (λ site. IsTop base.now (string_bytes site.top)) }
-    ensures url { IfOk result (λ site. site.top_url ≡ string_bytes site.top) }
-    ensures pages { IfOk result (λ site. IsListed (string_bytes site.top) urls.now (texts names.now) site.entries.items) }
-    ensures links { IfOk result (λ site. IsLinked (string_bytes site.top) [] site.linked.links.items) }
-{
-    let site = Site::at(alloc, base)?;
-    let entries = entries_below(alloc, site.top.as_str(), urls, names)?;
-    if entries.is_empty() {
-        return Err(SiteError::NoneListed);
+impl Site {
+    /// The pages of the listed URLs below the top, each URL once. Adds notes about the lines that have no page.
+    #[tactic(auto, using(crate::proofs::ListedPages::listed_once))]
+    fn listed(
+        &self,
+        urls: &[ListedUrl],
+        names: &[String],
+        notes: &mut Vec<Note>,
+    ) -> Result<PageTable, AllocError>
+        ensures { IfOk result (IsListed (string_bytes self.now.top) urls.now (texts names.now)) }
+    {
+        let alloc = *self.top.allocator();
+        let entries = entries_below(alloc, self.top.as_str(), urls, names)?;
+        note_others(&self.top_url, urls.len(), entries.len(), notes)?;
+        let mut doubles = Vec::new(alloc);
+        let pages = PageTable::new(entries, &mut doubles)?;
+        note_repeated(doubles.as_slice(), notes)?;
+        Ok(pages)
     }
-    note_others(&site.top_url, urls.len(), entries.len(), notes)?;
-    let entries = in_order(entries)?;
-    note_repeated(entries.as_slice(), notes)?;
-    let entries = without_doubles(entries);
-    Ok(Site { entries, ..site })
 }
 
 /// The pages of the listed URLs below the top, in the order of the lines.
@@ -94,6 +99,13 @@ fn entries_below(
         }
     }
     Ok(entries)
+}
+
+/// Whether some listed URL is below the top.
+fn has_own(top: &str, urls: &[ListedUrl]) -> bool
+    ensures { result ≡ has_own top.now urls.now }
+{
+    urls.iter().any(|one| is_below(top, &one.url))
 }
 
 /// Whether a URL begins with the top.
@@ -131,12 +143,11 @@ fn name_at(names: &[String], index: usize) -> &str
     }
 }
 
-/// Adds a note about each line whose URL an earlier line has. The pages are in the order of their URLs.
-fn note_repeated(entries: &[Entry], notes: &mut Vec<Note>) -> Result<(), AllocError> {
-    for (last, entry) in entries.iter().zip(entries.iter().skip(1)) {
-        if last.url == entry.url {
-            notes.push(Note::at(*notes.allocator(), Left::ListedTwice, &entry.url)?)?;
-        }
+/// Adds a note about each line whose URL an earlier line has. `doubles` are the pages of these lines.
+fn note_repeated(doubles: &[Entry], notes: &mut Vec<Note>) -> Result<(), AllocError> {
+    for double in doubles {
+        let note = Note::at(*notes.allocator(), Left::ListedTwice, &double.url)?;
+        notes.push(note)?;
     }
     Ok(())
 }

@@ -2,7 +2,7 @@
 //! symbolic link to a folder, or a name without its `.html`.
 ghost use Rattle.std.specs.Prelude.{◌≡◌, ◌&&◌, [], IfOk, not, string_bytes, option_map};
 ghost use Rattle.site_files.specs.Entries.{LeadsTo, entry_at, host_of};
-ghost use Rattle.site_files.specs.Files.{IsOrdered, server_of};
+ghost use Rattle.site_files.specs.Files.{server_of};
 ghost use Rattle.site_files.specs.Links.{own_in};
 ghost use Rattle.site_files.specs.Pages.{Missing, ends_in_slash, fallback_at, own_spelling, plain_at, spelled_at};
 ghost use Rattle.site_files.specs.Server.{before_query, is_accepted, known_query, names_of, path_at, plain_url};
@@ -11,7 +11,8 @@ ghost use Rattle.site_files.specs.Urls.{with_html};
 use crate::below::unescaped;
 use crate::escapes::{looked_up, push_respelled};
 use crate::files::SiteFiles;
-use crate::site::{ends_in_slash, split_name};
+use crate::pages::ends_in_slash;
+use crate::rules::split_name;
 use crawl_keys::CanonUrl;
 use memchr::{memchr_iter, memchr3};
 use std::alloc::{AllocError, Global};
@@ -20,7 +21,7 @@ impl SiteFiles<'_> {
     /// Whether the URL of a link with this text can be another spelling. If no symbolic link leads to a folder and there is no fallback,
     /// the text must have an escape, a query, or consecutive slashes in its path. A backslash is a slash in a URL.
     pub fn can_spell(&self, text: &str) -> bool {
-        if self.rules.html_fallback || !self.site.linked.is_empty() {
+        if self.rules.html_fallback || !self.linked.is_empty() {
             return true;
         }
         let bytes = text.as_bytes();
@@ -32,7 +33,7 @@ impl SiteFiles<'_> {
     /// # Errors
     /// Out of memory.
     pub fn look_up(&self, alloc: Global, url: &CanonUrl) -> Result<Option<usize>, AllocError>
-        ensures { IsOrdered self.now → entry_at self.now.site.entries.items url.now ≡ Missing → IfOk result (λ found. LeadsTo self.now.site.entries.items (spelled_at (entry_at self.now.site.entries.items) (own_in self.now.site.linked.links.items) (server_of self.now) url.now) found) }
+        ensures { entry_at self.now.pages url.now ≡ Missing → IfOk result (λ found. LeadsTo self.now.pages (spelled_at (entry_at self.now.pages) (own_in self.now.linked) (server_of self.now) url.now) found) }
     {
         if self.find(url.as_str()).is_some() {
             return Ok(None);
@@ -45,9 +46,9 @@ impl SiteFiles<'_> {
 
     /// The number of the page that is looked up by this URL of a path and a query.
     fn look_up_plain(&self, alloc: Global, plain: &str) -> Result<Option<usize>, AllocError>
-        ensures { IsOrdered self.now → IfOk result (λ found. LeadsTo self.now.site.entries.items (plain_at (entry_at self.now.site.entries.items) (host_of self.now.rules.now) (own_spelling (own_in self.now.site.linked.links.items) [] (names_of plain.now))) found) }
+        ensures { IfOk result (λ found. LeadsTo self.now.pages (plain_at (entry_at self.now.pages) (host_of self.now.rules.now) (own_spelling (own_in self.now.linked) [] (names_of plain.now))) found) }
     {
-        let own = self.site.linked.own_url(alloc, plain)?;
+        let own = self.linked.own_url(alloc, plain)?;
         match self.find(own.as_str()) {
             Some(page) => Ok(Some(page)),
             None => self.look_up_html(alloc, own.as_str()),
@@ -57,7 +58,7 @@ impl SiteFiles<'_> {
     /// The number of the page at this URL with `.html` added to its path, if the rules have this fallback and the path does not end with a
     /// slash.
     fn look_up_html(&self, alloc: Global, url: &str) -> Result<Option<usize>, AllocError>
-        ensures { IsOrdered self.now → IfOk result (λ found. LeadsTo self.now.site.entries.items (fallback_at (entry_at self.now.site.entries.items) (host_of self.now.rules.now) url.now) found) }
+        ensures { IfOk result (λ found. LeadsTo self.now.pages (fallback_at (entry_at self.now.pages) (host_of self.now.rules.now) url.now) found) }
     {
         if !self.is_tried(url) {
             return Ok(None);
@@ -74,7 +75,7 @@ impl SiteFiles<'_> {
     }
 
     /// The URL of the file or folder that a server looks up for a URL, or `None` if it looks up none.
-    fn plain_of(&self, alloc: Global, url: &str) -> Result<Option<String>, AllocError>
+    pub(crate) fn plain_of(&self, alloc: Global, url: &str) -> Result<Option<String>, AllocError>
         ensures { IfOk result (λ plain. option_map string_bytes plain ≡ plain_url (server_of self.now) url.now) }
     {
         let (path, query) = split_name(url, true);
@@ -144,7 +145,7 @@ pub fn before_query(url: &str) -> &str
 }
 
 /// The URL with `.html` after its path.
-fn with_html(alloc: Global, url: &str) -> Result<String, AllocError>
+pub(crate) fn with_html(alloc: Global, url: &str) -> Result<String, AllocError>
     ensures { IfOk result (λ html. string_bytes html ≡ with_html url.now) }
 {
     let mut html = String::new(alloc);

@@ -3,7 +3,7 @@ use crate::alias::FolderLink;
 use crate::error::SiteError;
 use crate::folder::{DiskFolders, Folder, Inside};
 use crate::notes::Note;
-use crate::site::Rules;
+use crate::rules::Rules;
 use std::alloc::{AllocError, Global};
 use std::collections::BTreeMap;
 use std::io::ErrorKind;

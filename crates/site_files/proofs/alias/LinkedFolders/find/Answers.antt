@@ -9,12 +9,13 @@ use Rattle.site_files.proofs.OtherNames.{finds_link}
 use Rattle.site_files.proofs.alias.LinkedFolders.find.Goals as goal
 
 pub returns : goal.returns
-returns c = λ ascends.
+returns c =
     let P : List FolderLink → Type 0 = λ links. IsStrictlySortedBy cmp_names links in
     let Q : List FolderLink → Type 0 = λ links. FindsLink links c.args.url.now c.ok.result in
     let found =
     c.binary_search_by.ensures.position (λ (link : FolderLink). slice_cmp nat_cmp (name_in link) c.args.url.now)
     (always_returns_same _ _ _ (λ a r f' k. search rules)) in
-    subst Q c.as_slice.ensures.value
+    rw (← c.self.view_is)
+    (subst Q c.as_slice.ensures.value
     (subst (FindsLink c.as_slice.result.now c.args.url.now) (sym c.ok.ensures.value)
-    (finds_link c.args.url.now c.as_slice.result.now c.binary_search_by.result (subst P (sym c.as_slice.ensures.value) ascends) c.binary_search_by.ensures.bound found))
+    (finds_link c.args.url.now c.as_slice.result.now c.binary_search_by.result (subst P (sym c.as_slice.ensures.value) c.self.invariant) c.binary_search_by.ensures.bound found)))

@@ -7,6 +7,13 @@ use Rattle.site_files.specs.Links.{cmp_names}
 use Rattle.site_files.proofs.OtherNames.{link_table, names_rank}
 use Rattle.site_files.proofs.alias.LinkedFolders.new.Goals as goal
 
+pub invariant_of-result : goal.invariant_of-result
+invariant_of-result c =
+    (link_table _ _ _
+    (c.in_ok-sort_by.ensures.sorted (λ a b. is_lt (cmp_names a b)) names_rank (answers_always _ _ _ (λ f a r f' k. search rules)))
+    (c.in_ok-sort_by.ensures.stable (λ a b. is_lt (cmp_names a b)) names_rank (answers_always _ _ _ (λ f a r f' k. search rules)))
+    (dedup_same _ (λ a b. bytes_eq (string_bytes a.name) (string_bytes b.name)) _ (λ x y b f' x' y' k. search rules) _ _ c.dedup_by.ensures.filtered)).ascends
+
 pub returns : goal.returns
 returns c =
     link_table _ _ _

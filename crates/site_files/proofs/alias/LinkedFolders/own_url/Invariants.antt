@@ -1,6 +1,5 @@
 use Rattle.std.proofs.Common.{◌≡◌, [], IsUtf8, length, string_bytes}
-use Rattle.std.specs.List.Sorted.{IsStrictlySortedBy}
-use Rattle.site_files.specs.Links.{cmp_names, own_in}
+use Rattle.site_files.specs.Links.{own_in}
 use Rattle.site_files.specs.Pages.{own_spelling}
 use Rattle.site_files.specs.Server.{names_of}
 use Rattle.site_files.proofs.alias.LinkedFolders.own_url.Given as goal
@@ -11,7 +10,5 @@ decreases-names l = length l.rest
 abbrev pub invariant-names : goal.invariant-names
 invariant-names l = record {
   utf8 : IsUtf8 l.rest;
-  spells :
-      IsStrictlySortedBy cmp_names l.self.links.items
-      → own_spelling (own_in l.self.links.items) (string_bytes l.own) (names_of l.rest) ≡ own_spelling (own_in l.self.links.items) [] (names_of l.url);
+  spells : own_spelling (own_in l.self) (string_bytes l.own) (names_of l.rest) ≡ own_spelling (own_in l.self) [] (names_of l.url);
 }

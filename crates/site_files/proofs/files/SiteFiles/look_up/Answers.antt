@@ -9,10 +9,10 @@ use Rattle.site_files.specs.Server.{plain_url}
 use Rattle.site_files.proofs.files.SiteFiles.look_up.Goals as goal
 
 pub returns-in-Some : goal.returns-in-Some
-returns-in-Some c = λ ordered missing.
+returns-in-Some c = λ missing.
     let files = c.args.self.now in
     let P : Option (List ℕ) → Type 0 =
-    λ plain. IfOk c.look_up_plain.result (λ found. LeadsTo files.site.entries.items (found_at (entry_at files.site.entries.items) (own_in files.site.linked.links.items) (host_of files.rules.now) plain) found) in
+    λ plain. IfOk c.look_up_plain.result (λ found. LeadsTo files.pages (found_at (entry_at files.pages) (own_in files.linked) (host_of files.rules.now) plain) found) in
     let same : Some (string_bytes c.in-Some.plain) ≡ plain_url (server_of files) c.args.url.now =
     ap (option_map string_bytes) (sym c.in-Some.is) ∙ c.in_ok-plain.ensures ∙ ap (plain_url (server_of files)) c.as_str-2.ensures.value in
-    subst P same (subst (λ text. P (Some text)) c.as_str-in-Some.ensures.value (c.look_up_plain.ensures ordered))
+    subst P same (subst (λ text. P (Some text)) c.as_str-in-Some.ensures.value c.look_up_plain.ensures)

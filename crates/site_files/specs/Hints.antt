@@ -1,0 +1,74 @@
+-- What a server with other rules returns for a URL without a page.
+use Rattle.std.specs.Prelude.{◌≡◌, ℕ, ◌&&◌, ◌||◌, Bool, is_some, false, not, true, List, [], bytes_eq, filter_map, find, if◌then◌else◌, Option, None, option_and_then, option_map, String, string_bytes}
+use Rattle.std.specs.List.{enumerate_from, list_any}
+use Rattle.std.specs.Option.{option_or}
+use Rattle.std.specs.declared.alloc.Global.{Global}
+use Rattle.site_files.specs.Entries.{entry_at}
+use Rattle.site_files.specs.Files.{server_of}
+use Rattle.site_files.specs.Kinds.{is_home, last_name}
+use Rattle.site_files.specs.Links.{own_in}
+use Rattle.site_files.specs.Pages.{Page, Response, Missing, Moved, Found, fallback_at, folder_of, folder_page, found_file, is_text_of, own_spelling, path_in, query_in, response_in}
+use Rattle.site_files.specs.Server.{Host, Server, names_of, plain_url}
+use Rattle.site_files.specs.declared.files.SiteFiles.{SiteFiles}
+use Rattle.site_files.specs.declared.hint.Hint.{Hint}
+use Rattle.site_files.specs.declared.hint.Hint.TheVariants.{HtmlFallback, IndexFile}
+use Rattle.site_files.specs.declared.page_table.Entry.{Entry}
+
+-- ---- the pages of folders under other rules
+
+-- one of some texts is this name
+abbrev pub has_name : List ℕ → List (String Global) → Bool
+has_name name texts = list_any (λ text. bytes_eq name (string_bytes text)) texts
+
+-- the file with this path may be the page of its folder, and the rules do not have its name
+abbrev pub is_unlisted_home : List (List ℕ) → List ℕ → Bool
+is_unlisted_home indices path = is_home path && not (list_any (bytes_eq (last_name path)) indices)
+
+-- the file with this path, at the URL of its folder
+abbrev pub home_at : Server → ℕ → Option (List ℕ) → List ℕ → Option Page
+home_at server number query path =
+    if is_unlisted_home server.host.indices path then option_map (folder_page server number query) (folder_of (last_name path) path)
+    else None
+
+abbrev pub home_page : Server → ℕ → List ℕ → Option Page
+home_page server number name = home_at server number (query_in server.host.queries name) (path_in server.host.queries name)
+
+abbrev pub home_pages : Server → List (List ℕ) → List Page
+home_pages server names = filter_map (λ file. home_page server file.0 file.1) (enumerate_from 0 names)
+
+-- the first of them at each URL
+pub record HasHomes (server : Server) (names : List (List ℕ)) (entries : List Entry) : Type 0 where
+  pub homes : (url : List ℕ) → entry_at entries url ≡ response_in (find (λ one. is_text_of url one.text) (home_pages server names))
+
+-- ---- hints
+
+-- the host with the fallback
+abbrev pub with_fallback : Host → Host
+with_fallback host = record host { fallback = true }
+
+-- the file that the fallback finds for this URL. A host that accepts exact spellings only can have no fallback
+abbrev pub html_hint : (List ℕ → Response) → Host → List ℕ → Option Hint
+html_hint at host url =
+    if host.fallback || host.exact then None else option_map HtmlFallback (found_file (fallback_at at (with_fallback host) url))
+
+-- what is found for this URL by other rules. `homes` has the pages of folders under other rules
+abbrev pub other_hint : (at homes : List ℕ → Response) → Host → List ℕ → Option Hint
+other_hint at homes host url = option_or (html_hint at host url) (option_map IndexFile (found_file (homes url)))
+
+abbrev pub is_missing : Response → Bool
+is_missing Missing = true
+is_missing (Moved url) = false
+is_missing (Found file) = false
+
+-- the same, if this URL has no page
+abbrev pub missing_hint : (at homes : List ℕ → Response) → Host → List ℕ → Option Hint
+missing_hint at homes host url = if is_missing (at url) then other_hint at homes host url else None
+
+-- the hint for the URL of a path and a query, which are looked up
+abbrev pub hint_for : SiteFiles → List ℕ → Option Hint
+hint_for files plain =
+    missing_hint (entry_at files.pages) (entry_at files.homes) (server_of files).host (own_spelling (own_in files.linked) [] (names_of plain))
+
+-- the hint for a URL. A site list has none
+abbrev pub hint_at : SiteFiles → List ℕ → Option Hint
+hint_at files url = if is_some files.listed then None else option_and_then (hint_for files) (plain_url (server_of files) url)

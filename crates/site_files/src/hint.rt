@@ -1,0 +1,101 @@
+//! What a server with other rules returns for a URL without a page.
+ghost use Rattle.std.specs.Prelude.{◌≡◌, IfOk, not, option_map};
+ghost use Rattle.site_files.specs.Entries.{entry_at, host_of};
+ghost use Rattle.site_files.specs.Hints.{hint_at, hint_for, html_hint, is_missing, other_hint, with_fallback};
+ghost use Rattle.site_files.specs.Pages.{fallback_at, found_file};
+ghost use Rattle.site_files.specs.declared.hint.Hint.TheVariants.{IndexFile};
+
+use crate::files::SiteFiles;
+use crate::pages::ends_in_slash;
+use crate::spellings::{before_query, with_html};
+use std::alloc::{AllocError, Global};
+
+/// What a server with other rules returns for a URL without a page: the file with this index among the names.
+#[derive(Clone, Copy, Debug, PartialEq, Eq)]
+pub enum Hint {
+    /// It is found with `Rules.html_fallback`.
+    HtmlFallback(usize),
+    /// It is found if `Rules.index_files` has the last name on its path.
+    IndexFile(usize),
+}
+
+impl SiteFiles<'_> {
+    /// What a server with other rules returns for a URL of the site, or `None` if there is a page by the rules of the site, or if the
+    /// site has a list.
+    ///
+    /// # Errors
+    /// Out of memory.
+    pub fn hint(&self, alloc: Global, url: &str) -> Result<Option<Hint>, AllocError>
+        ensures { IfOk result (λ hint. hint ≡ hint_at self.now url.now) }
+    {
+        if self.listed.is_some() {
+            return Ok(None);
+        }
+        match self.plain_of(alloc, url)? {
+            Some(plain) => self.hint_for(alloc, plain.as_str()),
+            None => Ok(None),
+        }
+    }
+
+    /// The hint for the URL of a path and a query, which are looked up.
+    fn hint_for(&self, alloc: Global, plain: &str) -> Result<Option<Hint>, AllocError>
+        ensures { IfOk result (λ hint. hint ≡ hint_for self.now plain.now) }
+    {
+        let own = self.linked.own_url(alloc, plain)?;
+        if self.has_page(own.as_str()) {
+            return Ok(None);
+        }
+        self.other_hint(alloc, own.as_str())
+    }
+
+    /// The file that is found for this URL by other rules.
+    fn other_hint(&self, alloc: Global, url: &str) -> Result<Option<Hint>, AllocError>
+        ensures { IfOk result (λ hint. hint ≡ other_hint (entry_at self.now.pages) (entry_at self.now.homes) (host_of self.now.rules.now) url.now) }
+    {
+        match self.html_hint(alloc, url)? {
+            Some(hint) => Ok(Some(hint)),
+            None => Ok(self.index_hint(url)),
+        }
+    }
+
+    /// The file that the fallback finds for this URL, if the rules can have the fallback and do not have it.
+    fn html_hint(&self, alloc: Global, url: &str) -> Result<Option<Hint>, AllocError>
+        ensures { IfOk result (λ hint. hint ≡ html_hint (entry_at self.now.pages) (host_of self.now.rules.now) url.now) }
+    {
+        if self.rules.html_fallback || self.rules.exact {
+            return Ok(None);
+        }
+        match self.fallback_file(alloc, url)? {
+            Some(file) => Ok(Some(Hint::HtmlFallback(file))),
+            None => Ok(None),
+        }
+    }
+
+    /// The index of the file that the fallback finds for this URL.
+    fn fallback_file(&self, alloc: Global, url: &str) -> Result<Option<usize>, AllocError>
+        ensures { IfOk result (λ file. file ≡ found_file (fallback_at (entry_at self.now.pages) (with_fallback (host_of self.now.rules.now)) url.now)) }
+    {
+        if ends_in_slash(before_query(url).as_bytes()) {
+            return Ok(None);
+        }
+        let html = with_html(alloc, url)?;
+        Ok(self.pages.file_at(html.as_str()))
+    }
+
+    /// The file that is the page of the folder at this URL, if the rules have its name.
+    fn index_hint(&self, url: &str) -> Option<Hint>
+        ensures { result ≡ option_map IndexFile (found_file (entry_at self.now.homes url.now)) }
+    {
+        match self.homes.file_at(url) {
+            Some(file) => Some(Hint::IndexFile(file)),
+            None => None,
+        }
+    }
+
+    /// Whether there is a page with this URL.
+    fn has_page(&self, url: &str) -> bool
+        ensures { result ≡ not (is_missing (entry_at self.now.pages url.now)) }
+    {
+        self.find(url).is_some()
+    }
+}
