@@ -7,8 +7,8 @@ elements, encodings, redirects, and symbolic links. Without a FOLDER it takes th
 (DOCUMENTATION in tests/checking/loading.py). The saved webs of random folders are compared with those of the converter,
 tests/checking/converter.py, with the model's tokenizer. Of each random folder, a random list of its pages is checked, too, with
 --index. In every eighth random folder, the other forms of the report are compared. With --model, only the model is tested: with
-the known results, the pages that the converter finds, the answers of Python's static server, and the definitions of a server that
-the proofs cite (tests/checking/twins.py).
+the known results, the pages that the converter finds, the answers of Python's static server, and the definitions of a server and of
+feeds that the proofs cite (tests/checking/twins.py, feed_twins.py).
 
 A random folder depends only on the seed and its number. The first folders that differ are kept, and their paths are printed.
 With at least 1,000 random folders, each kind of row must occur at least 5 times; otherwise the test fails. The environment
@@ -34,7 +34,7 @@ from typing import Any, Callable, Dict, Iterator, List, NamedTuple, Optional, Se
 from urllib.parse import quote, unquote_to_bytes
 
 import drawn
-from checking import archives, drawing, forms, loading, printing, samples, twins
+from checking import archives, drawing, feed_twins, forms, loading, printing, samples, twins
 from checking.documents import TOOL, form_of
 from checking.known import KNOWN, Known, To, Zeros
 from checking.model import FLAGS, INDEX_FILES, NOWHERE, Model, Moved, Row, Settings, Site, is_short
@@ -379,7 +379,8 @@ def compare_models(seed: int, number: int) -> Outcome:
         faults: Faults = [
             ("model", model_fault(model, converter().web(folder, site_options(settings), BASE))),
             ("server", server_fault(served, folder)),
-            ("definitions", twins.server_fault(model)),
+            ("definitions of a server", twins.server_fault(model)),
+            ("definitions of feeds", feed_twins.feed_fault(model.site)),
         ]
         return Outcome(number, faults, Counter(), False)
 

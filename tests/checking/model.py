@@ -438,17 +438,20 @@ class Site:
     def read(self, name: bytes) -> Optional[Document]:
         """Reads the links of a file."""
         form = self.form(name)
-        path = os.path.join(self.folder, name)
-        size = os.path.getsize(path)
-        if form is None or size > FILE_LIMIT:
+        if form is None or os.path.getsize(os.path.join(self.folder, name)) > FILE_LIMIT:
             return None
-        body = b""
-        if size:
-            with open(path, "rb") as file:
-                body = file.read()
+        body = self.body(name)
         if form == "" and not TOOL.is_document(None, body):
             return None
         return document_of(body, form or "html", self.settings.styles)
+
+    def body(self, name: bytes) -> bytes:
+        """The bytes of a file. One without bytes is not opened."""
+        path = os.path.join(self.folder, name)
+        if not os.path.getsize(path):
+            return b""
+        with open(path, "rb") as file:
+            return file.read()
 
     def file_of(self, name: bytes) -> str:
         """The name of a file as the report has it."""
