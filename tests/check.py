@@ -7,8 +7,8 @@ elements, encodings, redirects, and symbolic links. Without a FOLDER it takes th
 (DOCUMENTATION in tests/checking/loading.py). The saved webs of random folders are compared with those of the converter,
 tests/checking/converter.py, with the model's tokenizer. Of each random folder, a random list of its pages is checked, too, with
 --index. In every eighth random folder, the other forms of the report are compared. With --model, only the model is tested: with
-the known results, the pages that the converter finds, the answers of Python's static server, and the definitions of a server that
-the proofs cite (tests/checking/twins.py).
+the known results, the pages that the converter finds, the answers of Python's static server, and the definitions of a server and of
+feeds that the proofs cite (tests/checking/twins.py, feed_twins.py).
 
 A random folder depends only on the seed and its number. The first folders that differ are kept, and their paths are printed.
 With at least 1,000 random folders, each kind of row must occur at least 5 times; otherwise the test fails. The environment
@@ -30,12 +30,12 @@ from concurrent.futures import ProcessPoolExecutor
 from functools import lru_cache, partial
 from pathlib import Path
 from random import Random
-from typing import Any, Dict, List, NamedTuple, Optional, Sequence, Tuple
+from typing import Any, Callable, Dict, Iterator, List, NamedTuple, Optional, Sequence, Tuple
 from urllib.parse import quote, unquote_to_bytes
 
 import drawn
-from checking import archives, drawing, forms, loading, samples, twins
-from checking.documents import TOOL
+from checking import archives, drawing, feed_twins, forms, loading, printing, samples, twins
+from checking.documents import TOOL, form_of
 from checking.known import KNOWN, Known, To, Zeros
 from checking.model import FLAGS, INDEX_FILES, NOWHERE, Model, Moved, Row, Settings, Site, is_short
 from checking.tags import document_tags
@@ -46,7 +46,8 @@ SECONDS = 60  # the time limit of a run
 SHOWN, LONGEST = 5, 4000  # the number of differences that a series prints, and the most letters of one
 EVERY = 8  # one of this number of random folders has its other forms compared
 # What 1,000 random folders must have at least LEAST times
-KINDS = "brokenpage brokenanchor placepage placeanchor worst redirect unreached external unused with_aliases error in_sheets in_xml".split()
+KINDS = "brokenpage brokenanchor placepage placeanchor worst redirect unreached external unused with_aliases error in_sheets in_xml in_feeds".split()
+KINDS += "written hint_fallback hint_index_file".split()
 KINDS += [kind + reason for kind in ("invalid", "invalid_place") for reason in ("not_url", "unknown_scheme", "local_file")]
 KINDS += [kind + reason for kind in ("leaving", "leaving_place") for reason in ("above_folder", "outside_base")]
 LEAST = 5
@@ -64,9 +65,9 @@ def site_options(settings: Settings) -> List[str]:
     return words + ([] if settings.styles else ["--no-styles"])
 
 
-def arguments(settings: Settings, folder: str, scratch: str, form: str = "--json") -> List[str]:
-    """The arguments of the command."""
-    words = ["check", form] if form else ["check"]
+def arguments(settings: Settings, folder: str, scratch: str, form: Sequence[str] = ("--json",)) -> List[str]:
+    """The arguments of the command, with the options for a form of the report."""
+    words = ["check", *form]
     words += [flag.option for flag in FLAGS if getattr(settings, flag.setting) == flag.value(True)]
     words += host_options(settings)
     words += [f"--seed={seed}" for seed in settings.seeds]
@@ -225,7 +226,9 @@ def random_settings(draw: Random) -> Settings:
     base = draw.choice((BASE, BASE, BASE + "manual/", NOWHERE))
     front = base if base == NOWHERE else ""
     shown = base[len(front):]
-    ignores = draw.choice([(), (), (shown + "gone", "../"), (shown + "a", "x", shown + "sub/#", BASE + "gone")])
+    ignores = draw.choice([
+        (), (), (shown + "gone", "../"), (shown + "a", "x", shown + "sub/#", BASE + "gone"), (shown + "*x", "*//*", "*.html*", shown + "s*b/"), ("*gone*", "*#*x*"),
+    ])
     seeds = draw.choice([
         (), (), (), ("sub/",), ("#x", "a.html?b", "gone/../b.html"), ("?", "index.html", "%61.html?x", "a?y"), ("./", "s%75b"),
         ("/a.html",) if front else (),
@@ -282,14 +285,44 @@ def web_fault(program: str, folder: str, options: List[str]) -> Optional[str]:
 
 
 def form_fault(program: str, settings: Settings, folder: str, rows: List[Row]) -> Optional[str]:
-    """An error in the other forms of the report of a folder: a control character, or an HTML page with other rows."""
+    """An error in the other forms of the report of a folder: another output than these rows give, or a control character."""
     with tempfile.TemporaryDirectory() as scratch:
-        for form in ("", "--annotations", "--html"):
+        for name, (form, fault_of) in FORMS.items():
             done = run(program, arguments(settings, folder, scratch, form))
-            fault = forms.control_fault(done.stdout, "\n\t" if form == "--html" else "\n") or forms.control_fault(done.stderr)
+            allowed = "\n\t" if name == "page" else "\n"
+            fault = forms.control_fault(done.stdout, allowed) or forms.control_fault(done.stderr) or fault_of(done.stdout.decode(), rows, folder)
             if fault:
-                return f"{form}: {fault}"
-    return forms.page_fault(done.stdout, rows)
+                return f"{name}: {fault}"
+    return None
+
+
+def text_fault(options: printing.Options, actual: str, rows: List[Row], _: str) -> Optional[str]:
+    """An error in the report as text."""
+    return line_fault(actual, printing.as_text(rows, options))
+
+
+def annotation_fault(actual: str, rows: List[Row], folder: str) -> Optional[str]:
+    """An error in the report as annotations."""
+    return line_fault(actual, printing.as_annotations(rows, folder))
+
+
+def line_fault(actual: str, expected: str) -> Optional[str]:
+    """The first line in which two texts differ."""
+    for one, other in zip(actual.split("\n"), expected.split("\n")):
+        if one != other:
+            return f"\n  actual   {one}\n  expected {other}"
+    return None if actual == expected else f"{len(actual)} characters, {len(expected)} expected"
+
+
+# The forms of a report: its options, and what finds an error in it
+FORMS: Dict[str, Tuple[Tuple[str, ...], Callable[[str, List[Row], str], Optional[str]]]] = {
+    "text": ((), partial(text_fault, printing.Options())),
+    "all": (("--all-sources",), partial(text_fault, printing.Options(all_sources=True))),
+    "by target": (("--by-target",), partial(text_fault, printing.Options(by_target=True))),
+    "all by target": (("--by-target", "--all-sources"), partial(text_fault, printing.Options(True, True))),
+    "annotations": (("--annotations",), annotation_fault),
+    "page": (("--html",), forms.page_fault),
+}
 
 
 def list_fault(program: str, draw: Random, folder: str, settings: Settings) -> Optional[str]:
@@ -301,6 +334,17 @@ def list_fault(program: str, draw: Random, folder: str, settings: Settings) -> O
         index = Path(scratch, "index.txt")
         index.write_bytes(listed.text)
         return difference(printed_rows(program, listed.settings, folder, ["--index", str(index)]), expected)
+
+
+def details(row: Row) -> Iterator[str]:
+    """What is counted of a row in addition to its kind."""
+    if row.get("hint"):
+        yield "hint_fallback" if row["hint"].endswith(": --fallback html") else "hint_index_file"
+    if row.get("written"):
+        yield "written"
+    form = form_of(os.fsencode(row["file"]), True) if row["kind"].endswith("place") else None
+    if form in ("css", "xml", "feed", "list"):
+        yield {"css": "in_sheets", "xml": "in_xml"}.get(form, "in_feeds")
 
 
 def compare_number(program: str, seed: int, number: int) -> Outcome:
@@ -319,9 +363,7 @@ def compare_number(program: str, seed: int, number: int) -> Outcome:
             faults.append((f"forms {settings}", form_fault(program, settings, folder, rows)))
         kinds = Counter(map(kind_of, rows))
         kinds["with_aliases"] += rows[0].get("aliases", 0) > 0
-        names = [row["file"].lower() for row in rows if row["kind"].endswith("place")]
-        kinds["in_sheets"] += sum(name.endswith(".css") for name in names)
-        kinds["in_xml"] += sum(name.endswith((".svg", ".xht", ".xhtml")) for name in names)
+        kinds.update(kind for row in rows for kind in details(row))
         return Outcome(number, faults, kinds, False)
 
 
@@ -337,7 +379,8 @@ def compare_models(seed: int, number: int) -> Outcome:
         faults: Faults = [
             ("model", model_fault(model, converter().web(folder, site_options(settings), BASE))),
             ("server", server_fault(served, folder)),
-            ("definitions", twins.server_fault(model)),
+            ("definitions of a server", twins.server_fault(model)),
+            ("definitions of feeds", feed_twins.feed_fault(model.site)),
         ]
         return Outcome(number, faults, Counter(), False)
 
@@ -447,8 +490,8 @@ def compare_forms(program: str, folder: str) -> None:
     """Compares the HTML page of a folder with its rows, and the text on a terminal with the text in a pipe."""
     series, settings = Series("forms"), Settings(BASE, unreached=True, external=True)
     with tempfile.TemporaryDirectory() as scratch:
-        page = run(program, arguments(settings, folder, scratch, "--html")).stdout
-    series.add(f"page of {folder}", forms.page_fault(page, Model(folder, settings).rows()))
+        page = run(program, arguments(settings, folder, scratch, ("--html",))).stdout.decode()
+    series.add(f"page of {folder}", forms.page_fault(page, Model(folder, settings).rows(), folder))
     series.add(f"colour of {folder}", forms.colour_fault(program, folder))
     series.end()
 

@@ -464,6 +464,22 @@ class Folders(Converting):
         pages = self.converted("--fallback", "html")
         self.assertEqual({url: pages[url] for url in pages if url != "http://a.test/"}, {**aliases, **indices, "http://a.test/a.html": []})
 
+    def test_sitemaps_feeds_and_lists_of_urls(self) -> None:
+        """Their links are read by the names of the files."""
+        urls = '<urlset xmlns="x"><url><loc> a?b&amp;c </loc><i:image xmlns:i="y"><i:loc><![CDATA[d]]></i:loc></i:image><loc/></url></urlset>'
+        self.put("sitemap.xml", urls)
+        self.put("maps.XML", "<sitemapindex><sitemap><loc>/s.xml</loc></sitemap></sitemapindex>")
+        self.put("x.rss", "<rss><channel><link>e</link><item><enclosure url='f'/><guid>no</guid></item></channel></rss>")
+        self.put("y.atom", "<feed><link href='g'/><entry><content src='h'/><id>no</id></entry></feed>")
+        self.put("z.xml", "<other><loc>no</loc></other>")
+        self.put("w.xml", "<urlset><loc>no")
+        self.put("sitemap-2.txt", "i\r\n\n j \nk")
+        self.put("urls.txt", "no")
+        links = {
+            "sitemap.xml": "a?b&c d", "maps.XML": "/s.xml", "x.rss": "e f", "y.atom": "g h", "z.xml": "", "w.xml": "", "sitemap-2.txt": "i j k", "urls.txt": "",
+        }
+        self.assertEqual(self.converted(), {f"http://a.test/{name}": [f"link {link}" for link in some.split()] for name, some in links.items()})
+
     def test_queries_of_names(self) -> None:
         self.put("list.html?page=2", '<html><a href="list.html?page=3"><a href="list.html?p%61ge=2">')
         self.put("list.html?p%61ge=2", "<html>")

@@ -8,11 +8,15 @@ from random import Random
 from typing import Dict, Iterator, List, NamedTuple, Optional, Tuple
 
 import drawn
+from checking import feeds
 from checking.documents import TOOL, Document, document_of, form_of
-from checking.model import FILE_LIMIT, INDEX_FILES, Alias, Found, Model, Moved, Response, Row, Settings, Site, is_short, url_of
+from checking.model import FILE_LIMIT, INDEX_FILES, Alias, Found, Model, Moved, Response, Row, Settings, Site, is_short, last_of, url_of
 
 # The forms of files by their media types
-FORMS = {"text/html": "html", "application/xhtml+xml": "xml", "image/svg+xml": "xml", "text/css": "css"}
+FORMS = {
+    "text/html": "html", "application/xhtml+xml": "xml", "image/svg+xml": "xml", "text/css": "css", "text/xml": "feed", "application/xml": "feed",
+    "application/rss+xml": "feed", "application/atom+xml": "feed",
+}
 LINE_LIMIT = 4096  # the most bytes in a line
 OTHER_TYPES = ("text/plain", "image/png", "application/octet-stream", "/")
 
@@ -31,6 +35,10 @@ class Line(NamedTuple):
     def form(self) -> Optional[str]:
         """The form of the file, `` if its first bytes decide, and None if it has no links."""
         return "" if self.kind == "-" else FORMS.get(self.media_type())
+
+    def is_page(self) -> bool:
+        """Whether the type is that of an HTML document."""
+        return self.form() in ("html", "xml") and self.media_type() != "image/svg+xml"
 
     def text(self) -> str:
         """The line in the list."""
@@ -99,9 +107,18 @@ class ListedSite(Site):
         """The URLs of files in order. Each names its own file."""
         return sorted((url, url.encode()) for url, line in self.lines.items() if line.kind != "redirect")
 
-    def own_documents(self) -> List[str]:
-        """The URLs of the documents by their types. An SVG file is a picture, at which no check starts."""
-        return [url for url, line in self.lines.items() if line.form() in ("html", "xml") and line.media_type() != "image/svg+xml"]
+    def own_starts(self) -> List[str]:
+        """The URLs of the documents by their types, and of sitemaps and feeds. An SVG file is a picture, at which no check starts."""
+        return [url for url, line in self.lines.items() if line.is_page() or line.form() == "feed" and feeds.is_start(last_of(url))]
+
+    def is_document(self, name: bytes) -> bool:
+        """Whether the file at a URL is an HTML document: by its type, or by its first bytes if that is not known."""
+        line = self.lines[name.decode()]
+        return line.is_page() or line.form() == "" and self.document(name) is not None
+
+    def hint(self, url: str) -> Optional[str]:
+        """No rule finds a page that is not listed."""
+        return None
 
     def response(self, url: str) -> Response:
         """What the list has for a URL."""
@@ -115,7 +132,7 @@ class ListedSite(Site):
         return Moved(target)
 
     def read(self, name: bytes) -> Optional[Document]:
-        """Reads the document or the style sheet at a URL."""
+        """Reads the links of the file at a URL."""
         line = self.lines[name.decode()]
         form, styles = line.form(), self.settings.styles
         path = os.path.join(self.folder, os.fsencode(line.name))

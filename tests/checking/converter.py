@@ -36,6 +36,7 @@ import sys
 import tempfile
 from typing import BinaryIO, Callable, Iterable, NamedTuple, NoReturn, Optional
 from urllib.parse import quote, unquote_to_bytes
+from xml.etree import ElementTree
 
 HEADER = b"savedweb 2\n"
 LINE_LIMIT = 4096  # most bytes of a line, without its line break
@@ -55,6 +56,9 @@ BREAKOUTS = frozenset(
 SVG_POINTS = ("foreignobject", "desc", "title")
 TEXT_POINTS = ("mi", "mo", "mn", "ms", "mtext")
 STYLE_KIND = "text/css"
+FEED_KIND, LIST_KIND = "feed", "list"  # no media types, since other files have those of feeds, too
+FEEDS = (".rss", ".atom", ".xml")
+LIST_NAME = re.compile(r"sitemap.*\.txt", re.I | re.S)  # the names of lists of URLs
 # Python's own table of suffixes without that of the machine, so that it is the same everywhere
 KINDS = mimetypes.MimeTypes()
 BYTE_ORDER_MARKS = ((b"\xef\xbb\xbf", "utf-8"), (b"\xff\xfe", "utf-16-le"), (b"\xfe\xff", "utf-16-be"))
@@ -382,6 +386,29 @@ def links_of_style(text: str) -> list[str]:
     return ["".join(filter(None, found.groups())) for found in STYLE_TEXT.finditer(text) if found[0][0] in "@uU"]
 
 
+def links_of_feed(text: str) -> list[str]:
+    """Return the links of a sitemap or a feed, or none if it is not well-formed or is neither."""
+    try:
+        root = ElementTree.fromstring(text)
+    except ElementTree.ParseError:
+        return []
+    found: list[Optional[str]] = []
+    for node in root.iter():
+        name, kind = (one.tag.rpartition("}")[2] for one in (node, root))
+        if (name, kind) in (("loc", "urlset"), ("loc", "sitemapindex"), ("link", "rss"), ("link", "RDF")):
+            found.append((node.text or "").strip(EDGE) or None)
+        elif kind in ("rss", "RDF") and name == "enclosure":
+            found.append(node.get("url"))
+        elif kind == "feed" and name in ("link", "content"):
+            found.append(node.get("href" if name == "link" else "src"))
+    return [link for link in found if link and link.strip(EDGE)]
+
+
+def links_of_list(text: str) -> list[str]:
+    """Return the lines of a list of URLs that are not empty."""
+    return [line for line in text.split("\n") if line.strip(EDGE)]
+
+
 def is_link(tag: str, name: str, found: dict[str, str]) -> bool:
     """Return whether an attribute of an element is a link, by the other attributes."""
     kind = found.get("type", "").lower()
@@ -605,14 +632,22 @@ def charset_of(body: bytes, kind: Optional[str]) -> str:
     return "utf-8" if name in UTF8_NAMES or name.startswith("utf-16") else name
 
 
+def marked_text(body: bytes) -> Optional[str]:
+    """Return the text of bytes that begin with a byte order mark, or None."""
+    for mark, name in BYTE_ORDER_MARKS:
+        if body.startswith(mark):
+            return body[len(mark) :].decode(name, "replace")
+    return None
+
+
 def text_of(body: bytes, kind: Optional[str]) -> tuple[str, str]:
     """Return the text and the encoding of a document or a style sheet.
 
     The encoding is that of its byte order mark, the declared one, UTF-8 or, for a document, windows-1252, whichever applies first.
     """
-    for mark, name in BYTE_ORDER_MARKS:
-        if body.startswith(mark):
-            return body[len(mark) :].decode(name, "replace"), "utf-8"
+    marked = marked_text(body)
+    if marked is not None:
+        return marked, "utf-8"
     charset = charset_of(body, kind)
     try:
         if charset:
@@ -674,14 +709,23 @@ def with_base(links: list[str], given: str, url: Url) -> list[str]:
     return [link if scheme_of(link) else f"{scheme}:{link}" for link in links]
 
 
+def is_feed(kind: Optional[str]) -> bool:
+    """Return whether a file is a sitemap, a feed or a list of URLs."""
+    return kind in (FEED_KIND, LIST_KIND)
+
+
 def is_document(kind: Optional[str], body: bytes) -> bool:
     """Return whether a body of this media type, or of unknown type, is a document."""
     return kind in (*HTML_KINDS, *XML_KINDS.values()) or (not kind and HTML_START.match(body[:START_LENGTH]) is not None)
 
 
 def links_of(body: bytes, url: Url, kind: Optional[str], web: Web) -> list[str]:
-    """Return the link texts of a document or a style sheet, and none of anything else."""
+    """Return the link texts of a document, a style sheet, a feed or a list of URLs, and none of anything else."""
     base: Optional[str] = None
+    if is_feed(kind):
+        marked = marked_text(body)
+        text = body.decode("utf-8", "replace") if marked is None else marked
+        return [cleaned(link) for link in (links_of_list(text) if kind == LIST_KIND else links_of_feed(text))]
     if kind != STYLE_KIND and not is_document(kind, body):
         return []
     text, charset = text_of(body, kind)
@@ -896,10 +940,11 @@ def is_hidden(path: bytes) -> bool:
 
 def kind_of(name: bytes) -> tuple[Optional[str], bool]:
     """Return the media type that a file's suffix means, or None; and whether the suffix means that it is compressed."""
-    suffix = os.path.splitext(os.path.basename(os.fsdecode(name)))[1]
+    last = os.path.basename(os.fsdecode(name))
+    suffix = os.path.splitext(last)[1]
     kind, packing = KINDS.guess_type("name" + suffix)
-    kind = XML_KINDS.get(suffix.lower(), kind)
-    return kind, packing is not None
+    kind = FEED_KIND if suffix.lower() in FEEDS else XML_KINDS.get(suffix.lower(), kind)
+    return LIST_KIND if LIST_NAME.fullmatch(last) else kind, packing is not None
 
 
 def is_utf8(name: bytes) -> bool:
@@ -972,7 +1017,7 @@ class Folder:
     def links(self, name: bytes, url: str) -> list[str]:
         """Return the links of a file at its own URL. No more bytes are read than it has, and none if it is empty."""
         kind, packed = kind_of(split_name(name, self.queries)[0])
-        is_read = not kind or kind == STYLE_KIND and self.web.styles or is_document(kind, b"")
+        is_read = not kind or kind == STYLE_KIND and self.web.styles or is_document(kind, b"") or is_feed(kind)
         if packed or not is_read:
             return []
         path = os.path.join(self.folder, name)

@@ -1,4 +1,4 @@
-"""The links and ids of a document, each link with the line and column of its value, and the links of a style sheet."""
+"""The links and ids of a document, each link with the line and column of its value, and the links of style sheets, feeds and lists."""
 
 from __future__ import annotations
 
@@ -8,7 +8,7 @@ from bisect import bisect_right
 from typing import Any, Dict, FrozenSet, List, NamedTuple, Optional, Set, Tuple
 from urllib.parse import quote
 
-from checking import loading, sheets
+from checking import feeds, loading, sheets
 from checking.tags import Attribute, Tag, page_tags, sheet_of
 
 TOOL: Any = loading.script("converter", "tests/checking/converter.py")
@@ -18,7 +18,9 @@ MARKS = ((b"\xef\xbb\xbf", "utf-8"), (b"\xff\xfe", "utf-16-le"), (b"\xfe\xff", "
 WINDOWS = {"cp1252", "windows-1252", "1252"}
 UTF_8 = {"utf-8", "utf_8", "u8"}
 # The forms of files by their names
-FORMS = {".html": "html", ".htm": "html", ".xhtml": "xml", ".xht": "xml", ".svg": "xml", ".css": "css"}
+FORMS = {
+    ".html": "html", ".htm": "html", ".xhtml": "xml", ".xht": "xml", ".svg": "xml", ".css": "css", ".rss": "feed", ".atom": "feed", ".xml": "feed",
+}
 PICTURES = (".svg",)  # the documents among these that are pictures: a check does not start at them
 # A style sheet names its encoding at its very beginning
 SHEET_CHARSET = re.compile(rb'@charset "([^"]*)";')
@@ -33,7 +35,7 @@ class Link(NamedTuple):
 class Document(NamedTuple):
     links: Tuple[Link, ...]
     base: Optional[str]
-    ids: Optional[FrozenSet[str]]  # None if some id is not known, or of a style sheet
+    ids: Optional[FrozenSet[str]]  # None if some id is not known, or of a file that has none
     lines: "Lines"
     charset: str
 
@@ -224,9 +226,11 @@ def read_tags(text: str, xml: bool = False, styles: bool = False) -> Tuple[List[
 
 
 def document_of(body: bytes, form: str = "html", styles: bool = True) -> Document:
-    """Reads a document of a form, `html`, `xml` or `css`."""
+    """Reads a document of a form: `html`, `xml`, `css`, `feed` or `list`."""
     if form == "css":
         return sheet_of_file(body)
+    if form in ("feed", "list"):
+        return feed_of_file(body, form)
     text, charset = text_of(body)
     links, base, ids = read_tags(text, form == "xml", styles)
     document = Document(tuple(links), base, frozenset(ids), Lines(text), charset)
@@ -240,9 +244,16 @@ def sheet_of_file(body: bytes) -> Document:
     return (in_ascii(sheet) if charset == "other" else sheet)._replace(charset="utf-8")
 
 
+def feed_of_file(body: bytes, form: str) -> Document:
+    """Reads a sitemap, a feed or a list of URLs, by its byte order mark or as UTF-8. It has no anchors."""
+    text, charset = marked_text(body) or (body.decode("utf-8", "replace"), "utf-8")
+    found = feeds.links_of_feed(text) if form == "feed" else feeds.links_of_list(text)
+    return Document(tuple(Link(link.text, link.at) for link in found), None, None, Lines(text), charset)
+
+
 def suffix_of(name: bytes) -> str:
     """The suffix of a file's name in lower case, with its dot."""
-    return os.path.splitext(os.path.basename(os.fsdecode(name)))[1].lower()
+    return os.path.splitext(file_name(name))[1].lower()
 
 
 def is_page(name: bytes) -> bool:
@@ -250,8 +261,15 @@ def is_page(name: bytes) -> bool:
     return form_of(name, False) in ("html", "xml") and suffix_of(name) not in PICTURES
 
 
+def file_name(name: bytes) -> str:
+    """The last name of a path."""
+    return os.path.basename(os.fsdecode(name))
+
+
 def form_of(name: bytes, styles: bool) -> Optional[str]:
-    """The form of a file by its name: `html`, `xml`, `css`, or `` if its first bytes decide; None of a file without links."""
+    """The form of a file by its name: one of FORMS, `list`, or `` if its first bytes decide; None of a file without links."""
+    if feeds.is_list(file_name(name)):
+        return "list"
     suffix = suffix_of(name)
     if suffix in FORMS:
         return FORMS[suffix] if styles or FORMS[suffix] != "css" else None

@@ -17,6 +17,8 @@ NAMES = """index.html index.html index.html a.html b.htm c d.txt e%20f.html g h.
 r;s.html t=u.html v@w.html x:y.html ~z.html %.html %zz.html A.HTML A.html %41.html %2541.html %61.html .html .hidden ...html caf\u00e9 y.css y.svg
 \u65e5\u672c.html 'q'.html "q".html <r>.html {s}.html |t|.html ^u.html `v`.html \\w.html x.xhtml y.svg z.css W.XHT .css u.svgz index.htm INDEX.HTML
 index.html? %69ndex.html index%2ehtml a.html.gz a.html?b ?b # %2e %2E%2e""".split()
+NAMES += """sitemap.xml sitemap-1.txt SiteMap_2.XML feed.xml x.rss y.atom Z.Atom x.xml index.xml sitemap.txt sitemap page-2.html page-10.html page-010.html
+n2.png n10.png 7 07 default.html index.php Home.html about.html""".split()
 NAMES += ["y.css", "\u00fc.css", "y.svg", "\u0085.html", "a b.html", " .html", "a\tb.html", "a\nb.html", "\x01.html", "\x1b[31m.html", "\x7f.html", "\u202ex.html", "\u2028"]
 FOLDERS = ["", "", "", "sub/", "sub/deep/", "a.html.d/", "e f/", "%41/", "A/", "a/", "%61/", "\u00e4/", "q?r/", "h#/", "\x1b/", "sub/index.html/"]
 BASES = [
@@ -151,6 +153,8 @@ def random_file(draw: Random, documents: Any, names: List[str], name: str) -> by
     """The bytes of a random file with this name."""
     if name.endswith(".css"):
         return random_sheet(draw, names, name[:name.rfind("/") + 1])
+    if name.lower().endswith(FEEDS) and draw.random() < 0.9:
+        return random_feed(draw, names, name[:name.rfind("/") + 1], name.lower().endswith(".txt"))
     if draw.random() < 0.1:
         return draw.choice([b"", b"plain", bytes(draw.randrange(256) for _ in range(200)), b"<html", b"\xef\xbb\xbf<html>"])
     text = draw.choice(HEADS) + draw.choice(DECLARED)
@@ -185,6 +189,46 @@ def random_sheet(draw: Random, names: List[str], place: str) -> bytes:
         text += draw.choice([draw.choice(SHEET_LINKS).format(link), draw.choice(SHEET_PIECES), draw.choice(SHEET_PIECES)])
     encoding = draw.choice(["utf-8"] * 5 + ["cp1252", "utf-16-le", "utf-8-sig"])
     return {"utf-16-le": b"\xff\xfe"}.get(encoding, b"") + text.encode(encoding, "replace") + (b"\xff" if draw.random() < 0.05 else b"")
+
+
+FEEDS = (".xml", ".rss", ".atom", ".txt")
+# In a feed: roots, what is around a link, and other markup
+ROOTS = [
+    "<urlset xmlns='http://www.sitemaps.org/schemas/sitemap/0.9'>", "<urlset>", "<s:urlset>", "<sitemapindex>", "<rss version='2.0'>", "<rss>", "<rdf:RDF>", "<RDF>",
+    "<feed xmlns='http://www.w3.org/2005/Atom'>", "<feed>", "<feed>", "<html>", "<URLSET>", "<opml>", "<loc>", "<urlset/>",
+]
+FEED_LINKS = [
+    "<url><loc>{}</loc></url>", "<loc>{}</loc>", "<loc>\n  {}\n</loc>", "<image:image><image:loc>{}</image:loc></image:image>", "<loc><![CDATA[{}]]></loc>",
+    "<link>{}</link>", "<link> {} </link>", "<link>\n<![CDATA[ {} ]]>\n</link>", "<link><![CDATA[{}]]></link>", "<link href='{}'/>", '<link rel="self" href="{}">x</link>',
+    "<enclosure url='{}' length='1'/>", '<content src="{}"/>', "<atom:link href='{}'/>", "<loc>{}<!-- x --></loc>", "<loc>{}<b>no</b></loc>", "<link>{}", "<loc x='>'>{}</loc>",
+    "<link a='1' href = '{}' href='no'/>", "<guid>{}</guid>", "<LOC>{}</LOC>", "<x:link x:href='no' href='{}'/>",
+]
+FEED_PIECES = [
+    "<!-- <loc>no</loc> -->", "<!--><loc>gone</loc>", "<?><loc>gone</loc>", "a < b", "<![CDATA[<loc>no</loc>]]>", "<?xml-stylesheet href='no'?>", "<loc/>", "<loc></loc>", "<loc> <!-- --> </loc>", "<link/>", "<link href=''/>",
+    "text", "\n", "\r\n", "</x>", "<lastmod>2026-01-01</lastmod>", "<description>&lt;a href='no'&gt;</description>", "<loc>&#x67;one&#45;1</loc>", "<loc>&#0;&nbsp;&amp</loc>",
+    "<link href='&quot;&apos;&#x26;'/>", "<loc>x<!-- y -->z<?w?></loc>", "<loc><!-- y -->z</loc>", "\u00fc", "<content src='gone.png'/>", "<enclosure url=\"gone.mp3\"/>",
+    "<link>gone&amp;#x</link>", "<loc>\t</loc>", "<link href=' '/>", "<id>no</id>", "<loc>http://[bad/</loc>", "<link>htp:x</link>", "<link href='file:x'/>",
+]
+FEED_STARTS = ["", "", "<?xml version='1.0' encoding='UTF-8'?>\n", "<?xml version='1.0'?>", "<!-- <urlset> -->\n", "<!DOCTYPE rss [<!ENTITY x 'y'>]>", "\n", "<!DOCTYPE feed>", "x"]
+
+
+def random_feed(draw: Random, names: List[str], place: str, is_list: bool) -> bytes:
+    """The bytes of a random sitemap or feed, or of a list of URLs."""
+    text = "" if is_list else draw.choice(FEED_STARTS) + draw.choice(ROOTS)
+    for _ in range(draw.randint(0, 8)):
+        link = random_link(draw, names, place)
+        if draw.random() < 0.3:
+            link = "http://docs.test/" + link.lstrip("/")
+        if is_list:
+            text += draw.choice(["", "", " ", "\t"]) + link.replace("\n", "") + draw.choice(["\n", "\n", "\r\n", "\n\n", " \n", ""])
+            continue
+        shape = draw.choice([*FEED_LINKS, *FEED_PIECES])
+        for letter, reference in (("&", "&amp;"), ("<", "&lt;"), ("'", "&apos;"), ('"', "&#34;")) if "CDATA" not in shape else ():
+            link = link.replace(letter, reference)
+        text += shape.format(link.replace("]]>", "")) if "{" in shape else shape
+    encoding = draw.choice(["utf-8"] * 6 + ["cp1252", "utf-16-le", "utf-16-be", "utf-8-sig"])
+    mark = {"utf-16-le": b"\xff\xfe", "utf-16-be": b"\xfe\xff"}.get(encoding, b"")
+    return mark + text.encode(encoding, "replace") + (b"\xff" if draw.random() < 0.05 else b"")
 
 
 def write(path: Path, content: bytes) -> None:

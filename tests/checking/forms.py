@@ -12,12 +12,11 @@ from html.parser import HTMLParser
 from typing import Dict, List, Optional, Tuple
 
 from checking.model import Row
+from checking.printing import CONTROL, Target, advice, decoded, in_order, message, named, pages_text, shown, targets
 
 CODES = re.compile(rb"\x1b\[[0-9]+m")
 POLICY = re.compile(r"script-src 'sha256-([^']*)'")
 SCRIPT = re.compile(r"<script>(.*?)</script>", re.S)
-# C0, DEL, C1, the line separators, and the characters that change the direction of writing
-CONTROL = "[\0-\x1f\x7f-\x9f\u2028\u2029\u202a-\u202e\u2066-\u2069]"
 
 
 def on_terminal(words: List[str], **named: str) -> bytes:
@@ -75,25 +74,6 @@ class Lines(HTMLParser):
             self.texts[self.part] = self.texts.get(self.part, "") + data
 
 
-REASONS = {
-    "not_url": "not a URL", "unknown_scheme": "unknown scheme", "local_file": "local file",
-    "above_folder": "leaves the folder", "outside_base": "outside BASE",
-}
-
-
-def wrong(row: Row) -> str:
-    """What is wrong with a target, and the page that is suggested."""
-    if "reason" in row:
-        return REASONS[row["reason"]]
-    same = f" (did you mean {row['same_name']}?)" if row["same_name"] else ""
-    return f"no such {row['missing']}{same}"
-
-
-def shown(text: str) -> str:
-    """A text with escapes for its control characters, as people see it."""
-    return re.sub(CONTROL, lambda one: f"\\u{{{ord(one[0]):x}}}", text)
-
-
 def control_fault(text: bytes, allowed: str = "\n") -> Optional[str]:
     """The first line with a control character that is not allowed."""
     for line in text.decode("utf-8").split("\n"):
@@ -102,22 +82,33 @@ def control_fault(text: bytes, allowed: str = "\n") -> Optional[str]:
     return None
 
 
-def line_of(row: Row) -> Tuple[str, str]:
-    """The section of the page that has a row, and the row's line there."""
-    row = {key: shown(value) if isinstance(value, str) else value for key, value in row.items()}
+def target_fields(target: Target) -> List[List[str]]:
+    """The fields of the lines of a target and its locations in the page."""
+    row = target.row
+    places = (["", f"{place['file']}:{place['line']}:{place['column']}"] for place in target.places)
+    return [[named(row), message(row) + advice(row)], *places]
+
+
+def list_fields(row: Row) -> Tuple[str, List[str]]:
+    """The section of the page that has a row, and the fields of the row's line there."""
     kind = row["kind"]
-    if kind in ("broken", "invalid", "leaving"):
-        return "broken", f"{row['target']}\t{wrong(row)}"
-    if kind in ("place", "invalid_place", "leaving_place"):
-        return "broken", f"\t{row['file']}:{row['line']}:{row['column']}"
     if kind == "worst":
-        return kind, f"{row['file']}\t{row['links']}"
+        return kind, [row["file"], str(row["links"])]
     if kind == "redirect":
-        pages = "1 page" if row["pages"] == 1 else f"{row['pages']} pages"
-        return "redirects", f"{row['page']}\tto {row['to'] or '-'}\tlinked from {pages}"
+        return "redirects", [decoded(row["page"]), f"to {decoded(row['to'] or '-')}", f"linked from {pages_text(row['pages'])}"]
     if kind == "external":
-        return kind, f"{row['url']}\t{row['links']}"
-    return kind, row["name"]
+        return kind, [row["url"], str(row["links"])]
+    return kind, [decoded(row["name"]) if kind == "unreached" else row["name"]]
+
+
+def page_texts(rows: List[Row]) -> Dict[str, str]:
+    """The text of each section of the page. Fields are separated by tabs."""
+    lines = {"broken": [fields for target in in_order(targets(rows)) for fields in target_fields(target)]}
+    for row in rows:
+        if row["kind"] != "total" and "target" not in row:
+            part, fields = list_fields(row)
+            lines.setdefault(part, []).append(fields)
+    return {part: "".join("\t".join(map(shown, fields)) + "\n" for fields in [[""], *some]) for part, some in lines.items() if some}
 
 
 def heading(total: Row) -> str:
@@ -130,9 +121,8 @@ def heading(total: Row) -> str:
     return f"<b>{count}</b> {noun}{'' if count == 1 else 's'}</h1>"
 
 
-def page_fault(page: bytes, rows: List[Row]) -> Optional[str]:
+def page_fault(text: str, rows: List[Row], _: str) -> Optional[str]:
     """An error in the page of these rows."""
-    text = page.decode("utf-8")
     policy, script = POLICY.search(text), SCRIPT.search(text)
     if policy is None or script is None or base64.b64encode(hashlib.sha256(script[1].encode()).digest()).decode() != policy[1]:
         return "its policy does not allow its script"
@@ -140,11 +130,7 @@ def page_fault(page: bytes, rows: List[Row]) -> Optional[str]:
         return f"its heading is not {heading(rows[0])}"
     read = Lines()
     read.feed(text)
-    expected: Dict[str, str] = {}
-    for row in rows:
-        if row["kind"] != "total":
-            part, line = line_of(row)
-            expected[part] = expected.get(part, "\n") + line + "\n"
+    expected = page_texts(rows)
     if read.texts != expected:
         return f"actual {read.texts}, expected {expected}"
     return None

@@ -71,7 +71,7 @@ MKDOCS_STYLES = [
 def mkdocs(top: Path, kind: Style) -> Path:
     """A site by mkdocs."""
     write(top / "docs", MKDOCS)
-    text = f"site_name: Dots\nuse_directory_urls: {kind.settings['folders']}\ntheme:\n  name: {kind.settings['theme']}\n"
+    text = f"site_name: Dots\nsite_url: {BASE}\nuse_directory_urls: {kind.settings['folders']}\ntheme:\n  name: {kind.settings['theme']}\n"
     (top / "mkdocs.yml").write_text(text, "utf-8")
     run(["mkdocs", "-q", "build"], top)
     return top / "site"

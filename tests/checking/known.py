@@ -2,7 +2,7 @@
 
 from __future__ import annotations
 
-from typing import Any, Dict, List, NamedTuple, Tuple, Union
+from typing import Any, Dict, List, NamedTuple, Optional, Tuple, Union
 
 from checking.documents import known_schemes
 from checking.model import NOWHERE
@@ -31,9 +31,9 @@ class Known(NamedTuple):
     settings: Tuple[Tuple[str, Any], ...] = ()  # some settings of the check
 
 
-def total(pages: int, links: int, redirects: int, aliases: int) -> Tuple[Dict[str, Any]]:
+def total(pages: int, links: int, redirects: int, aliases: int, files: int = 0) -> Tuple[Dict[str, Any]]:
     """The row of totals."""
-    return ({"kind": "total", "pages": pages, "links": links, "redirects": redirects, "aliases": aliases},)
+    return ({"kind": "total", "pages": pages, "files": files, "links": links, "redirects": redirects, "aliases": aliases},)
 
 
 def unreached(*names: str) -> Tuple[Dict[str, Any], ...]:
@@ -56,6 +56,16 @@ ORPHANS: Dict[str, Union[str, bytes, To, Zeros]] = {
     "index.html": "<a href=a.html>", "a.html": "", "404.html": "<a href=gone>", "d/b.html": "<a href=c.html>",
     "d/c.html": "<a href=b.html#y>", "d/x.htm": "<a href=../none><a href=../a.html>", "y.png": "",
 }
+
+
+def hint(target: str, text: Optional[str]) -> Tuple[Dict[str, Any]]:
+    """The row of a missing page with this hint."""
+    return ({"kind": "broken", "target": target, "hint": text},)
+
+
+def written(target: str, text: Optional[str]) -> Tuple[Dict[str, Any]]:
+    """The row of a location of a target with this text of the link."""
+    return ({"target": target, "written": text},)
 
 
 def anchors(name: str, ids: str, links: str, broken: List[str]) -> Known:
@@ -188,7 +198,7 @@ KNOWN = [
         },
         ["latest/a.html#y index.html:1:25", "latest/gone index.html:1:64", "v2/none v2/a.html:1:17"],
         (
-            *total(pages=4, links=8, redirects=1, aliases=3),
+            *total(pages=3, files=1, links=8, redirects=1, aliases=3),
             {"kind": "redirect", "page": "latest", "to": "latest/", "pages": 1},
             {"kind": "broken", "target": "latest/gone", "pages": 1},
         ),
@@ -417,7 +427,7 @@ KNOWN = [
             "d/Q.SVG": "<svg><image href='../p.svg#x' xlink:href='none.png'/><font href='gone' id='X'/></svg>",
         },
         ["d/Q.SVG#x index.html:1:83", "d/gone d/Q.SVG:1:66", "d/none.png d/Q.SVG:1:43", "gone p.svg:1:53", "p.svg#y index.html:1:43", "p.svg#z p.svg:1:110"],
-        total(pages=3, links=10, redirects=0, aliases=0),
+        total(pages=1, files=2, links=10, redirects=0, aliases=0),
     ),
     Known(
         "files in XML that no link leads to",
@@ -440,20 +450,20 @@ KNOWN = [
             "s/f.svg": "<font id='x'/>",
         },
         ["gone.png s/a.css:3:25", "s/c.css s/a.css:2:18", "s/d.png s/b.css:1:9"],
-        total(pages=6, links=10, redirects=0, aliases=2),
+        total(pages=1, files=5, links=10, redirects=0, aliases=2),
     ),
     Known(
         "no links of styles",
         {"index.html": "<link href=a.css><style>a{b:url(no)}</style><p style='a:url(no)'><a href=gone>", "a.css": "a{b:url(no)}"},
         ["gone index.html:1:74"],
-        total(pages=2, links=2, redirects=0, aliases=0),
+        total(pages=1, files=1, links=2, redirects=0, aliases=0),
         settings=NO_STYLES,
     ),
     Known(
         "what only a style uses is used",
         {"index.html": "<style>@import url(a.css)</style>", "a.css": "a{b:url('p.png')}", "p.png": "", "q.png": ""},
         [],
-        (*total(pages=3, links=2, redirects=0, aliases=0), *unreached("q.png")),
+        (*total(pages=1, files=2, links=2, redirects=0, aliases=0), *unreached("q.png")),
         settings=(("unreached", True),),
     ),
     Known(
@@ -467,7 +477,7 @@ KNOWN = [
             "d/a.css index.html:2:17", "d/c.png index.html:4:23", "d/d.png index.html:5:11", "d/e.png index.html:5:11", "d/f.css index.html:6:25",
             "d/g.css index.html:6:74",
         ],
-        total(pages=2, links=7, redirects=0, aliases=0),
+        total(pages=1, files=1, links=7, redirects=0, aliases=0),
     ),
     Known(
         "an anchor in a style",
@@ -564,4 +574,120 @@ KNOWN = [
         settings=(*NO_BASE, ("ignores", ("../../doc/", "../d"))),
     ),
     Known("a seed without a page", {"index.html": ""}, [], error("x.html: no such page to start at"), settings=(("seeds", ("./", "x.html")),)),
+    Known(
+        "a sitemap",
+        {
+            "index.html": "", "i.png": "",
+            "sitemap.xml": "<?xml version='1.0'?>\n<urlset xmlns='http://www.sitemaps.org/schemas/sitemap/0.9'><url><loc>http://docs.test/</loc></url>\n"
+            "<url><loc> http://docs.test/gone?a&amp;b </loc><image:image><image:loc>http://docs.test/none.png</image:loc></image:image></url>\n"
+            "<!-- <loc>no</loc> --><url><loc/><loc>\n\n http://docs.test/i.png</loc><lastmod>no</lastmod></url></urlset>",
+        },
+        ["gone?a&b sitemap.xml:3:12", "none.png sitemap.xml:3:72"],
+        (*total(pages=1, files=2, links=4, redirects=0, aliases=0), *written("none.png", "http://docs.test/none.png")),
+    ),
+    Known(
+        "an index of sitemaps, and a list of URLs",
+        {
+            "index.html": "", "Sitemap_index.XML": "<sitemapindex><sitemap><loc>http://docs.test/maps/a.xml</loc></sitemap></sitemapindex>",
+            "maps/a.xml": "<s:urlset><s:url><s:loc>/gone1</s:loc></s:url></s:urlset>", "maps/b.xml": "<urlset><loc>no</loc></urlset>",
+            "maps/sitemap-2.txt": "\ufeffhttp://docs.test/\r\n\n \t http://docs.test/gone2 \r\nhttp://other.test/\ngone#3", "maps/urls.txt": "no",
+        },
+        ["gone1 maps/a.xml:1:25", "gone2 maps/sitemap-2.txt:3:4", "maps/gone maps/sitemap-2.txt:5:1"],
+        total(pages=1, files=3, links=6, redirects=0, aliases=0),
+    ),
+    Known(
+        "a feed in RSS 2.0",
+        {
+            "index.html": "<p id=x>",
+            "feed.xml": "<rss version='2.0' xmlns:atom='http://www.w3.org/2005/Atom'><channel><title>no</title><link>http://docs.test/#x</link>\n"
+            "<atom:link href='no1' rel='self'/><item><link><![CDATA[ http://docs.test/gone?x&y ]]></link>\n"
+            "<enclosure url='gone.mp3' length='1'/><guid>no2</guid><description>&lt;a href='no3'&gt;</description></item></channel></rss>",
+        },
+        ["gone.mp3 feed.xml:3:17", "gone?x&y feed.xml:2:57"],
+        total(pages=1, files=1, links=3, redirects=0, aliases=0),
+    ),
+    Known(
+        "feeds in RDF and in Atom",
+        {
+            "index.html": "", "a/x.rss": "<rdf:RDF><channel rdf:about='no1'><link>gone1</link></channel><item><link>.</link></item></rdf:RDF>",
+            "b/y.ATOM": "<feed xml:base='/no/'><id>no2</id><link rel='self' href='y.ATOM'/><entry><link href='gone2'>no3</link><content src='gone3'/>\n"
+            "<content type='html'>&lt;a href='no4'></content><link rel='alternate' hreflang='en'/></entry></feed>",
+        },
+        ["a/ a/x.rss:1:75", "a/gone1 a/x.rss:1:41", "b/gone2 b/y.ATOM:1:86", "b/gone3 b/y.ATOM:1:117"],
+        total(pages=1, files=2, links=5, redirects=0, aliases=0),
+    ),
+    Known(
+        "files in XML that are reached",
+        {
+            "index.html": "<a href=a.xml><a href=b.xml><a href=c.xml#x>", "a.xml": "<urlset><loc>gone</loc></urlset>", "b.xml": "<other><loc>no</loc></other>",
+            "c.xml": "no", "d.xml": "<urlset><loc>no</loc></urlset>",
+        },
+        ["gone a.xml:1:14"],
+        (*total(pages=1, files=3, links=4, redirects=0, aliases=0), *unreached("d.xml")),
+        settings=(("unreached", True),),
+    ),
+    Known("only a sitemap", {"sitemap.xml": "<urlset><loc>gone</loc></urlset>"}, ["gone sitemap.xml:1:14"], total(pages=0, files=1, links=1, redirects=0, aliases=0)),
+    Known(
+        "sitemaps that are not reached",
+        {"index.html": "", "sitemap.xml": "<urlset><loc>no</loc></urlset>", "d/atom.xml": "<feed><link href='no'/></feed>"},
+        [],
+        (*total(pages=1, links=0, redirects=0, aliases=0), *unreached("d/atom.xml", "sitemap.xml")),
+        settings=(("reachable", True), ("unreached", True)),
+    ),
+    Known(
+        "patterns that are ignored",
+        {"index.html": "<a href=a.png><a href=d/b.png><a href=b.png?x><a href=d/c.html><a href=x#y><p id=z><a href=htp:a*b><a href=%2A.gif>"},
+        ["%2A.gif index.html:1:108", "b.png?x index.html:1:39"],
+        ({"kind": "total", "broken": 2, "invalid": 0}, {"kind": "unused", "name": "b*.png"}, {"kind": "unused", "name": "*.gif*.gif"}),
+        settings=(*NO_BASE, ("ignores", ("*.png", "d*c*l", "*:*", "x*", "b*.png", "*.gif*.gif"))),
+    ),
+    Known("all that is ignored", {"index.html": "<a href=a><a href=../b><a href=http:>"}, [], settings=(*NO_BASE, ("ignores", ("*",)))),
+    Known(
+        "what the rules of a host would find",
+        {
+            "index.html": "<a href=a><a href=d/b?x#y><a href=e/><a href=./x/../e><a href=f/><a href=g/><a href=%C3%BC><a href=c><a href=h/>",
+            "a.html": "", "d/b.html": "", "e/default.htm": "", "e/Home.php": "", "f/index.css": "", "f/home": "", "f/indexes.html": "", "\u00fc.html": "", "c.htm": "",
+            "g/d/index.html": "", "h/Index.html": "", "h/home.html": "",
+        },
+        [
+            "%C3%BC index.html:1:85", "a index.html:1:9", "c index.html:1:100", "d/b?x index.html:1:19", "e/ index.html:1:46", "e/ index.html:1:35",
+            "f/ index.html:1:63", "g/ index.html:1:74", "h/ index.html:1:110",
+        ],
+        (
+            *hint("a", "a.html exists: --fallback html"), *hint("d/b?x", "d/b.html exists: --fallback html"), *hint("e/", "e/ has Home.php: --index-file Home.php"),
+            *hint("f/", None), *hint("g/", None), *hint("%C3%BC", "\u00fc.html exists: --fallback html"), *hint("c", None),
+            *hint("h/", "h/ has Index.html: --index-file Index.html"),
+        ),
+        settings=NO_BASE,
+    ),
+    Known(
+        "hints with BASE, and for the top",
+        {"home.php": "", "a.html": "<a href=/a><a href=a%2F><a href=/>"},
+        ["./ a.html:1:33", "a a.html:1:9", "a%2F a.html:1:20"],
+        hint("./", "./ has home.php: --index-file home.php"),
+    ),
+    Known(
+        "what --fallback html does not find",
+        {"index.html": "<a href=a><a href=d/><a href=a/>", "a.html": "", "d/index.php": ""},
+        ["a/ index.html:1:30", "d/ index.html:1:19"],
+        (*hint("a/", None), *hint("d/", "d/ has index.php: --index-file index.php")),
+        settings=(*NO_BASE, *FALLBACK),
+    ),
+    Known(
+        "links as they are written",
+        {
+            "d/index.html": "<a href=' ../x&amp;y '><a href=./a\nb.html><a href='a\tb.html'><img srcset='z.png, ./z.png 2x'><a href=z#&lt;><a href=ftp:y><a href=HTP:y>\n"
+            "<p style='a:url( &quot;./w.png&quot; )'><meta http-equiv=refresh content='0; url=&#39;/v&#39;'><a href=e#f><a href=//[x>",
+            "d/e/index.html": "",
+        },
+        [
+            "//[x d/index.html:3:116", "HTP:y d/index.html:2:96", "d/ab.html d/index.html:2:17", "d/a d/index.html:1:32", "d/e/#f d/index.html:3:104",
+            "d/w.png d/index.html:3:11", "d/z d/index.html:2:67", "d/z.png d/index.html:2:40", "v d/index.html:3:75", "x&y d/index.html:1:10",
+        ],
+        (
+            *written("x&y", "../x&y"), *written("d/a", "./a"), *written("d/ab.html", "ab.html"), *written("d/z.png", "z.png"), *written("d/z", "z#<"),
+            *written("HTP:y", None), *written("d/w.png", "./w.png"), *written("v", "/v"), *written("d/e/#f", "e#f"), *written("//[x", None),
+        ),
+        settings=NO_BASE,
+    ),
 ]

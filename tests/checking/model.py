@@ -13,6 +13,7 @@ from typing import AbstractSet, Any, Dict, Iterable, Iterator, List, NamedTuple,
 from urllib.parse import quote, unquote_to_bytes
 
 import drawn
+from checking import feeds
 from checking.documents import TOOL, Document, document_of, form_of, is_page, known_schemes, with_query_in
 
 Row = Dict[str, Any]
@@ -61,14 +62,19 @@ class Base(NamedTuple):
 
 
 class Link(NamedTuple):
-    """A link of a page: its target and its location."""
+    """A link of a page: its target, its location and its text."""
 
     url: str
     fragment: Optional[str]
     place: Place
+    written: str  # as the file has it, without white space around it
 
+
+Located = Dict[Place, str]  # the locations of the links to a target, each with the text of its first link
 
 INDEX_FILES = ("index.html", "index.htm", "index.xhtml")
+# The beginnings of the names of files that a server may use as index files
+INDEX_NAMES = ("index.", "default.", "home.")
 
 SCHEMES = frozenset(known_schemes())
 
@@ -216,9 +222,17 @@ def in_bytes(row: Tuple[Tuple[str, str], object]) -> Tuple[bytes, bytes]:
     return row[0][0].encode("utf-8", "replace"), row[0][1].encode("utf-8", "replace")
 
 
-def in_order(places: Set[Place]) -> List[Place]:
-    """The locations by file, line and column."""
-    return sorted(places, key=lambda place: (place.file.encode(), place.line, place.column))
+def in_order(places: Located) -> Iterator[Row]:
+    """The members of the rows of locations, by file, line and column."""
+    for place in sorted(places, key=lambda place: (place.file.encode(), place.line, place.column)):
+        yield {**place._asdict(), "written": places[place]}
+
+
+def matches(entry: str, target: str) -> bool:
+    """Whether an entry of the ignore list names a target: it begins with the entry, or the entry is a pattern for it."""
+    if "*" not in entry:
+        return target.startswith(entry)
+    return re.fullmatch(".*".join(map(re.escape, entry.split("*"))), target, re.DOTALL) is not None
 
 
 def links_in(rows: List[Row]) -> int:
@@ -295,6 +309,7 @@ class Site:
                     self.own[name] = self.url(key)
         # A query keeps its `%`: decoded, the URL of one file may be the name of another. So whole URLs come first.
         self.by_url = {self.url(key): name for key, name in self.files.items()}
+        self.likely_indices = self.likely_index(list(self.own))
 
     def keys(self, name: bytes) -> Iterator[Key]:
         """What a server looks up to return a file."""
@@ -322,12 +337,38 @@ class Site:
         path = in_folder(text, self.base) if self.settings.is_rooted() and begins_path(text) else None
         return path or str(drawn.url_of(seed, self.base))
 
-    def own_documents(self) -> List[str]:
-        """The own URLs of the files that are HTML documents by their names."""
-        return [url for name, url in self.own.items() if is_page(next(self.keys(name)).path)]
+    def own_starts(self) -> List[str]:
+        """The own URLs of the files at which a check starts: HTML documents, sitemaps and feeds by their names."""
+        return [url for name, url in self.own.items() if is_page(self.path(name)) or self.form(name) in ("feed", "list") and feeds.is_start(last_of(url))]
+
+    def path(self, name: bytes) -> bytes:
+        """The path that a file's name is, without its query."""
+        return next(self.keys(name)).path
+
+    def form(self, name: bytes) -> Optional[str]:
+        """The form of a file."""
+        return form_of(self.path(name), self.settings.styles)
+
+    def is_document(self, name: bytes) -> bool:
+        """Whether a file is an HTML document: by its name, or by its first bytes if its name does not say what it is."""
+        return is_page(self.path(name)) or self.form(name) == "" and self.document(name) is not None
 
     def response(self, url: str) -> Response:
         """What a server returns for a URL."""
+        key = self.key_of(url)
+        if key is None or not is_short("page", url):
+            return None
+        if key.path + b"/" in self.names and key.query is None:
+            return Moved(self.url(key._replace(path=key.path + b"/")) + drawn.url_of(url).query)
+        name = self.by_url.get(url) or self.files.get(key)
+        if name is None and self.settings.fallback and os.path.basename(key.path):
+            name = self.files.get(key._replace(path=key.path + b".html"))
+        if name is None or not is_short("page", self.own[name]):
+            return None
+        return Found(name) if url == self.own[name] else Alias(name, self.own[name])
+
+    def key_of(self, url: str) -> Optional[Key]:
+        """What a server looks up for a URL, or None if it looks up nothing."""
         request = drawn.url_of(url)
         front = self.base.path[:-1]
         if request._replace(path=(), query="") != self.base._replace(path=(), query=""):
@@ -335,20 +376,35 @@ class Site:
         if len(request.path) == len(front) or list(map(unquote_to_bytes, request.path[:len(front)])) != list(map(unquote_to_bytes, front)):
             return None
         path = self.path_of([unquote_to_bytes(part) for part in request.path[len(front):]])
-        if path is None or not is_short("page", url):
+        if path is None:
             return None
         key = Key(path, unquote_to_bytes(request.query[1:]) if self.settings.queries and request.query else None)
         if self.settings.exact and url != self.url(key):
             return None
-        key = key._replace(path=self.own_path(key.path))
-        if key.path + b"/" in self.names and key.query is None:
-            return Moved(self.url(key._replace(path=key.path + b"/")) + request.query)
-        name = self.by_url.get(url) or self.files.get(key)
-        if name is None and self.settings.fallback and os.path.basename(key.path):
-            name = self.files.get(key._replace(path=key.path + b".html"))
-        if name is None or not is_short("page", self.own[name]):
+        return key._replace(path=self.own_path(key.path))
+
+    def hint(self, url: str) -> Optional[str]:
+        """What another rule would find at a URL without a page, and its option."""
+        key = self.key_of(url)
+        if key is None or key in self.files:
             return None
-        return Found(name) if url == self.own[name] else Alias(name, self.own[name])
+        if os.path.basename(key.path):
+            page = self.files.get(key._replace(path=key.path + b".html"))
+            is_off = not self.settings.exact and not self.settings.fallback
+            return f"{self.file_of(page)} exists: --fallback html" if page and is_off else None
+        index = self.likely_indices.get(key)
+        return f"{os.fsdecode(key.path) or './'} has {index}: --index-file {index}" if index else None
+
+    def likely_index(self, names: List[bytes]) -> Dict[Key, str]:
+        """By folder and query, the first file that a server may use as index file."""
+        found: Dict[Key, str] = {}
+        for name in sorted(names):
+            key = next(self.keys(name))
+            folder, last = os.path.split(key.path)
+            is_named = last.lower().startswith(tuple(map(str.encode, INDEX_NAMES)))
+            if is_named and (self.form(name) in ("html", "") or is_page(key.path)):
+                found.setdefault(key._replace(path=os.path.join(folder, b"")), os.fsdecode(last))
+        return found
 
     def path_of(self, parts: List[bytes]) -> Optional[bytes]:
         """The path in the folder that a server looks up, or None if it looks up none."""
@@ -380,19 +436,22 @@ class Site:
         return self.documents[name]
 
     def read(self, name: bytes) -> Optional[Document]:
-        """Reads the document or the style sheet in a file."""
-        form = form_of(next(self.keys(name)).path, self.settings.styles)
-        path = os.path.join(self.folder, name)
-        size = os.path.getsize(path)
-        if form is None or size > FILE_LIMIT:
+        """Reads the links of a file."""
+        form = self.form(name)
+        if form is None or os.path.getsize(os.path.join(self.folder, name)) > FILE_LIMIT:
             return None
-        body = b""
-        if size:
-            with open(path, "rb") as file:
-                body = file.read()
+        body = self.body(name)
         if form == "" and not TOOL.is_document(None, body):
             return None
         return document_of(body, form or "html", self.settings.styles)
+
+    def body(self, name: bytes) -> bytes:
+        """The bytes of a file. One without bytes is not opened."""
+        path = os.path.join(self.folder, name)
+        if not os.path.getsize(path):
+            return b""
+        with open(path, "rb") as file:
+            return file.read()
 
     def file_of(self, name: bytes) -> str:
         """The name of a file as the report has it."""
@@ -408,9 +467,9 @@ class Model:
         self.others: Dict[str, Response] = {}  # of URLs of the site's origin that are not below the top
         self.links: Dict[str, List[Link]] = {}  # by the own URL of each file
         self.skipped: Counter[str] = Counter()  # by the own URL of each file, the links that are not http or https
-        self.invalid: Dict[Tuple[str, str], Tuple[Set[str], Set[Place]]] = {}  # by text and reason: the pages with the link, and the locations
+        self.invalid: Dict[Tuple[str, str], Tuple[Set[str], Located]] = {}  # by text and reason: the pages with the link, and the locations
         starts = [self.site.start_of(seed) for seed in settings.seeds or [""]]
-        documents = [] if settings.reachable else self.site.own_documents()
+        documents = [] if settings.reachable else self.site.own_starts()
         self.fault = self.start_fault(starts, documents)
         if settings.seeds or settings.reachable or self.site.response(starts[0]):
             self.search(starts)
@@ -472,12 +531,12 @@ class Model:
                 self.skipped[url] += line is not None
                 reason = invalid_reason(text) if line and (TOOL.scheme_of(text) or not base.front) else None
                 if line and reason:
-                    pages, places = self.invalid.setdefault((line, reason), (set(), set()))
+                    pages, places = self.invalid.setdefault((line, reason), (set(), {}))
                     pages.add(url)
-                    places.add(Place(name, *document.lines.place(link.at)))
+                    places.setdefault(Place(name, *document.lines.place(link.at)), TOOL.cleaned(link.text))
             elif is_short("link", target if base.is_given else text.partition("#")[0]):
                 fragment = None if document.ids is None else fragment_of(link.text)
-                yield Link(target, fragment, Place(name, *document.lines.place(link.at)))
+                yield Link(target, fragment, Place(name, *document.lines.place(link.at)), TOOL.cleaned(link.text))
 
     def base_of(self, text: str, page: "Base") -> "Base":
         """The base of a page with a `base` element that has this text."""
@@ -515,8 +574,10 @@ class Model:
         external = self.external() if self.settings.external else []
         counts = {"unreached": len(unreached)} if self.settings.unreached else {}
         counts.update({"external": len(external)} if self.settings.external else {})
+        found = [response.name for response in map(self.responses.get, self.links) if isinstance(response, Found)]
+        pages = sum(map(self.site.is_document, found))
         total = {
-            "kind": "total", "pages": len(self.links), "redirects": len(redirects), **counts,
+            "kind": "total", "pages": pages, "files": len(found) - pages, "redirects": len(redirects), **counts,
             "aliases": sum(isinstance(response, Alias) for response in self.responses.values()),
             "links": sum(self.skipped.values()) + sum(map(len, self.links.values())),
             "broken": sum(row["kind"] == "place" for row in broken), "invalid": links_in(invalid), "leaving": links_in(leaving),
@@ -552,8 +613,7 @@ class Model:
             if not self.is_ignored(target):
                 shown = {"target": target, "reason": "above_folder" if self.settings.is_rooted() else "outside_base"}
                 yield {"kind": "leaving", **shown, "pages": len(linking[url])}
-                for place in in_order(places.get(url, set())):
-                    yield {"kind": "leaving_place", **shown, **place._asdict()}
+                yield from self.place_rows({"kind": "leaving_place", **shown}, places.get(url, {}))
 
     def shown_outside(self, url: str) -> str:
         """A URL that is not below the top as the report prints it: without BASE, as a path from the top."""
@@ -563,14 +623,19 @@ class Model:
         shared = next(count for count in range(len(top), -1, -1) if top[:count] == path[:count] and count < len(path))
         return "../" * (len(top) - shared) + "/".join(path[shared:])
 
-    def places(self, redirects: Iterable[str]) -> Dict[str, Set[Place]]:
+    def place_rows(self, shown: Row, places: Located) -> Iterator[Row]:
+        """The rows of the locations of links to a target. The text of a link is there if it is not the target."""
+        for row in in_order(places):
+            yield {**shown, **row, "written": None if row["written"] == shown["target"] else row["written"]}
+
+    def places(self, redirects: Iterable[str]) -> Dict[str, Located]:
         """The locations of links to each URL, and of links to those of these redirects that lead to it."""
         moved = [(url, self.responses[url]) for url in redirects]
         ends = {url: response.url for url, response in moved if isinstance(response, Moved)}
-        places: Dict[str, Set[Place]] = {}
+        places: Dict[str, Located] = {}
         for links in self.links.values():
             for link in links:
-                places.setdefault(ends.get(link.url, link.url), set()).add(link.place)
+                places.setdefault(ends.get(link.url, link.url), {}).setdefault(link.place, link.written)
         return places
 
     def shown(self, url: str) -> str:
@@ -579,25 +644,20 @@ class Model:
 
     def is_ignored(self, target: str) -> bool:
         """Whether a target is on the ignore list."""
-        return any(target.startswith(entry) for entry in self.settings.ignores)
+        return any(matches(entry, target) for entry in self.settings.ignores)
 
     def missing_pages(self, linking: Dict[str, Set[str]]) -> Iterator[Row]:
         """The rows of missing pages, with the locations of links to them and to redirects to them."""
         names, places = self.names(), self.places(self.responses)
         for url in sorted(url for url, response in self.responses.items() if response is None):
             if not self.is_ignored(self.shown(url)):
-                pages, found = linking.get(url, ()), places.get(url, set())
+                pages, found = linking.get(url, ()), places.get(url, {})
                 same, file = names.get(last_of(url), (None, None))
                 is_inside = file in {place.file for place in found}
-                yield from self.broken_rows(self.shown(url), "page", len(pages), found, None if is_inside else same)
-
-    def broken_rows(self, target: str, missing: str, pages: int, places: Set[Place], same_name: Optional[str]) -> Iterator[Row]:
-        """The row of a missing target and the rows of the links to it."""
-        shown = {"target": target, "missing": missing}
-        same = None if same_name is None else self.shown(same_name)
-        yield {"kind": "broken", **shown, "pages": pages, "same_name": same}
-        for place in in_order(places):
-            yield {"kind": "place", **shown, **place._asdict()}
+                same_name = None if is_inside or same is None else self.shown(same)
+                shown = {"target": self.shown(url), "missing": "page"}
+                yield {"kind": "broken", **shown, "pages": len(pages), "same_name": same_name, "hint": self.site.hint(url)}
+                yield from self.place_rows({"kind": "place", **shown}, found)
 
     def invalid_links(self) -> Iterator[Row]:
         """The rows of invalid links and of their locations."""
@@ -605,22 +665,23 @@ class Model:
             if not self.is_ignored(text):
                 shown = {"target": text, "reason": reason}
                 yield {"kind": "invalid", **shown, "pages": len(pages)}
-                for place in in_order(places):
-                    yield {"kind": "invalid_place", **shown, **place._asdict()}
+                yield from self.place_rows({"kind": "invalid_place", **shown}, places)
 
     def missing_anchors(self) -> Iterator[Row]:
         """The rows of missing anchors in existing pages."""
         for (url, fragment), (pages, places) in sorted(self.anchors_missing().items(), key=in_bytes):
             target = f"{self.shown(url)}#{fragment}"
             if not self.is_ignored(target):
-                yield from self.broken_rows(target, "anchor", len(pages), places, None)
+                shown = {"target": target, "missing": "anchor"}
+                yield {"kind": "broken", **shown, "pages": len(pages), "same_name": None, "hint": None}
+                yield from self.place_rows({"kind": "place", **shown}, places)
 
-    def anchors_missing(self) -> Dict[Tuple[str, str], Tuple[Set[str], Set[Place]]]:
+    def anchors_missing(self) -> Dict[Tuple[str, str], Tuple[Set[str], Located]]:
         """The missing anchors by URL and fragment, each with the pages that link to it and the locations.
 
         The anchors of an alias are those of its file.
         """
-        missing: Dict[Tuple[str, str], Tuple[Set[str], Set[Place]]] = {}
+        missing: Dict[Tuple[str, str], Tuple[Set[str], Located]] = {}
         responses = {**self.others, **self.responses}
         for page, links in self.links.items():
             for link in links:
@@ -628,9 +689,9 @@ class Model:
                 url = response.url if isinstance(response, Moved) else link.url
                 found = responses.get(url)
                 if link.fragment is not None and isinstance(found, (Found, Alias)) and not self.has_anchor(found.name, link.fragment):
-                    pages, places = missing.setdefault((url, link.fragment), (set(), set()))
+                    pages, places = missing.setdefault((url, link.fragment), (set(), {}))
                     pages.add(page)
-                    places.add(link.place)
+                    places.setdefault(link.place, link.written)
         return missing
 
     def has_anchor(self, name: bytes, fragment: str) -> bool:
@@ -669,5 +730,5 @@ class Model:
         if self.settings.anchors:
             texts += [f"{self.shown(url)}#{fragment}" for url, fragment in self.anchors_missing()]
         for entry in self.settings.ignores:
-            if not any(text.startswith(entry) for text in texts):
+            if not any(matches(entry, text) for text in texts):
                 yield {"kind": "unused", "name": entry}

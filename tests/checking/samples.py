@@ -14,7 +14,7 @@ from typing import Any, Dict, Iterator, List, NamedTuple, Optional
 from urllib.parse import quote, unquote, urlsplit
 
 from checking.documents import Document, document_of, form_of, sheet_text, text_of
-from checking.forms import REASONS
+from checking.printing import REASONS
 
 AROUND = 60  # the most characters that are shown on each side of a link's value
 SHOWN = 3  # the most other spellings that are shown
@@ -84,7 +84,7 @@ class Folder:
     def read_lines(self, file: str) -> List[str]:
         """The lines of a document."""
         body = Path(self.top, file).read_bytes()
-        text, _ = sheet_text(body) if form_of(os.fsencode(file), True) == "css" else text_of(body)
+        text, _ = text_of(body) if form_of(os.fsencode(file), True) in ("html", "xml", "") else sheet_text(body)
         return text.split("\n")
 
     def read_document(self, file: str) -> Document:

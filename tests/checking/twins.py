@@ -1,17 +1,18 @@
-"""The definitions of a server in crates/site_files/specs (Server.antt, Pages.antt): the same functions, with the same cases in their order.
+"""The definitions of a server in crates/site_files/specs (Server.antt, Pages.antt, Hints.antt): the same functions, with the same cases in their order.
 
 `server_fault` compares them with the model, which is written from other rules.
 """
 
 from __future__ import annotations
 
+import os
 from functools import partial
 from typing import Callable, Dict, List, NamedTuple, Optional, Tuple, Union
 from urllib.parse import quote_from_bytes, unquote_to_bytes
 
 import drawn
 from checking import model
-from checking.documents import TOOL
+from checking.documents import TOOL, form_of, is_page
 
 Name = bytes
 Names = Tuple[Name, ...]
@@ -344,6 +345,79 @@ def own_text(server: Server, table: Table, names: Names, number: int) -> Optiona
     return next(found, None)
 
 
+# ---- hints (Hints.antt)
+
+
+class Hint(NamedTuple):
+    """The file that another rule finds, by its index among the names: the fallback, or the name of an index file."""
+
+    is_fallback: bool
+    number: int
+
+
+def last_name(path: bytes) -> bytes:
+    """The last name on a path."""
+    return path.rpartition(b"/")[2]
+
+
+def is_home(path: bytes) -> bool:
+    """The file with this path may be the page of its folder."""
+    name = last_name(path).lower()
+    is_home_name = name.startswith(b"index.") or name.startswith(b"default.") or name.startswith(b"home.")
+    return is_home_name and (is_page(path) or form_of(path, True) == "")
+
+
+def home_at(server: Server, number: int, query: Optional[bytes], path: bytes) -> Optional[Page]:
+    """The file with this path at the URL of its folder, if it may be its page and the rules do not have its name."""
+    folder = folder_of(last_name(path), path) if is_home(path) and last_name(path) not in server.host.indices else None
+    return None if folder is None else Page(url_of(server.top, key_with(query, folder)), Found(number))
+
+
+def home_page(server: Server, number: int, name: Name) -> Optional[Page]:
+    """The page of a folder under another rule."""
+    return home_at(server, number, query_in(server.host.queries, name), path_in(server.host.queries, name))
+
+
+def homes_of(server: Server, names: Names) -> Table:
+    """The pages of folders under other rules: at each URL the first."""
+    found: Table = {}
+    for number, name in enumerate(names):
+        page = home_page(server, number, name)
+        if page is not None:
+            found.setdefault(canonical(page.text), page.response)
+    return found
+
+
+def found_file(response: Response) -> Optional[int]:
+    """The file that is returned, if it is a file."""
+    return response.number if isinstance(response, Found) else None
+
+
+def html_hint(at: At, host: Host, url: bytes) -> Optional[Hint]:
+    """The file that the fallback finds for this URL."""
+    file = None if host.fallback or host.exact else found_file(fallback_at(at, host._replace(fallback=True), url))
+    return None if file is None else Hint(True, file)
+
+
+def index_hint(homes: At, url: bytes) -> Optional[Hint]:
+    """The file that is the page of the folder at this URL, if the rules have its name."""
+    file = found_file(homes(url))
+    return None if file is None else Hint(False, file)
+
+
+def hint_at(server: Server, tables: Tuple[Table, Table], folder: Folder, url: bytes) -> Optional[Hint]:
+    """The hint for a URL, by the pages at each URL and those under other rules."""
+    table, homes = tables
+    plain = plain_url(server, url)
+    if plain is None:
+        return None
+    own = partial(own_folder, [link_urls(server.top, link) for link in folder.links])
+    looked_up = own_spelling(own, b"", names_of(plain))
+    if table.get(looked_up) is not None:
+        return None
+    return html_hint(table.get, server.host, looked_up) or index_hint(homes.get, looked_up)
+
+
 # ---- against the model
 
 
@@ -369,7 +443,29 @@ def server_fault(found: model.Model) -> Optional[str]:
     for url in found.responses:
         if model.is_short("page", url) and not is_response(site, folder, response_at(server, table, folder, url.encode()), url):
             return f"{url}: {response_at(server, table, folder, url.encode())}, the model has {found.responses[url]}"
+    return hint_fault(found, folder, table)
+
+
+def hint_fault(found: model.Model, folder: Folder, table: Table) -> Optional[str]:
+    """A URL without a page for which the definitions have another hint than the model."""
+    site = found.site
+    server = server_of(site)
+    tables = (table, homes_of(server, folder.names))
+    for url in found.responses:
+        if response_at(server, table, folder, url.encode()) is None and model.is_short("page", url):
+            hint = hint_at(server, tables, folder, url.encode())
+            text = None if hint is None else hint_text(site, folder.names[hint.number], hint.is_fallback)
+            if text != site.hint(url):
+                return f"{url}: hint {text}, the model has {site.hint(url)}"
     return None
+
+
+def hint_text(site: model.Site, name: Name, is_fallback: bool) -> str:
+    """A hint as the model shows it."""
+    if is_fallback:
+        return f"{site.file_of(name)} exists: --fallback html"
+    front, last = os.path.split(os.fsdecode(site.path(name)))
+    return f"{os.path.join(front, '') or './'} has {last}: --index-file {last}"
 
 
 def is_response(site: model.Site, folder: Folder, response: Response, url: str) -> bool:

@@ -6,7 +6,7 @@ import io
 from typing import Any, Dict, List, Optional, Tuple
 
 import drawn
-from checking import loading
+from checking import feeds, loading
 from checking.documents import character, read_tags, style_links, with_query_in
 from checking.model import Alias, Found, Model, Moved, url_of
 
@@ -15,7 +15,8 @@ differences of the program:
   a name that is not UTF-8 is skipped with a note, because no library call can open its file
   the only known encodings are UTF-8, UTF-16 and windows-1252
   the bytes 81, 8D, 8F, 90 and 9D of windows-1252 are C1 controls, as in the Encoding Standard
-  after a base, a link with an invalid host stays as it is, and all other hosts are canonical"""
+  after a base, a link with an invalid host stays as it is, and all other hosts are canonical
+  a sitemap or a feed that is not well-formed has links"""
 KNOWN = {"utf_8": "utf-8", "u8": "utf-8", "windows-1252": "cp1252", "1252": "cp1252", "utf-8": "utf-8", "cp1252": "cp1252"}
 
 
@@ -46,6 +47,7 @@ class Converter:
         self.tool.LinkReader = reader
         self.tool.without_long_references = lambda text: text
         self.tool.links_of_style = lambda text: [link.text for link in style_links(text, 0)]
+        self.tool.links_of_feed = lambda text: [link.text for link in feeds.links_of_feed(text)]
         self.tool.charset_of = self.known_charset
         self.tool.text_of = self.text_with_controls
         self.tool.with_query_in = with_query_in
