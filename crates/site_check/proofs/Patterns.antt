@@ -1,4 +1,4 @@
--- Patterns: a text is searched for the pieces between their `*`, each where it is first.
+-- Patterns: a text is searched for the pieces between their `*`, each at its first place.
 use Rattle.site_check.proofs.Prelude.{common_steps, ◌≡◌, ◌∙◌, ℕ, zero, suc, ◌+◌, ◌<◌, ◌≤◌, Bool, true, false, ◌||◌, cond, List, [], ◌∷◌, ◌++◌, length, length-append, drop, take, get_or, refl, sym, ap, inl, inr, arith, cases_Bool, cond-true, cond-false, take-append-drop, bytes_eq, bytes_eq-Decides, list_any, any_end, begins, fits, is_last, is_star, matches}
 use Rattle.std.proofs.Common.{◌≢◌, ◌-◌, ◌&&◌, eqb, length-drop, ne_eqb}
 use Rattle.std.proofs.Math.Bool.{or-false}
