@@ -17,7 +17,7 @@ KINDS: Dict[str, Tuple[Tuple[str, ...], Tuple[Tuple[str, str], ...]]] = {
     "feed": ((), (("link", "href"), ("content", "src"))),
 }
 # The last names of the URLs of sitemaps and feeds at which a check starts
-STARTS = ("sitemap*", "*.rss", "*.atom", "feed.xml", "rss.xml", "atom.xml", "index.xml")
+STARTS = ("sitemap*.*", "*.rss", "*.atom", "feed.xml", "rss.xml", "atom.xml", "index.xml")
 LIST = "sitemap*.txt"
 CDATA = "<![CDATA["
 # A comment, a section of text, an instruction, a declaration up to its end or its first bracket, or a tag. What does not end goes to

@@ -626,7 +626,7 @@ class Model:
     def place_rows(self, shown: Row, places: Located) -> Iterator[Row]:
         """The rows of the locations of links to a target. The text of a link is there if it is not the target."""
         for row in in_order(places):
-            yield {**shown, **row, "written": None if row["written"] == shown["target"] else row["written"]}
+            yield {**shown, **row, "written": None if row["written"] in ("", shown["target"]) else row["written"]}
 
     def places(self, redirects: Iterable[str]) -> Dict[str, Located]:
         """The locations of links to each URL, and of links to those of these redirects that lead to it."""
