@@ -23,6 +23,12 @@ returns-in_err-report-clause-incomplete g c =
           (subst (λ (a : Asks). IsTopIncomplete top web a.reachable a.seeds settings.result.workers) asks (c.in_err-report.ensures.incomplete web (source_of _ _ source) two));
     })
 
+pub returns-in_err-push_page_notes-clause-incomplete : goal.returns-in_err-push_page_notes-clause-incomplete
+returns-in_err-push_page_notes-clause-incomplete g c =
+    let r = c.from_residual-in_err-push_page_notes in
+    let same = err_from_is_err_and r.result r.ensures.1 in
+    rw (same.1, same.2) (search rules)
+
 pub returns-clause-folder : goal.returns-clause-folder
 returns-clause-folder g c =
     let top = string_bytes c.in_ok-files.files.site.top in
