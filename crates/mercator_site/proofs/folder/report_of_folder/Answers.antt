@@ -1,4 +1,5 @@
-use Rattle.mercator_site.proofs.Prelude.{ℕ, List, [], map, string_bytes, ap, subst, ◌∙◌, rules, err_from_is_err_and, Asks, asks_of, asks_with, seed_link, seeds_of, IsNamedCheck, IsTopIncomplete, IsTop}
+use Rattle.mercator_site.proofs.Prelude.{ℕ, List, [], map, string_bytes, sym, ap, subst, ◌∙◌, rules, err_from_is_err_and, Asks, asks_of, asks_with, seed_link, seeds_of, IsNamedCheck, IsTopIncomplete, IsTop}
+use Rattle.std.proofs.Common.{true≢false}
 use Rattle.std.specs.Bool.{if◌then◌else◌}
 use Rattle.mercator_site.proofs.TopCrawls.{aliases_in, source_of}
 use Rattle.mercator_site.proofs.folder.report_of_folder.Goals as goal
@@ -27,7 +28,7 @@ pub returns-in_err-push_page_notes-clause-incomplete : goal.returns-in_err-push_
 returns-in_err-push_page_notes-clause-incomplete g c =
     let r = c.from_residual-in_err-push_page_notes in
     let same = err_from_is_err_and r.result r.ensures.1 in
-    rw (same.1, same.2) (search rules)
+    rw (same.1, same.2) (λ two. absurd (true≢false (sym two)))
 
 pub returns-clause-folder : goal.returns-clause-folder
 returns-clause-folder g c =
