@@ -119,7 +119,8 @@ fn settings(none: &[String]) -> CheckSettings<'_> {
 }
 
 fn lists_its_link(report: &CheckReport) -> bool {
-    let front = b"pages 1, files 0, links 1, redirects 0, aliases 0\nbroken links 1, missing pages 1,";
+    let front =
+        b"pages 1, files 0, links 1, redirects 0, aliases 0\nbroken links 1, missing pages 1,";
     report.is_broken && report.text.as_slice().starts_with(front)
 }
 
