@@ -4,5 +4,7 @@ mod Controls
 mod Decoding
 mod Inert
 mod Pieces
+mod Results
 mod Runs
 mod Sorting
+mod Suites

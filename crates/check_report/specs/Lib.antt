@@ -1,10 +1,14 @@
 pub mod Annotations
 pub mod Escape
 pub mod Json
+pub mod Junit
+pub mod Messages
 pub mod Names
 pub mod Natural
 pub mod Order
 pub mod Page
+pub mod Paths
 pub mod Printing
 pub mod Rows
+pub mod Sarif
 pub mod Text

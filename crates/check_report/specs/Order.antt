@@ -1,5 +1,5 @@
 -- The order of broken links in a report for people: files and targets in natural order.
-use Rattle.std.specs.Prelude.{ℕ, Bool, true, false, List, flat_map, map, string_bytes, take}
+use Rattle.std.specs.Prelude.{ℕ, Bool, true, false, List, [], ◌∷◌, flat_map, if◌then◌else◌, length, map, nat_lt, string_bytes, take}
 use Rattle.std.specs.Ordering.{is_lt, nat_cmp, ordering_then}
 use Rattle.std.specs.declared.cmp.Ordering.{Ordering}
 use Rattle.crawl_pages.specs.ResultOrder.{stable_sort}
@@ -70,6 +70,14 @@ ordered_targets order.File targets = targets_by_name targets
 -- targets of the program by kind and the name that it has for them
 abbrev pub named_cmp : Named → Named → Ordering
 named_cmp a b = ordering_then (nat_cmp (kind_rank a.broken.now.kind) (kind_rank b.broken.now.kind)) (natural_cmp (string_bytes a.name) (string_bytes b.name))
+
+-- the target itself, if it has no locations
+abbrev pub bare_of : Broken → List Broken
+bare_of target = if nat_lt 0 (length target.places.items) then [] else target ∷ []
+
+-- the targets without locations
+abbrev pub bare_targets : List Broken → List Broken
+bare_targets targets = flat_map bare_of targets
 
 -- ---- links
 

@@ -1,10 +1,11 @@
 -- A row of the HTML page. Untrusted texts are only in elements, and escaped.
-use Rattle.std.specs.Prelude.{ℕ, ◌==◌, Bool, ◌&&◌, ◌||◌, List, [], ◌++◌, codes, decimal, nat_lt, string_bytes, if◌then◌else◌, Option, None, Some, option_map}
+use Rattle.std.specs.Prelude.{ℕ, ◌==◌, Bool, ◌&&◌, ◌||◌, List, [], ◌++◌, bytes_eq, codes, decimal, length, nat_lt, string_bytes, if◌then◌else◌, Option, None, Some, option_map}
 use Rattle.check_report.specs.Escape.{escaped}
-use Rattle.check_report.specs.Names.{page_in, target_in}
+use Rattle.check_report.specs.Names.{page_in, target_in, target_name}
 use Rattle.check_report.specs.Rows as line
 use Rattle.check_report.specs.Rows.{Line}
-use Rattle.check_report.specs.Text.{counted, is_broken, linked_from, name_in, redirect_target, wrong_of}
+use Rattle.check_report.specs.Paths.{base_url, path_uri}
+use Rattle.check_report.specs.Text.{bracketed, counted, is_broken, linked_from, name_in, redirect_target, wrong_of}
 use Rattle.check_report.specs.declared.as_page.parts.TheConstants.{HEAD, SCRIPT, STYLE, TAIL, TOOLS}
 use Rattle.check_report.specs.declared.escape.Escape.TheVariants as escape
 use Rattle.check_report.specs.declared.row.Counts.{Counts}
@@ -124,8 +125,31 @@ section_start part.Unused = codes "<section id=unused aria-labelledby=h-unused>\
 abbrev pub broken_row : Broken → List ℕ
 broken_row b = codes "<b>" ++ target_in escape.Html b ++ codes "</b>\t" ++ wrong_of escape.Html b ++ codes "\n"
 
-abbrev pub place_row : Place → List ℕ
-place_row p = codes "\t" ++ html (string_bytes p.file) ++ counted (codes ":") p.line ++ counted (codes ":") p.column ++ codes "\n"
+-- the URL of a location in the sources, for an attribute
+abbrev pub source_link : List ℕ → Place → List ℕ
+source_link source_url p = html (base_url source_url) ++ html (path_uri (string_bytes p.file)) ++ counted (codes "#L") p.line
+
+-- the start and the end of the link of a location, if there is one
+abbrev pub link_start : List ℕ → Place → List ℕ
+link_start source_url p = if length source_url == 0 then [] else codes "<a href=\"" ++ source_link source_url p ++ codes "\">"
+
+abbrev pub link_end : List ℕ → List ℕ
+link_end source_url = if length source_url == 0 then [] else codes "</a>"
+
+abbrev pub place_name : Place → List ℕ
+place_name p = html (string_bytes p.file) ++ counted (codes ":") p.line ++ counted (codes ":") p.column
+
+-- a tab and the link as it is written, if that is not the name of its target
+abbrev pub written_cell : Broken → Option (List ℕ) → List ℕ
+written_cell b None = []
+written_cell b (Some link) = if bytes_eq link (target_name b) then [] else codes "\t" ++ bracketed escape.Html (codes "(written as ") link
+
+-- a location as a link, if there is one
+abbrev pub place_cell : List ℕ → Place → List ℕ
+place_cell source_url p = link_start source_url p ++ place_name p ++ link_end source_url
+
+abbrev pub place_row : List ℕ → Broken → Place → List ℕ
+place_row source_url b p = codes "\t" ++ place_cell source_url p ++ written_cell b (option_map string_bytes p.written) ++ codes "\n"
 
 abbrev pub more_row : ℕ → List ℕ
 more_row count = counted (codes "\tand ") count ++ codes " more\n"
@@ -140,16 +164,16 @@ redirect_row r =
 abbrev pub external_row : External → List ℕ
 external_row e = html (string_bytes e.url) ++ counted (codes "\t") e.links ++ codes "\n"
 
-abbrev pub page_line : Line → List ℕ
-page_line (line.total base totals counts) = page_total base totals counts
-page_line (line.begin of_part) = section_start of_part
-page_line (line.finish of_part) = codes "</pre>\n</section>\n"
-page_line (line.broken b) = broken_row b
-page_line (line.place b p) = place_row p
-page_line (line.more count) = more_row count
-page_line (line.rest b count) = []
-page_line (line.worst c) = worst_row c
-page_line (line.redirect r) = redirect_row r
-page_line (line.external e) = external_row e
-page_line (line.name of_part text) = name_in escape.Html of_part text ++ codes "\n"
-page_line line.last = tail_part
+abbrev pub page_line : List ℕ → Line → List ℕ
+page_line source_url (line.total base totals counts) = page_total base totals counts
+page_line source_url (line.begin of_part) = section_start of_part
+page_line source_url (line.finish of_part) = codes "</pre>\n</section>\n"
+page_line source_url (line.broken b) = broken_row b
+page_line source_url (line.place b p) = place_row source_url b p
+page_line source_url (line.more count) = more_row count
+page_line source_url (line.rest b count) = []
+page_line source_url (line.worst c) = worst_row c
+page_line source_url (line.redirect r) = redirect_row r
+page_line source_url (line.external e) = external_row e
+page_line source_url (line.name of_part text) = name_in escape.Html of_part text ++ codes "\n"
+page_line source_url line.last = tail_part

@@ -2,8 +2,11 @@
 use Rattle.std.specs.Prelude.{◌≡◌, ℕ, Bool, true, List, ◌++◌, flat_map, if◌then◌else◌}
 use Rattle.check_report.specs.Annotations.{annotation_line}
 use Rattle.check_report.specs.Json.{json_line}
+use Rattle.check_report.specs.Junit.{junit}
+use Rattle.check_report.specs.Order.{ordered_targets}
 use Rattle.check_report.specs.Page.{page_line}
 use Rattle.check_report.specs.Rows.{Line, rows_of}
+use Rattle.check_report.specs.Sarif.{sarif}
 use Rattle.check_report.specs.Text.{text_line}
 use Rattle.check_report.specs.declared.form.Form.{Form}
 use Rattle.check_report.specs.declared.form.Form.TheVariants as form
@@ -18,7 +21,7 @@ abbrev pub bytes_of : Form → Line → List ℕ
 bytes_of (form.Text colour) line = text_line colour line
 bytes_of form.Json line = json_line line
 bytes_of (form.Annotations folder) line = annotation_line folder.now line
-bytes_of form.Page line = page_line line
+bytes_of (form.Page source_url) line = page_line source_url.now line
 
 -- the second bytes are the first followed by these rows
 abbrev pub Adds : Form → List ℕ → List ℕ → List Line → Type 0
@@ -44,6 +47,14 @@ printed_json contents f = printed form.Json (record { order = order.Given; all =
 abbrev pub printed_annotations : Contents → Findings → List ℕ
 printed_annotations contents f = printed (form.Annotations contents.folder) (record { order = order.Given; all = true }) contents f
 
+-- as JUnit XML, by file, with all locations
+abbrev pub printed_junit : Contents → Findings → List ℕ
+printed_junit contents f = junit contents.folder.now (ordered_targets order.File f.broken.now)
+
+-- as SARIF, by file, with all locations
+abbrev pub printed_sarif : Contents → Findings → List ℕ
+printed_sarif contents f = sarif contents (ordered_targets order.File f.broken.now)
+
 -- as an HTML page, by target, with all locations
 abbrev pub printed_page : Contents → Findings → List ℕ
-printed_page contents f = printed form.Page (record { order = order.Target; all = true }) contents f
+printed_page contents f = printed (form.Page contents.source_url) (record { order = order.Target; all = true }) contents f

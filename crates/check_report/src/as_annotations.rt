@@ -67,7 +67,7 @@ fn put_at(out: &mut Vec<u8>, folder: &str, place: &Place) -> Result<(), NoMemory
 }
 
 /// The folder without a leading `./`.
-fn without_here(folder: &str) -> &str
+pub fn without_here(folder: &str) -> &str
     ensures { result.now ≡ without_here folder.now }
 {
     folder.strip_prefix("./").unwrap_or(folder)
@@ -85,7 +85,7 @@ fn put_front(out: &mut Vec<u8>, folder: &str) -> Result<(), NoMemory>
 }
 
 /// The slash to put after the folder, if it does not end with one.
-fn slash_after(folder: &str) -> &str
+pub fn slash_after(folder: &str) -> &str
     ensures { result.now ≡ slash_after (slice_get folder.now (length folder.now - 1)) }
 {
     match folder.as_bytes().last() {

@@ -334,7 +334,7 @@ fn wrong_word(kind: Kind) -> &'static str
 }
 
 /// Writes a member whose value is a string.
-fn put_text(out: &mut Writer, name: &str, text: &str) -> Result<(), NoMemory>
+pub fn put_text(out: &mut Writer, name: &str, text: &str) -> Result<(), NoMemory>
     ensures tokens { OnOk result (out.new.tokens ≡ out.old.tokens ++ key name.now ∷ string text.now ∷ []) }
     ensures before { out.new.before ≡ out.old.before }
 {
@@ -355,7 +355,7 @@ fn put_text_or_null(out: &mut Writer, name: &str, text: &Option<String>) -> Resu
 }
 
 /// Writes a member whose value is a number.
-fn put_count(out: &mut Writer, name: &str, count: u64) -> Result<(), NoMemory>
+pub fn put_count(out: &mut Writer, name: &str, count: u64) -> Result<(), NoMemory>
     ensures tokens { OnOk result (out.new.tokens ≡ out.old.tokens ++ key name.now ∷ number (decimal count) ∷ []) }
     ensures before { out.new.before ≡ out.old.before }
 {

@@ -1,23 +1,28 @@
 //! Prints a row in the HTML page.
-ghost use Rattle.std.specs.Prelude.{◌≡◌, ◌++◌, OnOk, codes};
-ghost use Rattle.check_report.specs.Page.{broken_items, broken_row, count_items, external_row, head_part, html, item_if, item_some, counts_links, invalid_noun, leaving_noun, links_noun, other_count, other_noun, missing_noun, more_row, page_heading, page_line, page_start, page_total, place_row, redirect_row, script_part, section_start, site_items, style_part, tail_part, title_count, title_noun, optional_items, tools_part, total_item, verdict_start, worst_row};
+ghost use Rattle.std.specs.Prelude.{◌≡◌, ◌++◌, OnOk, Some, codes, option_map, string_bytes};
+ghost use Rattle.check_report.specs.Page.{broken_items, broken_row, count_items, external_row, head_part, html, item_if, item_some, counts_links, invalid_noun, leaving_noun, links_noun, other_count, other_noun, missing_noun, more_row, page_heading, page_line, page_start, page_total, link_end, link_start, place_cell, place_name, place_row, source_link, written_cell, redirect_row, script_part, section_start, site_items, style_part, tail_part, title_count, title_noun, optional_items, tools_part, total_item, verdict_start, worst_row};
 ghost use Rattle.check_report.specs.Rows.{line_of};
 ghost use Rattle.check_report.specs.Text.{name_in};
 ghost use Rattle.check_report.specs.declared.escape.Escape.TheVariants as escape;
 
 mod parts;
 
-use crate::as_text::{is_broken, put_linked_from, put_name_in, put_redirect_target, put_wrong_of};
+use crate::as_text::{
+    is_broken, is_name, put_bracketed, put_linked_from, put_name_in, put_redirect_target,
+    put_wrong_of,
+};
 use crate::escape::{Escape, put_escaped};
 use crate::names::{put_page_name, put_target_name};
+use crate::paths::{base_url, path_uri};
 use crate::put::{NoMemory, put, put_count, put_counted};
 use crate::row::{Counts, Part, Row};
 use crate::value::{Broken, External, FileCount, Place, Redirect, Totals};
 use parts::{HEAD, SCRIPT, STYLE, TAIL, TOOLS};
 
-/// Appends the HTML of a row. The row of the totals starts the page, and the last row ends it.
-pub fn put_page(out: &mut Vec<u8>, row: Row<'_>) -> Result<(), NoMemory>
-    ensures { OnOk result (out.new.items ≡ out.old.items ++ page_line (line_of row.entry)) }
+/// Appends the HTML of a row. The row of the totals starts the page, and the last row ends it. Locations are links to the sources at
+/// the URL, if it is not empty.
+pub fn put_page(out: &mut Vec<u8>, source_url: &str, row: Row<'_>) -> Result<(), NoMemory>
+    ensures { OnOk result (out.new.items ≡ out.old.items ++ page_line source_url.now (line_of row.entry)) }
 {
     match row {
         Row::Total {
@@ -28,7 +33,7 @@ pub fn put_page(out: &mut Vec<u8>, row: Row<'_>) -> Result<(), NoMemory>
         Row::Begin(part) => put(out, section_start(part)),
         Row::Finish(_) => put(out, "</pre>\n</section>\n"),
         Row::Broken(broken) => put_broken(out, broken),
-        Row::Place(_, place) => put_place(out, place),
+        Row::Place(broken, place) => put_place(out, source_url, broken, place),
         Row::More(count) => put_more(out, count as u64),
         Row::Rest(_, _) => Ok(()),
         Row::Worst(count) => put_worst(out, count),
@@ -338,15 +343,93 @@ fn put_broken(out: &mut Vec<u8>, broken: &Broken) -> Result<(), NoMemory>
     put(out, "\n")
 }
 
-/// Appends the line of a location: a tab, and then the file, the line and the column.
-fn put_place(out: &mut Vec<u8>, place: &Place) -> Result<(), NoMemory>
-    ensures { OnOk result (out.new.items ≡ out.old.items ++ place_row place.now) }
+/// Appends the line of a location: a tab, the location, and after another tab the link as it is written.
+fn put_place(
+    out: &mut Vec<u8>,
+    source_url: &str,
+    broken: &Broken,
+    place: &Place,
+) -> Result<(), NoMemory>
+    ensures { OnOk result (out.new.items ≡ out.old.items ++ place_row source_url.now broken.now place.now) }
 {
     put(out, "\t")?;
+    put_place_cell(out, source_url, place)?;
+    put_written_cell(out, broken, &place.written)?;
+    put(out, "\n")
+}
+
+/// Appends a location, as a link if the URL of the sources is not empty.
+fn put_place_cell(out: &mut Vec<u8>, source_url: &str, place: &Place) -> Result<(), NoMemory>
+    ensures { OnOk result (out.new.items ≡ out.old.items ++ place_cell source_url.now place.now) }
+{
+    put_link_start(out, source_url, place)?;
+    put_place_name(out, place)?;
+    put(out, link_end(source_url))
+}
+
+/// Appends the start of the link of a location, if there is one.
+fn put_link_start(out: &mut Vec<u8>, source_url: &str, place: &Place) -> Result<(), NoMemory>
+    ensures { OnOk result (out.new.items ≡ out.old.items ++ link_start source_url.now place.now) }
+{
+    if source_url.is_empty() {
+        return Ok(());
+    }
+    put(out, "<a href=\"")?;
+    put_source_link(out, source_url, place)?;
+    put(out, "\">")
+}
+
+/// Appends the URL of a location in the sources.
+fn put_source_link(out: &mut Vec<u8>, source_url: &str, place: &Place) -> Result<(), NoMemory>
+    ensures { OnOk result (out.new.items ≡ out.old.items ++ source_link source_url.now place.now) }
+{
+    let alloc = *out.allocator();
+    let base = base_url(alloc, source_url)?;
+    let path = path_uri(alloc, place.file.as_str())?;
+    put_html(out, base.as_str())?;
+    put_html(out, path.as_str())?;
+    put_counted(out, "#L", place.line)
+}
+
+/// The end of the link of a location, if there is one.
+fn link_end(source_url: &str) -> &'static str
+    ensures { result.now ≡ link_end source_url.now }
+{
+    if source_url.is_empty() { "" } else { "</a>" }
+}
+
+/// Appends the file, the line and the column.
+fn put_place_name(out: &mut Vec<u8>, place: &Place) -> Result<(), NoMemory>
+    ensures { OnOk result (out.new.items ≡ out.old.items ++ place_name place.now) }
+{
     put_html(out, place.file.as_str())?;
     put_counted(out, ":", place.line)?;
-    put_counted(out, ":", place.column)?;
-    put(out, "\n")
+    put_counted(out, ":", place.column)
+}
+
+/// Appends a tab and the link as it is written; nothing if that is not known, or is the name of the target.
+fn put_written_cell(
+    out: &mut Vec<u8>,
+    broken: &Broken,
+    link: &Option<String>,
+) -> Result<(), NoMemory>
+    ensures { OnOk result (out.new.items ≡ out.old.items ++ written_cell broken.now (option_map string_bytes link.now)) }
+{
+    match link {
+        Some(link) => put_link_cell(out, broken, link.as_str()),
+        None => Ok(()),
+    }
+}
+
+/// Appends a tab and the link as it is written, unless it is the name of the target.
+fn put_link_cell(out: &mut Vec<u8>, broken: &Broken, link: &str) -> Result<(), NoMemory>
+    ensures { OnOk result (out.new.items ≡ out.old.items ++ written_cell broken.now (Some link.now)) }
+{
+    if is_name(*out.allocator(), broken, link)? {
+        return Ok(());
+    }
+    put(out, "\t")?;
+    put_bracketed(out, "(written as ", Escape::Html, link)
 }
 
 /// Appends the line for the number of locations that are not listed.

@@ -205,7 +205,7 @@ fn put_wrong(out: &mut Vec<u8>, kind: Kind, colour: bool) -> Result<(), NoMemory
 }
 
 /// The text about what is wrong.
-fn message(kind: Kind) -> &'static str
+pub fn message(kind: Kind) -> &'static str
     ensures { result.now ≡ message kind }
 {
     match kind {
@@ -291,7 +291,7 @@ fn put_link_written(
 }
 
 /// Whether the text is the name of the target.
-fn is_name(alloc: Global, broken: &Broken, text: &str) -> Result<bool, NoMemory>
+pub fn is_name(alloc: Global, broken: &Broken, text: &str) -> Result<bool, NoMemory>
     ensures { IfOk result (λ is. is ≡ bytes_eq text.now (target_name broken.now)) }
 {
     let name = target_name(alloc, broken)?;
@@ -299,7 +299,7 @@ fn is_name(alloc: Global, broken: &Broken, text: &str) -> Result<bool, NoMemory>
 }
 
 /// Appends a word with the opening parenthesis, a text, and the closing parenthesis.
-fn put_bracketed(out: &mut Vec<u8>, word: &str, how: Escape, text: &str) -> Result<(), NoMemory>
+pub fn put_bracketed(out: &mut Vec<u8>, word: &str, how: Escape, text: &str) -> Result<(), NoMemory>
     ensures { OnOk result (out.new.items ≡ out.old.items ++ bracketed how word.now text.now) }
 {
     put(out, word)?;

@@ -109,7 +109,7 @@ fn put_property_char(out: &mut Vec<u8>, c: char) -> Result<(), NoMemory>
 }
 
 /// Appends a character of an element: `&`, `<`, `>`, `"` and `'` become character references.
-fn put_html_char(out: &mut Vec<u8>, c: char) -> Result<(), NoMemory>
+pub fn put_html_char(out: &mut Vec<u8>, c: char) -> Result<(), NoMemory>
     ensures { OnOk result (out.new.items ≡ out.old.items ++ html_char c) }
 {
     if c == '&' {

@@ -8,6 +8,6 @@ pub enum Form<'a> {
     Json,
     /// GitHub annotations for the files of this folder.
     Annotations(&'a str),
-    /// An HTML page.
-    Page,
+    /// An HTML page, in which each location is a link to the sources at this URL; empty for none.
+    Page(&'a str),
 }

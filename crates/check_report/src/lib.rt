@@ -3,21 +3,28 @@
 
 mod as_annotations;
 mod as_json;
+mod as_junit;
 mod as_page;
+mod as_sarif;
 mod as_text;
 mod escape;
 mod form;
 /// Laws about escaped texts and about the natural order.
 pub mod laws;
+mod messages;
 mod names;
 mod natural;
 mod ordered;
+mod paths;
 mod printing;
 mod put;
 mod row;
 mod value;
 mod view;
+mod xml;
 
+pub use as_junit::print_junit;
+pub use as_sarif::print_sarif;
 pub use as_text::is_broken;
 pub use printing::{print_annotations, print_json, print_page, print_text};
 pub use put::NoMemory;

@@ -66,7 +66,7 @@ fn is_text(kind: Kind) -> bool
 }
 
 /// A page as people read it: a URL with a host as it is, and a path with the characters that its escapes encode.
-fn page_name(alloc: Global, text: &str) -> Result<String, NoMemory>
+pub fn page_name(alloc: Global, text: &str) -> Result<String, NoMemory>
     ensures { IfOk result (λ name. string_bytes name ≡ page_name text.now) }
 {
     if has_host(text) {

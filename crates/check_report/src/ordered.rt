@@ -2,7 +2,7 @@
 ghost use Rattle.std.specs.Prelude.{◌≡◌, ◌++◌, IfOk, OnOk, flat_map, map, string_bytes};
 ghost use Rattle.std.specs.List.{All};
 ghost use Rattle.check_report.specs.Names.{target_name};
-ghost use Rattle.check_report.specs.Order.{kind_rank, link_of, links_by_file, links_to, named_cmp, ordered_places, ordered_targets, place_cmp, places_by_file, shown_places, targets_by_name};
+ghost use Rattle.check_report.specs.Order.{bare_of, bare_targets, kind_rank, link_of, links_by_file, links_to, named_cmp, ordered_places, ordered_targets, place_cmp, places_by_file, shown_places, targets_by_name};
 ghost use Rattle.check_report.specs.declared.ordered.Named.{Named};
 
 use crate::names::target_name;
@@ -144,6 +144,28 @@ fn targets_of<'r>(alloc: Global, named: &[Named<'r>]) -> Result<Vec<&'r Broken>,
         all.push(one.broken)?;
     }
     Ok(all)
+}
+
+/// The targets without locations.
+pub fn bare_targets<'r>(alloc: Global, targets: &[&'r Broken]) -> Result<Vec<&'r Broken>, NoMemory>
+    ensures { IfOk result (λ bare. map (λ target. target.now) bare.items ≡ bare_targets (map (λ target. target.now) targets.now)) }
+{
+    let mut bare = Vec::new(alloc);
+    for target in targets {
+        push_bare(*target, &mut bare)?;
+    }
+    Ok(bare)
+}
+
+/// Appends the target if it has no locations.
+fn push_bare<'r>(target: &'r Broken, bare: &mut Vec<&'r Broken>) -> Result<(), NoMemory>
+    ensures { OnOk result (map (λ target. target.now) bare.new.items ≡ map (λ target. target.now) bare.old.items ++ bare_of target.now) }
+{
+    if target.places.len() > 0 {
+        return Ok(());
+    }
+    bare.push(target)?;
+    Ok(())
 }
 
 // ---- links

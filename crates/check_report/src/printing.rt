@@ -97,7 +97,7 @@ pub fn print_annotations(
 }
 
 /// Prints a report as an HTML page that loads nothing from the network. It shows every row without scripts. With scripts it shows
-/// the broken links by target or by file, and can search them.
+/// the broken links by target or by file, and can search them. Each location is a link if the URL of the sources is given.
 ///
 /// # Errors
 /// Out of memory.
@@ -108,7 +108,13 @@ pub fn print_page(
 ) -> Result<Vec<u8>, NoMemory>
     ensures { IfOk result (λ text. text.items ≡ printed_page contents.entry findings.now) }
 {
-    print(alloc, findings, contents, BY_TARGET, Form::Page)
+    print(
+        alloc,
+        findings,
+        contents,
+        BY_TARGET,
+        Form::Page(contents.source_url),
+    )
 }
 
 /// Prints the report in this form: the totals, and then each section that has rows. The view says how broken links are listed.
@@ -206,8 +212,8 @@ fn with(mut out: Vec<u8>, form: Form<'_>, row: Row<'_>) -> Result<Vec<u8>, NoMem
             put_annotation(&mut out, folder, row)?;
             Ok(out)
         }
-        Form::Page => {
-            put_page(&mut out, row)?;
+        Form::Page(source_url) => {
+            put_page(&mut out, source_url, row)?;
             Ok(out)
         }
     }

@@ -9,7 +9,7 @@ pub static HEAD: &str = r#"<!doctype html>
 <meta name=color-scheme content="light dark">
 <meta name=format-detection content="telephone=no">
 <meta name=referrer content=no-referrer>
-<meta http-equiv=Content-Security-Policy content="default-src 'none'; style-src 'unsafe-inline'; script-src 'sha256-pr3P9iJX/vBpaFQapPaoViDjRBHO7gof+8LcPua1gGI='; base-uri 'none'; form-action 'none'">
+<meta http-equiv=Content-Security-Policy content="default-src 'none'; style-src 'unsafe-inline'; script-src 'sha256-AzQxg9zD2d843T7JXx+EW0eFK2ZZxE0ks+RTrH0tKx8='; base-uri 'none'; form-action 'none'">
 <title>"#;
 
 /// The text from the title to the script.
@@ -103,13 +103,16 @@ if (other) {
 const section = $('broken');
 if (!section) return;
 const targets = [], files = new Map();
+const sources = section.querySelectorAll('pre a'); // one for each location, or none
+let place = 0;
 for (const line of section.querySelector('pre').textContent.split('\n')) {
   if (line[0] === '\t') {
-    const location = line.slice(1), file = location.replace(/:\d+:\d+$/, '');
-    const target = targets[targets.length - 1];
-    target.list.push(location);
+    const [location, written] = line.slice(1).split('\t'), file = location.replace(/:\d+:\d+$/, '');
+    const target = targets[targets.length - 1], source = sources[place++];
+    const href = source && source.href, aside = written ? ' ' + written : '';
+    target.list.push({ text: location + aside, href });
     if (!files.has(file)) files.set(file, { name: file, note: '', list: [] });
-    files.get(file).list.push(target.name + ' at ' + location.slice(file.length + 1) + ': ' + target.note);
+    files.get(file).list.push({ text: target.name + ' at ' + location.slice(file.length + 1) + ': ' + target.note + aside, href });
   } else if (line) {
     const [name, note] = line.split('\t');
     targets.push({ name, note, list: [] });
@@ -119,7 +122,7 @@ const views = { target: targets, file: [...files.values()] };
 const most = (rows) => rows.slice().sort((a, b) => b.list.length - a.list.length);
 const lows = new Map(); // the lower-case texts that a search looks in, by view
 function low(by) {
-  if (!lows.has(by)) lows.set(by, views[by].map((row) => [row.name, row.note, ...row.list].join('\n').toLowerCase()));
+  if (!lows.has(by)) lows.set(by, views[by].map((row) => [row.name, row.note, ...row.list.map((one) => one.text)].join('\n').toLowerCase()));
   return lows.get(by);
 }
 let rows = [], drawn = 0;
@@ -131,7 +134,7 @@ section.append(table, more);
 function text(value) {
   return /^https?:\/\//i.test(value) ? make('a', { href: value, rel: 'noreferrer' }, value) : value;
 }
-function items(list) { return list.map((one) => make('li', {}, one)); }
+function items(list) { return list.map((one) => make('li', {}, one.href ? make('a', { href: one.href, rel: 'noreferrer' }, one.text) : one.text)); }
 function cell(list) {
   if (list.length <= FEW) return make('td', {}, make('ul', {}, ...items(list)));
   const rest = make('details', {}, make('summary', {}, list.length - FEW + ' more'));

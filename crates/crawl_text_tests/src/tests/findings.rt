@@ -1,7 +1,7 @@
 //! The forms of a report. The expected bytes are written by hand.
 use check_report::{
     Broken, Contents, External, FileCount, Findings, Kind, Lists, NoMemory, Place, Redirect,
-    Totals, print_annotations, print_json, print_page, print_text,
+    Totals, print_annotations, print_json, print_junit, print_page, print_sarif, print_text,
 };
 use std::alloc::Global;
 
@@ -166,6 +166,41 @@ const ANNOTATIONS: &str =
 ::error file=s%3Ate/b.html,line=7,col=2::http://s.test/<b>: outside BASE
 ::error file=s%3Ate/c.html,line=1,col=1::http://s.test/<b>: outside BASE
 ::error::../: leaves the folder
+";
+
+/// The JUnit XML.
+const JUNIT: &str = "<?xml version=\"1.0\" encoding=\"UTF-8\"?>
+<testsuites name=\"mercator check\">
+<testsuite name=\"a.html\" tests=\"4\" failures=\"4\" errors=\"0\">
+<testcase name=\"7:9: C:\\x\" classname=\"a.html\" file=\"s:te/a.html\"><failure type=\"local-file\" message=\"C:\\x: local file\">C:\\x: local file</failure></testcase>
+<testcase name=\"8:9: http://[&lt;b&gt;\" classname=\"a.html\" file=\"s:te/a.html\"><failure type=\"not-a-url\" message=\"http://[&lt;b&gt;: not a URL\">http://[&lt;b&gt;: not a URL</failure></testcase>
+<testcase name=\"9:9: ../../doc/x,y.css\" classname=\"a.html\" file=\"s:te/a.html\"><failure type=\"leaves-the-folder\" message=\"../../doc/x,y.css: leaves the folder\">../../doc/x,y.css: leaves the folder</failure></testcase>
+<testcase name=\"41:12: down.html\" classname=\"a.html\" file=\"s:te/a.html\"><failure type=\"missing-page\" message=\"down.html: no such page (did you mean lib/down.html?)\">down.html: no such page (did you mean lib/down.html?)</failure></testcase>
+</testsuite>
+<testsuite name=\"b.html\" tests=\"5\" failures=\"5\" errors=\"0\">
+<testcase name=\"3:1: down.html\" classname=\"b.html\" file=\"s:te/b.html\"><failure type=\"missing-page\" message=\"down.html: no such page (did you mean lib/down.html?)\">down.html: no such page (did you mean lib/down.html?)</failure></testcase>
+<testcase name=\"4:1: down.html\" classname=\"b.html\" file=\"s:te/b.html\"><failure type=\"missing-page\" message=\"down.html: no such page (did you mean lib/down.html?)\">down.html: no such page (did you mean lib/down.html?)</failure></testcase>
+<testcase name=\"5:2: http://[&lt;b&gt;\" classname=\"b.html\" file=\"s:te/b.html\"><failure type=\"not-a-url\" message=\"http://[&lt;b&gt;: not a URL\">http://[&lt;b&gt;: not a URL</failure></testcase>
+<testcase name=\"6:2: htp://a,b\" classname=\"b.html\" file=\"s:te/b.html\"><failure type=\"unknown-scheme\" message=\"htp://a,b: unknown scheme\">htp://a,b: unknown scheme</failure></testcase>
+<testcase name=\"7:2: http://s.test/&lt;b&gt;\" classname=\"b.html\" file=\"s:te/b.html\"><failure type=\"outside-base\" message=\"http://s.test/&lt;b&gt;: outside BASE\">http://s.test/&lt;b&gt;: outside BASE</failure></testcase>
+</testsuite>
+<testsuite name=\"c.html\" tests=\"2\" failures=\"2\" errors=\"0\">
+<testcase name=\"1:1: http://s.test/&lt;b&gt;\" classname=\"c.html\" file=\"s:te/c.html\"><failure type=\"outside-base\" message=\"http://s.test/&lt;b&gt;: outside BASE\">http://s.test/&lt;b&gt;: outside BASE</failure></testcase>
+<testcase name=\"5:6: down.html\" classname=\"c.html\" file=\"s:te/c.html\"><failure type=\"missing-page\" message=\"down.html: no such page (did you mean lib/down.html?)\">down.html: no such page (did you mean lib/down.html?)</failure></testcase>
+</testsuite>
+<testsuite name=\"d,e:f%\\u{d}.html\" tests=\"1\" failures=\"1\" errors=\"0\">
+<testcase name=\"1:2: a&lt;b&gt;&amp;&#34;&#39;.html#x\\u{a}\" classname=\"d,e:f%\\u{d}.html\" file=\"s:te/d,e:f%\\u{d}.html\"><failure type=\"missing-anchor\" message=\"a&lt;b&gt;&amp;&#34;&#39;.html#x\\u{a}: no such anchor\">a&lt;b&gt;&amp;&#34;&#39;.html#x\\u{a}: no such anchor</failure></testcase>
+</testsuite>
+<testsuite name=\"no file\" tests=\"2\" failures=\"2\" errors=\"0\">
+<testcase name=\"start.html\" classname=\"no file\"><failure type=\"missing-page\" message=\"start.html: no such page\">start.html: no such page</failure></testcase>
+<testcase name=\"../\" classname=\"no file\"><failure type=\"leaves-the-folder\" message=\"../: leaves the folder\">../: leaves the folder</failure></testcase>
+</testsuite>
+</testsuites>
+";
+
+/// The results of the SARIF log from the last file on.
+const SARIF: &str =
+    ",{\"ruleId\":\"missing-anchor\",\"level\":\"error\",\"message\":{\"text\":\"a<b>&\\\"'.html#x\\\\u{a}: no such anchor\"},\"locations\":[{\"physicalLocation\":{\"artifactLocation\":{\"uri\":\"s%3Ate/d%2Ce%3Af%25%0D.html\"},\"region\":{\"startLine\":1,\"startColumn\":2}}}]},{\"ruleId\":\"missing-page\",\"level\":\"error\",\"message\":{\"text\":\"start.html: no such page\"}},{\"ruleId\":\"leaves-the-folder\",\"level\":\"error\",\"message\":{\"text\":\"../: leaves the folder\"}}]}]}
 ";
 
 /// The HTML page after the fixed texts.
@@ -421,11 +456,13 @@ fn ends(form: Result<Vec<u8>, NoMemory>, expected: &str) -> bool {
 }
 
 /// The forms of a report, in the order of `forms`.
-const FORMS: [&str; 5] = [
+const FORMS: [&str; 7] = [
     "text",
     "text by target",
     "JSON",
     "annotations",
+    "JUnit XML",
+    "end of the SARIF log",
     "end of the HTML page",
 ];
 
@@ -441,7 +478,7 @@ fn by_target(contents: Contents<'_>) -> Contents<'_> {
 }
 
 /// Which forms are printed as expected.
-fn forms(alloc: Global, findings: &Findings<'_>, contents: Contents<'_>) -> [bool; 5] {
+fn forms(alloc: Global, findings: &Findings<'_>, contents: Contents<'_>) -> [bool; 7] {
     [
         is(print_text(alloc, findings, contents, false), TEXT),
         has(
@@ -450,11 +487,13 @@ fn forms(alloc: Global, findings: &Findings<'_>, contents: Contents<'_>) -> [boo
         ),
         is(print_json(alloc, findings, contents), JSON),
         is(print_annotations(alloc, findings, contents), ANNOTATIONS),
+        is(print_junit(alloc, findings, contents), JUNIT),
+        ends(print_sarif(alloc, findings, contents), SARIF),
         ends(print_page(alloc, findings, contents), PAGE),
     ]
 }
 
-fn printed(alloc: Global) -> Option<[bool; 5]> {
+fn printed(alloc: Global) -> Option<[bool; 7]> {
     let broken = targets(alloc)?;
     let worst = [count(alloc, "b.html", 2)?];
     let redirects = [
@@ -690,6 +729,51 @@ fn is_by_file(alloc: Global) -> Option<bool> {
     Some(text.as_slice().ends_with(lines.as_str().as_bytes()))
 }
 
+/// The row of a location in the HTML page, with a link to its source.
+const SOURCE: &str =
+    "\n\t<a href=\"https://h.test/b?x&amp;y/a%20%3C/%C3%A9.html#L3\">a &lt;/\u{e9}.html:3:1</a>\t(written as &lt;x&gt;)\n";
+
+/// The file in a SARIF log.
+const SOURCE_FILE: &str =
+    "\"originalUriBaseIds\":{\"SOURCES\":{\"uri\":\"https://h.test/b?x&y/\"}},\"results\":[{\"ruleId\":\"missing-page\",\"level\":\"error\",\"message\":{\"text\":\"gone.html: no such page (written as <x>)\"},\"locations\":[{\"physicalLocation\":{\"artifactLocation\":{\"uri\":\"a%20%3C/%C3%A9.html\",\"uriBaseId\":\"SOURCES\"},";
+
+/// Whether the HTML page and the SARIF log have links to the sources.
+fn has_sources(alloc: Global) -> Option<[bool; 2]> {
+    let mut gone = target(
+        alloc,
+        &("gone.html", Kind::NoPage, "", &[("a </\u{e9}.html", 3, 1)]),
+    )?;
+    for place in gone.places.iter_mut() {
+        place.written = Some(text(alloc, "<x>")?);
+    }
+    let broken = [gone];
+    let findings = Findings {
+        base: "",
+        totals: TOTALS,
+        broken: &broken,
+        worst: &[],
+        redirects: &[],
+        unreached: &[],
+        unused_ignores: &[],
+    };
+    let contents = Contents {
+        lists: Lists::default(),
+        external: None,
+        folder: "site",
+        source_url: "https://h.test/b?x&y",
+    };
+    Some([
+        has(print_page(alloc, &findings, contents), SOURCE),
+        has(print_sarif(alloc, &findings, contents), SOURCE_FILE),
+    ])
+}
+
+#[test]
+fn links_to_the_sources(rt: HostRuntime) {
+    let forms = has_sources(rt.alloc());
+    assert!(rt; forms == Some([true; 2]), "{forms:?}");
+}
+
 #[test]
 fn lists_links_by_file(rt: HostRuntime) {
     assert!(rt; is_by_file(rt.alloc()) == Some(true));
@@ -723,7 +807,7 @@ fn annotates_files_of_folders(rt: HostRuntime) {
 
 #[test]
 fn prints_each_form(rt: HostRuntime) {
-    let are_printed = printed(rt.alloc()).unwrap_or([false; 5]);
+    let are_printed = printed(rt.alloc()).unwrap_or([false; 7]);
     for (form, is_printed) in FORMS.iter().zip(are_printed.iter()) {
         assert!(rt; *is_printed, "{form}");
     }

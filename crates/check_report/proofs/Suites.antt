@@ -1,0 +1,82 @@
+-- Test suites of a report as JUnit XML.
+use Rattle.check_report.proofs.Prelude.{common_steps, ◌≡◌, ℕ, ◌+◌, ◌<◌, ◌≤◌, Bool, true, false, List, [], ◌∷◌, ◌++◌, drop, length, map, take, zero, suc, refl, sym, ap, ◌∙◌, arith, append_assoc, IsUtf8, chars_past_char, cond-false, cond-true, cases_Bool, inl, inr, length-prefix_len, prefix_len, slice_index, string_bytes, take-map}
+use Rattle.std.proofs.lemmas.List.{drop-map, length-map}
+use Rattle.std.proofs.lemmas.List.Sums.{prefix_len-le-length}
+use Rattle.std.proofs.lemmas.Slice.Eq.{bytes_eq-Decides}
+use Rattle.std.specs.Char.{encode_utf8}
+use Rattle.std.specs.List.{take_while}
+use Rattle.check_report.specs.Junit.{first_suite, is_in, suite_len, suites_from, xml, xml_char}
+use Rattle.check_report.specs.Order.{link_of}
+use Rattle.check_report.specs.declared.ordered.Link.{Link}
+use Rattle.check_report.specs.declared.value.Broken.{Broken}
+use Rattle.check_report.specs.declared.value.Place.{Place}
+
+pub xml_put : (old new text rest : List ℕ) (c : ℕ) → IsUtf8 text → text ≡ encode_utf8 c ++ rest → new ≡ old ++ xml_char c → new ++ xml rest ≡ old ++ xml text
+xml_put old new text rest c utf8 is put = grind (arith, common_steps, chars_past_char)
+
+-- ---- the links in one file
+
+while-map : {X Y : Type 0} (p : Y → Bool) (f : X → Y) (xs : List X) → prefix_len p (map f xs) ≡ prefix_len (λ x. p (f x)) xs
+while-map p f [] = refl
+while-map p f (x ∷ xs) = elim (cases_Bool (p (f x))) [
+  | inl is ↦ cond-true (p (f x)) _ _ is ∙ ap (λ n. 1 + n) (while-map p f xs) ∙ sym (cond-true (p (f x)) _ _ is)
+  | inr other ↦ cond-false (p (f x)) _ _ other ∙ sym (cond-false (p (f x)) _ _ other)
+]
+
+own_file : (link : Broken × Place) → is_in link.1 link ≡ true
+own_file link = (bytes_eq-Decides (string_bytes link.1.file) (string_bytes link.1.file)).1 refl
+
+first_more : (link : Broken × Place) (links : List (Broken × Place)) → suite_len (link ∷ links) ≡ suc (length (take_while (is_in link.1) links))
+first_more link links =
+    length-prefix_len (is_in link.1) (link ∷ links) ∙ cond-true (is_in link.1 link) (1 + prefix_len (is_in link.1) links) 0 (own_file link)
+    ∙ number (prefix_len (is_in link.1) links) ∙ ap suc (sym (length-prefix_len (is_in link.1) links))
+  where
+    number : (n : ℕ) → 1 + n ≡ suc n
+    number n = omega arith
+
+pub more_in_file : (links : List Link) (first : Link) (count : ℕ) → slice_index links 0 ≡ first → 0 < length links → count ≡ length (take_while (λ (l : Link). is_in first.place.now (link_of l)) links) → count ≡ suite_len (map link_of links)
+more_in_file [] first count at some is = absurd (omega arith)
+more_in_file (link ∷ links) first count at some is =
+    is ∙ (λ i. length (take_while (λ (l : Link). is_in (sym at i).place.now (link_of l)) (link ∷ links)))
+    ∙ length-prefix_len (λ (l : Link). is_in link.place.now (link_of l)) (link ∷ links) ∙ sym (while-map (is_in link.place.now) link_of (link ∷ links))
+    ∙ sym (length-prefix_len (is_in link.place.now) (map link_of (link ∷ links)))
+
+-- a suite has one link at least, and no more than there are
+pub suite_some : (links : List Link) → 0 < length links → 0 < suite_len (map link_of links)
+suite_some [] some = absurd (omega arith)
+suite_some (link ∷ links) some = omega (arith, first_more (link_of link) (map link_of links))
+
+pub suite_fits : (links : List Link) → suite_len (map link_of links) ≤ length links
+suite_fits [] = omega arith
+suite_fits (link ∷ links) =
+    omega (arith, length-prefix_len (is_in link.place.now) (map link_of (link ∷ links)), prefix_len-le-length (is_in link.place.now) (map link_of (link ∷ links)), length-map (link ∷ links) link_of)
+
+pub no_suites : (folder : List ℕ) (links : List Link) → length links ≡ 0 → suites_from folder 0 (map link_of links) ≡ []
+no_suites folder [] none = refl
+no_suites folder (link ∷ links) none = absurd (omega arith)
+
+suites_skip : (folder : List ℕ) (skipped : ℕ) (links : List (Broken × Place)) → suites_from folder skipped links ≡ suites_from folder 0 (drop skipped links)
+suites_skip folder zero [] = refl
+suites_skip folder (suc skipped) [] = refl
+suites_skip folder zero (link ∷ links) = refl
+suites_skip folder (suc skipped) (link ∷ links) = suites_skip folder skipped links
+
+one_suite : (folder : List ℕ) (links : List (Broken × Place)) (count : ℕ) → 0 < length links → count ≡ suite_len links → suites_from folder 0 links ≡ first_suite folder (take count links) ++ suites_from folder 0 (drop count links)
+one_suite folder [] count some is = absurd (omega arith)
+one_suite folder (link ∷ links) count some is =
+    let own = take_while (is_in link.1) links in
+    let number : count ≡ suc (length own) = is ∙ first_more link links in
+    let long = length-prefix_len (is_in link.1) links in
+    ap (λ rest. first_suite folder (link ∷ own) ++ rest) (suites_skip folder (length own) links)
+    ∙ ap (λ n. first_suite folder (link ∷ take n links) ++ suites_from folder 0 (drop (length own) links)) (sym long)
+    ∙ ap (λ n. first_suite folder (take n (link ∷ links)) ++ suites_from folder 0 (drop n (link ∷ links))) (sym number)
+
+pub suites_put : (folder out new all : List ℕ) (links : List Link) (count : ℕ) → count ≡ suite_len (map link_of links) → 0 < length links → out ++ suites_from folder 0 (map link_of links) ≡ all
+    → new ≡ out ++ first_suite folder (map link_of (take count links)) → new ++ suites_from folder 0 (map link_of (drop count links)) ≡ all
+suites_put folder out new all links count is some so_far put =
+    let rest = suites_from folder 0 (map link_of (drop count links)) in
+    ap (λ t. t ++ rest) put ∙ append_assoc out (first_suite folder (map link_of (take count links))) rest
+    ∙ ap (λ t. out ++ t)
+    ((λ i. first_suite folder (sym (take-map link_of count links) i) ++ suites_from folder 0 (sym (drop-map link_of count links) i))
+    ∙ sym (one_suite folder (map link_of links) count (omega (arith, some, length-map links link_of)) is))
+    ∙ so_far

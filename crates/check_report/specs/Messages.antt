@@ -1,0 +1,51 @@
+-- The message about a broken link in JUnit XML and SARIF.
+use Rattle.std.specs.Prelude.{List, [], ◌++◌, ℕ, bytes_eq, codes, string_bytes, if◌then◌else◌, Option, None, Some, option_map}
+use Rattle.check_report.specs.Names.{page_name, target_name}
+use Rattle.check_report.specs.Text.{message}
+use Rattle.check_report.specs.declared.value.Broken.{Broken}
+use Rattle.check_report.specs.declared.value.Kind.{Kind}
+use Rattle.check_report.specs.declared.value.Kind.TheVariants.{NoPage, NoAnchor, NotUrl, UnknownScheme, LocalFile, Leaves, OutsideBase}
+use Rattle.check_report.specs.declared.value.Place.{Place}
+
+-- the name of a kind of finding
+abbrev pub rule_id : Kind → List ℕ
+rule_id NoPage = codes "missing-page"
+rule_id NoAnchor = codes "missing-anchor"
+rule_id NotUrl = codes "not-a-url"
+rule_id UnknownScheme = codes "unknown-scheme"
+rule_id LocalFile = codes "local-file"
+rule_id Leaves = codes "leaves-the-folder"
+rule_id OutsideBase = codes "outside-base"
+
+-- a word with the opening parenthesis, a text, and the closing parenthesis
+abbrev pub bracketed : List ℕ → List ℕ → List ℕ
+bracketed word text = word ++ text ++ codes ")"
+
+-- the link as it is written, if that is not the name of its target
+abbrev pub written_part : Broken → Option (List ℕ) → List ℕ
+written_part b None = []
+written_part b (Some link) = if bytes_eq link (target_name b) then [] else bracketed (codes " (written as ") link
+
+abbrev pub same_name_part : Option (List ℕ) → List ℕ
+same_name_part None = []
+same_name_part (Some page) = bracketed (codes " (did you mean ") (page_name page ++ codes "?")
+
+abbrev pub hint_part : Option (List ℕ) → List ℕ
+hint_part None = []
+hint_part (Some hint) = bracketed (codes " (") hint
+
+-- what is suggested
+abbrev pub advice_part : Broken → List ℕ
+advice_part b = same_name_part (option_map string_bytes b.same_name) ++ hint_part (option_map string_bytes b.hint)
+
+-- a target and what is wrong with it
+abbrev pub message_start : Broken → List ℕ
+message_start b = target_name b ++ codes ": " ++ message b.kind
+
+-- the message about a target without locations
+abbrev pub target_message : Broken → List ℕ
+target_message b = message_start b ++ advice_part b
+
+-- the message about a link
+abbrev pub link_message : Broken → Place → List ℕ
+link_message b p = message_start b ++ written_part b (option_map string_bytes p.written) ++ advice_part b

@@ -1,0 +1,228 @@
+//! Prints a report as JUnit XML.
+ghost use Rattle.std.specs.Prelude.{◌≡◌, ◌<◌, ◌++◌, IfOk, OnOk, decimal, flat_map, length, map, take_while, string_bytes, true};
+ghost use Rattle.check_report.specs.Junit.{bare_case, bare_suite, case_name, case_start, failure, first_suite, is_in, link_case, suite_len, suite_start, suites, suites_from};
+ghost use Rattle.check_report.specs.Order.{bare_targets, link_of, links_by_file};
+ghost use Rattle.check_report.specs.Printing.{printed_junit};
+
+use crate::messages::{link_message, rule_id, target_message};
+use crate::names::target_name;
+use crate::ordered::{Link, bare_targets, links_by_file, ordered_targets};
+use crate::paths::path_in;
+use crate::put::{NoMemory, put, put_counted};
+use crate::value::{Broken, Contents, Findings, Kind, Place};
+use crate::view::Order;
+use crate::xml::{put_attribute, put_xml};
+use itoa::Buffer;
+use std::alloc::Global;
+
+/// The name of the suite, and the class, of targets without locations.
+const NO_FILE: &str = "no file";
+
+/// Prints a report as JUnit XML: a test suite for each file with broken links, and a failed test case for each link. A report without
+/// findings has one test case, which passed.
+///
+/// # Errors
+/// Out of memory.
+pub fn print_junit(
+    alloc: Global,
+    findings: &Findings<'_>,
+    contents: Contents<'_>,
+) -> Result<Vec<u8>, NoMemory>
+    ensures { IfOk result (λ text. text.items ≡ printed_junit contents.entry findings.now) }
+{
+    let targets = ordered_targets(alloc, findings.broken, Order::File)?;
+    let mut out = Vec::new(alloc);
+    put(
+        &mut out,
+        "<?xml version=\"1.0\" encoding=\"UTF-8\"?>\n<testsuites name=\"mercator check\">\n",
+    )?;
+    put_suites(&mut out, contents.folder, targets.as_slice())?;
+    put(&mut out, "</testsuites>\n")?;
+    Ok(out)
+}
+
+/// Appends the suites: those of the files, and that of the targets without locations, or one without findings.
+fn put_suites(out: &mut Vec<u8>, folder: &str, targets: &[&Broken]) -> Result<(), NoMemory>
+    ensures { OnOk result (out.new.items ≡ out.old.items ++ suites folder.now (map (λ target. target.now) targets.now)) }
+{
+    if targets.is_empty() {
+        return put(
+            out,
+            "<testsuite name=\"links\" tests=\"1\" failures=\"0\" errors=\"0\">\n<testcase name=\"no broken links\" classname=\"links\"/>\n</testsuite>\n",
+        );
+    }
+    put_file_suites(out, folder, targets)?;
+    put_bare_suite(out, targets)
+}
+
+/// Appends the suites of the files with links to these targets.
+fn put_file_suites(out: &mut Vec<u8>, folder: &str, targets: &[&Broken]) -> Result<(), NoMemory>
+    ensures { OnOk result (out.new.items ≡ out.old.items ++ suites_from folder.now 0 (links_by_file true (map (λ target. target.now) targets.now))) }
+{
+    let links = links_by_file(*out.allocator(), targets, true)?;
+    put_links(out, folder, links.as_slice())
+}
+
+/// Appends the suites of these links.
+#[tactic(auto, using(crate::proofs::Suites::suites_put, crate::proofs::Suites::suite_some, crate::proofs::Suites::suite_fits, crate::proofs::Suites::no_suites))]
+fn put_links(out: &mut Vec<u8>, folder: &str, links: &[Link<'_>]) -> Result<(), NoMemory>
+    ensures { OnOk result (out.new.items ≡ out.old.items ++ suites_from folder.now 0 (map link_of links.now)) }
+{
+    let mut rest = links;
+    'suites: while !rest.is_empty() {
+        let count = suite_len(rest);
+        put_file_suite(out, folder, &rest[..count])?;
+        rest = &rest[count..];
+    }
+    Ok(())
+}
+
+/// The number of links up to the first one in another file than the first.
+#[tactic(auto, using(crate::proofs::Suites::more_in_file))]
+fn suite_len(links: &[Link<'_>]) -> usize
+    requires { 0 < length links.now }
+    ensures { result ≡ suite_len (map link_of links.now) }
+{
+    links_in(links[0].place, links)
+}
+
+/// The number of links up to the first one that is in another file than this location.
+fn links_in(place: &Place, links: &[Link<'_>]) -> usize
+    ensures { result ≡ length (take_while (λ link. is_in place.now (link_of link)) links.now) }
+{
+    links.iter().take_while(|link| is_in(place, *link)).count()
+}
+
+/// Whether the link is in the file of this location.
+fn is_in(place: &Place, link: &Link<'_>) -> bool
+    ensures { result ≡ is_in place.now (link_of link.now) }
+{
+    link.place.file == place.file
+}
+
+/// Appends the suite of these links, which are in one file.
+fn put_file_suite(out: &mut Vec<u8>, folder: &str, links: &[Link<'_>]) -> Result<(), NoMemory>
+    requires { 0 < length links.now }
+    ensures { OnOk result (out.new.items ≡ out.old.items ++ first_suite folder.now (map link_of links.now)) }
+{
+    let place = links[0].place;
+    put_suite_start(out, place.file.as_str(), links.len() as u64)?;
+    put_cases(out, folder, links)?;
+    put(out, "</testsuite>\n")
+}
+
+/// Appends the start of a suite with this name and number of test cases.
+fn put_suite_start(out: &mut Vec<u8>, name: &str, count: u64) -> Result<(), NoMemory>
+    ensures { OnOk result (out.new.items ≡ out.old.items ++ suite_start name.now count) }
+{
+    put(out, "<testsuite")?;
+    put_attribute(out, "name", name)?;
+    put_counted(out, " tests=\"", count)?;
+    put_counted(out, "\" failures=\"", count)?;
+    put(out, "\" errors=\"0\">\n")
+}
+
+/// Appends the test cases of these links.
+fn put_cases(out: &mut Vec<u8>, folder: &str, links: &[Link<'_>]) -> Result<(), NoMemory>
+    ensures { OnOk result (out.new.items ≡ out.old.items ++ flat_map (λ link. link_case folder.now (link_of link)) links.now) }
+{
+    for link in links {
+        put_link_case(out, folder, link.target, link.place)?;
+    }
+    Ok(())
+}
+
+/// Appends the test case of a link.
+fn put_link_case(
+    out: &mut Vec<u8>,
+    folder: &str,
+    target: &Broken,
+    place: &Place,
+) -> Result<(), NoMemory>
+    ensures { OnOk result (out.new.items ≡ out.old.items ++ link_case folder.now (target.now, place.now)) }
+{
+    let alloc = *out.allocator();
+    let name = case_name(alloc, target, place)?;
+    let path = path_in(alloc, folder, place.file.as_str())?;
+    let message = link_message(alloc, target, place)?;
+    put_case_start(out, name.as_str(), place.file.as_str())?;
+    put_attribute(out, "file", path.as_str())?;
+    put_failure(out, target.kind, message.as_str())
+}
+
+/// The name of a link's test case: its line, its column and its target.
+fn case_name(alloc: Global, target: &Broken, place: &Place) -> Result<String, NoMemory>
+    ensures { IfOk result (λ name. string_bytes name ≡ case_name target.now place.now) }
+{
+    let shown = target_name(alloc, target)?;
+    let mut name = String::new(alloc);
+    push_count(&mut name, place.line)?;
+    name.push_str(":")?;
+    push_count(&mut name, place.column)?;
+    name.push_str(": ")?;
+    name.push_str(shown.as_str())?;
+    Ok(name)
+}
+
+/// Appends a count in decimal digits.
+fn push_count(text: &mut String, count: u64) -> Result<(), NoMemory>
+    ensures { OnOk result (string_bytes text.new ≡ string_bytes text.old ++ decimal count) }
+{
+    let mut buffer = Buffer::new();
+    text.push_str(buffer.format(count))
+}
+
+/// Appends the start of a test case: its name and its class.
+fn put_case_start(out: &mut Vec<u8>, name: &str, class: &str) -> Result<(), NoMemory>
+    ensures { OnOk result (out.new.items ≡ out.old.items ++ case_start name.now class.now) }
+{
+    put(out, "<testcase")?;
+    put_attribute(out, "name", name)?;
+    put_attribute(out, "classname", class)
+}
+
+/// Appends what failed, and the end of the test case.
+fn put_failure(out: &mut Vec<u8>, kind: Kind, message: &str) -> Result<(), NoMemory>
+    ensures { OnOk result (out.new.items ≡ out.old.items ++ failure kind message.now) }
+{
+    put(out, "><failure")?;
+    put_attribute(out, "type", rule_id(kind))?;
+    put_attribute(out, "message", message)?;
+    put(out, ">")?;
+    put_xml(out, message)?;
+    put(out, "</failure></testcase>\n")
+}
+
+/// Appends the suite of the targets without locations, if there are any.
+fn put_bare_suite(out: &mut Vec<u8>, targets: &[&Broken]) -> Result<(), NoMemory>
+    ensures { OnOk result (out.new.items ≡ out.old.items ++ bare_suite (bare_targets (map (λ target. target.now) targets.now))) }
+{
+    let bare = bare_targets(*out.allocator(), targets)?;
+    if bare.is_empty() {
+        return Ok(());
+    }
+    put_suite_start(out, NO_FILE, bare.len() as u64)?;
+    put_bare_cases(out, bare.as_slice())?;
+    put(out, "</testsuite>\n")
+}
+
+/// Appends the test cases of these targets.
+fn put_bare_cases(out: &mut Vec<u8>, targets: &[&Broken]) -> Result<(), NoMemory>
+    ensures { OnOk result (out.new.items ≡ out.old.items ++ flat_map (λ target. bare_case target.now) targets.now) }
+{
+    for target in targets {
+        put_bare_case(out, *target)?;
+    }
+    Ok(())
+}
+
+/// Appends the test case of a target.
+fn put_bare_case(out: &mut Vec<u8>, target: &Broken) -> Result<(), NoMemory>
+    ensures { OnOk result (out.new.items ≡ out.old.items ++ bare_case target.now) }
+{
+    let alloc = *out.allocator();
+    let name = target_name(alloc, target)?;
+    let message = target_message(alloc, target)?;
+    put_case_start(out, name.as_str(), NO_FILE)?;
+    put_failure(out, target.kind, message.as_str())
+}

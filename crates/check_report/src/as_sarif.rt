@@ -1,0 +1,303 @@
+//! Prints a report as SARIF 2.1.0.
+ghost use Rattle.std.specs.Prelude.{◌≡◌, ◌++◌, ◌∷◌, [], IfOk, OnOk, codes, flat_map, map, string_bytes};
+ghost use Rattle.json.specs.Token.{begin_array, end_array, key};
+ghost use Rattle.json.specs.Print.{print};
+ghost use Rattle.json.specs.Tree.{json_tokens};
+ghost use Rattle.check_report.specs.Order.{link_of};
+ghost use Rattle.check_report.specs.Printing.{printed_sarif};
+ghost use Rattle.check_report.specs.Sarif.{artifact, bare_result, base_object, bases, folder_file, link_result, location, physical, region, results, sarif_head, source_file, start_tokens, text_object};
+
+use crate::as_json::{put_count, put_text};
+use crate::messages::{link_message, rule_id, target_message};
+use crate::ordered::{Link, bare_targets, links_by_file, ordered_targets};
+use crate::paths::{base_url, path_in, path_uri};
+use crate::put::{NoMemory, put};
+use crate::value::{Broken, Contents, Findings, Kind, Place};
+use crate::view::Order;
+use json::Writer;
+use shown_text::shown;
+use std::alloc::Global;
+
+/// The document up to the names of base URLs and to the results, with the tool and a rule for each kind of finding.
+pub static HEAD: &str =
+    r#"{"$schema":"https://json.schemastore.org/sarif-2.1.0.json","version":"2.1.0","runs":[{"tool":{"driver":{"name":"mercator","rules":[{"id":"missing-page","shortDescription":{"text":"A link to a page that does not exist"}},{"id":"missing-anchor","shortDescription":{"text":"A link to an anchor that its page does not have"}},{"id":"not-a-url","shortDescription":{"text":"A link that is not a URL"}},{"id":"unknown-scheme","shortDescription":{"text":"A link with an unknown scheme"}},{"id":"local-file","shortDescription":{"text":"A link to a file of the reader's computer"}},{"id":"leaves-the-folder","shortDescription":{"text":"A link that leads above the folder"}},{"id":"outside-base","shortDescription":{"text":"A link to the host of BASE that does not lead below BASE"}}]}},"columnKind":"unicodeCodePoints","#;
+
+/// Prints a report as SARIF: a result for each broken link. The path of a file starts with the folder, unless the URL of the sources
+/// is given.
+///
+/// # Errors
+/// Out of memory.
+pub fn print_sarif(
+    alloc: Global,
+    findings: &Findings<'_>,
+    contents: Contents<'_>,
+) -> Result<Vec<u8>, NoMemory>
+    ensures { IfOk result (λ text. text.items ≡ printed_sarif contents.entry findings.now) }
+{
+    let targets = ordered_targets(alloc, findings.broken, Order::File)?;
+    let begun = with_head(alloc, contents.source_url)?;
+    let mut all = with_results(begun, contents, targets.as_slice())?;
+    put(&mut all, "}]}\n")?;
+    Ok(all)
+}
+
+/// The document up to the results.
+fn with_head(alloc: Global, source_url: &str) -> Result<Vec<u8>, NoMemory>
+    ensures { IfOk result (λ text. text.items ≡ sarif_head ++ bases source_url.now ++ codes "\"results\":") }
+{
+    let mut out = Vec::new(alloc);
+    put(&mut out, head())?;
+    let mut based = with_bases(out, source_url)?;
+    put(&mut based, "\"results\":")?;
+    Ok(based)
+}
+
+/// The text before the names of base URLs.
+#[tactic(auto, unfolding(crate::specs::Sarif::sarif_head))]
+fn head() -> &'static str
+    ensures { result.now ≡ sarif_head }
+{
+    HEAD
+}
+
+/// Appends the name of the base URL of the sources, if that is given.
+fn with_bases(mut out: Vec<u8>, source_url: &str) -> Result<Vec<u8>, NoMemory>
+    ensures { IfOk result (λ more. more.items ≡ out.items ++ bases source_url.now) }
+{
+    if source_url.is_empty() {
+        return Ok(out);
+    }
+    put(&mut out, "\"originalUriBaseIds\":")?;
+    let mut more = with_base(out, source_url)?;
+    put(&mut more, ",")?;
+    Ok(more)
+}
+
+/// Appends the object of the base URL of the sources.
+fn with_base(out: Vec<u8>, source_url: &str) -> Result<Vec<u8>, NoMemory>
+    ensures { IfOk result (λ more. more.items ≡ out.items ++ print (json_tokens (base_object source_url.now))) }
+{
+    let url = base_url(*out.allocator(), source_url)?;
+    let mut writer = Writer::new(out);
+    writer.begin_object()?;
+    writer.key("SOURCES")?;
+    put_text_object(&mut writer, "uri", url.as_str())?;
+    writer.end_object()?;
+    Ok(writer.into_inner())
+}
+
+/// Writes an object with one member, a string.
+fn put_text_object(out: &mut Writer, name: &str, text: &str) -> Result<(), NoMemory>
+    ensures tokens { OnOk result (out.new.tokens ≡ out.old.tokens ++ json_tokens (text_object name.now text.now)) }
+    ensures before { out.new.before ≡ out.old.before }
+{
+    out.begin_object()?;
+    out.key(name)?;
+    out.string(text)?;
+    out.end_object()
+}
+
+/// Appends the array of the results.
+fn with_results(
+    out: Vec<u8>,
+    contents: Contents<'_>,
+    targets: &[&Broken],
+) -> Result<Vec<u8>, NoMemory>
+    ensures { IfOk result (λ more. more.items ≡ out.items ++ print (json_tokens (results contents.entry (map (λ target. target.now) targets.now)))) }
+{
+    let alloc = *out.allocator();
+    let mut writer = Writer::new(out);
+    put_results(alloc, &mut writer, contents, targets)?;
+    Ok(writer.into_inner())
+}
+
+/// Writes the array of the results.
+fn put_results(
+    alloc: Global,
+    out: &mut Writer,
+    contents: Contents<'_>,
+    targets: &[&Broken],
+) -> Result<(), NoMemory>
+    ensures tokens { OnOk result (out.new.tokens ≡ out.old.tokens ++ json_tokens (results contents.entry (map (λ target. target.now) targets.now))) }
+    ensures before { out.new.before ≡ out.old.before }
+{
+    let links = links_by_file(alloc, targets, true)?;
+    let bare = bare_targets(alloc, targets)?;
+    out.begin_array()?;
+    put_links(alloc, out, contents, links.as_slice())?;
+    put_bare(alloc, out, bare.as_slice())?;
+    out.end_array()
+}
+
+/// Writes a result for each of these links.
+fn put_links(
+    alloc: Global,
+    out: &mut Writer,
+    contents: Contents<'_>,
+    links: &[Link<'_>],
+) -> Result<(), NoMemory>
+    ensures tokens { OnOk result (out.new.tokens ≡ out.old.tokens ++ flat_map (λ link. json_tokens (link_result contents.entry (link_of link))) links.now) }
+    ensures before { out.new.before ≡ out.old.before }
+{
+    for link in links {
+        put_link(alloc, out, contents, link.target, link.place)?;
+    }
+    Ok(())
+}
+
+/// Writes the result of a link.
+fn put_link(
+    alloc: Global,
+    out: &mut Writer,
+    contents: Contents<'_>,
+    target: &Broken,
+    place: &Place,
+) -> Result<(), NoMemory>
+    ensures tokens { OnOk result (out.new.tokens ≡ out.old.tokens ++ json_tokens (link_result contents.entry (target.now, place.now))) }
+    ensures before { out.new.before ≡ out.old.before }
+{
+    let message = link_message(alloc, target, place)?;
+    let text = shown(alloc, message.as_str())?;
+    put_result_start(out, target.kind, text.as_str())?;
+    put_locations(alloc, out, contents, place)?;
+    out.end_object()
+}
+
+/// Writes the start of a result: its rule, its level and its message.
+fn put_result_start(out: &mut Writer, kind: Kind, text: &str) -> Result<(), NoMemory>
+    ensures tokens { OnOk result (out.new.tokens ≡ out.old.tokens ++ start_tokens kind text.now) }
+    ensures before { out.new.before ≡ out.old.before }
+{
+    out.begin_object()?;
+    put_text(out, "ruleId", rule_id(kind))?;
+    put_text(out, "level", "error")?;
+    out.key("message")?;
+    put_text_object(out, "text", text)
+}
+
+/// Writes the member with the location of a link.
+fn put_locations(
+    alloc: Global,
+    out: &mut Writer,
+    contents: Contents<'_>,
+    place: &Place,
+) -> Result<(), NoMemory>
+    ensures tokens { OnOk result (out.new.tokens ≡ out.old.tokens ++ key (codes "locations") ∷ begin_array ∷ (json_tokens (location contents.entry place.now) ++ end_array ∷ [])) }
+    ensures before { out.new.before ≡ out.old.before }
+{
+    out.key("locations")?;
+    out.begin_array()?;
+    put_location(alloc, out, contents, place)?;
+    out.end_array()
+}
+
+/// Writes the location of a link.
+fn put_location(
+    alloc: Global,
+    out: &mut Writer,
+    contents: Contents<'_>,
+    place: &Place,
+) -> Result<(), NoMemory>
+    ensures tokens { OnOk result (out.new.tokens ≡ out.old.tokens ++ json_tokens (location contents.entry place.now)) }
+    ensures before { out.new.before ≡ out.old.before }
+{
+    out.begin_object()?;
+    out.key("physicalLocation")?;
+    put_physical(alloc, out, contents, place)?;
+    out.end_object()
+}
+
+/// Writes the object with the file, the line and the column of a link.
+fn put_physical(
+    alloc: Global,
+    out: &mut Writer,
+    contents: Contents<'_>,
+    place: &Place,
+) -> Result<(), NoMemory>
+    ensures tokens { OnOk result (out.new.tokens ≡ out.old.tokens ++ json_tokens (physical contents.entry place.now)) }
+    ensures before { out.new.before ≡ out.old.before }
+{
+    out.begin_object()?;
+    put_artifact(alloc, out, contents, place.file.as_str())?;
+    put_region(out, place)?;
+    out.end_object()
+}
+
+/// Writes the member with the file of a location.
+fn put_artifact(
+    alloc: Global,
+    out: &mut Writer,
+    contents: Contents<'_>,
+    file: &str,
+) -> Result<(), NoMemory>
+    ensures tokens { OnOk result (out.new.tokens ≡ out.old.tokens ++ key (codes "artifactLocation") ∷ json_tokens (artifact contents.entry file.now)) }
+    ensures before { out.new.before ≡ out.old.before }
+{
+    out.key("artifactLocation")?;
+    if contents.source_url.is_empty() {
+        put_folder_file(alloc, out, contents.folder, file)
+    } else {
+        put_source_file(alloc, out, file)
+    }
+}
+
+/// Writes the object of a file in the folder.
+fn put_folder_file(
+    alloc: Global,
+    out: &mut Writer,
+    folder: &str,
+    file: &str,
+) -> Result<(), NoMemory>
+    ensures tokens { OnOk result (out.new.tokens ≡ out.old.tokens ++ json_tokens (folder_file folder.now file.now)) }
+    ensures before { out.new.before ≡ out.old.before }
+{
+    let path = path_in(alloc, folder, file)?;
+    let uri = path_uri(alloc, path.as_str())?;
+    put_text_object(out, "uri", uri.as_str())
+}
+
+/// Writes the object of a file of the sources.
+fn put_source_file(alloc: Global, out: &mut Writer, file: &str) -> Result<(), NoMemory>
+    ensures tokens { OnOk result (out.new.tokens ≡ out.old.tokens ++ json_tokens (source_file file.now)) }
+    ensures before { out.new.before ≡ out.old.before }
+{
+    let uri = path_uri(alloc, file)?;
+    out.begin_object()?;
+    put_text(out, "uri", uri.as_str())?;
+    put_text(out, "uriBaseId", "SOURCES")?;
+    out.end_object()
+}
+
+/// Writes the member with the line and the column of a location.
+fn put_region(out: &mut Writer, place: &Place) -> Result<(), NoMemory>
+    ensures tokens { OnOk result (out.new.tokens ≡ out.old.tokens ++ key (codes "region") ∷ json_tokens (region place.now)) }
+    ensures before { out.new.before ≡ out.old.before }
+{
+    out.key("region")?;
+    out.begin_object()?;
+    put_count(out, "startLine", place.line)?;
+    put_count(out, "startColumn", place.column)?;
+    out.end_object()
+}
+
+/// Writes a result for each of these targets, which have no locations.
+fn put_bare(alloc: Global, out: &mut Writer, targets: &[&Broken]) -> Result<(), NoMemory>
+    ensures tokens { OnOk result (out.new.tokens ≡ out.old.tokens ++ flat_map (λ target. json_tokens (bare_result target.now)) targets.now) }
+    ensures before { out.new.before ≡ out.old.before }
+{
+    for target in targets {
+        put_bare_target(alloc, out, *target)?;
+    }
+    Ok(())
+}
+
+/// Writes the result of a target without locations.
+fn put_bare_target(alloc: Global, out: &mut Writer, target: &Broken) -> Result<(), NoMemory>
+    ensures tokens { OnOk result (out.new.tokens ≡ out.old.tokens ++ json_tokens (bare_result target.now)) }
+    ensures before { out.new.before ≡ out.old.before }
+{
+    let message = target_message(alloc, target)?;
+    let text = shown(alloc, message.as_str())?;
+    put_result_start(out, target.kind, text.as_str())?;
+    out.end_object()
+}
