@@ -1,9 +1,9 @@
--- The text of the parts, and of the report that they make.
+-- The text of the sections, and of the report that they make.
 use Rattle.crawl_report.proofs.Prelude.{◌≡◌, ℕ, Bool, false, List, [], ◌∷◌, ◌++◌, map, filter, append-nil, refl, sym, ap, ◌∙◌, if◌then◌else◌, arith, append_assoc, flat_map-append, slice_cmp, enumerate_from, flat_map, IsSortedByKey, nat_cmp, is_missing, results_by_url, report, result_line, total_line, PageResult, results_by_url-alone, line_of, sources, Line, text_line, from_line, lines_of_all, is_told, result_lines, tells_of, total_of}
 use Rattle.crawl_pages.specs.declared.page.Page.{Page}
 use Rattle.crawl_report.specs.Lines as line
 use Rattle.crawl_report.specs.Rows as rows
-use Rattle.crawl_report.specs.declared.report.Sources.TheVariants as told
+use Rattle.crawl_report.specs.declared.sections.Sources.TheVariants as told
 use Rattle.crawl_report.specs.Today.{queue_line, queue_lines, text_with, told_text}
 
 same_results : (pages : List PageResult) → flat_map text_line (result_lines pages) ≡ flat_map result_line pages

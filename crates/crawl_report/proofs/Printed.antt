@@ -17,11 +17,11 @@ printed_alone json lines empty out none kind adds = adds.added ∙ (λ i. none i
 pub whole_report : (json : Bool) (report : Report) (front back : List ℕ) → front ≡ flat_map (printed_line json) (result_lines report.pages.now) → back ≡ flat_map (printed_line json) (rows_behind report) → front ++ back ≡ printed json report
 whole_report json report front back of_results of_rest = grind (arith, flat_map-append, append_assoc)
 
--- ---- parts
+-- ---- chunks
 
--- a part more
-pub joined_push : (parts : List (Vec ℕ Global)) (part : Vec ℕ Global) → joined (parts ++ part ∷ []) ≡ joined parts ++ part.items
-joined_push parts part = flat_map-append (λ (p : Vec ℕ Global). p.items) parts (part ∷ []) ∙ ap (λ t. joined parts ++ t) (append-nil part.items)
+-- a chunk more
+pub joined_push : (chunks : List (Vec ℕ Global)) (chunk : Vec ℕ Global) → joined (chunks ++ chunk ∷ []) ≡ joined chunks ++ chunk.items
+joined_push chunks chunk = flat_map-append (λ (c : Vec ℕ Global). c.items) chunks (chunk ∷ []) ∙ ap (λ t. joined chunks ++ t) (append-nil chunk.items)
 
 -- What `decimal` writes is a number of JSON, of up to 128 bits
 

@@ -21,4 +21,4 @@ pub record Adds (out more : Out) (lines : List Line) : Type 0 where
 
 -- chunks, one after the other
 abbrev pub joined : List (Vec ℕ Global) → List ℕ
-joined parts = flat_map (λ part. part.items) parts
+joined chunks = flat_map (λ chunk. chunk.items) chunks

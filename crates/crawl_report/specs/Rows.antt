@@ -10,10 +10,10 @@ use Rattle.crawl_report.specs.Json.{printed_line}
 use Rattle.crawl_report.specs.Lines as line
 use Rattle.crawl_report.specs.Lines.{Line}
 use Rattle.crawl_sources.specs.Tallies.{pointed}
-use Rattle.crawl_report.specs.declared.report.Parts.{Parts}
+use Rattle.crawl_report.specs.declared.sections.Sections.{Sections}
 use Rattle.crawl_report.specs.declared.report.Report.{Report}
-use Rattle.crawl_report.specs.declared.report.Sources.{Sources}
-use Rattle.crawl_report.specs.declared.report.Sources.TheVariants as sources
+use Rattle.crawl_report.specs.declared.sections.Sources.{Sources}
+use Rattle.crawl_report.specs.declared.sections.Sources.TheVariants as sources
 
 -- ---- results
 
@@ -78,24 +78,24 @@ moved_lines with_moved pages = if with_moved then map (λ r. line.to (target r.p
 
 -- ---- the report
 
--- the lines of the parts, in their order
-abbrev pub part_lines : Parts → List PageResult → List (List ℕ) → List Line
-part_lines parts pages unreached = source_lines parts.sources parts.moved pages ++ (moved_lines parts.moved pages ++ map line.unreached unreached)
+-- the lines of the sections, in their order
+abbrev pub section_lines : Sections → List PageResult → List (List ℕ) → List Line
+section_lines sections pages unreached = source_lines sections.sources sections.moved pages ++ (moved_lines sections.moved pages ++ map line.unreached unreached)
 
 -- the sections if nothing is listed but, at most, the first source of each missing URL
-abbrev pub plain_parts : Bool → Parts
-plain_parts with_sources = record { sources = if with_sources then sources.First else sources.None; moved = false; unreached = false }
+abbrev pub plain_sections : Bool → Sections
+plain_sections with_sources = record { sources = if with_sources then sources.First else sources.None; moved = false; unreached = false }
 
 -- the lines of a report, in their order
-abbrev pub rows_with : Parts → List PageResult → List ℕ → List (List ℕ) → List Line
-rows_with parts pages queues unreached = result_lines pages ++ (total_of pages ∷ queue_lines queues) ++ part_lines parts pages unreached
+abbrev pub rows_with : Sections → List PageResult → List ℕ → List (List ℕ) → List Line
+rows_with sections pages queues unreached = result_lines pages ++ (total_of pages ∷ queue_lines queues) ++ section_lines sections pages unreached
 
 abbrev pub rows_of : Report → List Line
-rows_of report = rows_with report.parts report.pages.now report.queues.now (pointed report.unreached.now)
+rows_of report = rows_with report.sections report.pages.now report.queues.now (pointed report.unreached.now)
 
 -- the lines after those of the results
 abbrev pub rows_behind : Report → List Line
-rows_behind report = (total_of report.pages.now ∷ queue_lines report.queues.now) ++ part_lines report.parts report.pages.now (pointed report.unreached.now)
+rows_behind report = (total_of report.pages.now ∷ queue_lines report.queues.now) ++ section_lines report.sections report.pages.now (pointed report.unreached.now)
 
 -- the report's bytes, as JSON or as text
 abbrev pub printed : Bool → Report → List ℕ

@@ -1,11 +1,11 @@
--- The text of results, queues and sources, part by part.
+-- The text of results, queues and sources, one after the other.
 use Rattle.std.specs.Prelude.{ℕ, Bool, List, [], ◌∷◌, ◌++◌, codes, if◌then◌else◌, decimal}
 use Rattle.std.specs.List.{enumerate_from, flat_map}
 use Rattle.crawl_report.specs.ReportText.{report}
 use Rattle.crawl_pages.specs.declared.page.PageResult.{PageResult}
 use Rattle.crawl_sources.specs.Sources.{sources}
 use Rattle.crawl_report.specs.Lines.{text_line}
-use Rattle.crawl_report.specs.Rows.{plain_parts, rows_with}
+use Rattle.crawl_report.specs.Rows.{plain_sections, rows_with}
 
 -- a queue, its count, and LF
 abbrev pub queue_line : ℕ → ℕ → List ℕ
@@ -22,4 +22,4 @@ told_text with_queues with_sources pages counts = report pages ++ (if with_queue
 -- the text of a report with only these sections
 abbrev pub text_with : Bool → Bool → List PageResult → List ℕ → List ℕ
 text_with with_queues with_sources pages counts =
-    flat_map text_line (rows_with (plain_parts with_sources) pages (if with_queues then counts else []) [])
+    flat_map text_line (rows_with (plain_sections with_sources) pages (if with_queues then counts else []) [])

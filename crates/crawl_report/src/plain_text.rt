@@ -7,7 +7,8 @@ ghost use Rattle.crawl_report.specs.Rows.{result_lines};
 ghost use Rattle.crawl_sources.specs.Tallies.{pointed};
 
 use crate::out::Out;
-use crate::printing::{row_of, total_of};
+use crate::printing::total_of;
+use crate::results::row_of;
 use crawl_pages::{NoMemory, PageResult};
 use result_order::results_by_url;
 use std::alloc::Global;

@@ -1,7 +1,7 @@
-//! A report as a value, and the lines of its parts.
-ghost use Rattle.std.specs.Prelude.{◌≡◌, false, IfOk};
+//! A report as a value, and the lines of its sections.
+ghost use Rattle.std.specs.Prelude.{IfOk};
 ghost use Rattle.crawl_report.specs.Printing.{Adds};
-ghost use Rattle.crawl_report.specs.Rows.{part_lines, plain_parts};
+ghost use Rattle.crawl_report.specs.Rows.{section_lines};
 ghost use Rattle.crawl_sources.specs.Tallies.{pointed};
 
 mod moved;
@@ -12,42 +12,10 @@ use crate::out::Out;
 use crate::report::moved::with_moved;
 use crate::report::referrers::with_sources;
 use crate::report::unreached::with_unreached;
+use crate::sections::Sections;
 use crawl_keys::CanonUrl;
 use crawl_pages::{NoMemory, PageResult};
 use std::alloc::Global;
-
-/// Which sources of missing URLs a report has.
-#[derive(Clone, Copy, Debug)]
-pub enum Sources {
-    None,
-    /// Their number, and the first of them.
-    First,
-    /// Their number, and each of them.
-    All,
-}
-
-/// Which sections a report has in addition to results, total and queues.
-#[derive(Clone, Copy, Debug)]
-pub struct Parts {
-    pub sources: Sources,
-    /// Whether it has the targets of moved pages, and if it has sources, those of moved pages too.
-    pub moved: bool,
-    /// Whether it has the pages of the saved web that no result has.
-    pub unreached: bool,
-}
-
-impl Parts {
-    /// Only results, total and queues.
-    pub fn none() -> Parts
-        ensures { result ≡ plain_parts false }
-    {
-        Parts {
-            sources: Sources::None,
-            moved: false,
-            unreached: false,
-        }
-    }
-}
 
 /// A report.
 #[derive(Clone, Copy)]
@@ -58,15 +26,15 @@ pub struct Report<'r> {
     pub queues: &'r [u64],
     /// The pages that no result has, as [`unreached`](crate::unreached) returns them. Empty if they are not printed.
     pub unreached: &'r [&'r CanonUrl],
-    pub parts: Parts,
+    pub sections: Sections,
 }
 
-/// Prints the lines of the parts.
+/// Prints the lines of the sections.
 #[tactic(auto, using(crate::proofs::Adding::then_more))]
-pub(crate) fn with_parts(alloc: Global, out: Out, report: &Report<'_>) -> Result<Out, NoMemory>
-    ensures { IfOk result (λ more. Adds out more (part_lines report.now.parts report.now.pages.now (pointed report.now.unreached.now))) }
+pub(crate) fn with_sections(alloc: Global, out: Out, report: &Report<'_>) -> Result<Out, NoMemory>
+    ensures { IfOk result (λ more. Adds out more (section_lines report.now.sections report.now.pages.now (pointed report.now.unreached.now))) }
 {
-    let Parts { sources, moved, .. } = report.parts;
+    let Sections { sources, moved, .. } = report.sections;
     let out = with_sources(alloc, out, report.pages, sources, moved)?;
     let out = with_moved(out, report.pages, moved)?;
     with_unreached(out, report.unreached)

@@ -107,7 +107,7 @@ fn push_text(text: &mut String, row: Row<'_>) -> Result<(), NoMemory>
     }
 }
 
-/// A page's line by its parts: nearly all lines are pages', and `write!` takes many times as long.
+/// A page's line by its fields: nearly all lines are pages', and `write!` takes many times as long.
 fn push_page(text: &mut String, url: &str, links: u128, skipped: u64) -> Result<(), NoMemory>
     ensures { OnOk result (string_bytes text.new ≡ string_bytes text.old ++ line_text (line.page url.now links skipped)) }
 {

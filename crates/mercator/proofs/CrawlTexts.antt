@@ -9,5 +9,5 @@ pub unreached_told : (urls suffixes : List (List ℕ)) (pages given : List PageR
 unreached_told urls suffixes pages given found shown same_pages same_shown moved ascends = grind arith
 
 pub text_told : {E : Type 0} (result : Result (Vec (Vec ℕ Global) Global) E) (plan : CrawlPlan) (known suffixes : List (List ℕ)) (pages given : List PageResult) (counts shown : List ℕ) (urls : List (List ℕ)) → given ≡ pages → shown ≡ (if plan.queues then counts else [])
-    → AreUnreached known suffixes pages urls → IfOk result (λ parts. joined parts.items ≡ flat_map (printed_line plan.options.json) (rows_with plan.options.parts given shown urls)) → IfOk result (λ parts. IsTextOf plan known suffixes pages counts (joined parts.items))
+    → AreUnreached known suffixes pages urls → IfOk result (λ chunks. joined chunks.items ≡ flat_map (printed_line plan.options.json) (rows_with plan.options.sections given shown urls)) → IfOk result (λ chunks. IsTextOf plan known suffixes pages counts (joined chunks.items))
 text_told result plan known suffixes pages given counts shown urls same_pages same_counts unseen printed = grind arith

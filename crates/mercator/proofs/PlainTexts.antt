@@ -4,7 +4,7 @@ use Rattle.std.proofs.lemmas.List.Sorted.{length_permutation}
 use Rattle.std.specs.declared.cmp.Ordering.TheVariants.{Less}
 use Rattle.crawl_report.proofs.Format.{text_same}
 use Rattle.crawl_report.specs.Today.{text_with}
-use Rattle.crawl_report.specs.declared.report.Parts.{Parts}
+use Rattle.crawl_report.specs.declared.sections.Sections.{Sections}
 
 -- results that ascend are in order
 in_order : (pages : List PageResult) → IsAscending (result_urls pages) → IsSortedByKey (λ r. r.url) (slice_cmp nat_cmp) pages
@@ -21,8 +21,8 @@ none_left : (urls : List (List ℕ)) → length urls ≡ 0 → urls ≡ []
 none_left urls none = grind (arith, common_steps)
 
 -- no unreached pages if the report does not list them
-none_asked : (parts : Parts) (bytes : List ℕ) (suffixes : List (List ℕ)) (pages : List PageResult) (urls : List (List ℕ)) → parts.unreached ≡ false → AreUnreached (asked_pages parts (lines bytes)) suffixes pages urls → urls ≡ []
-none_asked parts bytes suffixes pages urls none unseen =
+none_asked : (sections : Sections) (bytes : List ℕ) (suffixes : List (List ℕ)) (pages : List PageResult) (urls : List (List ℕ)) → sections.unreached ≡ false → AreUnreached (asked_pages sections (lines bytes)) suffixes pages urls → urls ≡ []
+none_asked sections bytes suffixes pages urls none unseen =
     none_left urls (length_permutation [] urls (subst (λ a. IsPermutation (unreached_of (allows suffixes) pages (if a then page_urls (lines bytes) else [])) urls) none unseen.same))
 
 plain_print : (with_sources : Bool) (plan : CrawlPlan) (pages : List PageResult) (counts : List ℕ) (urls : List (List ℕ)) → IsPlain with_sources plan → urls ≡ [] → printed_with plan pages counts urls ≡ text_with plan.queues with_sources pages counts
@@ -37,6 +37,6 @@ plain_text workers with_sources plan bytes listed seeds suffixes text plain own 
   counted = own.counted;
   written =
       own.told.written
-      ∙ plain_print with_sources plan own.pages own.counts own.told.unreached plain (none_asked plan.options.parts bytes suffixes own.pages own.told.unreached (ap (λ (p : Parts). p.unreached) plain.parts) own.told.unseen)
+      ∙ plain_print with_sources plan own.pages own.counts own.told.unreached plain (none_asked plan.options.sections bytes suffixes own.pages own.told.unreached (ap (λ (p : Sections). p.unreached) plain.sections) own.told.unseen)
       ∙ text_same plan.queues with_sources own.pages own.counts (in_order own.pages own.crawl.found.ascends);
 }

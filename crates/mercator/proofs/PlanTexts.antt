@@ -48,7 +48,7 @@ one_text : (crawl other : CrawlPlan) (bytes listed : List ℕ) (texts suffixes :
     → IsCrawlText crawl.workers crawl bytes listed texts suffixes text → IsCrawlText other.workers other bytes listed texts suffixes its → text ≡ its
 one_text crawl other bytes listed texts suffixes text its ask queued many own their =
     let pages : own.pages ≡ their.pages = one_site_crawl bytes listed texts suffixes own.pages their.pages own.crawl their.crawl in
-    let urls : own.told.unreached ≡ their.told.unreached = one_unreached (asked_pages crawl.options.parts (lines bytes)) (asked_pages other.options.parts (lines bytes)) suffixes own.pages their.pages own.told.unreached their.told.unreached (ap (λ parts. asked_pages parts (lines bytes)) ask.parts) pages own.told.unseen their.told.unseen in
+    let urls : own.told.unreached ≡ their.told.unreached = one_unreached (asked_pages crawl.options.sections (lines bytes)) (asked_pages other.options.sections (lines bytes)) suffixes own.pages their.pages own.told.unreached their.told.unreached (ap (λ sections. asked_pages sections (lines bytes)) ask.sections) pages own.told.unseen their.told.unseen in
     let counts = one_counts crawl.queues crawl.workers other.workers own.pages their.pages own.counts their.counts many pages own.counted their.counted ∙ ap (λ q. if q then their.counts else []) queued in
     own.told.written ∙ one_print crawl other own.pages their.pages own.counts their.counts own.told.unreached their.told.unreached ask pages counts urls ∙ sym their.told.written
   where
@@ -61,14 +61,14 @@ one_text crawl other bytes listed texts suffixes text its ask queued many own th
 -- what such crawls print of the same bytes
 one_crawl : (crawl other : CrawlPlan) (bytes text its : List ℕ) → AskForOneCrawl crawl other → IsToldCrawl crawl (Some bytes) text → IsToldCrawl other (Some bytes) its → text ≡ its
 one_crawl crawl other bytes text its ask own their =
-    let (own_input, other_input, own_none, other_none, seeded, filtered, parts, queued, many) = ask in
+    let (own_input, other_input, own_none, other_none, seeded, filtered, sections, queued, many) = ask in
     let texts = map string_bytes crawl.seeds.items in
     let suffixes = suffixes_of crawl.options.within in
     let first : IsCrawlText crawl.workers crawl bytes [] texts suffixes text = (of_web (λ b l. IsBegun b l texts × IsCrawlText crawl.workers crawl b l texts suffixes text) crawl bytes own_input own_none own.1).1 in
     let plain = (of_web (λ b l. IsBegun b l (map string_bytes other.seeds.items) × IsCrawlText other.workers other b l (map string_bytes other.seeds.items) (suffixes_of other.options.within) its) other bytes other_input other_none their.1).1 in
     let same_seeds = subst (λ t. IsCrawlText other.workers other bytes [] t (suffixes_of other.options.within) its) (sym seeded) plain in
     let second : IsCrawlText other.workers other bytes [] texts suffixes its = subst (λ s. IsCrawlText other.workers other bytes [] texts s its) (sym filtered) same_seeds in
-    one_text crawl other bytes [] texts suffixes text its parts queued many first second
+    one_text crawl other bytes [] texts suffixes text its sections queued many first second
 
 pub one_output : (plan other : Plan) (bytes before after its : List ℕ) → AskForOneText plan other → Gains plan (Some bytes) (Some before) (Some after) → Gains other (Some bytes) (Some before) (Some its) → after ≡ its
 one_output (asks.Crawl workers max queues file seeds options) (asks.Crawl others most counts from those settings) bytes before after its ask own their =
@@ -108,7 +108,7 @@ of_files crawl input bytes list P are holds = grind arith
 
 -- what is printed of what was found in these files, by this filter, is the text of the plan's crawl
 pub told_of : (crawl : CrawlPlan) (input : Option (List ℕ)) (bytes list : List ℕ) (filter known : List (List ℕ)) (found : Crawled) (text : List ℕ) → (is_bad_suffix crawl.options.within ≡ false) × (filter ≡ suffixes_of crawl.options.within) → AreFiles crawl input bytes list
-    → IsBegun bytes list (map string_bytes crawl.seeds.items) → IsFound crawl.workers bytes list (map string_bytes crawl.seeds.items) filter found → known ≡ asked_pages crawl.options.parts (lines bytes) → IsTextOf crawl known filter found.result found.counts.items text
+    → IsBegun bytes list (map string_bytes crawl.seeds.items) → IsFound crawl.workers bytes list (map string_bytes crawl.seeds.items) filter found → known ≡ asked_pages crawl.options.sections (lines bytes) → IsTextOf crawl known filter found.result found.counts.items text
     → IsToldCrawl crawl input text
 told_of crawl input bytes list filter known found text suffix are begun own same written = grind (arith, of_files)
 

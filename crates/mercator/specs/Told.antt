@@ -248,7 +248,7 @@ pub record EndsByFault (plan : Plan) (ended : ℕ) (input err_old err_new : Opti
 
 -- both crawls print the same sections, in the same form
 pub record AskForOneReport (crawl other : CrawlPlan) : Type 0 where
-  pub parts : crawl.options.parts ≡ other.options.parts
+  pub sections : crawl.options.sections ≡ other.options.sections
   pub json : crawl.options.json ≡ other.options.json
 
 -- both crawl the standard input, from the same seeds of the command line and within the same suffix, and print the same

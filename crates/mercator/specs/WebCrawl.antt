@@ -7,10 +7,10 @@ use Rattle.std.specs.Str.Lines.{lines}
 use Rattle.crawl_keys.specs.CanonicalText.{canonical}
 use Rattle.crawl_report.specs.Json.{printed_line}
 use Rattle.crawl_report.specs.ReportText.{report}
-use Rattle.crawl_report.specs.Rows.{plain_parts, rows_with}
+use Rattle.crawl_report.specs.Rows.{plain_sections, rows_with}
 use Rattle.crawl_report.specs.Today.{told_text}
 use Rattle.crawl_report.specs.Unreached.{unreached_of}
-use Rattle.crawl_report.specs.declared.report.Parts.{Parts}
+use Rattle.crawl_report.specs.declared.sections.Sections.{Sections}
 use Rattle.crawl_sources.specs.Seeds.{seeds_in}
 use Rattle.saved_pages.specs.SavedWeb.{page_of, page_urls}
 use Rattle.crawl_keys.specs.declared.error.KeyError.{KeyError}
@@ -131,8 +131,8 @@ pub record IsCrawlReport (bytes : List ℕ) (texts suffixes : List (List ℕ)) (
 -- ---- what is printed of a crawl
 
 -- the URLs of the pages of a saved web with these lines, if the report lists those that no result has
-abbrev pub asked_pages : Parts → List (List ℕ) → List (List ℕ)
-asked_pages parts lines = if parts.unreached then page_urls lines else []
+abbrev pub asked_pages : Sections → List (List ℕ) → List (List ℕ)
+asked_pages sections lines = if sections.unreached then page_urls lines else []
 
 -- of these URLs, those that no result has, of hosts that the filter with these suffixes allows, in ascending order
 pub record AreUnreached (known suffixes : List (List ℕ)) (pages : List PageResult) (urls : List (List ℕ)) : Type 0 where
@@ -142,7 +142,7 @@ pub record AreUnreached (known suffixes : List (List ℕ)) (pages : List PageRes
 -- the text of pages, counts and unreached pages, with the sections that the plan asks for
 abbrev pub printed_with : CrawlPlan → List PageResult → List ℕ → List (List ℕ) → List ℕ
 printed_with plan pages counts unreached =
-    flat_map (printed_line plan.options.json) (rows_with plan.options.parts pages (if plan.queues then counts else []) unreached)
+    flat_map (printed_line plan.options.json) (rows_with plan.options.sections pages (if plan.queues then counts else []) unreached)
 
 -- the text has the pages and counts of a crawl; among the URLs `known` are the pages that no result has
 pub record IsTextOf (plan : CrawlPlan) (known suffixes : List (List ℕ)) (pages : List PageResult) (counts text : List ℕ) : Type 0 where
@@ -156,7 +156,7 @@ pub record IsCrawlText (workers : ℕ) (plan : CrawlPlan) (bytes listed : List �
   pub crawl : IsSiteCrawl bytes listed texts suffixes pages
   pub counts : List ℕ
   pub counted : AreCounts workers (result_urls pages) counts
-  pub told : IsTextOf plan (asked_pages plan.options.parts (lines bytes)) suffixes pages counts text
+  pub told : IsTextOf plan (asked_pages plan.options.sections (lines bytes)) suffixes pages counts text
 
 -- ---- the text of a crawl that asks for no more than the lines of queues and of sources
 
@@ -170,5 +170,5 @@ pub record IsPlainText (workers : ℕ) (with_queues with_sources : Bool) (bytes 
 
 -- no more is requested
 pub record IsPlain (with_sources : Bool) (plan : CrawlPlan) : Type 0 where
-  pub parts : plan.options.parts ≡ plain_parts with_sources
+  pub sections : plan.options.sections ≡ plain_sections with_sources
   pub json : plan.options.json ≡ false

@@ -50,7 +50,7 @@ use web_crawl::report_of_plan;
 pub use web_report::{Report, report_of_saved_web};
 pub use words::{PlanError, plan};
 pub use writing::fault_line;
-use writing::{begin, end, end_by_parts, tell_ended, tell_fault};
+use writing::{begin, end, end_by_chunks, tell_ended, tell_fault};
 
 /// The exit status of a check that found something broken.
 const BROKEN: u8 = 4;
@@ -226,8 +226,8 @@ fn run<
                 seeds,
                 options,
             };
-            let parts = report_of_plan(platform, alloc, &crawl, input)?;
-            end_by_parts(out, &parts)?;
+            let chunks = report_of_plan(platform, alloc, &crawl, input)?;
+            end_by_chunks(out, &chunks)?;
             Ok(false)
         }
         Plan::Key { url, workers } => {

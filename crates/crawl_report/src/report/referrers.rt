@@ -9,8 +9,8 @@ ghost use Rattle.crawl_report.specs.Rows.{is_told, source_lines, lines_at, lines
 ghost use Rattle.crawl_sources.specs.Tallies.{count_of, pointed, IsTally};
 
 use crate::out::Out;
-use crate::report::Sources;
 use crate::row::Row;
+use crate::sections::Sources;
 use crawl_pages::{NoMemory, PageResult};
 use crawl_sources::{Tallies, Tally, tally_links, tally_of};
 use std::alloc::Global;

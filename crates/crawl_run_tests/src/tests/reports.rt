@@ -2,7 +2,7 @@
 use crate::tests::results::{Target, is_report, result_at};
 use crate::tests::webs::{MOVED, RING, RING_REPORT};
 use crawl_pages::{Page, PageResult};
-use crawl_report::{Parts, Report, Sources, print_in_parts};
+use crawl_report::{Report, Sections, Sources, print_in_chunks};
 use std::alloc::Global;
 use std::thread::Threads;
 
@@ -188,12 +188,12 @@ fn is_text<R: Threads + Sync>(rt: &R, alloc: Global, results: &[PageResult], row
         pages: results,
         queues: &[],
         unreached: &[],
-        parts: Parts {
+        sections: Sections {
             sources: Sources::First,
-            ..Parts::none()
+            ..Sections::none()
         },
     };
-    match print_in_parts(rt, alloc, &report, false, false) {
+    match print_in_chunks(rt, alloc, &report, false, false) {
         Ok(chunks) => are_chunks(alloc, &chunks, row),
         Err(_) => false,
     }

@@ -3,7 +3,7 @@ use crate::commands::arguments::{
     Flag, Valued, command_with, flag_of, option, push, push_flags, push_options, word, workers,
 };
 use crate::commands::folder_words::{check_command, site_command};
-use crate::commands::report_words::PART_FLAGS;
+use crate::commands::report_words::SECTION_FLAGS;
 use clap::builder::ValueParser;
 use clap::{Arg, ArgAction, Command};
 use crawl_limits::PENDING_LIMIT;
@@ -99,7 +99,7 @@ fn crawl_command<'a>(alloc: Global) -> Result<Command<'a>, AllocError> {
 fn push_crawl_args<'a>(alloc: Global, args: &mut Vec<Arg<'a>>) -> Result<(), AllocError> {
     push_numbers(alloc, args)?;
     push_flags(alloc, args, QUEUE_FLAGS)?;
-    push_flags(alloc, args, PART_FLAGS)?;
+    push_flags(alloc, args, SECTION_FLAGS)?;
     push_flags(alloc, args, TELLING_FLAGS)?;
     push_options(alloc, args, CRAWL_OPTIONS)?;
     push(args, file(alloc, "Saved web to crawl; - is standard input"))?;

@@ -6,7 +6,7 @@ ghost use Rattle.mercator.specs.WebCrawl.{IsTextOf};
 
 use crate::commands::planned::CrawlPlan;
 use crawl_keys::CanonUrl;
-use crawl_report::{NoMemory, Report, print_in_parts, unreached};
+use crawl_report::{NoMemory, Report, print_in_chunks, unreached};
 use crawl_run::{CrawlSettings, Crawled};
 use std::alloc::Global;
 use std::thread::Threads;
@@ -25,7 +25,7 @@ pub(in crate::commands) fn crawl_text<R: Threads + Sync>(
     crawled: &Crawled,
     urls: &[CanonUrl],
 ) -> Result<Vec<Vec<u8>>, NoMemory>
-    ensures { IfOk result (λ parts. IsTextOf (plan_of crawl.now) urls.now settings.now.filter.now crawled.now.result crawled.now.counts.items (joined parts.items)) }
+    ensures { IfOk result (λ chunks. IsTextOf (plan_of crawl.now) urls.now settings.now.filter.now crawled.now.result crawled.now.counts.items (joined chunks.items)) }
 {
     let pages = crawled.result.pages();
     let unseen = unreached(alloc, settings.filter, pages, urls)?;
@@ -33,9 +33,9 @@ pub(in crate::commands) fn crawl_text<R: Threads + Sync>(
         pages,
         queues: asked_counts(crawl.queues, &crawled.counts),
         unreached: &unseen,
-        parts: crawl.options.parts,
+        sections: crawl.options.sections,
     };
-    print_in_parts(
+    print_in_chunks(
         rt,
         alloc,
         &report,

@@ -3,7 +3,7 @@ ghost use Rattle.std.specs.Prelude.{◌≡◌};
 ghost use Rattle.mercator.specs.Plans.{IsWithinLimits, explains, file_of, listed_or, told_file};
 
 use crate::commands::fault::Fault;
-use crawl_report::Parts;
+use crawl_report::Sections;
 use mercator_site::{CheckForm, CheckOptions, ReportOptions, SiteOptions};
 use session_log::{CompactPlan, ListPlan, LogPlan, SessionPlan};
 
@@ -80,7 +80,7 @@ pub struct CrawlOptions {
     /// The file of seeds, if there is one; `-` is the input.
     pub listed: Option<String>,
     /// Which sections the report has. Unreached pages are listed only for the hosts to crawl.
-    pub parts: Parts,
+    pub sections: Sections,
     /// Whether the report is JSON, one object per line.
     pub json: bool,
     /// Whether an incomplete crawl reports the first affected URL and the losses.

@@ -1,10 +1,10 @@
 //! The options for the sections of a report, and the sections that they ask for.
 use crate::commands::arguments::Flag;
 use clap::ArgMatches;
-use crawl_report::{Parts, Sources};
+use crawl_report::{Sections, Sources};
 
 /// The options for the sections of a report.
-pub const PART_FLAGS: &[Flag] = &[
+pub const SECTION_FLAGS: &[Flag] = &[
     Flag {
         name: "sources",
         help: "Also print how many pages link to each missing URL, and the first of them",
@@ -24,8 +24,8 @@ pub const PART_FLAGS: &[Flag] = &[
 ];
 
 /// The sections that the command line asks for.
-pub fn parts_of(found: &ArgMatches<'_>) -> Parts {
-    Parts {
+pub fn sections_of(found: &ArgMatches<'_>) -> Sections {
+    Sections {
         sources: sources_of(found),
         moved: found.get_flag("moved"),
         unreached: found.get_flag("unreached"),

@@ -22,7 +22,7 @@ use crate::commands::platform::Platform;
 use crate::commands::source::read_files;
 use crawl_keys::{CanonUrl, Filter, FilterError, canonical};
 use crawl_pages::SessionFetch;
-use crawl_report::{NoMemory, Parts};
+use crawl_report::{NoMemory, Sections};
 use crawl_run::{CrawlFailure, CrawlSettings, Crawled, Mode, Observe, Watched, crawl_with};
 use crawl_sources::read_seeds;
 use saved_web::{SavedWeb, WebError, WebInThreads};
@@ -50,7 +50,7 @@ pub(in crate::commands) fn report_of_plan<
     input: &mut I,
 ) -> Result<Vec<Vec<u8>>, Fault>
     requires one_input { (is_input (string_bytes crawl.now.file.now) && lists_input crawl.now.options.now.listed) ≡ false }
-    ensures text { IfOk result (λ parts. IsToldCrawl (plan_of crawl.now) (I.remaining input.old) (joined parts.items)) }
+    ensures text { IfOk result (λ chunks. IsToldCrawl (plan_of crawl.now) (I.remaining input.old) (joined chunks.items)) }
     ensures fault { IfErr result (FailsCrawl (plan_of crawl.now) (I.remaining input.old)) }
     ensures unread { reads_files (plan_of crawl.now) ≡ false → input.new ≡ input.old }
 {
@@ -63,11 +63,11 @@ pub(in crate::commands) fn report_of_plan<
         filter: &filter,
     };
     let (crawled, urls) = crawl_files(platform, alloc, crawl, &settings, files)?;
-    let parts = crawl_text(platform.rt, alloc, crawl, &settings, &crawled, &urls)?;
+    let chunks = crawl_text(platform.rt, alloc, crawl, &settings, &crawled, &urls)?;
     // The process ends soon, which frees them faster.
     forget(crawled);
     forget(urls);
-    Ok(parts)
+    Ok(chunks)
 }
 
 /// Returns the filter of a crawl.
@@ -98,7 +98,7 @@ fn crawl_files<R: Threads + Wait + Sync, L, V: Observe + Sync>(
 ) -> Result<(Crawled, Vec<CanonUrl>), Fault>
     ensures found { IfOk result (λ r. IsFound settings.now.workers files.0.items files.1.items (map string_bytes crawl.now.seeds.now.items) settings.now.filter.now r.0) }
     ensures begun { IfOk result (λ _. IsBegun files.0.items files.1.items (map string_bytes crawl.now.seeds.now.items)) }
-    ensures urls { IfOk result (λ r. r.1.items ≡ asked_pages crawl.now.options.now.parts (lines files.0.items)) }
+    ensures urls { IfOk result (λ r. r.1.items ≡ asked_pages crawl.now.options.now.sections (lines files.0.items)) }
     ensures refused { IfErr result (IsUnbegun settings.now.workers settings.now.max_pending files.0.items files.1.items (map string_bytes crawl.now.seeds.now.items) settings.now.filter.now) }
 {
     let (bytes, list) = files;
@@ -115,7 +115,7 @@ fn crawl_files<R: Threads + Wait + Sync, L, V: Observe + Sync>(
     let source = WebInThreads::new(platform.rt, alloc, &web, in_threads);
     let crawled = crawl_source(platform.rt, alloc, &source, observer, settings, &seeds)?;
     drop(source);
-    let urls = asked_pages(alloc, crawl.options.parts, &web)?;
+    let urls = asked_pages(alloc, crawl.options.sections, &web)?;
     Ok((crawled, urls))
 }
 
@@ -145,10 +145,14 @@ fn crawl_source<F: SessionFetch + Sync, V: Observe + Sync, R: Threads + Wait + S
 }
 
 /// Returns the URLs of the pages of the saved web if the report lists those that no result has.
-fn asked_pages(alloc: Global, parts: Parts, web: &SavedWeb<'_>) -> Result<Vec<CanonUrl>, NoMemory>
-    ensures { IfOk result (λ urls. urls.items ≡ (if parts.unreached then urls_of web.now else [])) }
+fn asked_pages(
+    alloc: Global,
+    sections: Sections,
+    web: &SavedWeb<'_>,
+) -> Result<Vec<CanonUrl>, NoMemory>
+    ensures { IfOk result (λ urls. urls.items ≡ (if sections.unreached then urls_of web.now else [])) }
 {
-    if parts.unreached {
+    if sections.unreached {
         web.page_urls(alloc)
     } else {
         Ok(Vec::new(alloc))

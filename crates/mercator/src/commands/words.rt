@@ -10,7 +10,7 @@ use crate::commands::arguments::{value_of, values_of};
 use crate::commands::command_line::{self, command_line};
 use crate::commands::folder_words::{check_options, site_options};
 use crate::commands::planned::{CrawlOptions, Plan};
-use crate::commands::report_words::parts_of;
+use crate::commands::report_words::sections_of;
 use clap::ArgMatches;
 use clap::error::ErrorKind;
 use clap::parser::ValueSource;
@@ -196,7 +196,7 @@ fn crawl_of(alloc: Global, found: &ArgMatches<'_>) -> Result<Plan, PlanError>
         options: CrawlOptions {
             within: value_of(alloc, found, "within")?,
             listed,
-            parts: parts_of(found),
+            sections: sections_of(found),
             json: found.get_flag("json"),
             explain: found.get_flag("explain"),
             progress: found.get_flag("progress"),

@@ -29,11 +29,11 @@ pub fn end<O: Write>(out: &mut O, text: &[u8]) -> Result<(), Fault>
 }
 
 /// Like [`end`], for an output in consecutive chunks.
-pub fn end_by_parts<O: Write>(out: &mut O, parts: &[Vec<u8>]) -> Result<(), Fault>
-    ensures { EndsByText (joined parts.now) (O.contents out.old) (O.contents out.new) result }
+pub fn end_by_chunks<O: Write>(out: &mut O, chunks: &[Vec<u8>]) -> Result<(), Fault>
+    ensures { EndsByText (joined chunks.now) (O.contents out.old) (O.contents out.new) result }
 {
-    for part in parts {
-        let Ok(()) = out.write_all(part) else {
+    for chunk in chunks {
+        let Ok(()) = out.write_all(chunk) else {
             return Err(Fault::CannotWrite);
         };
     }

@@ -1,7 +1,7 @@
 //! A report that threads may print, and the text of the queues, which no command prints by itself.
 use crawl_keys::canonical;
 use crawl_pages::{Page, PageResult};
-use crawl_report::{Parts, Report, print_in_parts};
+use crawl_report::{Report, Sections, print_in_chunks};
 use mercator::queue_text;
 use std::alloc::Global;
 use std::thread::Threads;
@@ -26,9 +26,9 @@ fn printed<R: Threads + Sync>(rt: &R, alloc: Global) -> Option<Vec<u8>> {
         pages: pages.as_slice(),
         queues: &[1, 1],
         unreached: &[],
-        parts: Parts::none(),
+        sections: Sections::none(),
     };
-    let chunks = print_in_parts(rt, alloc, &report, false, true).ok()?;
+    let chunks = print_in_chunks(rt, alloc, &report, false, true).ok()?;
     let mut text = Vec::new(alloc);
     for chunk in &chunks {
         text.extend_from_slice(chunk).ok()?;

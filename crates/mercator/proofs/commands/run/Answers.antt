@@ -2,13 +2,13 @@ use Rattle.mercator.proofs.Prelude.{◌≡◌, inl, inr, IfErr, refl, sym, subst
 use Rattle.mercator.proofs.PlanTexts.{no_refusal}
 use Rattle.mercator.proofs.commands.run.Goals as goal
 
-pub returns-in_err-end_by_parts-in-Crawl-clause-fault : goal.returns-in_err-end_by_parts-in-Crawl-clause-fault
-returns-in_err-end_by_parts-in-Crawl-clause-fault g c =
+pub returns-in_err-end_by_chunks-in-Crawl-clause-fault : goal.returns-in_err-end_by_chunks-in-Crawl-clause-fault
+returns-in_err-end_by_chunks-in-Crawl-clause-fault g c =
     let input = g.I.Read.remaining c.args.input.now in
-    let r = c.from_residual-in_err-end_by_parts-in-Crawl in
+    let r = c.from_residual-in_err-end_by_chunks-in-Crawl in
     let same = err_from_is_err_and r.result r.ensures.1 in
-    let text = joined c.in_ok-parts-in-Crawl.parts.items in
-    rw (same.1, same.2) (inr (inl (c.in_err-end_by_parts-in-Crawl.ensures, (text, inl (subst (λ (p : Plan). IsTold p input text) (sym c.in-Crawl.is) c.in_ok-parts-in-Crawl.ensures.text)))))
+    let text = joined c.in_ok-chunks-in-Crawl.chunks.items in
+    rw (same.1, same.2) (inr (inl (c.in_err-end_by_chunks-in-Crawl.ensures, (text, inl (subst (λ (p : Plan). IsTold p input text) (sym c.in-Crawl.is) c.in_ok-chunks-in-Crawl.ensures.text)))))
 
 pub returns-in_err-end-in-Key-clause-fault : goal.returns-in_err-end-in-Key-clause-fault
 returns-in_err-end-in-Key-clause-fault g c =
