@@ -9,6 +9,8 @@ pub record Asks : Type 0 where
   pub report : ReportOptions
   -- the folder that annotations put before the names of files
   pub folder : List ℕ
+  -- the URL of the folder's sources, with which the URLs of locations begin; empty for none
+  pub source_url : List ℕ
   -- the links on the top at which the search starts; if there are none, it starts at the top
   pub seeds : List (List ℕ)
   -- whether only what the search reaches is checked
@@ -27,6 +29,7 @@ abbrev pub asks_in : CheckSettings → Asks
 asks_in s = record {
   report = s.report;
   folder = s.folder.now;
+  source_url = s.source_url.now;
   seeds = map string_bytes s.seeds.now;
   reachable = s.reachable;
   invalid = s.invalid;
@@ -44,6 +47,7 @@ abbrev pub asks_with : CheckOptions → List (List ℕ) → List ℕ → List (L
 asks_with options seeds front entries = record {
   report = options.report;
   folder = string_bytes options.site.folder;
+  source_url = string_bytes options.source_url;
   seeds = seeds;
   reachable = options.reachable;
   invalid = options.invalid;

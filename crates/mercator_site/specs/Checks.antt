@@ -1,7 +1,7 @@
 -- The report of a check of a folder's links.
 use Rattle.std.specs.Prelude.{◌≡◌, ◌==◌, ℕ, Bool, true, false, not, ◌&&◌, List, [], ◌∷◌, ◌++◌, length, map, string_bytes, Ok, Option, Some, None, ⊤, All, option_map}
 use Rattle.std.specs.Str.Lines.{lines}
-use Rattle.check_report.specs.Printing.{printed_text, printed_json, printed_annotations, printed_page}
+use Rattle.check_report.specs.Printing.{printed_text, printed_json, printed_annotations, printed_page, printed_junit, printed_sarif}
 use Rattle.check_report.specs.Text.{is_broken}
 use Rattle.check_report.specs.declared.value.Findings.{Findings}
 use Rattle.check_report.specs.declared.value.Contents.{Contents}
@@ -42,6 +42,8 @@ printed_check (form.Text colour) contents f = printed_text colour contents f
 printed_check form.Json contents f = printed_json contents f
 printed_check form.Annotations contents f = printed_annotations contents f
 printed_check form.Page contents f = printed_page contents f
+printed_check form.Junit contents f = printed_junit contents f
+printed_check form.Sarif contents f = printed_sarif contents f
 
 -- whether a check leaves out the top, which has this page: if all documents are checked, and there is no page
 abbrev pub is_left_out : Bool → Page → Bool
@@ -95,6 +97,7 @@ pub record IsReport (checked : Checked) (others : Option (List Row)) (name : Lis
   pub contents : Contents
   pub lists : contents.lists ≡ asks.report.lists
   pub folder : contents.folder.now ≡ asks.folder
+  pub source_url : contents.source_url.now ≡ asks.source_url
   pub others_listed : other_rows contents ≡ others
   pub written : text ≡ printed_check asks.report.form contents found
 
@@ -128,6 +131,7 @@ pub record IsCheck (top web : List ℕ) (aliases : List Alias) (asks : Asks) (br
   pub contents : Contents
   pub lists : contents.lists ≡ asks.report.lists
   pub folder : contents.folder.now ≡ asks.folder
+  pub source_url : contents.source_url.now ≡ asks.source_url
   pub others : AreOthersListed asks.report.external (host_root site) own (other_rows contents)
   pub written : text ≡ printed_check asks.report.form contents found
 

@@ -56,6 +56,8 @@ pub struct CheckSettings<'a> {
     pub report: ReportOptions,
     /// The folder that annotations put before the names of files; empty for files in memory.
     pub folder: &'a str,
+    /// The URL of the folder's sources, with which the URLs of locations begin in an HTML page and in SARIF; empty for none.
+    pub source_url: &'a str,
 }
 
 /// The report of a check.
@@ -224,7 +226,7 @@ fn report_of(
         lists: options.lists,
         external: slice_of(others),
         folder: settings.folder,
-        source_url: "",
+        source_url: settings.source_url,
     };
     let findings = checked.findings(settings.name);
     let text = print_check(alloc, &findings, contents, options.form)?;

@@ -215,6 +215,7 @@ fn settings_of<'a>(
         rooted: options.paths,
         report: options.report,
         folder: options.site.folder.as_str(),
+        source_url: options.source_url.as_str(),
     }
 }
 

@@ -15,6 +15,10 @@ pub enum CheckForm {
     Annotations,
     /// An HTML page.
     Page,
+    /// JUnit XML.
+    Junit,
+    /// SARIF 2.1.0, as JSON.
+    Sarif,
 }
 
 impl Default for CheckForm {
@@ -67,6 +71,8 @@ pub struct CheckOptions {
     /// Whether links are reported that are no URL, have an unknown scheme or name a local file.
     pub invalid: bool,
     pub report: ReportOptions,
+    /// The URL of the folder's sources, with which the URLs of locations begin in an HTML page and in SARIF; empty for none.
+    pub source_url: String,
     /// The links on the top at which the search starts; if there are none, it starts at the top.
     pub seeds: Vec<String>,
     /// Whether only what the search reaches is checked, and not all documents.

@@ -3,7 +3,10 @@ ghost use Rattle.std.specs.Prelude.{◌≡◌, IfOk};
 ghost use Rattle.mercator_site.specs.Checks.{printed_check};
 
 use crate::options::CheckForm;
-use check_report::{Contents, Findings, print_annotations, print_json, print_page, print_text};
+use check_report::{
+    Contents, Findings, print_annotations, print_json, print_junit, print_page, print_sarif,
+    print_text,
+};
 use std::alloc::{AllocError, Global};
 
 /// Prints the results and the optional lists.
@@ -23,5 +26,7 @@ pub(crate) fn print_check(
         CheckForm::Json => print_json(alloc, findings, contents),
         CheckForm::Annotations => print_annotations(alloc, findings, contents),
         CheckForm::Page => print_page(alloc, findings, contents),
+        CheckForm::Junit => print_junit(alloc, findings, contents),
+        CheckForm::Sarif => print_sarif(alloc, findings, contents),
     }
 }

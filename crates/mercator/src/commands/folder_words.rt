@@ -255,6 +255,7 @@ pub fn check_options(
         anchors: !found.get_flag("no-anchors"),
         invalid: !found.get_flag("no-invalid"),
         report: report_options(found),
+        source_url: String::new(alloc),
         seeds: values_of(alloc, found, "seed")?,
         reachable: found.get_flag("reachable"),
     })

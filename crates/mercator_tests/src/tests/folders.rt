@@ -115,6 +115,7 @@ fn settings(none: &[String]) -> CheckSettings<'_> {
         reachable: false,
         report: ReportOptions::default(),
         folder: "",
+        source_url: "",
     }
 }
 

@@ -84,6 +84,7 @@ returns-clause-named g c = λ web source.
         contents = report.contents;
         lists = report.lists;
         folder = report.folder;
+        source_url = report.source_url;
         others = subst (λ rows. AreOthersListed external (host_root c.args.files.now) pages rows) (sym report.others_listed) c.in_ok-others.ensures;
         written = report.written;
       };
