@@ -1,6 +1,8 @@
 pub mod Ending
 pub mod FaultText
 pub mod Faults
+pub mod Formats
+pub mod Hosts
 pub mod Input
 pub mod KeyLine
 pub mod Limits

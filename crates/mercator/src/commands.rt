@@ -12,6 +12,7 @@ ghost use Rattle.mercator.specs.declared.commands.words.PlanError.{PlanError};
 ghost use Rattle.mercator.specs.declared.commands.fault.Fault.TheVariants as wrong;
 
 mod arguments;
+mod check_words;
 mod command_line;
 mod crawl_text;
 mod fault;

@@ -1,5 +1,6 @@
 //! Kinds of arguments, as `clap` parses them.
 use clap::builder::ValueParser;
+use clap::parser::ValueSource;
 use clap::{Arg, ArgAction, ArgMatches, Command};
 use crawl_limits::WORKER_LIMIT;
 use std::alloc::{AllocError, Global};
@@ -27,6 +28,18 @@ pub fn command_with<'a>(
 /// Appends an argument.
 pub fn push<'a>(args: &mut Vec<Arg<'a>>, arg: Arg<'a>) -> Result<(), AllocError> {
     args.push(arg)?;
+    Ok(())
+}
+
+/// Appends arguments, which the help lists under this heading.
+pub fn push_under<'a>(
+    args: &mut Vec<Arg<'a>>,
+    heading: &'a str,
+    group: Vec<Arg<'a>>,
+) -> Result<(), AllocError> {
+    for arg in group {
+        push(args, arg.help_heading(heading))?;
+    }
     Ok(())
 }
 
@@ -87,6 +100,20 @@ pub fn workers<'a>(alloc: Global, default: &'a str, help: &'a str) -> Arg<'a> {
     option(alloc, "workers", "N", help)
         .value_parser(ValueParser::unsigned(1, WORKER_LIMIT as u64))
         .default_value(default)
+}
+
+/// Whether the command line has the option, so that its value is not the default.
+pub fn is_named(found: &ArgMatches<'_>, name: &str) -> bool {
+    found.value_source(name) == Some(ValueSource::CommandLine)
+}
+
+/// Returns the value of an option, unless it is the default.
+pub fn given<'a>(found: &ArgMatches<'a>, option: &str) -> Option<&'a str> {
+    if is_named(found, option) {
+        found.get_str(option)
+    } else {
+        None
+    }
 }
 
 /// Returns the value of an option, if it was given.

@@ -2,7 +2,8 @@
 use crate::commands::arguments::{
     Flag, Valued, command_with, flag_of, option, push, push_flags, push_options, word, workers,
 };
-use crate::commands::folder_words::{check_command, site_command};
+use crate::commands::check_words::check_command;
+use crate::commands::folder_words::site_command;
 use crate::commands::report_words::SECTION_FLAGS;
 use clap::builder::ValueParser;
 use clap::{Arg, ArgAction, Command};

@@ -6,14 +6,14 @@ ghost use Rattle.session_log.specs.Plans.{IsPartOf, IsSessionPlan, all_queues};
 ghost use Rattle.mercator.specs.Plans.{IsShown, IsVisible, IsWithinLimits, lists_input};
 ghost use Rattle.mercator.specs.declared.commands.words.PlanError.TheVariants as wrong;
 
-use crate::commands::arguments::{value_of, values_of};
+use crate::commands::arguments::{is_named, value_of, values_of};
+use crate::commands::check_words::{check_options, form_of, has_links};
 use crate::commands::command_line::{self, command_line};
-use crate::commands::folder_words::{check_options, site_options};
+use crate::commands::folder_words::site_options;
 use crate::commands::planned::{CrawlOptions, Plan};
 use crate::commands::report_words::sections_of;
 use clap::ArgMatches;
 use clap::error::ErrorKind;
-use clap::parser::ValueSource;
 use crawl_core::QUEUE_LIMIT;
 use crawl_limits::{PENDING_LIMIT, WORKER_LIMIT};
 use crawl_replay::number32;
@@ -135,6 +135,18 @@ error: FILE and '--seeds <LIST>' cannot both be '-'
 For more information, try '--help'.
 ";
 
+const TWO_FORMATS: &str = "\
+error: '--format <FORMAT>' cannot be used with the short form of another format
+
+For more information, try '--help'.
+";
+
+const NO_LINKS: &str = "\
+error: '--source-url <URL>' requires the format html or sarif
+
+For more information, try '--help'.
+";
+
 const BAD_PART: &str = "\
 error: '--part <I/K>' requires that I is less than K, and at most 1048576 workers in all parts together
 
@@ -185,7 +197,7 @@ fn crawl_of(alloc: Global, found: &ArgMatches<'_>) -> Result<Plan, PlanError>
         return Err(misread(alloc));
     }
     if file == "-" && is_input(&listed) {
-        return Err(two_inputs(alloc)?);
+        return Err(bad_words(alloc, TWO_INPUTS)?);
     }
     Ok(Plan::Crawl {
         workers,
@@ -272,11 +284,6 @@ fn named_settings(found: &ArgMatches<'_>) -> NamedSettings {
     }
 }
 
-/// Whether the command line has the option, so that its value is not the default.
-fn is_named(found: &ArgMatches<'_>, name: &str) -> bool {
-    found.value_source(name) == Some(ValueSource::CommandLine)
-}
-
 /// Returns the plan of `serve --list` for this log.
 fn list_of(
     alloc: Global,
@@ -328,8 +335,14 @@ fn check_of(alloc: Global, found: &ArgMatches<'_>) -> Result<Plan, PlanError>
     let Some(workers) = workers_of(found) else {
         return Err(misread(alloc));
     };
+    let Some(form) = form_of(found) else {
+        return Err(bad_words(alloc, TWO_FORMATS)?);
+    };
+    if found.get_str("source-url").is_some() && !has_links(form) {
+        return Err(bad_words(alloc, NO_LINKS)?);
+    }
     Ok(Plan::Check {
-        options: check_options(alloc, found, workers)?,
+        options: check_options(alloc, found, workers, form)?,
         ignores: value_of(alloc, found, "ignore")?,
     })
 }
@@ -367,7 +380,7 @@ fn part_of(
     };
     match part_in(text, workers) {
         Some(part) => Ok(Some(part)),
-        None => Err(bad_part(alloc)?),
+        None => Err(bad_words(alloc, BAD_PART)?),
     }
 }
 
@@ -423,22 +436,12 @@ fn is_input(listed: &Option<String>) -> bool
     }
 }
 
-/// The error for a crawl that would read both of its files from the input.
-fn two_inputs(alloc: Global) -> Result<PlanError, AllocError>
+/// The error for arguments that `clap` accepts, with this text.
+fn bad_words(alloc: Global, text: &str) -> Result<PlanError, AllocError>
     ensures { IfOk result IsShown }
 {
     Ok(PlanError::Shown {
-        text: visible(alloc, TWO_INPUTS)?,
-        status: PlanError::BAD_COMMAND_LINE,
-    })
-}
-
-/// The error for a part that does not exist, or for too many workers in all parts.
-fn bad_part(alloc: Global) -> Result<PlanError, AllocError>
-    ensures { IfOk result IsShown }
-{
-    Ok(PlanError::Shown {
-        text: visible(alloc, BAD_PART)?,
+        text: visible(alloc, text)?,
         status: PlanError::BAD_COMMAND_LINE,
     })
 }

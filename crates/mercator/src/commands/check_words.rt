@@ -1,0 +1,261 @@
+//! The command `check`, as `clap` parses it, and what its options ask for.
+ghost use Rattle.std.specs.Prelude.{◌≡◌, IfOk, option_map};
+ghost use Rattle.mercator.specs.Formats.{form_named, format_of, has_links};
+
+use crate::commands::arguments::{
+    Flag, Valued, command_with, given, option, push, push_flags, push_options, push_under,
+    values_of, workers,
+};
+use crate::commands::folder_words::{FILES, base, folder, folder_options, site_options, styles};
+use clap::builder::ValueParser;
+use clap::{Arg, ArgAction, ArgGroup, ArgMatches, Command};
+use mercator_site::{CheckForm, CheckOptions, Lists, ReportOptions};
+use std::alloc::{AllocError, Global};
+
+/// The URL of the top if no BASE is given. No site has this host, so no absolute URL leads there. The top is below many folders, so that
+/// a link above it also has a URL.
+const LOCAL: &str =
+    "http://folder.invalid/-/-/-/-/-/-/-/-/-/-/-/-/-/-/-/-/-/-/-/-/-/-/-/-/-/-/-/-/-/-/-/-/";
+
+const CHECK_HELP: &str = "\
+Reports links to pages or anchors that do not exist, and invalid links, with the file, line and
+column of each. The exit status is 4 if anything is reported as broken or invalid.
+Example: mercator check examples/site";
+
+/// `check`: finds the broken links of a folder.
+pub fn check_command<'a>(alloc: Global) -> Result<Command<'a>, AllocError> {
+    let mut args = Vec::new(alloc);
+    push_check_args(alloc, &mut args)?;
+    let about = "Find broken links in a folder of HTML pages";
+    let command = command_with(alloc, "check", about, CHECK_HELP, args)?;
+    let forms = short_forms(alloc)?;
+    command.group(forms)
+}
+
+/// The short forms of `--format`, of which at most one may be given.
+fn short_forms<'a>(alloc: Global) -> Result<ArgGroup<'a>, AllocError> {
+    ArgGroup::new(alloc, "form")
+        .arg("json")?
+        .arg("html")?
+        .arg("annotations")
+}
+
+/// Appends the options and arguments of `check`, for which BASE is optional.
+fn push_check_args<'a>(alloc: Global, args: &mut Vec<Arg<'a>>) -> Result<(), AllocError> {
+    let help = "Number of workers, 1 to 512";
+    push(args, workers(alloc, "1", help))?;
+    push_under(args, "Report", report_args(alloc)?)?;
+    push_under(args, "What is checked", scope_args(alloc)?)?;
+    push_under(args, FILES, folder_options(alloc)?)?;
+    push(args, folder(alloc, "Folder to check"))?;
+    let help =
+        "URL of the folder, http or https; without it / is the folder, and the report shows paths";
+    push(args, base(alloc, help))
+}
+
+/// The options for the format of a report, and for what it lists.
+fn report_args<'a>(alloc: Global) -> Result<Vec<Arg<'a>>, AllocError> {
+    let mut args = Vec::new(alloc);
+    push(&mut args, format(alloc))?;
+    push_flags(alloc, &mut args, REPORT_FLAGS)?;
+    push_options(alloc, &mut args, REPORT_OPTIONS)?;
+    Ok(args)
+}
+
+/// The options for which documents and links are checked.
+fn scope_args<'a>(alloc: Global) -> Result<Vec<Arg<'a>>, AllocError> {
+    let mut args = Vec::new(alloc);
+    push_options(alloc, &mut args, IGNORE_OPTIONS)?;
+    push(&mut args, seed(alloc))?;
+    push_flags(alloc, &mut args, SCOPE_FLAGS)?;
+    push(&mut args, styles(alloc))?;
+    Ok(args)
+}
+
+/// The names of the formats of a report.
+const FORMATS: &[&str] = &["text", "json", "html", "github", "junit", "sarif"];
+
+/// The option `--format`.
+fn format<'a>(alloc: Global) -> Arg<'a> {
+    option(
+        alloc,
+        "format",
+        "FORMAT",
+        "Print the report as text, json, html, github, junit or sarif",
+    )
+    .value_parser(ValueParser::Names(FORMATS))
+    .hide_possible_values(true)
+    .default_value("text")
+}
+
+/// The short forms of `--format`, and what a report lists.
+const REPORT_FLAGS: &[Flag] = &[
+    Flag {
+        name: "json",
+        help: "Print one JSON object per line (--format json)",
+    },
+    Flag {
+        name: "html",
+        help: "Print an HTML page (--format html)",
+    },
+    Flag {
+        name: "annotations",
+        help: "Print GitHub annotations (--format github)",
+    },
+    Flag {
+        name: "by-target",
+        help: "List broken links by target, not by file",
+    },
+    Flag {
+        name: "all-sources",
+        help: "List every location of a broken link, not only the first three",
+    },
+    Flag {
+        name: "unreached",
+        help: "Also list the files that cannot be reached by following links",
+    },
+    Flag {
+        name: "external",
+        help: "Also list links to other sites, which are not checked",
+    },
+];
+
+/// The URL of the sources.
+const REPORT_OPTIONS: &[Valued] = &[Valued {
+    name: "source-url",
+    value: "URL",
+    help: "With html or sarif, link each location to the source file below URL",
+}];
+
+/// The list of targets to ignore.
+const IGNORE_OPTIONS: &[Valued] = &[Valued {
+    name: "ignore",
+    value: "LIST",
+    help: "Ignore each target that begins with a line of the file LIST, or that a line with * matches",
+}];
+
+/// Which documents and links are checked.
+const SCOPE_FLAGS: &[Flag] = &[
+    Flag {
+        name: "reachable",
+        help: "Check only what can be reached by following links, not every document",
+    },
+    Flag {
+        name: "no-anchors",
+        help: "Do not check anchors, such as page.html#use",
+    },
+    Flag {
+        name: "no-invalid",
+        help: "Do not report links that are no URL, have an unknown scheme or name a local file",
+    },
+];
+
+/// The option `--seed`, which may be repeated. Its value is not empty.
+fn seed<'a>(alloc: Global) -> Arg<'a> {
+    option(
+        alloc,
+        "seed",
+        "LINK",
+        "Follow links from LINK instead of the top of the folder; repeatable",
+    )
+    .value_parser(ValueParser::NonEmptyString)
+    .action(ArgAction::Append)
+}
+
+/// The settings of a check by this number of workers, whose report has this form.
+pub fn check_options(
+    alloc: Global,
+    found: &ArgMatches<'_>,
+    workers: u32,
+    form: CheckForm,
+) -> Result<CheckOptions, AllocError>
+    ensures workers { IfOk result (λ options. options.workers ≡ workers) }
+    ensures form { IfOk result (λ options. options.report.form ≡ form) }
+{
+    let base = found.get_str("base");
+    Ok(CheckOptions {
+        site: site_options(alloc, found, base.unwrap_or(LOCAL))?,
+        paths: base.is_none(),
+        workers,
+        anchors: !found.get_flag("no-anchors"),
+        invalid: !found.get_flag("no-invalid"),
+        report: ReportOptions {
+            form,
+            lists: lists_of(found),
+            external: found.get_flag("external"),
+        },
+        source_url: String::from_str(alloc, found.get_str("source-url").unwrap_or(""))?,
+        seeds: values_of(alloc, found, "seed")?,
+        reachable: found.get_flag("reachable"),
+    })
+}
+
+/// What the report lists.
+fn lists_of(found: &ArgMatches<'_>) -> Lists {
+    Lists {
+        all: found.get_flag("all-sources"),
+        unreached: found.get_flag("unreached"),
+        by_target: found.get_flag("by-target"),
+    }
+}
+
+/// The form of the report, or `None` if the command line has two different ones. A report as text has no colour here.
+pub fn form_of(found: &ArgMatches<'_>) -> Option<CheckForm> {
+    form_named(format_of(given(found, "format"), short_form(found))?)
+}
+
+/// The format of the short form on the command line.
+fn short_form(found: &ArgMatches<'_>) -> Option<&'static str> {
+    if found.get_flag("json") {
+        Some("json")
+    } else if found.get_flag("html") {
+        Some("html")
+    } else if found.get_flag("annotations") {
+        Some("github")
+    } else {
+        None
+    }
+}
+
+/// The format of the report, for the value of `--format` and the format of a short form, or `None` if the two differ.
+fn format_of<'a>(named: Option<&'a str>, short: Option<&'a str>) -> Option<&'a str>
+    ensures { option_map (λ format. format.now) result ≡ format_of (option_map (λ name. name.now) named) (option_map (λ name. name.now) short) }
+{
+    match (named, short) {
+        (None, None) => Some("text"),
+        (Some(name), None) => Some(name),
+        (None, Some(name)) => Some(name),
+        (Some(name), Some(other)) => if name == other { Some(name) } else { None },
+    }
+}
+
+/// The form of a report with this format.
+fn form_named(format: &str) -> Option<CheckForm>
+    ensures { result ≡ form_named format.now }
+{
+    if format == "text" {
+        Some(CheckForm::Text { colour: false })
+    } else if format == "json" {
+        Some(CheckForm::Json)
+    } else if format == "html" {
+        Some(CheckForm::Page)
+    } else if format == "github" {
+        Some(CheckForm::Annotations)
+    } else if format == "junit" {
+        Some(CheckForm::Junit)
+    } else if format == "sarif" {
+        Some(CheckForm::Sarif)
+    } else {
+        None
+    }
+}
+
+/// Whether a report of this form links locations to the source files.
+pub fn has_links(form: CheckForm) -> bool
+    ensures { result ≡ has_links form }
+{
+    match form {
+        CheckForm::Page | CheckForm::Sarif => true,
+        _ => false,
+    }
+}
