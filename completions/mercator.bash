@@ -1,8 +1,13 @@
 # Completions of mercator for bash. Commands and options come from `mercator --help`.
 
-# _mercator_told SECTION [COMMAND]: prints the lines of this section of the help.
-_mercator_told() {
-    "${COMP_WORDS[0]}" "${@:2}" --help 2> /dev/null | sed -n "/^$1:\$/,/^\$/p"
+# _mercator_commands: prints the lines of the help about commands.
+_mercator_commands() {
+    "${COMP_WORDS[0]}" --help 2> /dev/null | sed -n '/^Commands:$/,/^$/p'
+}
+
+# _mercator_options COMMAND: prints the lines of the help about options, which have several headings.
+_mercator_options() {
+    "${COMP_WORDS[0]}" "$1" --help 2> /dev/null | grep -E '^ +(-h, )?--'
 }
 
 _mercator() {
@@ -10,12 +15,12 @@ _mercator() {
     local commands options names value=
     COMPREPLY=()
     if [ "$COMP_CWORD" -eq 1 ] || [ "$command" = help ]; then
-        commands=$(_mercator_told Commands | sed -n 's/^  \([a-z]*\) .*/\1/p')
+        commands=$(_mercator_commands | sed -n 's/^  \([a-z]*\) .*/\1/p')
         [ "$command" = help ] && [ "$COMP_CWORD" -gt 1 ] || commands+=" --help --version"
         mapfile -t COMPREPLY < <(compgen -W "$commands" -- "$word")
         return
     fi
-    options=$(_mercator_told Options "$command")
+    options=$(_mercator_options "$command")
     if [[ $before =~ ^--[a-z-]+$ ]]; then
         value=$(sed -n "s/^ *$before <\(.*\)> .*/\1/p" <<< "$options")
     fi

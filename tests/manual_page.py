@@ -45,6 +45,7 @@ SECONDS = float(os.environ.get("SECONDS", "30"))
 FILES = ("FILE", "LIST", "NEW")
 HELP_COMMAND = re.compile(r"^  (\w+) +(.*)$", re.M)
 HELP_LINE = re.compile(r" +(?:-\w, | {4})--([a-z-]+)(?: <([A-Z/]+)>)? {2,}(.*)")
+HELP_OPTION = re.compile(r" +(?:-\w, )?--")
 HELP_DEFAULT = re.compile(r"^(.*?) \[default: (.*)\]$")
 MACRO_PART = re.compile(r'(?:"[^"]*"|[^\s"])+')
 PAGE_OPTION = re.compile(r"--([a-z-]+)(?: ([A-Z/]+))?$")
@@ -85,19 +86,25 @@ def help_of(program: str, *arguments: str) -> str:
     return done.stdout
 
 
-def section_of(text: str, title: str) -> str:
-    found = re.search(rf"^{title}:\n((?: .*\n)*)", text, re.M)
-    return found[1] if found else ""
+def sections_of(text: str) -> Dict[str, str]:
+    """The lines below each title, by title."""
+    return dict(re.findall(r"^(.*):\n((?: .*\n)+)", text, re.M))
 
 
 def commands_of(program: str) -> Dict[str, str]:
     """The description of each command in the list of commands, in the order of that list."""
-    return dict(HELP_COMMAND.findall(section_of(help_of(program), "Commands")))
+    return dict(HELP_COMMAND.findall(sections_of(help_of(program))["Commands"]))
+
+
+def option_lines(text: str) -> List[str]:
+    """The lines of the sections of options."""
+    sections = [lines for lines in sections_of(text).values() if HELP_OPTION.match(lines)]
+    return [line for lines in sections for line in lines.splitlines()]
 
 
 def described_by_help(text: str) -> Described:
     options = []
-    for line in section_of(text, "Options").splitlines():
+    for line in option_lines(text):
         found = HELP_LINE.fullmatch(line)
         if not found:
             raise ValueError(f"the help has the line {line!r}")

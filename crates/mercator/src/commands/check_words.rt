@@ -131,7 +131,7 @@ const REPORT_OPTIONS: &[Valued] = &[Valued {
 const IGNORE_OPTIONS: &[Valued] = &[Valued {
     name: "ignore",
     value: "LIST",
-    help: "Ignore each target that begins with a line of the file LIST, or that a line with * matches",
+    help: "Ignore each target that begins with a line of the file LIST, or matches a pattern in it",
 }];
 
 /// Which documents and links are checked.
