@@ -2,6 +2,7 @@ pub mod Ending
 pub mod FaultText
 pub mod Faults
 pub mod Formats
+pub mod Given
 pub mod Hosts
 pub mod Input
 pub mod KeyLine

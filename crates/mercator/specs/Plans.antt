@@ -13,8 +13,8 @@ use Rattle.mercator.specs.declared.commands.planned.CrawlOptions.{CrawlOptions}
 use Rattle.mercator.specs.declared.commands.planned.CrawlPlan.{CrawlPlan as Fields}
 use Rattle.mercator.specs.declared.commands.planned.Plan.{Plan}
 use Rattle.mercator.specs.declared.commands.planned.Plan.TheVariants as asks
-use Rattle.mercator.specs.declared.commands.words.PlanError.{PlanError}
-use Rattle.mercator.specs.declared.commands.words.PlanError.TheVariants as wrong
+use Rattle.mercator.specs.declared.commands.plan_error.PlanError.{PlanError}
+use Rattle.mercator.specs.declared.commands.plan_error.PlanError.TheVariants as wrong
 
 -- the FILE is the standard input
 abbrev pub is_input : List ℕ → Bool

@@ -30,8 +30,8 @@ use Rattle.session_log.specs.declared.plan.SessionPlan.{SessionPlan}
 use Rattle.mercator.specs.WebCrawl.{CrawlPlan, IsBegun, IsCrawlText, IsUnbegun}
 use Rattle.mercator.specs.declared.commands.planned.Plan.{Plan}
 use Rattle.mercator.specs.declared.commands.planned.Plan.TheVariants as asks
-use Rattle.mercator.specs.declared.commands.words.PlanError.{PlanError}
-use Rattle.mercator.specs.declared.commands.words.PlanError.TheVariants as unplanned
+use Rattle.mercator.specs.declared.commands.plan_error.PlanError.{PlanError}
+use Rattle.mercator.specs.declared.commands.plan_error.PlanError.TheVariants as unplanned
 use Rattle.mercator.specs.declared.commands.fault.Fault.{Fault}
 use Rattle.mercator.specs.declared.commands.fault.Fault.TheVariants as wrong
 

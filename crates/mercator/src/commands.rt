@@ -8,18 +8,21 @@ ghost use Rattle.crawl_replay.specs.Replay.{IsReplay};
 ghost use Rattle.mercator.specs.Plans.{IsShown, IsWithinLimits, has_notices, is_input, known_bytes, reads_input};
 ghost use Rattle.mercator.specs.Told.{CannotTell, EndsBy, EndsByFault, FailsReplay, FailsWithoutPlan, Gains, GainsAs, GainsBroken, HasLog, IsDoneWithNote, MayLose, MayNote, OfFile, TellsInUse, TellsWords};
 ghost use Rattle.mercator.specs.declared.commands.planned.Plan.{Plan};
-ghost use Rattle.mercator.specs.declared.commands.words.PlanError.{PlanError};
+ghost use Rattle.mercator.specs.declared.commands.plan_error.PlanError.{PlanError};
 ghost use Rattle.mercator.specs.declared.commands.fault.Fault.TheVariants as wrong;
 
 mod arguments;
 mod check_words;
 mod command_line;
+mod config;
 mod crawl_text;
 mod fault;
 mod fault_text;
 mod folder;
 mod folder_words;
+mod given;
 mod input;
+mod plan_error;
 mod planned;
 mod platform;
 mod report_words;
@@ -36,6 +39,7 @@ use crawl_run::Observe;
 pub use fault::Fault;
 use folder::{run_check, run_site};
 pub use input::{InputLimits, Unread, read_input};
+pub use plan_error::PlanError;
 use planned::CrawlPlan;
 pub use planned::Plan;
 pub use platform::Platform;
@@ -49,7 +53,8 @@ use std::sync::Wait;
 use std::thread::Threads;
 use web_crawl::report_of_plan;
 pub use web_report::{Report, report_of_saved_web};
-pub use words::{PlanError, plan};
+pub use words::plan;
+use words::plan_with_config;
 pub use writing::fault_line;
 use writing::{begin, end, end_by_chunks, tell_ended, tell_fault};
 
@@ -59,8 +64,8 @@ const BROKEN: u8 = 4;
 /// Runs the program on the arguments after its name, and returns its exit status: 0 success, 1 an error, 2 an incomplete crawl,
 /// 3 a bad command line, 4 a check that found something broken, 5 a log that another program uses.
 ///
-/// [`plan`] parses the arguments, and [`run_plan`] runs what they ask for. Help is written to `out`, and an error in the
-/// arguments to `err`. Like [`run_plan`], this call is meant for a process that ends afterwards.
+/// [`plan`] parses the arguments, and [`run_plan`] runs what they ask for. A check also has the options of its configuration file. Help
+/// is written to `out`, and an error in the arguments or in that file to `err`. Like [`run_plan`], this call is meant for a process that ends afterwards.
 ///
 /// The program `mercator` is this call on the platform of the process:
 ///
@@ -116,7 +121,7 @@ pub fn run_words<
     ensures bad_command { result ≡ 3 → (input.new ≡ input.old) × (out.new ≡ out.old) }
     ensures bad_words { result ≡ 3 → (error : PlanError) × TellsWords error (E.contents err.old) (E.contents err.new) }
 {
-    match plan(alloc, words) {
+    match plan_with_config(platform.rt, alloc, words) {
         Ok(plan) => {
             let plan = plan.with_colour(platform.has_colour);
             run_plan(platform, alloc, &plan, input, out, err)

@@ -3,10 +3,11 @@ ghost use Rattle.std.specs.Prelude.{◌≡◌, IfOk, option_map};
 ghost use Rattle.mercator.specs.Formats.{form_named, format_of, has_links};
 
 use crate::commands::arguments::{
-    Flag, Valued, command_with, given, option, push, push_flags, push_options, push_under,
-    values_of, workers,
+    Flag, Valued, command_with, flag_of, option, push, push_flags, push_options, push_under,
+    workers,
 };
 use crate::commands::folder_words::{FILES, base, folder, folder_options, site_options, styles};
+use crate::commands::given::Given;
 use clap::builder::ValueParser;
 use clap::{Arg, ArgAction, ArgGroup, ArgMatches, Command};
 use mercator_site::{CheckForm, CheckOptions, Lists, ReportOptions};
@@ -44,6 +45,8 @@ fn short_forms<'a>(alloc: Global) -> Result<ArgGroup<'a>, AllocError> {
 fn push_check_args<'a>(alloc: Global, args: &mut Vec<Arg<'a>>) -> Result<(), AllocError> {
     let help = "Number of workers, 1 to 512";
     push(args, workers(alloc, "1", help))?;
+    push(args, config(alloc))?;
+    push(args, no_config(alloc)?)?;
     push_under(args, "Report", report_args(alloc)?)?;
     push_under(args, "What is checked", scope_args(alloc)?)?;
     push_under(args, FILES, folder_options(alloc)?)?;
@@ -51,6 +54,22 @@ fn push_check_args<'a>(alloc: Global, args: &mut Vec<Arg<'a>>) -> Result<(), All
     let help =
         "URL of the folder, http or https; without it / is the folder, and the report shows paths";
     push(args, base(alloc, help))
+}
+
+/// The option for the name of the configuration file.
+fn config<'a>(alloc: Global) -> Arg<'a> {
+    option(
+        alloc,
+        "config",
+        "FILE",
+        "Read options from FILE, not from .mercator.toml",
+    )
+    .value_parser(ValueParser::NonEmptyString)
+}
+
+/// The option to read no configuration file.
+fn no_config<'a>(alloc: Global) -> Result<Arg<'a>, AllocError> {
+    flag_of(alloc, "no-config", "Do not read .mercator.toml").conflicts_with("config")
 }
 
 /// The options for the format of a report, and for what it lists.
@@ -73,7 +92,7 @@ fn scope_args<'a>(alloc: Global) -> Result<Vec<Arg<'a>>, AllocError> {
 }
 
 /// The names of the formats of a report.
-const FORMATS: &[&str] = &["text", "json", "html", "github", "junit", "sarif"];
+pub const FORMATS: &[&str] = &["text", "json", "html", "github", "junit", "sarif"];
 
 /// The option `--format`.
 fn format<'a>(alloc: Global) -> Arg<'a> {
@@ -165,43 +184,43 @@ fn seed<'a>(alloc: Global) -> Arg<'a> {
 /// The settings of a check by this number of workers, whose report has this form.
 pub fn check_options(
     alloc: Global,
-    found: &ArgMatches<'_>,
+    given: &Given<'_, '_>,
     workers: u32,
     form: CheckForm,
 ) -> Result<CheckOptions, AllocError>
     ensures workers { IfOk result (λ options. options.workers ≡ workers) }
     ensures form { IfOk result (λ options. options.report.form ≡ form) }
 {
-    let base = found.get_str("base");
+    let base = given.text("base");
     Ok(CheckOptions {
-        site: site_options(alloc, found, base.unwrap_or(LOCAL))?,
+        site: site_options(alloc, *given, base.unwrap_or(LOCAL))?,
         paths: base.is_none(),
         workers,
-        anchors: !found.get_flag("no-anchors"),
-        invalid: !found.get_flag("no-invalid"),
+        anchors: !given.flag("no-anchors"),
+        invalid: !given.flag("no-invalid"),
         report: ReportOptions {
             form,
-            lists: lists_of(found),
-            external: found.get_flag("external"),
+            lists: lists_of(given),
+            external: given.flag("external"),
         },
-        source_url: String::from_str(alloc, found.get_str("source-url").unwrap_or(""))?,
-        seeds: values_of(alloc, found, "seed")?,
-        reachable: found.get_flag("reachable"),
+        source_url: String::from_str(alloc, given.text("source-url").unwrap_or(""))?,
+        seeds: given.strings(alloc, "seed")?,
+        reachable: given.flag("reachable"),
     })
 }
 
 /// What the report lists.
-fn lists_of(found: &ArgMatches<'_>) -> Lists {
+fn lists_of(given: &Given<'_, '_>) -> Lists {
     Lists {
-        all: found.get_flag("all-sources"),
-        unreached: found.get_flag("unreached"),
-        by_target: found.get_flag("by-target"),
+        all: given.flag("all-sources"),
+        unreached: given.flag("unreached"),
+        by_target: given.flag("by-target"),
     }
 }
 
-/// The form of the report, or `None` if the command line has two different ones. A report as text has no colour here.
-pub fn form_of(found: &ArgMatches<'_>) -> Option<CheckForm> {
-    form_named(format_of(given(found, "format"), short_form(found))?)
+/// The form of the report, or `None` if two different ones are given. A report as text has no colour here.
+pub fn form_of(given: &Given<'_, '_>) -> Option<CheckForm> {
+    form_named(format_of(given.text("format"), short_form(given.line))?)
 }
 
 /// The format of the short form on the command line.

@@ -4,10 +4,11 @@ ghost use Rattle.std.specs.Option.{option_map_or};
 ghost use Rattle.mercator.specs.Hosts.{adds_html, is_exact};
 
 use crate::commands::arguments::{
-    Flag, command_with, flag_of, option, push, push_flags, push_under, value_of, values_of, word,
+    Flag, command_with, flag_of, option, push, push_flags, push_under, word,
 };
+use crate::commands::given::Given;
 use clap::builder::ValueParser;
-use clap::{Arg, ArgAction, ArgMatches, Command};
+use clap::{Arg, ArgAction, Command};
 use mercator_site::SiteOptions;
 use std::alloc::{AllocError, Global};
 
@@ -49,7 +50,7 @@ pub fn folder_options<'a>(alloc: Global) -> Result<Vec<Arg<'a>>, AllocError> {
 }
 
 /// The names of hosts.
-const HOSTS: &[&str] = &["nginx", "github", "netlify", "plain"];
+pub const HOSTS: &[&str] = &["nginx", "github", "netlify", "plain"];
 
 /// The option for the rules of a host, which the options for single rules would change.
 fn host<'a>(alloc: Global) -> Result<Arg<'a>, AllocError> {
@@ -79,7 +80,7 @@ fn index_file<'a>(alloc: Global) -> Arg<'a> {
 }
 
 /// The suffixes that can be added to a path without a page.
-const SUFFIXES: &[&str] = &["html"];
+pub const SUFFIXES: &[&str] = &["html"];
 
 /// The option to look up a path again.
 fn fallback<'a>(alloc: Global) -> Result<Arg<'a>, AllocError> {
@@ -109,7 +110,7 @@ const FOLDER_FLAGS: &[Flag] = &[
     },
 ];
 
-/// The option for a site list. It requires BASE, and has the exact URL of each file.
+/// The option for a site list. It has the exact URL of each file.
 fn index<'a>(alloc: Global) -> Result<Arg<'a>, AllocError> {
     let index = option(
         alloc,
@@ -119,7 +120,6 @@ fn index<'a>(alloc: Global) -> Result<Arg<'a>, AllocError> {
     );
     index
         .value_parser(ValueParser::NonEmptyString)
-        .requires_arg("base")?
         .conflicts_with("index-file")?
         .conflicts_with("fallback")?
         .conflicts_with("exact")?
@@ -151,31 +151,31 @@ pub fn base<'a>(alloc: Global, help: &'a str) -> Arg<'a> {
 /// The settings of `site`, or those of a check that are the same, with this BASE.
 pub fn site_options(
     alloc: Global,
-    found: &ArgMatches<'_>,
+    given: Given<'_, '_>,
     base: &str,
 ) -> Result<SiteOptions, AllocError> {
-    let host = found.get_str("host");
+    let host = given.text("host");
     Ok(SiteOptions {
-        folder: String::from_str(alloc, found.get_str("folder").unwrap_or("."))?,
+        folder: String::from_str(alloc, given.line.get_str("folder").unwrap_or("."))?,
         base: String::from_str(alloc, base)?,
-        index: value_of(alloc, found, "index")?,
-        index_files: index_files(alloc, found, host)?,
-        html_fallback: found.get_str("fallback").is_some() || adds_html(host),
-        exact: found.get_flag("exact") || is_exact(host),
-        queries: found.get_flag("queries"),
-        follow: found.get_flag("follow"),
-        styles: !found.get_flag("no-styles"),
+        index: given.string(alloc, "index")?,
+        index_files: index_files(alloc, given, host)?,
+        html_fallback: given.text("fallback").is_some() || adds_html(host),
+        exact: given.flag("exact") || is_exact(host),
+        queries: given.flag("queries"),
+        follow: given.flag("follow"),
+        styles: !given.flag("no-styles"),
     })
 }
 
-/// The names of index files: `index.html` for a host, otherwise those on the command line.
+/// The names of index files: `index.html` for a host, otherwise those that are given.
 fn index_files(
     alloc: Global,
-    found: &ArgMatches<'_>,
+    given: Given<'_, '_>,
     host: Option<&str>,
 ) -> Result<Vec<String>, AllocError> {
     if host.is_none() {
-        return values_of(alloc, found, "index-file");
+        return given.strings(alloc, "index-file");
     }
     let mut names = Vec::new(alloc);
     names.push(String::from_str(alloc, "index.html")?)?;

@@ -4,12 +4,14 @@ ghost use Rattle.crawl_core.specs.Limits.{queue_limit};
 ghost use Rattle.crawl_limits.specs.Limits.{worker_limit, pending_limit};
 ghost use Rattle.session_log.specs.Plans.{IsPartOf, IsSessionPlan, all_queues};
 ghost use Rattle.mercator.specs.Plans.{IsShown, IsVisible, IsWithinLimits, lists_input};
-ghost use Rattle.mercator.specs.declared.commands.words.PlanError.TheVariants as wrong;
 
 use crate::commands::arguments::{is_named, value_of, values_of};
 use crate::commands::check_words::{check_options, form_of, has_links};
 use crate::commands::command_line::{self, command_line};
+use crate::commands::config::config_of;
 use crate::commands::folder_words::site_options;
+use crate::commands::given::Given;
+use crate::commands::plan_error::{PlanError, bad_words, visible};
 use crate::commands::planned::{CrawlOptions, Plan};
 use crate::commands::report_words::sections_of;
 use clap::ArgMatches;
@@ -18,48 +20,13 @@ use crawl_core::QUEUE_LIMIT;
 use crawl_limits::{PENDING_LIMIT, WORKER_LIMIT};
 use crawl_replay::number32;
 use crawl_session::ListForm;
+use mercator_site::CheckForm;
+use option_file::OptionFile;
 use session_log::{CompactPlan, ListKind, ListPlan, LogPlan, NamedSettings, SessionPlan};
-use shown_text::laws::shown_text_has_no_hidden_character;
-use shown_text::shown_lines;
-use std::alloc::{AllocError, AllocFailed, Global};
+use std::alloc::{AllocError, Global};
+use std::fs::Files;
 
-/// Why arguments are not a plan.
-#[derive(Drop)]
-pub enum PlanError {
-    /// A text to show instead of running a command: help, with status 0, or an error in the arguments, with status 3.
-    Shown {
-        /// The text, whose last line ends in LF. Its other hidden characters are escaped. It is empty if the arguments were parsed
-        /// otherwise than they were checked.
-        text: String,
-        /// The exit status of the program.
-        status: u8,
-    },
-    /// Out of memory. If `clap` runs out of memory, that may also be `Shown`.
-    NoMemory,
-}
-
-impl PlanError {
-    /// The exit status of a bad command line.
-    pub const BAD_COMMAND_LINE: u8 = 3;
-}
-
-impl From<AllocError> for PlanError {
-    ghost from_gives = { λ _ error. error ≡ wrong.NoMemory };
-
-    fn from(_refused: AllocError) -> PlanError {
-        PlanError::NoMemory
-    }
-}
-
-impl<T: Drop> From<AllocFailed<T>> for PlanError {
-    ghost from_gives = { λ _ error. error ≡ wrong.NoMemory };
-
-    fn from(_refused: AllocFailed<T>) -> PlanError {
-        PlanError::NoMemory
-    }
-}
-
-/// Parses the arguments after the program's name.
+/// Parses the arguments after the program's name, without a configuration file.
 ///
 /// # Errors
 /// `Shown` if they ask for help or are not a command line. `NoMemory`.
@@ -82,6 +49,39 @@ pub fn plan(alloc: Global, words: &[String]) -> Result<Plan, PlanError>
     match command_line(alloc)?.try_get_matches_from(named.as_slice()) {
         Ok(matches) => plan_of(alloc, &matches),
         Err(error) => Err(shown(alloc, &error)),
+    }
+}
+
+/// Parses the arguments after the program's name. A check also has the options of its configuration file.
+///
+/// # Errors
+/// `Shown` if they ask for help or are not a command line, or if the configuration file is not valid. `NoMemory`.
+pub fn plan_with_config<R: Files>(
+    rt: &R,
+    alloc: Global,
+    words: &[String],
+) -> Result<Plan, PlanError>
+    ensures limits { IfOk result IsWithinLimits }
+    ensures shown { IfErr result IsShown }
+{
+    let named = after_the_name(alloc, words)?;
+    match command_line(alloc)?.try_get_matches_from(named.as_slice()) {
+        Ok(matches) => configured(rt, alloc, &matches),
+        Err(error) => Err(shown(alloc, &error)),
+    }
+}
+
+/// Returns the plan for the command that `clap` parsed, which also has the options of a configuration file if it is a check.
+fn configured<R: Files>(rt: &R, alloc: Global, matches: &ArgMatches<'_>) -> Result<Plan, PlanError>
+    ensures limits { IfOk result IsWithinLimits }
+    ensures shown { IfErr result IsShown }
+{
+    let Some(("check", found)) = matches.subcommand() else {
+        return plan_of(alloc, matches);
+    };
+    match config_of(rt, alloc, found)? {
+        Some(file) => check_of(alloc, found, Some(&file)),
+        None => check_of(alloc, found, None),
     }
 }
 
@@ -121,14 +121,6 @@ fn text_of(alloc: Global, error: &clap::Error) -> Result<String, AllocError>
     visible(alloc, text.as_str())
 }
 
-/// Returns the text with its hidden characters escaped.
-fn visible(alloc: Global, text: &str) -> Result<String, AllocError>
-    ensures { IfOk result (λ visible. IsVisible (string_bytes visible)) }
-{
-    shown_text_has_no_hidden_character();
-    shown_lines(alloc, text)
-}
-
 const TWO_INPUTS: &str = "\
 error: FILE and '--seeds <LIST>' cannot both be '-'
 
@@ -143,6 +135,12 @@ For more information, try '--help'.
 
 const NO_LINKS: &str = "\
 error: '--source-url <URL>' requires the format html or sarif
+
+For more information, try '--help'.
+";
+
+const NO_BASE: &str = "\
+error: '--index <FILE>' requires BASE
 
 For more information, try '--help'.
 ";
@@ -174,7 +172,7 @@ fn plan_of(alloc: Global, matches: &ArgMatches<'_>) -> Result<Plan, PlanError>
         Some(("replay", found)) => replay_of(alloc, found),
         Some(("serve", found)) => serve_of(alloc, found),
         Some(("site", found)) => site_of(alloc, found),
-        Some(("check", found)) => check_of(alloc, found),
+        Some(("check", found)) => check_of(alloc, found, None),
         _ => Err(misread(alloc)),
     }
 }
@@ -321,30 +319,50 @@ fn site_of(alloc: Global, found: &ArgMatches<'_>) -> Result<Plan, PlanError>
     ensures limits { IfOk result IsWithinLimits }
     ensures shown { IfErr result IsShown }
 {
+    let options = Given {
+        line: found,
+        file: None,
+    };
     match found.get_str("base") {
-        Some(base) => Ok(Plan::Site(site_options(alloc, found, base)?)),
+        Some(base) => Ok(Plan::Site(site_options(alloc, options, base)?)),
         None => Err(misread(alloc)),
     }
 }
 
-/// Returns the plan of `check`. Its report has no colour yet.
-fn check_of(alloc: Global, found: &ArgMatches<'_>) -> Result<Plan, PlanError>
+/// Returns the plan of `check`, whose report has no colour yet.
+fn check_of(
+    alloc: Global,
+    found: &ArgMatches<'_>,
+    file: Option<&OptionFile>,
+) -> Result<Plan, PlanError>
     ensures limits { IfOk result IsWithinLimits }
     ensures shown { IfErr result IsShown }
 {
     let Some(workers) = workers_of(found) else {
         return Err(misread(alloc));
     };
-    let Some(form) = form_of(found) else {
+    let given = Given { line: found, file };
+    let Some(form) = form_of(&given) else {
         return Err(bad_words(alloc, TWO_FORMATS)?);
     };
-    if found.get_str("source-url").is_some() && !has_links(form) {
-        return Err(bad_words(alloc, NO_LINKS)?);
+    if let Some(text) = refusal(&given, form) {
+        return Err(bad_words(alloc, text)?);
     }
     Ok(Plan::Check {
-        options: check_options(alloc, found, workers, form)?,
-        ignores: value_of(alloc, found, "ignore")?,
+        options: check_options(alloc, &given, workers, form)?,
+        ignores: given.string(alloc, "ignore")?,
     })
+}
+
+/// Why a check whose report has this form cannot have these options.
+fn refusal(given: &Given<'_, '_>, form: CheckForm) -> Option<&'static str> {
+    if given.line.get_str("source-url").is_some() && !has_links(form) {
+        Some(NO_LINKS)
+    } else if given.text("index").is_some() && given.text("base").is_none() {
+        Some(NO_BASE)
+    } else {
+        None
+    }
 }
 
 /// Returns the options of a session, with or without a log.
@@ -434,14 +452,4 @@ fn is_input(listed: &Option<String>) -> bool
         Some(file) => file.as_str() == "-",
         None => false,
     }
-}
-
-/// The error for arguments that `clap` accepts, with this text.
-fn bad_words(alloc: Global, text: &str) -> Result<PlanError, AllocError>
-    ensures { IfOk result IsShown }
-{
-    Ok(PlanError::Shown {
-        text: visible(alloc, text)?,
-        status: PlanError::BAD_COMMAND_LINE,
-    })
 }
