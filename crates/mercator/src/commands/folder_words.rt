@@ -110,7 +110,7 @@ const FOLDER_FLAGS: &[Flag] = &[
     },
 ];
 
-/// The option for a site list. It has the exact URL of each file.
+/// The option for a site list. It requires BASE, and has the exact URL of each file.
 fn index<'a>(alloc: Global) -> Result<Arg<'a>, AllocError> {
     let index = option(
         alloc,
@@ -120,6 +120,7 @@ fn index<'a>(alloc: Global) -> Result<Arg<'a>, AllocError> {
     );
     index
         .value_parser(ValueParser::NonEmptyString)
+        .requires_arg("base")?
         .conflicts_with("index-file")?
         .conflicts_with("fallback")?
         .conflicts_with("exact")?

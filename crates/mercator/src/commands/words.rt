@@ -140,7 +140,7 @@ For more information, try '--help'.
 ";
 
 const NO_BASE: &str = "\
-error: '--index <FILE>' requires BASE
+error: index in the configuration file requires BASE
 
 For more information, try '--help'.
 ";
