@@ -99,7 +99,7 @@ fn bad_file(alloc: Global, name: &str, error: &FileError) -> Result<PlanError, A
     let text = match error {
         FileError::NoMemory => return Ok(PlanError::NoMemory),
         FileError::NotToml(line, why) => {
-            let line = *line;
+            let (line, why) = (*line, why.as_str());
             format!(in alloc; "error: {name}: line {line}: {why}\n")?
         }
         FileError::Unknown(key) => {
@@ -107,6 +107,7 @@ fn bad_file(alloc: Global, name: &str, error: &FileError) -> Result<PlanError, A
             format!(in alloc; "error: {name}: unknown option {key}\n")?
         }
         FileError::WrongValue(key, values) => {
+            let (key, values) = (key.as_str(), values.as_str());
             format!(in alloc; "error: {name}: {key}: must be {values}\n")?
         }
     };

@@ -76,12 +76,12 @@ fn configured<R: Files>(rt: &R, alloc: Global, matches: &ArgMatches<'_>) -> Resu
     ensures limits { IfOk result IsWithinLimits }
     ensures shown { IfErr result IsShown }
 {
-    let Some(("check", found)) = matches.subcommand() else {
-        return plan_of(alloc, matches);
-    };
-    match config_of(rt, alloc, found)? {
-        Some(file) => check_of(alloc, found, Some(&file)),
-        None => check_of(alloc, found, None),
+    match matches.subcommand() {
+        Some(("check", found)) => {
+            let file = config_of(rt, alloc, found)?;
+            check_of(alloc, found, file.as_ref())
+        }
+        _ => plan_of(alloc, matches),
     }
 }
 
