@@ -117,7 +117,7 @@ pub record IsCheck (top web : List ℕ) (aliases : List Alias) (asks : Asks) (br
   -- the own URLs of documents
   pub documents : List (List ℕ)
   pub totals : found.totals ≡ totals_of aliases documents own found.broken.now found.redirects.now
-  -- the suggested pages are pages of a site with this top, and external links lead to other hosts than the site's
+  -- the suggested pages and the hints are those of a site with this top, and external links lead to other hosts than the site's
   pub site : SiteFiles
   pub site_top : string_bytes site.site.top ≡ top
   pub names : AreNamed asks.front site found.broken.now
