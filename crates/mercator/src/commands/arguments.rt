@@ -31,18 +31,6 @@ pub fn push<'a>(args: &mut Vec<Arg<'a>>, arg: Arg<'a>) -> Result<(), AllocError>
     Ok(())
 }
 
-/// Appends arguments, which the help lists under this heading.
-pub fn push_under<'a>(
-    args: &mut Vec<Arg<'a>>,
-    heading: &'a str,
-    group: Vec<Arg<'a>>,
-) -> Result<(), AllocError> {
-    for arg in group {
-        push(args, arg.help_heading(heading))?;
-    }
-    Ok(())
-}
-
 /// An option with a value, as a row of a table.
 pub struct Valued {
     pub name: &'static str,
@@ -50,28 +38,39 @@ pub struct Valued {
     pub help: &'static str,
 }
 
-/// Appends the options of the table.
+/// Appends the options of the table, which the help lists under the heading, if there is one.
 pub fn push_options<'a>(
     alloc: Global,
     args: &mut Vec<Arg<'a>>,
+    heading: Option<&'a str>,
     options: &[Valued],
 ) -> Result<(), AllocError> {
     for one in options {
-        push(args, option(alloc, one.name, one.value, one.help))?;
+        let arg = option(alloc, one.name, one.value, one.help);
+        push(args, under(heading, arg))?;
     }
     Ok(())
 }
 
-/// Appends the options of the table, which have no value.
+/// Appends the options of the table, which have no value. The help lists them under the heading, if there is one.
 pub fn push_flags<'a>(
     alloc: Global,
     args: &mut Vec<Arg<'a>>,
+    heading: Option<&'a str>,
     flags: &[Flag],
 ) -> Result<(), AllocError> {
     for one in flags {
-        push(args, flag_of(alloc, one.name, one.help))?;
+        push(args, under(heading, flag_of(alloc, one.name, one.help)))?;
     }
     Ok(())
+}
+
+/// The argument, under the heading if there is one.
+fn under<'a>(heading: Option<&'a str>, arg: Arg<'a>) -> Arg<'a> {
+    match heading {
+        Some(heading) => arg.help_heading(heading),
+        None => arg,
+    }
 }
 
 /// An option without a value.

@@ -3,10 +3,9 @@ ghost use Rattle.std.specs.Prelude.{◌≡◌, IfOk, option_map};
 ghost use Rattle.mercator.specs.Formats.{form_named, format_of, has_links};
 
 use crate::commands::arguments::{
-    Flag, Valued, command_with, flag_of, option, push, push_flags, push_options, push_under,
-    workers,
+    Flag, Valued, command_with, flag_of, option, push, push_flags, push_options, workers,
 };
-use crate::commands::folder_words::{FILES, base, folder, folder_options, site_options, styles};
+use crate::commands::folder_words::{base, folder, push_folder_options, site_options, styles};
 use crate::commands::given::Given;
 use clap::builder::ValueParser;
 use clap::{Arg, ArgAction, ArgGroup, ArgMatches, Command};
@@ -47,9 +46,9 @@ fn push_check_args<'a>(alloc: Global, args: &mut Vec<Arg<'a>>) -> Result<(), All
     push(args, workers(alloc, "1", help))?;
     push(args, config(alloc))?;
     push(args, no_config(alloc)?)?;
-    push_under(args, "Report", report_args(alloc)?)?;
-    push_under(args, "What is checked", scope_args(alloc)?)?;
-    push_under(args, FILES, folder_options(alloc)?)?;
+    push_report_args(alloc, args)?;
+    push_scope_args(alloc, args)?;
+    push_folder_options(alloc, args)?;
     push(args, folder(alloc, "Folder to check"))?;
     let help =
         "URL of the folder, http or https; without it / is the folder, and the report shows paths";
@@ -72,23 +71,25 @@ fn no_config<'a>(alloc: Global) -> Result<Arg<'a>, AllocError> {
     flag_of(alloc, "no-config", "Do not read .mercator.toml").conflicts_with("config")
 }
 
-/// The options for the format of a report, and for what it lists.
-fn report_args<'a>(alloc: Global) -> Result<Vec<Arg<'a>>, AllocError> {
-    let mut args = Vec::new(alloc);
-    push(&mut args, format(alloc))?;
-    push_flags(alloc, &mut args, REPORT_FLAGS)?;
-    push_options(alloc, &mut args, REPORT_OPTIONS)?;
-    Ok(args)
+/// The heading in the help for the format of a report and what it lists.
+const REPORT: &str = "Report";
+
+/// The heading in the help for which documents and links are checked.
+const SCOPE: &str = "What is checked";
+
+/// Appends the options for the format of a report and for what it lists.
+fn push_report_args<'a>(alloc: Global, args: &mut Vec<Arg<'a>>) -> Result<(), AllocError> {
+    push(args, format(alloc).help_heading(REPORT))?;
+    push_flags(alloc, args, Some(REPORT), REPORT_FLAGS)?;
+    push_options(alloc, args, Some(REPORT), REPORT_OPTIONS)
 }
 
-/// The options for which documents and links are checked.
-fn scope_args<'a>(alloc: Global) -> Result<Vec<Arg<'a>>, AllocError> {
-    let mut args = Vec::new(alloc);
-    push_options(alloc, &mut args, IGNORE_OPTIONS)?;
-    push(&mut args, seed(alloc))?;
-    push_flags(alloc, &mut args, SCOPE_FLAGS)?;
-    push(&mut args, styles(alloc))?;
-    Ok(args)
+/// Appends the options for which documents and links are checked.
+fn push_scope_args<'a>(alloc: Global, args: &mut Vec<Arg<'a>>) -> Result<(), AllocError> {
+    push_options(alloc, args, Some(SCOPE), IGNORE_OPTIONS)?;
+    push(args, seed(alloc).help_heading(SCOPE))?;
+    push_flags(alloc, args, Some(SCOPE), SCOPE_FLAGS)?;
+    push(args, styles(alloc).help_heading(SCOPE))
 }
 
 /// The names of the formats of a report.

@@ -99,10 +99,10 @@ fn crawl_command<'a>(alloc: Global) -> Result<Command<'a>, AllocError> {
 /// Appends the options and arguments of `crawl`.
 fn push_crawl_args<'a>(alloc: Global, args: &mut Vec<Arg<'a>>) -> Result<(), AllocError> {
     push_numbers(alloc, args)?;
-    push_flags(alloc, args, QUEUE_FLAGS)?;
-    push_flags(alloc, args, SECTION_FLAGS)?;
-    push_flags(alloc, args, TELLING_FLAGS)?;
-    push_options(alloc, args, CRAWL_OPTIONS)?;
+    push_flags(alloc, args, None, QUEUE_FLAGS)?;
+    push_flags(alloc, args, None, SECTION_FLAGS)?;
+    push_flags(alloc, args, None, TELLING_FLAGS)?;
+    push_options(alloc, args, None, CRAWL_OPTIONS)?;
     push(args, file(alloc, "Saved web to crawl; - is standard input"))?;
     push(args, seeds(alloc)?)
 }
@@ -185,7 +185,7 @@ fn serve_command<'a>(alloc: Global) -> Result<Command<'a>, AllocError> {
 /// Appends the options of `serve`, which has no other arguments.
 fn push_serve_args<'a>(alloc: Global, args: &mut Vec<Arg<'a>>) -> Result<(), AllocError> {
     push_numbers(alloc, args)?;
-    push_options(alloc, args, SERVE_OPTIONS)?;
+    push_options(alloc, args, None, SERVE_OPTIONS)?;
     push(args, sync(alloc)?)?;
     push(args, wait(alloc)?)?;
     push(args, compact(alloc)?)?;

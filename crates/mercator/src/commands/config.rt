@@ -74,7 +74,10 @@ fn read_config<R: Files>(rt: &R, alloc: Global, name: &str) -> Result<OptionFile
         Err(why) => return Err(unread(alloc, name, why)?),
     };
     match OptionFile::read(alloc, bytes.as_slice(), KNOWN) {
-        Ok(file) => checked(alloc, name, file),
+        Ok(file) => {
+            check_rivals(alloc, name, &file)?;
+            Ok(file)
+        }
         Err(error) => Err(bad_file(alloc, name, &error)?),
     }
 }
@@ -114,8 +117,8 @@ fn bad_file(alloc: Global, name: &str, error: &FileError) -> Result<PlanError, A
     bad_words(alloc, text.as_str())
 }
 
-/// The file, unless it has two options that cannot be used together.
-fn checked(alloc: Global, name: &str, file: OptionFile) -> Result<OptionFile, PlanError>
+/// Checks that the file has no two options that cannot be used together.
+fn check_rivals(alloc: Global, name: &str, file: &OptionFile) -> Result<(), PlanError>
     ensures { IfErr result IsShown }
 {
     for pair in RIVALS {
@@ -123,7 +126,7 @@ fn checked(alloc: Global, name: &str, file: OptionFile) -> Result<OptionFile, Pl
             return Err(two_rivals(alloc, name, *pair)?);
         }
     }
-    Ok(file)
+    Ok(())
 }
 
 /// The error for a file that has two options that cannot be used together.

@@ -3,9 +3,7 @@ ghost use Rattle.std.specs.Prelude.{◌≡◌, false, option_map};
 ghost use Rattle.std.specs.Option.{option_map_or};
 ghost use Rattle.mercator.specs.Hosts.{adds_html, is_exact};
 
-use crate::commands::arguments::{
-    Flag, command_with, flag_of, option, push, push_flags, push_under, word,
-};
+use crate::commands::arguments::{Flag, command_with, flag_of, option, push, push_flags, word};
 use crate::commands::given::Given;
 use clap::builder::ValueParser;
 use clap::{Arg, ArgAction, Command};
@@ -13,7 +11,7 @@ use mercator_site::SiteOptions;
 use std::alloc::{AllocError, Global};
 
 /// The heading in the help for how file names and URLs correspond.
-pub const FILES: &str = "Files and URLs";
+const FILES: &str = "Files and URLs";
 
 const SITE_HELP: &str = "\
 A saved web is a text file of pages and their links, which 'mercator crawl' reads. A page is
@@ -30,23 +28,20 @@ pub fn site_command<'a>(alloc: Global) -> Result<Command<'a>, AllocError> {
 
 /// Appends the options and arguments of `site`, which requires BASE.
 fn push_site_args<'a>(alloc: Global, args: &mut Vec<Arg<'a>>) -> Result<(), AllocError> {
-    let mut options = folder_options(alloc)?;
-    push(&mut options, styles(alloc))?;
-    push_under(args, FILES, options)?;
+    push_folder_options(alloc, args)?;
+    push(args, styles(alloc).help_heading(FILES))?;
     push(args, folder(alloc, "Folder to read"))?;
     let base = base(alloc, "URL of the folder, http or https");
     push(args, base.required(true))
 }
 
-/// The options for how file names and URLs correspond, and for how the folder is read.
-pub fn folder_options<'a>(alloc: Global) -> Result<Vec<Arg<'a>>, AllocError> {
-    let mut args = Vec::new(alloc);
-    push(&mut args, host(alloc)?)?;
-    push(&mut args, index_file(alloc))?;
-    push(&mut args, fallback(alloc)?)?;
-    push_flags(alloc, &mut args, FOLDER_FLAGS)?;
-    push(&mut args, index(alloc)?)?;
-    Ok(args)
+/// Appends the options for how file names and URLs correspond, and for how the folder is read.
+pub fn push_folder_options<'a>(alloc: Global, args: &mut Vec<Arg<'a>>) -> Result<(), AllocError> {
+    push(args, host(alloc)?)?;
+    push(args, index_file(alloc))?;
+    push(args, fallback(alloc)?)?;
+    push_flags(alloc, args, Some(FILES), FOLDER_FLAGS)?;
+    push(args, index(alloc)?)
 }
 
 /// The names of hosts.
@@ -60,6 +55,7 @@ fn host<'a>(alloc: Global) -> Result<Arg<'a>, AllocError> {
         "HOST",
         "Find the file of a URL as HOST does: nginx, github, netlify or plain",
     )
+    .help_heading(FILES)
     .value_parser(ValueParser::Names(HOSTS))
     .hide_possible_values(true)
     .conflicts_with("index-file")?
@@ -76,6 +72,7 @@ fn index_file<'a>(alloc: Global) -> Arg<'a> {
         "NAME",
         "Name of index files, in place of index.html, index.htm and index.xhtml; repeatable",
     )
+    .help_heading(FILES)
     .action(ArgAction::Append)
 }
 
@@ -90,6 +87,7 @@ fn fallback<'a>(alloc: Global) -> Result<Arg<'a>, AllocError> {
         "SUFFIX",
         "Look up a path that has no page again with .SUFFIX added; SUFFIX is html",
     )
+    .help_heading(FILES)
     .value_parser(ValueParser::Names(SUFFIXES))
     .hide_possible_values(true)
     .conflicts_with("exact")
@@ -119,6 +117,7 @@ fn index<'a>(alloc: Global) -> Result<Arg<'a>, AllocError> {
         "Read the URLs of the files in FOLDER from the site list FILE",
     );
     index
+        .help_heading(FILES)
         .value_parser(ValueParser::NonEmptyString)
         .requires_arg("base")?
         .conflicts_with("index-file")?
