@@ -239,7 +239,7 @@ fn short_form(found: &ArgMatches<'_>) -> Option<&'static str> {
 
 /// The format of the report, for the value of `--format` and the format of a short form, or `None` if the two differ.
 fn format_of<'a>(named: Option<&'a str>, short: Option<&'a str>) -> Option<&'a str>
-    ensures { option_map (λ format. format.now) result ≡ format_of (option_map (λ name. name.now) named) (option_map (λ name. name.now) short) }
+    ensures { option_map (λ format. format.now) result ≡ format_of (option_map (λ name. name.now) named.entry) (option_map (λ name. name.now) short.entry) }
 {
     match (named, short) {
         (None, None) => Some("text"),

@@ -184,7 +184,7 @@ fn index_files(
 
 /// Whether the host, if there is one, adds `.html` to a path without a page.
 fn adds_html(host: Option<&str>) -> bool
-    ensures { result ≡ option_map_or adds_html (option_map (λ name. name.now) host) false }
+    ensures { result ≡ option_map_or adds_html (option_map (λ name. name.now) host.entry) false }
 {
     match host {
         Some(name) => name == "github" || name == "netlify",
@@ -194,7 +194,7 @@ fn adds_html(host: Option<&str>) -> bool
 
 /// Whether the host, if there is one, accepts only the exact spelling of a page's URL.
 fn is_exact(host: Option<&str>) -> bool
-    ensures { result ≡ option_map_or is_exact (option_map (λ name. name.now) host) false }
+    ensures { result ≡ option_map_or is_exact (option_map (λ name. name.now) host.entry) false }
 {
     match host {
         Some(name) => name == "plain",

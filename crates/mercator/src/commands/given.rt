@@ -100,7 +100,7 @@ fn text_of<'a>(
     in_file: Option<&'a str>,
     is_replaced: bool,
 ) -> Option<&'a str>
-    ensures { option_map (λ text. text.now) result ≡ text_of (option_map (λ text. text.now) on_line) (option_map (λ text. text.now) in_file) is_replaced }
+    ensures { option_map (λ text. text.now) result ≡ text_of (option_map (λ text. text.now) on_line.entry) (option_map (λ text. text.now) in_file.entry) is_replaced }
 {
     match on_line {
         Some(text) => Some(text),
