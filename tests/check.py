@@ -54,21 +54,24 @@ LEAST = 5
 
 
 def host_options(settings: Settings) -> List[str]:
-    """The options for the rules of a host."""
+    """The options for the rules of a host, but for --exact without its name."""
+    if settings.host:
+        return [f"--host={settings.host}"]
     words = [f"--index-file={name}" for name in settings.indices] if settings.indices != INDEX_FILES else []
     return words + (["--fallback=html"] if settings.fallback else [])
 
 
 def site_options(settings: Settings) -> List[str]:
     """The options for the pages of a folder."""
-    words = host_options(settings) + [f"--{name}" for name in ("exact", "follow", "queries") if getattr(settings, name)]
+    flags = ("follow", "queries") if settings.host else ("exact", "follow", "queries")
+    words = host_options(settings) + [f"--{name}" for name in flags if getattr(settings, name)]
     return words + ([] if settings.styles else ["--no-styles"])
 
 
 def arguments(settings: Settings, folder: str, scratch: str, form: Sequence[str] = ("--json",)) -> List[str]:
     """The arguments of the command, with the options for a form of the report."""
     words = ["check", *form]
-    words += [flag.option for flag in FLAGS if getattr(settings, flag.setting) == flag.value(True)]
+    words += [flag.option for flag in FLAGS if getattr(settings, flag.setting) == flag.value(True) and not (flag.setting == "exact" and settings.host)]
     words += host_options(settings)
     words += [f"--seed={seed}" for seed in settings.seeds]
     words += [f"--workers={settings.workers}"] if settings.workers > 1 else []
@@ -235,7 +238,7 @@ def random_settings(draw: Random) -> Settings:
     ])
     flags: Dict[str, Any] = {flag.setting: flag.value(draw.random() < flag.share) for flag in FLAGS}
     host = drawing.random_host(draw)
-    flags.update(exact=host.exact, fallback=host.fallback, indices=host.index_files or INDEX_FILES)
+    flags.update(host=host.name, exact=host.exact, fallback=host.fallback, indices=host.index_files or INDEX_FILES)
     return Settings(base, front, ignores, seeds=seeds, workers=draw.choice((1, 1, 2, 4, 64)))._replace(**flags)
 
 
@@ -317,7 +320,7 @@ def line_fault(actual: str, expected: str) -> Optional[str]:
 # The forms of a report: its options, and what finds an error in it
 FORMS: Dict[str, Tuple[Tuple[str, ...], Callable[[str, List[Row], str], Optional[str]]]] = {
     "text": ((), partial(text_fault, printing.Options())),
-    "all": (("--all-sources",), partial(text_fault, printing.Options(all_sources=True))),
+    "all": (("--all-sources", "--format=text"), partial(text_fault, printing.Options(all_sources=True))),
     "by target": (("--by-target",), partial(text_fault, printing.Options(by_target=True))),
     "all by target": (("--by-target", "--all-sources"), partial(text_fault, printing.Options(True, True))),
     "annotations": (("--annotations",), annotation_fault),

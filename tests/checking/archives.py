@@ -184,7 +184,7 @@ def draw_list(draw: Random, folder: str, settings: Settings) -> Listed:
         lines.append(Line(str(site.base), "-", "none"))
         site = ListedSite(folder, settings, lines)
     seeds = [seed for seed in settings.seeds if site.response(str(drawn.url_of(seed, site.base)))]
-    settings = settings._replace(exact=False, fallback=False, follow=False, queries=False, indices=INDEX_FILES, seeds=tuple(seeds))
+    settings = settings._replace(exact=False, fallback=False, follow=False, queries=False, indices=INDEX_FILES, host="", seeds=tuple(seeds))
     text = text_of(draw, lines)
     return Listed(with_odd_lines(draw, text) if draw.random() < 0.2 else text, settings)
 

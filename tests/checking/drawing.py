@@ -13,6 +13,8 @@ from random import Random
 from typing import Any, List, NamedTuple, Tuple
 from urllib.parse import quote as escaped
 
+from checking.model import HOSTS
+
 NAMES = """index.html index.html index.html a.html b.htm c d.txt e%20f.html g h.html \u00fc.html i?j.html k#l.html m+n.html [o].html p&q.html
 r;s.html t=u.html v@w.html x:y.html ~z.html %.html %zz.html A.HTML A.html %41.html %2541.html %61.html .html .hidden ...html caf\u00e9 y.css y.svg
 \u65e5\u672c.html 'q'.html "q".html <r>.html {s}.html |t|.html ^u.html `v`.html \\w.html x.xhtml y.svg z.css W.XHT .css u.svgz index.htm INDEX.HTML
@@ -305,6 +307,7 @@ def linked_path(draw: Random, place: str) -> str:
 class Host(NamedTuple):
     """Random rules of a host."""
 
+    name: str  # of the host whose rules they are, if the option names one
     exact: bool
     fallback: bool  # a file is also found without its suffix .html
     index_files: Tuple[str, ...]  # in place of the usual ones, if there are any
@@ -312,18 +315,27 @@ class Host(NamedTuple):
 
 def random_host(draw: Random) -> Host:
     """Random rules of a host. Those that exclude each other are not drawn together."""
+    if draw.random() < 0.2:
+        name = draw.choice(list(HOSTS))
+        return Host(name, HOSTS[name].get("exact", False), HOSTS[name].get("fallback", False), HOSTS[name]["indices"])
     exact = draw.random() < 0.2
-    return Host(exact, not exact and draw.random() < 0.25, draw.choice([(), (), (), ("index.htm",), ("a.html", "index.html"), ("index.htm", "index.html")]))
+    names: List[Tuple[str, ...]] = [(), (), (), ("index.htm",), ("a.html", "index.html"), ("index.htm", "index.html")]
+    return Host("", exact, not exact and draw.random() < 0.25, draw.choice(names))
 
 
 def random_options(draw: Random) -> List[str]:
     """Random options of `mercator site`."""
     host = random_host(draw)
-    options = ["--exact"] if host.exact else []
-    options += ["--fallback", "html"] if host.fallback else []
-    options += [f"--index-file={name}" for name in host.index_files]
+    options = [f"--host={host.name}"] if host.name else host_options(host)
     options += ["--queries"] if draw.random() < 0.3 else []
     return options + (["--follow"] if draw.random() < 0.3 else [])
+
+
+def host_options(host: Host) -> List[str]:
+    """The options for rules that have no name."""
+    options = ["--exact"] if host.exact else []
+    options += ["--fallback", "html"] if host.fallback else []
+    return options + [f"--index-file={name}" for name in host.index_files]
 
 
 def draw_folder(draw: Random, documents: Any, top: Path) -> None:

@@ -5,7 +5,7 @@ from __future__ import annotations
 from typing import Any, Dict, List, NamedTuple, Optional, Tuple, Union
 
 from checking.documents import known_schemes
-from checking.model import NOWHERE
+from checking.model import HOSTS, NOWHERE
 
 
 class To(NamedTuple):
@@ -66,6 +66,11 @@ def hint(target: str, text: Optional[str]) -> Tuple[Dict[str, Any]]:
 def written(target: str, text: Optional[str]) -> Tuple[Dict[str, Any]]:
     """The row of a location of a target with this text of the link."""
     return ({"target": target, "written": text},)
+
+
+def host(name: str) -> Tuple[Tuple[str, Any], ...]:
+    """The settings for the rules of a host."""
+    return (("host", name), *HOSTS[name].items())
 
 
 def anchors(name: str, ids: str, links: str, broken: List[str]) -> Known:
@@ -689,5 +694,30 @@ KNOWN = [
             *written("HTP:y", None), *written("d/w.png", "./w.png"), *written("v", "/v"), *written("d/e/#f", "e#f"), *written("//[x", None),
         ),
         settings=NO_BASE,
+    ),
+    Known(
+        "the rules of nginx",
+        {"index.html": "<a href=d/><a href=a><a href='./index.html?x'>", "d/index.htm": "", "a.html": ""},
+        ["a index.html:1:20", "d/ index.html:1:9"],
+        (*total(pages=3, links=3, redirects=0, aliases=1), *hint("d/", "d/ has index.htm: --index-file index.htm")),
+        settings=(*NO_BASE, *host("nginx")),
+    ),
+    Known(
+        "the rules of GitHub Pages",
+        {"index.html": "<a href=d/><a href=a>", "d/index.htm": "", "a.html": ""},
+        ["d/ index.html:1:9"],
+        total(pages=3, links=2, redirects=0, aliases=1),
+        settings=(*NO_BASE, *host("github")),
+    ),
+    Known(
+        "the rules of Netlify", {"index.html": "<a href=a#x>", "a.html": ""}, ["a#x index.html:1:9"], total(pages=2, links=1, redirects=0, aliases=1),
+        settings=(*NO_BASE, *host("netlify")),
+    ),
+    Known(
+        "the rules of a plain server",
+        {"index.html": "<a href=a><a href=a.html?x><a href=index.html><a href=d/>", "a.html": "", "d/index.htm": ""},
+        ["a index.html:1:9", "a.html?x index.html:1:19", "d/ index.html:1:55"],
+        (*total(pages=3, links=4, redirects=0, aliases=1), *hint("a", None), *hint("d/", "d/ has index.htm: --index-file index.htm")),
+        settings=(*NO_BASE, *host("plain")),
     ),
 ]

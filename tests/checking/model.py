@@ -75,6 +75,13 @@ Located = Dict[Place, str]  # the locations of the links to a target, each with 
 INDEX_FILES = ("index.html", "index.htm", "index.xhtml")
 # The beginnings of the names of files that a server may use as index files
 INDEX_NAMES = ("index.", "default.", "home.")
+# The rules of hosts: the settings of each
+HOSTS: Dict[str, Dict[str, Any]] = {
+    "nginx": {"indices": ("index.html",)},
+    "github": {"indices": ("index.html",), "fallback": True},
+    "netlify": {"indices": ("index.html",), "fallback": True},
+    "plain": {"indices": ("index.html",), "exact": True},
+}
 
 SCHEMES = frozenset(known_schemes())
 
@@ -101,6 +108,7 @@ class Settings(NamedTuple):
     workers: int = 1  # which makes no difference
     indices: Tuple[str, ...] = INDEX_FILES  # the names of index files; in each folder the first one counts
     fallback: bool = False  # a file is also found without its suffix .html
+    host: str = ""  # the host whose rules the last two settings and `exact` are, if the option names one
 
     def is_rooted(self) -> bool:
         """Whether no BASE is given. Then a path that begins with a slash is a path in the folder."""

@@ -8,7 +8,7 @@ from typing import Any, Dict, List, Optional, Tuple
 import drawn
 from checking import feeds, loading
 from checking.documents import character, read_tags, style_links, with_query_in
-from checking.model import Alias, Found, Model, Moved, url_of
+from checking.model import HOSTS, Alias, Found, Model, Moved, url_of
 
 DIFFERENCES = """\
 differences of the program:
@@ -18,6 +18,15 @@ differences of the program:
   after a base, a link with an invalid host stays as it is, and all other hosts are canonical
   a sitemap or a feed that is not well-formed has links"""
 KNOWN = {"utf_8": "utf-8", "u8": "utf-8", "windows-1252": "cp1252", "1252": "cp1252", "utf-8": "utf-8", "cp1252": "cp1252"}
+
+
+def rules_in(option: str) -> List[str]:
+    """The options for the rules of a host in place of its name, and any other option."""
+    name, _, value = option.partition("=")
+    if name != "--host":
+        return [option]
+    rules = HOSTS[value]
+    return [f"--index-file={one}" for one in rules["indices"]] + ["--exact"] * ("exact" in rules) + ["--fallback=html"] * ("fallback" in rules)
 
 
 class Reader:
@@ -82,7 +91,7 @@ class Converter:
     def web(self, folder: str, options: List[str], base: str) -> bytes:
         """The saved web of a folder."""
         parser = self.tool.command_line()
-        settings = parser.parse_args(["--quiet", *options, folder, base])
+        settings = parser.parse_args(["--quiet", *(word for option in options for word in rules_in(option)), folder, base])
         web = self.tool.Web(settings)
         self.tool.Folder(folder, self.tool.base_of(base, parser), settings, web).write()
         out = io.BytesIO()
