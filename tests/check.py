@@ -34,7 +34,7 @@ from typing import Any, Callable, Dict, Iterator, List, NamedTuple, Optional, Se
 from urllib.parse import quote, unquote_to_bytes
 
 import drawn
-from checking import archives, drawing, feed_twins, forms, loading, printing, samples, twins
+from checking import archives, drawing, feed_twins, forms, loading, printing, samples, structures, twins
 from checking.documents import TOOL, form_of
 from checking.known import KNOWN, Known, To, Zeros
 from checking.model import FLAGS, INDEX_FILES, NOWHERE, Model, Moved, Row, Settings, Site, is_short
@@ -317,6 +317,7 @@ def line_fault(actual: str, expected: str) -> Optional[str]:
     return None if actual == expected else f"{len(actual)} characters, {len(expected)} expected"
 
 
+SOURCES = "https://code.test/site/blob/main/"
 # The forms of a report: its options, and what finds an error in it
 FORMS: Dict[str, Tuple[Tuple[str, ...], Callable[[str, List[Row], str], Optional[str]]]] = {
     "text": ((), partial(text_fault, printing.Options())),
@@ -325,6 +326,10 @@ FORMS: Dict[str, Tuple[Tuple[str, ...], Callable[[str, List[Row], str], Optional
     "all by target": (("--by-target", "--all-sources"), partial(text_fault, printing.Options(True, True))),
     "annotations": (("--annotations",), annotation_fault),
     "page": (("--html",), forms.page_fault),
+    "JUnit": (("--format", "junit"), structures.junit_fault),
+    "SARIF": (("--format", "sarif"), structures.sarif_fault),
+    "SARIF with sources": (("--format", "sarif", "--source-url", SOURCES), partial(structures.sarif_fault, sources=SOURCES)),
+    "page with sources": (("--format", "html", "--source-url", SOURCES), partial(forms.page_fault, sources=SOURCES)),
 }
 
 

@@ -10,9 +10,10 @@ import re
 import subprocess
 from html.parser import HTMLParser
 from typing import Dict, List, Optional, Tuple
+from urllib.parse import quote
 
 from checking.model import Row
-from checking.printing import CONTROL, Target, advice, decoded, in_order, message, named, pages_text, shown, targets
+from checking.printing import CONTROL, Target, advice, as_written, decoded, in_order, message, named, pages_text, shown, targets
 
 CODES = re.compile(rb"\x1b\[[0-9]+m")
 POLICY = re.compile(r"script-src 'sha256-([^']*)'")
@@ -60,11 +61,15 @@ class Lines(HTMLParser):
         self.part, self.inside = "", False
         self.texts: Dict[str, str] = {}
         self.tags: List[str] = []
+        self.links: List[str] = []  # of the list of broken links
 
     def handle_starttag(self, tag: str, attrs: List[Tuple[str, Optional[str]]]) -> None:
         self.tags.append(tag)
         self.part = dict(attrs).get("id") or self.part if tag == "section" else self.part
         self.inside = self.inside or tag == "pre"
+        link = dict(attrs).get("href")
+        if self.inside and self.part == "broken" and link:
+            self.links.append(link)
 
     def handle_endtag(self, tag: str) -> None:
         self.inside = self.inside and tag != "pre"
@@ -85,8 +90,11 @@ def control_fault(text: bytes, allowed: str = "\n") -> Optional[str]:
 def target_fields(target: Target) -> List[List[str]]:
     """The fields of the lines of a target and its locations in the page."""
     row = target.row
-    places = (["", f"{place['file']}:{place['line']}:{place['column']}"] for place in target.places)
-    return [[named(row), message(row) + advice(row)], *places]
+    lines = [[named(row), message(row) + advice(row)]]
+    for place in target.places:
+        written = as_written(row, place).lstrip(" ")
+        lines.append(["", f"{place['file']}:{place['line']}:{place['column']}", *([written] if written else [])])
+    return lines
 
 
 def list_fields(row: Row) -> Tuple[str, List[str]]:
@@ -121,8 +129,14 @@ def heading(total: Row) -> str:
     return f"<b>{count}</b> {noun}{'' if count == 1 else 's'}</h1>"
 
 
-def page_fault(text: str, rows: List[Row], _: str) -> Optional[str]:
-    """An error in the page of these rows."""
+def source_links(rows: List[Row], sources: str) -> List[str]:
+    """The links of the locations to the sources of the site, in the order of the page."""
+    places = (place for target in in_order(targets(rows)) for place in target.places)
+    return [f"{sources}{quote(place['file'])}#L{place['line']}" for place in places] if sources else []
+
+
+def page_fault(text: str, rows: List[Row], _: str, sources: str = "") -> Optional[str]:
+    """An error in the page of these rows, in which the locations are links if `sources` is the URL of the site's sources."""
     policy, script = POLICY.search(text), SCRIPT.search(text)
     if policy is None or script is None or base64.b64encode(hashlib.sha256(script[1].encode()).digest()).decode() != policy[1]:
         return "its policy does not allow its script"
@@ -133,4 +147,6 @@ def page_fault(text: str, rows: List[Row], _: str) -> Optional[str]:
     expected = page_texts(rows)
     if read.texts != expected:
         return f"actual {read.texts}, expected {expected}"
+    if read.links != source_links(rows, sources):
+        return f"links {read.links}, expected {source_links(rows, sources)}"
     return None

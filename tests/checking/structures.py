@@ -1,0 +1,212 @@
+"""The reports in JUnit's XML, as GitLab and Jenkins document it, and in SARIF 2.1.0: what these formats require, and what rows give."""
+
+from __future__ import annotations
+
+import json
+import re
+from itertools import groupby
+from typing import Any, Dict, FrozenSet, Iterator, List, NamedTuple, Optional, Tuple
+from urllib.parse import quote
+from xml.etree import ElementTree
+
+from checking.model import Row
+from checking.printing import advice, as_written, in_order, message, named, place_order, shown, targets
+
+# A URI reference by RFC 3986, as far as its characters show it
+PCHAR = r"(?:[A-Za-z0-9\-._~!$&'()*+,;=:@]|%[0-9A-Fa-f]{2})"
+SEGMENT = PCHAR.replace(":@", "@")
+RELATIVE = re.compile(rf"(?:/?{SEGMENT}+(?:/{PCHAR}*)*)?(?:\?(?:{PCHAR}|[/?])*)?(?:#(?:{PCHAR}|[/?])*)?")
+ABSOLUTE = re.compile(rf"[A-Za-z][A-Za-z0-9+.\-]*:(?://[A-Za-z0-9\-._~!$&'()*+,;=:@\[\]%]*)?(?:/{PCHAR}*)*")
+LEVELS = ("none", "note", "warning", "error")
+
+
+class Element(NamedTuple):
+    """What an element of JUnit's XML may have."""
+
+    required: FrozenSet[str]
+    optional: FrozenSet[str]
+    children: FrozenSet[str]
+
+
+def element(required: str, optional: str, children: str) -> Element:
+    """An element with these attributes and children."""
+    return Element(frozenset(required.split()), frozenset(optional.split()), frozenset(children.split()))
+
+
+# By the schema of Jenkins' plugin for JUnit, without what no report of a check has
+ELEMENTS = {
+    "testsuites": element("", "name time tests failures disabled errors", "testsuite"),
+    "testsuite": element("name tests", "failures errors skipped time timestamp hostname id package file", "properties testcase system-out system-err"),
+    "testcase": element("name", "classname assertions time status file line", "skipped error failure system-out system-err"),
+    "failure": element("", "message type", ""),
+    "system-out": element("", "", ""),
+}
+
+
+def count(node: ElementTree.Element, name: str) -> int:
+    """The number of elements with this name in an element."""
+    return sum(1 for _ in node.iter(name))
+
+
+def junit_faults(node: ElementTree.Element) -> Iterator[str]:
+    """What is wrong with an element and those in it."""
+    kind = ELEMENTS.get(node.tag)
+    if kind is None:
+        yield f"unexpected element {node.tag}"
+        return
+    names = set(node.attrib)
+    if not kind.required <= names <= kind.required | kind.optional:
+        yield f"{node.tag} has the attributes {sorted(names)}"
+    counted = {"tests": "testcase", "failures": "failure", "errors": "error"}
+    for name in counted.keys() & names:
+        if node.attrib[name] != str(count(node, counted[name])):
+            yield f"{name} of {node.tag} is {node.attrib[name]}"
+    for child in node:
+        if child.tag not in kind.children:
+            yield f"{child.tag} in {node.tag}"
+        yield from junit_faults(child)
+
+
+class Link(NamedTuple):
+    """A broken link: its target, and its location if it has one."""
+
+    row: Row
+    place: Optional[Row]
+
+    def text(self) -> str:
+        """What is wrong with the link."""
+        return f"{named(self.row)}: {message(self.row)}{as_written(self.row, self.place) if self.place else ''}{advice(self.row)}"
+
+    def rule(self) -> str:
+        """The rule that the link breaks."""
+        return message(self.row).replace("no such ", "missing ").replace(" ", "-").lower()
+
+
+def links_of(rows: List[Row]) -> List[Link]:
+    """The broken links by file, line and column, and then the targets without a location."""
+    found = in_order(targets(rows))
+    placed = [(Link(row, place), place_order(place)) for row, places in found for place in places]
+    return [link for link, _ in sorted(placed, key=lambda one: one[1])] + [Link(row, None) for row, places in found if not places]
+
+
+def path_in(folder: str, file: str) -> str:
+    """The path of a file with its folder."""
+    return file if folder == "." else folder.rstrip("/") + "/" + file
+
+
+def in_xml(text: str) -> str:
+    """A text as XML can have it."""
+    return re.sub("[\ufffe\uffff]", lambda one: f"\\u{{{ord(one[0]):x}}}", shown(text))
+
+
+Case = Tuple[Dict[str, str], Optional[Dict[str, str]], str]  # the attributes of a test case and of its failure, and its text
+
+
+def expected_suites(rows: List[Row], folder: str) -> Iterator[Tuple[str, List[Case]]]:
+    """The names of the test suites, and their cases: one suite for each file, and one for targets without a location."""
+    links = links_of(rows)
+    if not links:
+        yield "links", [({"name": "no broken links", "classname": "links"}, None, "")]
+    for file, some in groupby(links, key=lambda link: link.place["file"] if link.place else None):
+        name = "no file" if file is None else in_xml(file)
+        cases: List[Case] = []
+        for link in some:
+            location = f"{link.place['line']}:{link.place['column']}: " if link.place else ""
+            case = {"name": location + in_xml(named(link.row)), "classname": name}
+            case.update({"file": in_xml(path_in(folder, file))} if file is not None else {})
+            cases.append((case, {"type": link.rule(), "message": in_xml(link.text())}, in_xml(link.text())))
+        yield name, cases
+
+
+def actual_case(case: ElementTree.Element) -> Case:
+    """A test case of a report."""
+    failure = case.find("failure")
+    return dict(case.attrib), None if failure is None else dict(failure.attrib), "" if failure is None else failure.text or ""
+
+
+def junit_fault(actual: str, rows: List[Row], folder: str) -> Optional[str]:
+    """What is wrong with a report in JUnit's XML. GitLab keeps only the first of several test cases with one name."""
+    root = ElementTree.fromstring(actual.encode())
+    faults = list(junit_faults(root)) + [f"the root is {root.tag}"] * (root.tag != "testsuites")
+    if faults:
+        return faults[0]
+    suites = [(suite.attrib["name"], [actual_case(case) for case in suite.iter("testcase")]) for suite in root]
+    for one, other in zip(suites, expected_suites(rows, folder)):
+        if one != other:
+            return f"\n  actual   {one}\n  expected {other}"
+    names = [(case["classname"], case["name"]) for _, cases in suites for case, _, _ in cases]
+    return None if len(suites) == len(list(expected_suites(rows, folder))) and len(set(names)) == len(names) else "suites or names"
+
+
+class Sarif:
+    """Collects what is wrong with a report in SARIF."""
+
+    def __init__(self, log: Dict[str, Any]) -> None:
+        self.faults: List[str] = []
+        self.want(log.get("version") == "2.1.0", "version")
+        self.want(str(log.get("$schema", "https://")).startswith("https://"), "$schema")
+        runs = log.get("runs")
+        self.want(isinstance(runs, list) and len(runs) > 0, "runs")
+        for run in runs if isinstance(runs, list) else []:
+            self.read_run(run)
+
+    def want(self, is_right: object, what: str) -> None:
+        """Keeps a fault if something is not right."""
+        if not is_right:
+            self.faults.append(what)
+
+    def read_run(self, run: Dict[str, Any]) -> None:
+        """Reads a run."""
+        driver = run.get("tool", {}).get("driver", {})
+        self.want(isinstance(driver.get("name"), str) and driver["name"], "tool.driver.name")
+        self.want(run.get("columnKind") == "unicodeCodePoints", "columnKind")
+        rules = [rule.get("id") for rule in driver.get("rules", [])]
+        self.want(all(isinstance(rule, str) for rule in rules) and len(set(rules)) == len(rules), "rules")
+        bases = run.get("originalUriBaseIds", {})
+        for base in bases.values():
+            uri = base.get("uri", "")
+            self.want(ABSOLUTE.fullmatch(uri) and uri.endswith("/"), f"originalUriBaseIds: {uri}")
+        self.want(isinstance(run.get("results"), list), "results")
+        for result in run.get("results") or []:
+            self.read_result(result, rules, bases)
+
+    def read_result(self, result: Dict[str, Any], rules: List[str], bases: Dict[str, Any]) -> None:
+        """Reads a result."""
+        self.want(isinstance(result.get("message", {}).get("text"), str), "message.text")
+        self.want(result.get("level") in LEVELS, "level")
+        self.want(result.get("ruleId") in rules if rules else result.get("ruleId"), "ruleId")
+        self.want("ruleIndex" not in result or rules[result["ruleIndex"]] == result.get("ruleId"), "ruleIndex")
+        for location in result.get("locations", []):
+            place = location.get("physicalLocation", {})
+            artifact, region = place.get("artifactLocation", {}), place.get("region", {})
+            uri = artifact.get("uri", "")
+            self.want(uri and (RELATIVE.fullmatch(uri) or ABSOLUTE.fullmatch(uri)), f"artifactLocation.uri: {uri}")
+            self.want("uriBaseId" not in artifact or artifact["uriBaseId"] in bases, "uriBaseId")
+            self.want(all(isinstance(region.get(name), int) and region[name] > 0 for name in ("startLine", "startColumn")), "region")
+
+
+def expected_result(link: Link, folder: str, sources: str) -> Row:
+    """A result of a report in SARIF. With the URL of the sources, the URI of its file is below this."""
+    result: Row = {"ruleId": link.rule(), "level": "error", "message": {"text": shown(link.text())}}
+    if link.place:
+        file = {"uri": quote(link.place["file"]), "uriBaseId": "SOURCES"} if sources else {"uri": quote(path_in(folder, link.place["file"]))}
+        region = {"startLine": link.place["line"], "startColumn": link.place["column"]}
+        result["locations"] = [{"physicalLocation": {"artifactLocation": file, "region": region}}]
+    return result
+
+
+def sarif_fault(actual: str, rows: List[Row], folder: str, sources: str = "") -> Optional[str]:
+    """What is wrong with a report in SARIF."""
+    log = json.loads(actual)
+    faults = Sarif(log).faults
+    if faults:
+        return faults[0]
+    run = log["runs"][0]
+    bases = {"SOURCES": {"uri": sources.rstrip("/") + "/"}} if sources else None
+    if run.get("originalUriBaseIds") != bases:
+        return f"bases {run.get('originalUriBaseIds')}"
+    results = [expected_result(link, folder, sources) for link in links_of(rows)]
+    for one, other in zip(run["results"], results):
+        if {key: value for key, value in one.items() if key != "ruleIndex"} != other:
+            return f"\n  actual   {one}\n  expected {other}"
+    return None if len(results) == len(run["results"]) else f"{len(run['results'])} results, {len(results)} expected"
