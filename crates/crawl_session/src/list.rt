@@ -435,7 +435,8 @@ fn put_stats(out: &mut Writer, queue: Option<u32>, stats: &Stats) -> Result<(), 
     put_count(out, "done", stats.done)?;
     put_count(out, "in_progress", stats.in_progress)?;
     put_count(out, "waiting", stats.waiting)?;
-    put_count(out, "put_back", stats.put_back)
+    put_count(out, "put_back", stats.put_back)?;
+    put_count(out, "seen", stats.seen)
 }
 
 /// Writes the queue of numbers; `null` if they are of all queues.
