@@ -49,7 +49,7 @@ abbrev pub puts_back : ℕ → Result Request RequestError → Answer → Bool
 puts_back queue (Ok (Later named)) (Told (told.Count left)) = nat_eq named queue
 puts_back queue _ _ = false
 
--- how many offers to the subqueue this one is that were answered `seen`: one, or those that a `seen` stands for
+-- how many offers to the subqueue this one is that were answered `seen`: one, or those that a `seen` counts
 abbrev pub seen_by : ℕ → Result Request RequestError → Answer → ℕ
 seen_by queue (Ok (Offer url named)) (Told told.Seen) = if nat_eq named queue then 1 else 0
 seen_by queue (Ok (Seen named count)) (Told told.Seen) = if nat_eq named queue then count else 0

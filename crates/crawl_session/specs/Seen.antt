@@ -8,7 +8,7 @@ use Rattle.crawl_session.specs.declared.answer.Answer.TheVariants.{Told}
 abbrev pub sum_of : ℕ → ℕ → ℕ
 sum_of a b = min (a + b) (2 ^ 64 - 1)
 
--- so many more, of a queue
+-- a larger number of a queue
 abbrev pub add_seen : ℕ → ℕ → List ℕ → List ℕ
 add_seen queue count seen = slice_set seen queue (sum_of (get_or seen queue 0) count)
 
