@@ -97,12 +97,14 @@ pub counted_from_none : (settings : Settings) (max : ℕ) (lines : List (List �
 counted_from_none settings max lines queue inside =
     let begun = start settings.workers max in
     let zero : seen_at begun queue ≡ 0 = get_or-replicate settings.workers queue 0 0 inside in
-    counted settings begun lines queue (subst (λ n. queue < n) (sym (starts_long settings.workers max)) inside) (subst Small (sym zero) (omega arith))
-    ∙ ap (λ n. sum_of n (seen_of queue (asked settings begun lines))) zero
+    let none : Small 0 = omega arith in
+    let all = counted settings begun lines queue (subst (λ n. queue < n) (sym (starts_long settings.workers max)) inside) (subst Small (sym zero) none) in
+    omega (arith, all, zero)
 
 pub small_after : (settings : Settings) (max : ℕ) (lines : List (List ℕ)) (queue : ℕ) → queue < settings.workers → Small (seen_at (state_after settings (start settings.workers max) lines) queue)
 small_after settings max lines queue inside =
-    subst Small (sym (counted_from_none settings max lines queue inside)) (sum_small 0 (seen_of queue (asked settings (start settings.workers max) lines)))
+    let is = counted_from_none settings max lines queue inside in
+    omega (arith, is)
 
 pub long_after : (settings : Settings) (max : ℕ) (lines : List (List ℕ)) → length (state_after settings (start settings.workers max) lines).seen ≡ settings.workers
 long_after settings max lines = lines_long settings (start settings.workers max) lines ∙ starts_long settings.workers max

@@ -48,7 +48,10 @@ record Fits (queue count : ℕ) : Type 0 where
   small : Small count
 
 abbrev numbers_text : ℕ → ℕ → List ℕ
-numbers_text queue count = decimal queue ++ codes " " ++ decimal count
+numbers_text queue count = decimal queue ++ (codes " " ++ decimal count)
+
+line_parts : (queue count : ℕ) → seen_line queue count ≡ codes "seen " ++ numbers_text queue count
+line_parts queue count = grind (arith, append_assoc)
 
 first_is : (queue count : ℕ) → Fits queue count → IsNumber 32 queue (decimal queue)
 first_is queue count fits = let few = fits.few in number_printed 32 queue (omega (arith, few)) few
@@ -62,23 +65,26 @@ line_short queue count fits =
     let small = fits.small in
     let first = length-decimal-le 20 queue (omega arith) (omega (arith, few)) (omega (arith, few)) in
     let second = length-decimal-le 20 count (omega arith) (omega (arith, small)) (omega (arith, small)) in
-    let inner = length-append (codes " ") (decimal count) in
+    let inner : length (codes " " ++ decimal count) ≡ 1 + length (decimal count) = length-append (codes " ") (decimal count) in
     let parts = length-append (decimal queue) (codes " " ++ decimal count) in
-    let all = length-append (codes "seen ") (numbers_text queue count) in
-    not_long line_limit (length (seen_line queue count)) (omega (arith, first, second, inner, parts, all))
+    let all : length (codes "seen " ++ numbers_text queue count) ≡ 5 + length (numbers_text queue count) = length-append (codes "seen ") (numbers_text queue count) in
+    let whole = ap length (line_parts queue count) in
+    let short : length (seen_line queue count) ≤ line_limit = omega (arith, first, second, inner, parts, all, whole) in
+    not_long line_limit (length (seen_line queue count)) short
 
 line_utf8 : (queue count : ℕ) → Fits queue count → is_utf8 (seen_line queue count) ≡ true
 line_utf8 queue count fits =
     let few = fits.few in
     let small = fits.small in
     let numbers = IsAscii-append (decimal queue) (codes " " ++ decimal count) (IsAscii-decimal queue (omega (arith, few))) (IsAscii-append (codes " ") (decimal count) (word_ascii (codes " ") refl) (IsAscii-decimal count (omega (arith, small)))) in
-    is_utf8-from_IsUtf8 (seen_line queue count) (IsUtf8-from_ascii (seen_line queue count) (IsAscii-append (codes "seen ") (numbers_text queue count) (word_ascii (codes "seen ") refl) numbers))
+    let text = IsAscii-append (codes "seen ") (numbers_text queue count) (word_ascii (codes "seen ") refl) numbers in
+    is_utf8-from_IsUtf8 (seen_line queue count) (IsUtf8-from_ascii (seen_line queue count) (subst IsAscii (sym (line_parts queue count)) text))
 
 line_whole : (queue count : ℕ) → Fits queue count → IsUnfinished (seen_line queue count)
 line_whole queue count fits =
     let numbers = All-append IsOther (decimal queue) (codes " " ++ decimal count) (number_whole 32 queue (decimal queue) (first_is queue count fits))
     (All-append IsOther (codes " ") (decimal count) (word_whole (codes " ") refl) (number_whole 64 count (decimal count) (second_is queue count fits))) in
-    All-append IsOther (codes "seen ") (numbers_text queue count) (word_whole (codes "seen ") refl) numbers
+    subst IsUnfinished (sym (line_parts queue count)) (All-append IsOther (codes "seen ") (numbers_text queue count) (word_whole (codes "seen ") refl) numbers)
 
 -- ---- what it requests
 
@@ -98,7 +104,7 @@ numbers_ask queue count fits =
 line_asks : (settings : Settings) (queue count : ℕ) → Fits queue count → request_of settings.workers settings.suffixes (seen_line queue count) ≡ Ok (Seen queue count)
 line_asks settings queue count fits =
     text_asks settings.workers settings.suffixes (seen_line queue count) (Seen queue count) (line_short queue count fits) (line_utf8 queue count fits)
-    (ap (request_from settings.workers settings.suffixes (seen_line queue count)) (at_space-joined (seen_line queue count) (codes "seen") (numbers_text queue count) refl refl)
+    (ap (request_from settings.workers settings.suffixes (seen_line queue count)) (at_space-joined (seen_line queue count) (codes "seen") (numbers_text queue count) refl (line_parts queue count))
     ∙ ap (λ (o : Option Request). ok_or o wrong.BadLine) (numbers_ask queue count fits))
 
 -- a part reads it as any frontier does

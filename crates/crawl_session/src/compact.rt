@@ -129,9 +129,7 @@ pub fn write_seen<O: Write>(alloc: Global, session: &Session, out: &mut O) -> Re
     ensures { IfOk result (λ _. Appends (O.contents out.old) (O.contents out.new) (spec.log_text (seen_lines 0 session.now.core.seen))) }
 {
     let counts = &session.frontier.seen;
-    let Ok(queues) = u32::try_from(counts.len()) else {
-        return Err(ServeError::NoMemory);
-    };
+    let queues = counts.queues()?;
     for queue in 0..queues {
         write_count(alloc, queue, counts.get(queue), out)?;
     }

@@ -4,7 +4,7 @@ ghost use Rattle.crawl_session.specs.Seen as spec;
 ghost use Rattle.crawl_session.specs.declared.answer.Answer.TheVariants.{Told};
 
 use crawl_core::{NoMemory, Reply};
-use std::alloc::Global;
+use std::alloc::{AllocError, Global};
 use std::marker::Model;
 
 /// How many offers to each queue were answered `seen`. A number goes up to 2^64 - 1.
@@ -33,11 +33,17 @@ impl SeenCounts {
         Ok(SeenCounts { counts })
     }
 
-    /// Returns how many queues there are.
-    pub(crate) fn len(&self) -> usize
-        ensures { result ≡ length self.now }
+    /// Returns the number of queues.
+    ///
+    /// # Errors
+    /// It does not fit in 32 bits.
+    pub(crate) fn queues(&self) -> Result<u32, NoMemory>
+        ensures { IfOk result (λ queues. queues ≡ length self.now) }
     {
-        self.counts.len()
+        match u32::try_from(self.counts.len()) {
+            Ok(queues) => Ok(queues),
+            Err(_) => Err(AllocError),
+        }
     }
 
     /// Returns the number of the queue, or 0 if there is no such queue.
