@@ -201,9 +201,11 @@ pub written_more : (out_old out_mid out_new : Option (List ℕ)) (seen : List �
 written_more out_old out_mid out_new seen k inside front one =
     let count = get_or seen k 0 in
     let before = seen_lines 0 (take k seen) in
+    let long = length-take-le k seen (omega (arith, inside)) in
+    let place : 0 + length (take k seen) ≡ k = omega (arith, long) in
     let text : log_text (seen_lines 0 (take (k + 1) seen)) ≡ log_text before ++ log_text (line_of k count) =
     ap (λ l. log_text (seen_lines 0 l)) (take_more seen k 0 inside)
     ∙ ap log_text (one_more 0 (take k seen) count)
-    ∙ ap (λ q. log_text (before ++ line_of q count)) (length-take-le k seen (omega (arith, inside)))
+    ∙ ap (λ q. log_text (before ++ line_of q count)) place
     ∙ flat_map-append log_line before (line_of k count) in
     subst (Appends out_old out_new) (sym text) (Appends-trans out_old out_mid out_new (log_text before) (log_text (line_of k count)) front one)

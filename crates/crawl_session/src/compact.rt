@@ -9,6 +9,7 @@ ghost use Rattle.crawl_session.specs.declared.answer.Answer.TheVariants.{Told};
 
 use crate::answer::Answer;
 use crate::request::{Request, RequestError};
+use crate::seen::SeenCounts;
 use crate::serving::ServeError;
 use crate::session::Session;
 use crate::texts::Texts;
@@ -128,7 +129,13 @@ fn is_closed(reply: &Reply) -> bool
 pub fn write_seen<O: Write>(alloc: Global, session: &Session, out: &mut O) -> Result<(), ServeError>
     ensures { IfOk result (λ _. Appends (O.contents out.old) (O.contents out.new) (spec.log_text (seen_lines 0 session.now.core.seen))) }
 {
-    let counts = &session.frontier.seen;
+    write_counts(alloc, &session.frontier.seen, out)
+}
+
+/// Writes the lines that keep these numbers of `seen`.
+fn write_counts<O: Write>(alloc: Global, counts: &SeenCounts, out: &mut O) -> Result<(), ServeError>
+    ensures { IfOk result (λ _. Appends (O.contents out.old) (O.contents out.new) (spec.log_text (seen_lines 0 counts.now))) }
+{
     let queues = counts.queues()?;
     for queue in 0..queues {
         write_count(alloc, queue, counts.get(queue), out)?;
