@@ -80,9 +80,10 @@ def numbers() -> None:
         frontier.take(queue)
         frontier.done(queue)
         frontier.take(other)
-        expect(frontier.stats(queue) == Stats(3, 1, 0, 2, 1), f"{frontier.stats(queue)}")
-        expect(frontier.stats(other) == Stats(1, 0, 1, 0, 0), f"{frontier.stats(other)}")
-        expect(frontier.stats() == Stats(4, 1, 1, 2, 1), f"{frontier.stats()}")
+        frontier.offer_all(["http://a.test/1", "http://a.test/3#x", "http://b.test/"])
+        expect(frontier.stats(queue) == Stats(3, 1, 0, 2, 1, 2), f"{frontier.stats(queue)}")
+        expect(frontier.stats(other) == Stats(1, 0, 1, 0, 0, 1), f"{frontier.stats(other)}")
+        expect(frontier.stats() == Stats(4, 1, 1, 2, 1, 3), f"{frontier.stats()}")
         expect_error(NoSuchQueue, lambda: frontier.stats(2))
 
 

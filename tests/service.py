@@ -289,7 +289,7 @@ def metrics(folder: Path) -> None:
             answers = ("filtered", "line too long", "not UTF-8", "not a URL", "not http or https", "refused full", "seen")
             expected = {
                 "accepted_total": 4, "taken_total": 3, "done_total": 1, "put_back_total": 1, "in_progress": 1,
-                "waiting": 2, "waiting_put_back": 1, "clients": 1, "owned_queues": 1, "queues": 3, "closed": 0,
+                "waiting": 2, "waiting_put_back": 1, "seen_total": 1, "clients": 1, "owned_queues": 1, "queues": 3, "closed": 0,
                 **{f'refused_total{{reason="{answer}"}}': 1 for answer in answers},
             }
             found = service.figures()

@@ -37,6 +37,7 @@ class Frontier:
         self.waiting: List[Deque[str]] = [deque() for _ in range(trap.workers)]
         self.put_back: List[Set[str]] = [set() for _ in range(trap.workers)]
         self.numbers = [0] * trap.workers
+        self.again = [0] * trap.workers  # offers that were answered `seen`
         self.in_progress: Dict[int, str] = {}
         self.seen: Set[str] = set()
         self.offered: Set[str] = set()
@@ -96,17 +97,21 @@ class Frontier:
         if self.is_closed:
             return "refused closed"
         if url in self.seen:
+            self.again[self.queue_of(url)] += 1
             return "seen"
         if self.count >= self.trap.max_pending:
             return "refused full"
-        host = url.split("/")[2].split(":")[0]
-        queue = (int(host.rpartition(".")[2]) - 1) % self.trap.workers
+        queue = self.queue_of(url)
         self.seen.add(url)
         self.waiting[queue].append(url)
         self.count += 1
         self.numbers[queue] += 1
         self.polls[queue] = 0
         return f"accepted {queue} {self.numbers[queue] - 1}"
+
+    def queue_of(self, url: str) -> int:
+        host = url.split("/")[2].split(":")[0]
+        return (int(host.rpartition(".")[2]) - 1) % self.trap.workers
 
     def end_seeds(self) -> str:
         if not self.has_seeds:
@@ -182,11 +187,12 @@ class Frontier:
         busy = sum(queue in self.in_progress for queue in queues)
         waiting = sum(len(self.waiting[queue]) for queue in queues)
         put_back = sum(len(self.put_back[queue]) for queue in queues)
+        seen = sum(self.again[queue] for queue in queues)
         done = accepted - busy - waiting
         if not self.is_replaying:
-            self.note(stats=f"stats {name} {accepted} {done} {busy} {waiting} {put_back}")
+            self.note(stats=f"stats {name} {accepted} {done} {busy} {waiting} {put_back} {seen}")
         return (f"stats accepted {accepted} done {done} in-progress {busy} waiting {waiting}"
-                f" put-back {put_back}")
+                f" put-back {put_back} seen {seen}")
 
     def judge_offers(self) -> None:
         """Judges the offers of a crawler that was killed."""

@@ -67,9 +67,9 @@ const (
 )
 
 // Stats are numbers of URLs. Each accepted URL is done, in progress or waiting. PutBack is how many
-// of the waiting ones were put back.
+// of the waiting ones were put back, and Seen how many offers were answered Seen.
 type Stats struct {
-	Accepted, Done, InProgress, Waiting, PutBack int
+	Accepted, Done, InProgress, Waiting, PutBack, Seen int
 }
 
 // A Frontier is a URL frontier that runs as a process of its own. Several goroutines may use it at
@@ -228,8 +228,8 @@ func (f *Frontier) Stats(queue int) (s Stats, err error) {
 	}
 	f.mu.Lock()
 	defer f.mu.Unlock()
-	const form = "stats accepted %d done %d in-progress %d waiting %d put-back %d"
-	err = f.ask(request, form, &s.Accepted, &s.Done, &s.InProgress, &s.Waiting, &s.PutBack)
+	const form = "stats accepted %d done %d in-progress %d waiting %d put-back %d seen %d"
+	err = f.ask(request, form, &s.Accepted, &s.Done, &s.InProgress, &s.Waiting, &s.PutBack, &s.Seen)
 	return s, err
 }
 

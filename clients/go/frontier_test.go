@@ -195,9 +195,9 @@ func TestStats(t *testing.T) {
 	take(t, f, queue)
 	done(t, f, queue)
 	for queue, wanted := range map[int]Stats{
-		queue: {Accepted: 3, Done: 1, Waiting: 2, PutBack: 1},
+		queue: {Accepted: 3, Done: 1, Waiting: 2, PutBack: 1, Seen: 1},
 		other: {Accepted: 1, InProgress: 1},
-		-1:    {Accepted: 4, Done: 1, InProgress: 1, Waiting: 2, PutBack: 1},
+		-1:    {Accepted: 4, Done: 1, InProgress: 1, Waiting: 2, PutBack: 1, Seen: 1},
 	} {
 		stats, err := f.Stats(queue)
 		checkError(t, "stats", err, nil)

@@ -21,7 +21,7 @@ import { spawn } from 'node:child_process';
  * @typedef {(typeof REFUSALS)[number]} Refusal
  *
  * Numbers of URLs. Each accepted one is done, in progress or waiting; some of these were put back.
- * @typedef {Record<'accepted' | 'done' | 'inProgress' | 'waiting' | 'putBack', number>} Stats
+ * @typedef {Record<'accepted'|'done'|'inProgress'|'waiting'|'putBack'|'seen', number>} Stats
  *
  * @typedef {object} Options
  * @property {number} [workers] Number of workers and queues, 1 to 512; 4 by default.
@@ -35,7 +35,7 @@ import { spawn } from 'node:child_process';
 const PIECE = 1_000; // this many requests are sent before their answers are awaited
 const TOO_LONG = `offer ${'x'.repeat(4_091)}`; // sent for any request of more than 4,096 bytes
 const EXIT_MS = 10_000; // how long the program may take to exit
-const STATS = /^accepted (\d+) done (\d+) in-progress (\d+) waiting (\d+) put-back (\d+)$/;
+const STATS = /^accepted (\d+) done (\d+) in-progress (\d+) waiting (\d+) put-back (\d+) seen (\d+)$/;
 const REFUSALS = /** @type {const} */ (['seen', 'filtered', 'not a URL', 'not http or https',
   'line too long', 'not UTF-8', 'refused closed', 'refused full']);
 
@@ -273,8 +273,8 @@ export class Frontier {
     const text = await this.#askFor('stats', queue === undefined ? 'stats' : `stats ${queue}`);
     const match = STATS.exec(text ?? '');
     if (!match) throw this.#errorOf(`stats ${text}`);
-    const [accepted, done, inProgress, waiting, putBack] = match.slice(1).map(Number);
-    return { accepted, done, inProgress, waiting, putBack };
+    const [accepted, done, inProgress, waiting, putBack, seen] = match.slice(1).map(Number);
+    return { accepted, done, inProgress, waiting, putBack, seen };
   }
 
   /**

@@ -189,6 +189,7 @@ class Stats(NamedTuple):
     in_progress: int
     waiting: int
     put_back: int  # those of the waiting ones that were put back by `later`
+    seen: int  # how many offers were answered `seen`
 
 
 class Closed(enum.Enum):

@@ -66,7 +66,7 @@ LONGEST = 4_098  # a longer line gets the same answer
 SECONDS_TO_END = 10
 OF_QUEUE = re.compile(rb"(next|done|later|again) ([0-9]{1,20})\r?")
 STATS = re.compile(
-    rb"stats accepted (\d+) done (\d+) in-progress (\d+) waiting (\d+) put-back (\d+)"
+    rb"stats accepted (\d+) done (\d+) in-progress (\d+) waiting (\d+) put-back (\d+) seen (\d+)"
 )
 # Seconds without a sign of life, seconds between two questions, and how many may be unanswered.
 KEEP_ALIVE = ((socket.TCP_KEEPIDLE, 60), (socket.TCP_KEEPINTVL, 15), (socket.TCP_KEEPCNT, 4))
@@ -317,13 +317,14 @@ class Service:
         ]
         stats = STATS.fullmatch((await self.ask([b"stats"]))[0])
         if stats:
-            accepted, done, in_progress, waiting, put_back = map(int, stats.groups())
+            accepted, done, in_progress, waiting, put_back, seen = map(int, stats.groups())
             figures += [
                 ("accepted_total", accepted, "URLs that were accepted"),
                 ("done_total", done, "URLs that are done"),
                 ("in_progress", in_progress, "URLs that are in progress"),
                 ("waiting", waiting, "URLs that wait, with those that were put back"),
                 ("waiting_put_back", put_back, "URLs that wait and were put back"),
+                ("seen_total", seen, "Offers that were answered `seen`"),
             ]
         lines = ["# HELP mercator_refused_total Offers that were refused since the start.",
                  "# TYPE mercator_refused_total counter"]

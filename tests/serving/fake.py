@@ -4,7 +4,7 @@
 Usage: fake.py serve [--workers N] [--max-pending M] [--within SUFFIX] [--part I/K]
                      [--log FILE [--sync] [--wait SECONDS]]
 
-It uses the model of URLs in drawn.py. It has no `--compact` and no `--list`, and the first line of its log is not
+It uses the model of URLs in drawn.py. It has no `--compact`, no `--list` and no request `seen`, and the first line of its log is not
 that of the program.
 """
 
@@ -56,6 +56,7 @@ class Frontier:
         self.put_back: List[Set[str]] = [set() for _ in range(settings.workers)]
         self.in_hand: List[Optional[str]] = [None] * settings.workers
         self.numbers = [0] * settings.workers
+        self.again = [0] * settings.workers  # offers that were answered `seen`
         self.seen: Set[str] = set()
         self.count = 1
         self.has_seeds = True
@@ -118,14 +119,15 @@ class Frontier:
         return "closed" if self.is_closed else f"pending {self.count}"
 
     def stats(self, queues: Iterable[int]) -> str:
-        accepted = busy = waiting = put_back = 0
+        accepted = busy = waiting = put_back = seen = 0
         for own in queues:
             accepted += self.numbers[own]
             busy += self.in_hand[own] is not None
             waiting += len(self.waiting[own])
             put_back += len(self.put_back[own])
+            seen += self.again[own]
         done = accepted - busy - waiting
-        return f"stats accepted {accepted} done {done} in-progress {busy} waiting {waiting} put-back {put_back}"
+        return f"stats accepted {accepted} done {done} in-progress {busy} waiting {waiting} put-back {put_back} seen {seen}"
 
     def lower(self) -> str:
         self.count -= 1
@@ -147,6 +149,7 @@ class Frontier:
         if self.count >= settings.most:
             return "refused full"
         if url in self.seen:
+            self.again[own] += 1
             return "seen"
         self.seen.add(url)
         self.waiting[own].append(url)

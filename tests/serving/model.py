@@ -9,6 +9,7 @@ from typing import Dict, Iterable, List, Optional, Sequence, Set, Tuple
 import drawn
 
 LINE_LIMIT = 4096
+MOST = 2**64 - 1  # the largest number that is counted to
 
 
 class Session:
@@ -22,6 +23,7 @@ class Session:
         self.waiting: List[List[str]] = [[] for _ in range(workers * parts)]
         self.put_back: List[Set[str]] = [set() for _ in range(workers * parts)]
         self.accepted = [0] * (workers * parts)
+        self.again = [0] * (workers * parts)  # offers that were answered `seen`
         self.busy: Dict[int, str] = {}
         self.ended: List[Tuple[int, str]] = []
         self.seen: Set[str] = set()
@@ -50,9 +52,20 @@ class Session:
             return self.end_seeds()
         if text == "stats":
             return self.stats(range(len(self.waiting)))
+        if word == "seen" and re.fullmatch("[0-9]{1,20} [0-9]{1,20}", rest):
+            return self.count_seen(*map(int, rest.split(" ")))
         if word in ("next", "done", "again", "later", "stats") and re.fullmatch("[0-9]{1,20}", rest) and int(rest) < 2**32:
             return self.of_queue(word, int(rest))
         return "bad line"
+
+    def count_seen(self, queue: int, count: int) -> str:
+        """The answer to `seen`, by which a compacted log keeps the numbers of the log."""
+        if queue >= 2**32 or count > MOST:
+            return "bad line"
+        if queue >= len(self.again):
+            return "refused nosuch"
+        self.again[queue] = min(self.again[queue] + count, MOST)
+        return "seen"
 
     def end_seeds(self) -> str:
         if not self.opening:
@@ -85,10 +98,13 @@ class Session:
 
     def numbers(self, queues: Iterable[int]) -> Dict[str, int]:
         """Return the numbers in the answer to `stats`, by name."""
-        rows = [(self.accepted[q], q in self.busy, len(self.waiting[q]), len(self.put_back[q])) for q in queues]
-        accepted, busy, waiting, put_back = map(sum, zip(*rows))
+        rows = [
+            (self.accepted[q], q in self.busy, len(self.waiting[q]), len(self.put_back[q]), self.again[q]) for q in queues
+        ]
+        accepted, busy, waiting, put_back, seen = map(sum, zip(*rows))
         done = accepted - busy - waiting
-        return {"accepted": accepted, "done": done, "in-progress": busy, "waiting": waiting, "put-back": put_back}
+        return {"accepted": accepted, "done": done, "in-progress": busy, "waiting": waiting, "put-back": put_back,
+                "seen": min(seen, MOST)}
 
     def listed(self, kind: str) -> List[Tuple[int, str]]:
         """Return the URLs of `--list` with their queues, in order."""
@@ -129,7 +145,7 @@ class Session:
         if self.count() == self.most:
             return "refused full"
         if str(url) in self.seen:
-            return "seen"
+            return self.count_seen(queue, 1)
         self.seen.add(str(url))
         self.waiting[queue].append(str(url))
         self.accepted[queue] += 1
@@ -143,7 +159,8 @@ ODD_LINES = (
     b"done 00000000000000000000", b"done 000000000000000000000", b"offer ", b"link  x", b"link  http://a.test/",
     b"later", b"later ", b"later x", b"later -1", b"later 4294967296", b"later 4294967295", b"stats ", b"stats x", b"stats  0",
     b"stats 4294967296", b"stats 4294967295", b"stats 0 0", b"Stats", b"sync", b"sync ", b"sync 0", b"identity x", b"synced",
-    b"#", b"#00000000", b"# next 0", b" #",
+    b"#", b"#00000000", b"# next 0", b" #", b"seen", b"seen 0", b"seen 0 x", b"seen x 0", b"seen  0 0", b"seen 0 0 ", b"seen 0 0 0",
+    b"seen 0 18446744073709551616", b"seen 4294967296 1", b"seen 4294967295 1", b"seen 0 000000000000000000001",
 )
 
 
@@ -166,7 +183,8 @@ def drawn_line(draw: Random, first: int, workers: int, has_link: bool, hosts: Se
     if kind < 94 and has_link:
         return b"again %d" % queue
     if kind < 95 and has_link:
-        return draw.choice((b"stats", b"stats %d" % queue))
+        count = draw.choice((0, 1, 1, 2, 10**6, MOST - draw.randrange(9)))
+        return draw.choice((b"stats", b"stats %d" % queue, b"stats %d" % queue, b"seen %d %d" % (queue, count)))
     if kind < 97:
         return draw.choice(ODD_LINES)
     if kind < 98:

@@ -96,7 +96,7 @@ func printStats(f *frontier.Frontier, queue int) error {
 		if err != nil {
 			return err
 		}
-		fmt.Println("stats", name, s.Accepted, s.Done, s.InProgress, s.Waiting, s.PutBack)
+		fmt.Println("stats", name, s.Accepted, s.Done, s.InProgress, s.Waiting, s.PutBack, s.Seen)
 	}
 	return nil
 }

@@ -23,8 +23,8 @@ function get(url) {
   });
 }
 
-function print(name, { accepted, done, inProgress, waiting, putBack }) {
-  console.log('stats', name, accepted, done, inProgress, waiting, putBack);
+function print(name, { accepted, done, inProgress, waiting, putBack, seen }) {
+  console.log('stats', name, accepted, done, inProgress, waiting, putBack, seen);
 }
 
 async function visit(frontier, url, queue) {

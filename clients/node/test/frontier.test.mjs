@@ -130,7 +130,7 @@ withFrontier('a URL that is put back, and the only one', { workers: 1 }, async (
 });
 
 withFrontier('the numbers of URLs', { workers: 2 }, async (frontier) => {
-  const none = { accepted: 0, done: 0, inProgress: 0, waiting: 0, putBack: 0 };
+  const none = { accepted: 0, done: 0, inProgress: 0, waiting: 0, putBack: 0, seen: 0 };
   assert.deepEqual(await frontier.stats(), none);
   const urls = ['http://a.test/1', 'http://a.test/2', 'http://a.test/3', 'http://b.test/'];
   const offers = await frontier.offerAll([...urls, ...urls, 'mailto:x']);
@@ -141,10 +141,10 @@ withFrontier('the numbers of URLs', { workers: 2 }, async (frontier) => {
   await frontier.take(queue);
   await frontier.done(queue);
   await frontier.take(other);
-  const numbers = { accepted: 3, done: 1, inProgress: 0, waiting: 2, putBack: 1 };
+  const numbers = { accepted: 3, done: 1, inProgress: 0, waiting: 2, putBack: 1, seen: 3 };
   assert.deepEqual(await frontier.stats(queue), numbers);
-  assert.deepEqual(await frontier.stats(other), { ...none, accepted: 1, inProgress: 1 });
-  assert.deepEqual(await frontier.stats(), { ...numbers, accepted: 4, inProgress: 1 });
+  assert.deepEqual(await frontier.stats(other), { ...none, accepted: 1, inProgress: 1, seen: 1 });
+  assert.deepEqual(await frontier.stats(), { ...numbers, accepted: 4, inProgress: 1, seen: 4 });
   for (const wrong of [-1, 2, 0.5, null]) await assert.rejects(frontier.stats(wrong), NoSuchQueue);
 });
 

@@ -8,7 +8,7 @@ mod replay;
 mod replies;
 mod script;
 
-pub use numbers::number32;
+pub use numbers::{number32, number64};
 pub use replay::replay_text;
 pub use replies::ReplyText;
 pub use script::{Header, Script, ScriptError, header_of, read_script};

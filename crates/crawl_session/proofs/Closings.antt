@@ -1,5 +1,5 @@
 -- A session with the answer that the frontier is closed.
-use Rattle.crawl_session.proofs.Prelude.{◌≡◌, ℕ, List, [], ◌∷◌, ◌++◌, Option, Result, Ok, Err, sym, ap, subst, ◌∙◌, arith, append_assoc, append-nil, Event, Reply, State, turn, Told, Request, Offer, Next, Again, Later, Done, EndSeeds, Stats, RequestError, Deferred, Outcome, counting, deferring, exchange, finishing, offering, taking, taking_again, taking_next, Frontier, deferrals_at, request_for, answered, line_exchange, history_of, state_after, Settings}
+use Rattle.crawl_session.proofs.Prelude.{◌≡◌, ℕ, List, [], ◌∷◌, ◌++◌, slice_get, Option, Some, None, Result, Ok, Err, sym, ap, subst, ◌∙◌, arith, append_assoc, append-nil, Event, Reply, State, turn, Told, Request, Offer, Next, Again, Later, Done, EndSeeds, Seen, Stats, RequestError, Deferred, Outcome, counting, deferring, seen_reply, exchange, finishing, offering, taking, taking_again, taking_next, Frontier, deferrals_at, request_for, answered, line_exchange, history_of, state_after, Settings}
 use Rattle.crawl_core.specs.declared.event.Event.TheVariants as event
 use Rattle.crawl_core.specs.declared.reply.Reply.TheVariants as told
 use Rattle.crawl_session.proofs.Choices.{either_way}
@@ -46,6 +46,10 @@ finishing_closes state named fetched = grind arith
 counting_closes : (state : Frontier) (queue : Option ℕ) → ClosesSo (counting state queue)
 counting_closes state queue = grind arith
 
+not_closed : (before : Option ℕ) → Told (seen_reply before) ≡ Told told.Closed → ⊥
+not_closed None closed = cc
+not_closed (Some count) closed = cc
+
 exchange_closes : (state : Frontier) (request : Request) → ClosesSo (exchange state request)
 exchange_closes state (Offer url named) = offering_closes state.machine url named
 exchange_closes state (Next named) = next_closes state named (deferrals_at state named).waiting (deferrals_at state named).fetched
@@ -53,6 +57,7 @@ exchange_closes state (Again named) = again_closes state named (deferrals_at sta
 exchange_closes state (Later named) = deferring_closes state named (deferrals_at state named).fetched
 exchange_closes state (Done named) = finishing_closes state named (deferrals_at state named).fetched
 exchange_closes state (Stats queue) = counting_closes state queue
+exchange_closes state (Seen named count) = λ closed. absurd (not_closed (slice_get state.seen named) closed)
 exchange_closes state EndSeeds = λ closed. closes_at event.EndSeeds (turn state.machine event.EndSeeds).reply (told_is closed)
 
 pub answered_closes : (state : Frontier) (asks : Result Request RequestError) → (answered state asks).answer ≡ Told told.Closed → Closes (answered state asks).history

@@ -1,5 +1,5 @@
 -- The text of the lines that are needed has these lines.
-use Rattle.crawl_session.proofs.Prelude.{common_steps, nat_tests, All, slice_split, onto_first, lines, lines_of_parts, strip_carriage_return, All-nil, All-cons, All-head, All-tail, slice_split-cons_yes, slice_split-cons_no, Had, having, is_needed, needed, log_line, log_text, IsUnfinished, Frontier, request_for, line_exchange, Settings}
+use Rattle.crawl_session.proofs.Prelude.{common_steps, nat_tests, All, All-append, slice_split, onto_first, lines, lines_of_parts, strip_carriage_return, All-nil, All-cons, All-head, All-tail, slice_split-cons_yes, slice_split-cons_no, Had, having, is_needed, needed, log_line, log_text, IsUnfinished, Frontier, request_for, line_exchange, Settings}
 use Rattle.std.proofs.Common.{◌≡◌, ℕ, ◌-◌, ◌==◌, Bool, true, false, if◌then◌else◌, List, [], ◌∷◌, ◌++◌, length, take, slice_index, refl, sym, ap, ◌∙◌, arith, append_assoc, length-append}
 use Rattle.std.proofs.Math.Seq.{get_or-append_seam, take-append_seam}
 use Rattle.crawl_session.proofs.Cuts.{IsOther, is_lf, line_before}
@@ -74,7 +74,9 @@ text_stands [] all = refl
 text_stands (line ∷ more) all =
     line_stands line (log_text more) (All-head IsUnfinished line more all) ∙ ap (λ l. line ∷ l) (text_stands more (All-tail IsUnfinished line more all))
 
-pub needed_stands : (settings : Settings) (had : Had) (state : Frontier) (bytes : List ℕ) → lines (log_text (needed settings had state (lines bytes))) ≡ needed settings had state (lines bytes)
+-- the lines that are needed, and others after them
+pub needed_stands : (settings : Settings) (had : Had) (state : Frontier) (bytes : List ℕ) (more : List (List ℕ)) → All IsUnfinished more → lines (log_text (needed settings had state (lines bytes) ++ more)) ≡ needed settings had state (lines bytes) ++ more
 unfolding AllWhole
-needed_stands settings had state bytes =
-    text_stands (needed settings had state (lines bytes)) (needed_whole settings had state (lines bytes) (of_parts (slice_split is_lf bytes) (parts_whole bytes)))
+needed_stands settings had state bytes more whole =
+    let front = needed settings had state (lines bytes) in
+    text_stands (front ++ more) (All-append IsUnfinished front more (needed_whole settings had state (lines bytes) (of_parts (slice_split is_lf bytes) (parts_whole bytes))) whole)

@@ -1,6 +1,7 @@
 -- The numbers of a queue, derived from the answers before.
-use Rattle.crawl_session.proofs.Prelude.{◌≡◌, ℕ, ◌+◌, ◌-◌, true, false, is_some, List, [], ◌∷◌, length, map, take, drop, Option, Some, None, sym, ap, subst, ◌∙◌, arith, one_if, progress, accepted_in, Subqueue, waiting, state_of_history, start_sound, Deferred, IsTold, accepted_of, asked, joined_from, joined_of, put_back_of, taken_of, deferrals_at, start, history_of, state_after, Settings}
+use Rattle.crawl_session.proofs.Prelude.{◌≡◌, ℕ, ◌+◌, ◌-◌, ◌^◌, ◌<◌, true, false, is_some, List, [], ◌∷◌, length, map, take, drop, Option, Some, None, sym, ap, subst, ◌∙◌, arith, slice_get_within, one_if, progress, accepted_in, Subqueue, waiting, state_of_history, start_sound, Deferred, IsTold, accepted_of, asked, joined_from, joined_of, put_back_of, seen_of, taken_of, deferrals_at, start, history_of, state_after, Settings}
 use Rattle.std.proofs.lemmas.List.{length-append, length-drop, length-map, take-append-drop}
+use Rattle.std.specs.Prelude.{min}
 use Rattle.crawl_session.specs.declared.stats.Stats.{Stats}
 use Rattle.crawl_session.specs.Stats.{stats_at, stats_of}
 use Rattle.crawl_session.proofs.Conserved.{counted_joins, counted_takes, line_of, settled_after_lines, starts_free, starts_settled}
@@ -11,6 +12,7 @@ use Rattle.crawl_session.proofs.Queues.{busy_of, queue_at}
 use Rattle.crawl_session.proofs.Returns.{busy_is}
 use Rattle.crawl_session.proofs.Runs.{session_runs}
 use Rattle.crawl_session.proofs.Sees.{sees_accepted}
+use Rattle.crawl_session.proofs.SeenCounts.{counted_from_none, seen_at}
 
 -- the length of the line is the number of URLs that are still to be taken plus the number that were put back
 pub length_in_line : (taken : ℕ) (urls : List (List ℕ)) (ds : List Deferred) → length (in_line taken urls ds) ≡ length urls + length ds
@@ -26,8 +28,16 @@ length_in_line taken urls (d ∷ ds) =
 busy_flags : (found : Subqueue) (fetched : Option Deferred) → (is_some fetched ≡ true → found.busy ≡ false) → (found.busy ≡ true → is_some (busy_at (Some found) None) ≡ true) → one_if found.busy + one_if (is_some fetched) ≡ one_if (is_some (busy_at (Some found) fetched))
 busy_flags found fetched apart some = grind arith
 
+-- the number of `seen` is that of the answers
+seen_told : (settings : Settings) (max : ℕ) (lines : List (List ℕ)) (queue : ℕ) (found : Subqueue) → queue_at (state_after settings (start settings.workers max) lines) queue ≡ Some found → seen_at (state_after settings (start settings.workers max) lines) queue ≡ min (seen_of queue (asked settings (start settings.workers max) lines)) (2 ^ 64 - 1)
+seen_told settings max lines queue found at =
+    let begun = start settings.workers max in
+    let state = state_after settings begun lines in
+    let shape = (state_of_history settings.workers max (history_of settings begun lines) state.machine (session_runs settings begun lines)).as_many in
+    counted_from_none settings max lines queue (subst (λ n. queue < n) shape (slice_get_within state.machine.subqueues queue found at))
+
 queue_told : (settings : Settings) (max : ℕ) (lines : List (List ℕ)) (queue : ℕ) (found : Subqueue) → queue_at (state_after settings (start settings.workers max) lines) queue ≡ Some found
-    → IsTold queue (asked settings (start settings.workers max) lines) (stats_of (progress found) (length (deferrals_at (state_after settings (start settings.workers max) lines) queue).waiting) (is_some (deferrals_at (state_after settings (start settings.workers max) lines) queue).fetched))
+    → IsTold queue (asked settings (start settings.workers max) lines) (stats_of (progress found) (length (deferrals_at (state_after settings (start settings.workers max) lines) queue).waiting) (is_some (deferrals_at (state_after settings (start settings.workers max) lines) queue).fetched) (seen_at (state_after settings (start settings.workers max) lines) queue))
 queue_told settings max lines queue found at =
     let begun = start settings.workers max in
     let all = asked settings begun lines in
@@ -61,6 +71,7 @@ queue_told settings max lines queue found at =
       done = omega (arith, free, line, mapped, dropped, joined, joins, takes, accepted, flags);
       in_progress = flags ∙ ap (λ (o : Option (List ℕ)). one_if (is_some o)) (sym told);
       waiting = omega (arith, free, line, mapped, dropped, joined, joins, takes, accepted, flags);
+      seen = seen_told settings max lines queue found at;
     }
 
 pub stats_told : (settings : Settings) (max : ℕ) (lines : List (List ℕ)) (queue : ℕ) (stats : Stats) → stats_at (state_after settings (start settings.workers max) lines) queue ≡ Some stats → IsTold queue (asked settings (start settings.workers max) lines) stats

@@ -1,5 +1,5 @@
 -- What happens in each queue is what the answers say.
-use Rattle.crawl_session.proofs.Prelude.{common_steps, ◌≡◌, ◌⊎◌, inl, inr, ℕ, zero, suc, ◌≤◌, Bool, true, false, not, ◌&&◌, ◌||◌, if◌then◌else◌, is_some, List, [], ◌∷◌, length, slice_get, slice_set, Option, Some, None, Result, Ok, Err, refl, sym, ap, subst, ◌∙◌, arith, true≢false, get_or-eq_default, Reply, fetch_of, in_fetch, GateTurn, gave_back, holds, let_go, turned_away, can_hand_over, is_fetching, Message, has_url, State, count_of, unfinished_in, Turn, turn, admit_to, counted, done_with, put, refused, take_from, with_subqueue, Subqueue, after_accepting, after_finishing, after_taking, next_message, oldest, there, cond_both, Sound, Answer, Told, Deferred, Request, Offer, Next, Again, Later, Done, EndSeeds, Stats, RequestError, finishes, joins, puts_back, takes, Exchange, Outcome, accepted_at, admitting, after, by_machine, client, deferring, deferring_taken, ends, exchange, finishing, handing, is_count, is_due, is_empty, is_entered, is_seen, offering, put_back, replies, retaking, seeds_ended, taking, taking_again, taking_next, Deferrals, Frontier, deferrals_at, waits_again, with_deferrals, answered}
+use Rattle.crawl_session.proofs.Prelude.{common_steps, ◌≡◌, ◌⊎◌, inl, inr, ℕ, zero, suc, ◌≤◌, Bool, true, false, not, ◌&&◌, ◌||◌, if◌then◌else◌, is_some, List, [], ◌∷◌, length, slice_get, slice_set, Option, Some, None, Result, Ok, Err, refl, sym, ap, subst, ◌∙◌, arith, true≢false, get_or-eq_default, Reply, fetch_of, in_fetch, GateTurn, gave_back, holds, let_go, turned_away, can_hand_over, is_fetching, Message, has_url, State, count_of, unfinished_in, Turn, turn, admit_to, counted, done_with, put, refused, take_from, with_subqueue, Subqueue, after_accepting, after_finishing, after_taking, next_message, oldest, there, cond_both, Sound, Answer, Told, Deferred, Request, Offer, Next, Again, Later, Done, EndSeeds, Seen, Stats, RequestError, finishes, joins, puts_back, takes, Exchange, Outcome, accepted_at, admitting, after, by_machine, client, deferring, deferring_taken, ends, exchange, finishing, handing, is_count, is_due, is_empty, is_entered, is_seen, noted, offering, put_back, replies, retaking, seeds_ended, taking, taking_again, taking_next, Deferrals, Frontier, deferrals_at, waits_again, with_deferrals, answered}
 use Rattle.crawl_core.specs.declared.event.Event.TheVariants as event
 use Rattle.crawl_core.specs.declared.reply.Reply.TheVariants as told
 use Rattle.crawl_core.specs.declared.reply.Refusal.TheVariants as why
@@ -63,6 +63,10 @@ offer_passes state url named x sound settled (inr (found, (number, (at, (answer,
       flow = λ queue. subst (λ (a : Answer). Flow (queue_at state queue) (deferrals_at state queue) (joins queue (busy_of state queue) (as_told (as_offer url named) a)) (takes queue (as_offer url named) a) (finishes queue (as_offer url named) a || puts_back queue (as_offer url named) a) (slice_get x.state.subqueues queue) (deferrals_at state queue)) (sym answer)
           (flow_after state (record state { machine = x.state }) named (Some (after_accepting found m)) deferrals (λ _ b. if b then Some url else None) (λ _ _. None) (λ _. false) change flow (λ there. (refl, (refl, refl))) queue);
     }
+
+-- the numbers of `seen` are no part of a queue
+noted_passes : (state : Frontier) (r : Result Request RequestError) (named : ℕ) (x : Outcome) → Passes state r x → Passes state r (noted named x)
+noted_passes state r named x passes = record { settled = record { shape = passes.settled.shape; fine = passes.settled.fine }; flow = passes.flow }
 
 -- ---- `next`
 
@@ -240,7 +244,7 @@ defer_passes state named url found at fetched sound settled =
     let n = accepted_at (queue_at state named) in
     let n_is : n ≡ length found.accepted = ap accepted_at at in
     let after_it = waits_again deferrals (record { url = url; sender = sender; after = n }) in
-    let new : Frontier = record { machine = machine; deferrals = slice_set state.deferrals named after_it; senders = sender } in
+    let new : Frontier = record { machine = machine; deferrals = slice_set state.deferrals named after_it; senders = sender; seen = state.seen } in
     let change = change_both state machine named sender found (after_finishing found) after_it settled at is in
     let there = flow_defers found url sender deferrals (sound.queues named found at) fine fetched none in
     let placed = subst (λ (k : ℕ). Flow (Some found) deferrals (busy_at (Some found) deferrals.fetched) None true (Some (after_finishing found)) (waits_again deferrals (record { url = url; sender = sender; after = k }))) (sym n_is) there in
@@ -287,11 +291,12 @@ again_passes : (state : Frontier) (named : ℕ) (fetched : Option Deferred) → 
 again_passes state named fetched settled = grind (arith, common_steps, passes_still)
 
 request_passes : (state : Frontier) (request : Request) → Sound state.machine → Settled state → Passes state (Ok request) (exchange state request)
-request_passes state (Offer url named) sound settled = offer_passes state url named (offering state.machine url named) sound settled (offers state.machine url named)
+request_passes state (Offer url named) sound settled = noted_passes state (as_offer url named) named (by_machine state (offering state.machine url named)) (offer_passes state url named (offering state.machine url named) sound settled (offers state.machine url named))
 request_passes state (Next named) sound settled = next_passes state named (deferrals_at state named).fetched refl settled
 request_passes state (Again named) sound settled = again_passes state named (deferrals_at state named).fetched settled
 request_passes state (Later named) sound settled = deferring_passes state named (deferrals_at state named).fetched refl sound settled
 request_passes state (Done named) sound settled = finishing_passes state named (deferrals_at state named).fetched refl sound settled
+request_passes state (Seen named count) sound settled = record { settled = record { shape = settled.shape; fine = settled.fine }; flow = λ queue. flow_still (queue_at state queue) (deferrals_at state queue) }
 request_passes state (Stats named) sound settled = record { settled = settled; flow = λ queue. flow_still (queue_at state queue) (deferrals_at state queue) }
 request_passes state EndSeeds sound settled = passes_gate state (Ok EndSeeds) (seeds_ended state.machine) settled refl (λ queue busy. (refl, (refl, refl)))
 

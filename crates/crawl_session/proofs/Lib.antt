@@ -25,6 +25,7 @@ pub mod Onces
 pub mod Orders
 pub mod Owned
 pub mod Assigned
+pub mod Noted
 pub mod PartLaws
 pub mod Placed
 pub mod Queues
@@ -34,6 +35,8 @@ pub mod Rests
 pub mod Returns
 pub mod Rooms
 pub mod Runs
+pub mod SeenCounts
+pub mod SeenLines
 pub mod Sees
 pub mod Steps
 pub mod SumLaws

@@ -1,5 +1,5 @@
 -- A URL that was put back has its sender's unit until it is done.
-use Rattle.crawl_session.proofs.Prelude.{common_steps, ◌≡◌, ℕ, zero, suc, ◌+◌, ◌≤◌, Bool, true, false, cond, ◌&&◌, ◌||◌, if◌then◌else◌, nat_eq, List, ◌∷◌, replicate, slice_get, slice_set, Option, Some, None, Result, Ok, Err, refl, sym, ap, subst, ◌∙◌, arith, eqb-true, ne_eqb, nat_tests, sum_by, nat_cmp, is_at, nat_cmp_total, sum_by-cons, sum_by-set, sum_by_push, slice_get_within, Reply, fetch_of, in_fetch, one_if, GateTurn, gave_back, holds, let_go, turned_away, can_hand_over, handed_over, has_room, is_fetching, lets_in, holds_after, State, count_of, unfinished_in, turn, with_subqueue, Subqueue, after_finishing, unfinished, there, holds_less, sum_at, eqb_same, cond_both, list_any-insert_key, Sound, gate_effect, Deferred, Request, Offer, Next, Again, Later, Done, EndSeeds, Stats, RequestError, Exchange, Outcome, accepted_at, admitting, by_machine, client, deferring, deferring_taken, ends, exchange, finishing, handing, is_count, is_due, is_entered, offering, put_back, replies, retaking, seeds_ended, taking, taking_again, taking_next, Deferrals, Frontier, deferrals_at, no_deferrals, start, waits_again, with_deferrals, answered}
+use Rattle.crawl_session.proofs.Prelude.{common_steps, ◌≡◌, ℕ, zero, suc, ◌+◌, ◌≤◌, Bool, true, false, cond, ◌&&◌, ◌||◌, if◌then◌else◌, nat_eq, List, ◌∷◌, replicate, slice_get, slice_set, Option, Some, None, Result, Ok, Err, refl, sym, ap, subst, ◌∙◌, arith, eqb-true, ne_eqb, nat_tests, sum_by, nat_cmp, is_at, nat_cmp_total, sum_by-cons, sum_by-set, sum_by_push, slice_get_within, Reply, fetch_of, in_fetch, one_if, GateTurn, gave_back, holds, let_go, turned_away, can_hand_over, handed_over, has_room, is_fetching, lets_in, holds_after, State, count_of, unfinished_in, turn, with_subqueue, Subqueue, after_finishing, unfinished, there, holds_less, sum_at, eqb_same, cond_both, list_any-insert_key, Sound, gate_effect, Deferred, Request, Offer, Next, Again, Later, Done, EndSeeds, Seen, Stats, RequestError, Exchange, Outcome, accepted_at, admitting, by_machine, client, deferring, deferring_taken, ends, exchange, finishing, handing, is_count, is_due, is_entered, offering, put_back, replies, retaking, seeds_ended, taking, taking_again, taking_next, Deferrals, Frontier, deferrals_at, no_deferrals, start, waits_again, with_deferrals, answered}
 use Rattle.crawl_core.specs.declared.event.Event.TheVariants as event
 use Rattle.crawl_core.specs.declared.reply.Reply.TheVariants as told
 use Rattle.crawl_core.specs.declared.reply.Refusal.TheVariants as why
@@ -8,6 +8,8 @@ use Rattle.crawl_core.proofs.Handing.{handed_is, is_free}
 use Rattle.crawl_session.specs.Exchanges as exchanges
 use Rattle.crawl_session.proofs.Choices.{either_way}
 use Rattle.crawl_session.proofs.Flows.{fetches_busy, in_range}
+use Rattle.crawl_session.specs.Seen.{add_seen}
+use Rattle.crawl_session.proofs.Noted.{with_seen}
 use Rattle.crawl_session.proofs.Queues.{Settled, queue_at}
 
 -- the number of URLs that were put back and have this sender, in a queue and in all queues
@@ -79,6 +81,10 @@ owned_machine state new others owned = record { mine = owned.mine; held = by_sen
     by_sender : (sender : ℕ) → units_of sender state ≤ one_if (holds new.gate sender)
     by_sender zero = let none = owned.mine in omega (arith, none)
     by_sender (suc n) = subst (λ b. units_of (suc n) state ≤ one_if b) (sym (others n)) (owned.held (suc n))
+
+-- the numbers of `seen` are no units
+owned_seen : (state : Frontier) (seen : List ℕ) → Owned state → Owned (with_seen state seen)
+owned_seen state seen owned = record { mine = owned.mine; held = owned.held; fresh = owned.fresh }
 
 -- ---- one queue's deferrals
 
@@ -201,11 +207,13 @@ again_owned : (state : Frontier) (named : ℕ) (fetched : Option Deferred) → O
 again_owned state named fetched owned = grind arith
 
 request_owned : (state : Frontier) (request : Request) → Sound state.machine → Settled state → Owned state → Owned (exchange state request).state
-request_owned state (Offer url named) sound settled owned = owned_machine state (offering state.machine url named).state (offering_others state.machine url named sound) owned
+request_owned state (Offer url named) sound settled owned =
+    owned_seen (by_machine state (offering state.machine url named)).state (exchange state (Offer url named)).state.seen (owned_machine state (offering state.machine url named).state (offering_others state.machine url named sound) owned)
 request_owned state (Next named) sound settled owned = next_owned state named (deferrals_at state named).fetched refl sound settled owned
 request_owned state (Again named) sound settled owned = again_owned state named (deferrals_at state named).fetched owned
 request_owned state (Later named) sound settled owned = deferring_owned state named (deferrals_at state named).fetched refl sound settled owned
 request_owned state (Done named) sound settled owned = finishing_owned state named (deferrals_at state named).fetched refl sound settled owned
+request_owned state (Seen named count) sound settled owned = owned_seen state (add_seen named count state.seen) owned
 request_owned state (Stats named) sound settled owned = owned
 request_owned state EndSeeds sound settled owned = owned_machine state (seeds_ended state.machine).state (λ n. (gate_history.held state.machine sound event.EndSeeds).holders (suc n)) owned
 

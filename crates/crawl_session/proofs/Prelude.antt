@@ -28,9 +28,9 @@ pub use Rattle.crawl_limits.specs.Limits.{AreLimits, line_limit}
 pub use Rattle.crawl_replay.proofs.NumberText.{at_space-joined, at_space-number, joined-at_space, number_of_is}
 pub use Rattle.crawl_replay.specs.Script.{header_of}
 pub use Rattle.crawl_replay.specs.ScriptLines.{IsNumber}
-pub use Rattle.crawl_session.specs.Clients.{AgainIfPutBack, AllDone, Asked, EachOnceInOrder, IsTold, NonePutBack, accepted_of, accepts, asked, busy_after, busy_before, busy_from, busy_in, done_of, done_urls, elsewhere_of, finishes, first_of_each, joined_from, joined_of, joins, put_back_of, put_back_urls, puts_back, taken_of, takes, times, told_elsewhere}
-pub use Rattle.crawl_session.specs.Compacting.{Had, asks_again, changes, had_none, having, is_needed, log_line, log_text, needed, says_closed, with_told}
-pub use Rattle.crawl_session.specs.Exchanges.{Exchange, Outcome, accepted_at, admitting, after, by_machine, client, counting, deferring, deferring_taken, ends, entering, exchange, finishing, handing, is_count, is_due, is_empty, is_entered, is_seen, offering, put_back, replies, retaking, seeds_ended, stats_answer, taking, taking_again, taking_next}
+pub use Rattle.crawl_session.specs.Clients.{AgainIfPutBack, AllDone, Asked, EachOnceInOrder, IsTold, NonePutBack, accepted_of, accepts, asked, busy_after, busy_before, busy_from, busy_in, done_of, done_urls, elsewhere_of, finishes, first_of_each, joined_from, joined_of, joins, put_back_of, put_back_urls, puts_back, seen_by, seen_of, taken_of, takes, times, told_elsewhere}
+pub use Rattle.crawl_session.specs.Compacting.{Had, asks_again, changes, compacted, had_none, having, is_needed, log_line, log_text, needed, says_closed, with_told}
+pub use Rattle.crawl_session.specs.Exchanges.{Exchange, Outcome, accepted_at, admitting, after, by_machine, client, counting, deferring, deferring_taken, ends, entering, exchange, finishing, handing, is_count, is_due, is_empty, is_entered, is_seen, noted, offering, put_back, replies, retaking, seeds_ended, seen_reply, stats_answer, taking, taking_again, taking_next}
 pub use Rattle.crawl_session.specs.Frontiers.{Deferrals, Frontier, KeptFrontier, NoneDeferred, deferrals_at, no_deferrals, start, waits_again, with_deferrals}
 pub use Rattle.crawl_session.specs.Input.{AnswersWhole, AreWhole, Ends, Holds, IsUnfinished, ServesInput, Turns, held_limit}
 pub use Rattle.crawl_session.specs.Listing.{Listed, Lists, done_by, done_in, each_below, pending_at, row_line, stats_at, stats_below, stats_in, taken_each, then_list, url_row, waiting_at, waiting_in}
@@ -47,7 +47,7 @@ pub use Rattle.crawl_session.specs.declared.deferrals.Deferred.{Deferred}
 pub use Rattle.crawl_session.specs.declared.list.Row.{Row}
 pub use Rattle.crawl_session.specs.declared.part.Part.{Part}
 pub use Rattle.crawl_session.specs.declared.request.Request.{Request}
-pub use Rattle.crawl_session.specs.declared.request.Request.TheVariants.{Again, Done, EndSeeds, Later, Next, Offer, Stats}
+pub use Rattle.crawl_session.specs.declared.request.Request.TheVariants.{Again, Done, EndSeeds, Later, Next, Offer, Seen, Stats}
 pub use Rattle.crawl_session.specs.declared.request.RequestError.{RequestError}
 pub use Rattle.hash_index.proofs.Listed.{has_index, same_text}
 pub use Rattle.std.proofs.Common.{Bool, Err, IfOk, IfSome, List, None, Ok, OnErr, Option, Result, Some, [], ap, append-nil, append_assoc, arith, codes, cond, drop, eqb-true, false, get_or, if◌then◌else◌, inl, inr, is_some, length, lt-ltb, ltb-false, ltb-true, map, nat_eq, nat_lt, ne_eqb, not, option_and_then, refl, replicate, rules, slice_get, slice_index, slice_set, string_bytes, subst, suc, sym, take, take-append-drop, true, true≢false, zero, ℕ, ◌&&◌, ◌++◌, ◌+◌, ◌-◌, ◌/◌, ◌<◌, ◌==◌, ◌^◌, ◌||◌, ◌∙◌, ◌∷◌, ◌≡◌, ◌≢◌, ◌≤◌, ◌⊎◌}

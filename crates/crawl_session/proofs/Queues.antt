@@ -55,7 +55,7 @@ passes_gate state r x settled same quiet =
 -- ---- one queue
 
 -- what holds of the named queue and of every other queue holds of each queue
-one_queue : (named queue : ℕ) (P : Bool → ℕ → Type 0) → P true named → (nat_eq named queue ≡ false → P false queue) → P (nat_eq named queue) queue
+pub one_queue : (named queue : ℕ) (P : Bool → ℕ → Type 0) → P true named → (nat_eq named queue ≡ false → P false queue) → P (nat_eq named queue) queue
 one_queue named queue P here other = grind arith
 
 -- the change of one queue
@@ -100,7 +100,7 @@ change_deferrals state named queue deferrals settled at = grind (arith, slice_ge
 
 -- both are replaced, and the number of senders too
 pub change_both : (state : Frontier) (machine : State) (named senders : ℕ) (old new : Subqueue) (deferrals : Deferrals) → Settled state → queue_at state named ≡ Some old → machine.subqueues ≡ slice_set state.machine.subqueues named new
-    → Change state (record { machine = machine; deferrals = slice_set state.deferrals named deferrals; senders = senders }) named (Some new) deferrals
+    → Change state (record { machine = machine; deferrals = slice_set state.deferrals named deferrals; senders = senders; seen = state.seen }) named (Some new) deferrals
 change_both state machine named senders old new deferrals settled at is =
     let first = change_queue state machine named old new settled at is in
     let second = change_deferrals state named old deferrals settled at in

@@ -1,5 +1,5 @@
 -- The answers of a new session to the lines of a rebuilt log.
-use Rattle.crawl_session.proofs.Prelude.{◌≡◌, ℕ, ◌+◌, Bool, true, false, cond, not, ◌&&◌, ◌||◌, if◌then◌else◌, nat_eq, List, [], ◌∷◌, ◌++◌, codes, Option, Some, None, Result, Ok, Err, refl, sym, ap, subst, ◌∙◌, arith, and_parts, common_steps, cons_option, filter_map-append, sum_by-append, bytes_eq, subqueue_of, same_text, slice_get, at_space-joined, at_space, decimal, number_of_is, IsNumber, Answer, Told, Request, Offer, Next, Again, Later, Done, EndSeeds, Stats, Reply, RequestError, IfOk, option_map, option_or, request_of, eqb_same, inl, inr, ◌⊎◌, ◌<◌, ◌^◌, Asked, accepted_of, accepts, asked, busy_after, busy_before, busy_from, busy_in, done_urls, finishes, put_back_of, puts_back, taken_of, takes, exchange, Frontier, request_for, answered, line_exchange, state_after, says_closed, Settings}
+use Rattle.crawl_session.proofs.Prelude.{◌≡◌, ℕ, ◌+◌, Bool, true, false, cond, not, ◌&&◌, ◌||◌, if◌then◌else◌, nat_eq, List, [], ◌∷◌, ◌++◌, codes, Option, Some, None, Result, Ok, Err, refl, sym, ap, subst, ◌∙◌, arith, and_parts, common_steps, cons_option, filter_map-append, sum_by-append, bytes_eq, subqueue_of, same_text, slice_get, at_space-joined, at_space, decimal, number_of_is, IsNumber, Answer, Told, Request, Offer, Next, Again, Later, Done, EndSeeds, Seen, Stats, Reply, RequestError, IfOk, option_map, option_or, request_of, eqb_same, inl, inr, ◌⊎◌, ◌<◌, ◌^◌, Asked, accepted_of, accepts, asked, busy_after, busy_before, busy_from, busy_in, done_urls, finishes, put_back_of, puts_back, taken_of, takes, exchange, Frontier, request_for, answered, line_exchange, state_after, says_closed, Settings}
 use Rattle.std.specs.List.{filter}
 use Rattle.std.specs.Option.{ok_or}
 use Rattle.std.proofs.lemmas.List.Elements.{filter-append}
@@ -258,6 +258,7 @@ fitting one more url (Ok (Again queue)) state fits = absurd (cc)
 fitting one more url (Ok (Later queue)) state fits = absurd (cc)
 fitting one more url (Ok (Done queue)) state fits = absurd (cc)
 fitting one more url (Ok EndSeeds) state fits = absurd (cc)
+fitting one more url (Ok (Seen queue count)) state fits = absurd (cc)
 fitting one more url (Ok (Stats queue)) state fits = absurd (cc)
 fitting one more url (Err wrong.LineTooLong) state fits = absurd (cc)
 fitting one more url (Err wrong.NotText) state fits = absurd (cc)
@@ -378,6 +379,7 @@ others url (Ok (Again queue)) state fits = absurd (cc)
 others url (Ok (Later queue)) state fits = absurd (cc)
 others url (Ok (Done queue)) state fits = absurd (cc)
 others url (Ok EndSeeds) state fits = absurd (cc)
+others url (Ok (Seen queue count)) state fits = absurd (cc)
 others url (Ok (Stats queue)) state fits = absurd (cc)
 others url (Err wrong.LineTooLong) state fits = absurd (cc)
 others url (Err wrong.NotText) state fits = absurd (cc)

@@ -1,5 +1,5 @@
 -- Between two requests the client holds no unit, so the answers to each request are those of the table.
-use Rattle.crawl_session.proofs.Prelude.{◌≡◌, ℕ, suc, arith, ◌<◌, ◌≤◌, Bool, true, false, ◌||◌, if◌then◌else◌, List, [], ◌∷◌, length, nat_eq, get_or, slice_get, Option, Some, None, Result, Ok, Err, IfOk, refl, sym, ap, subst, ◌∙◌, true≢false, nat_tests, All, list_any, length-replicate, nat_cmp, is_at, nat_cmp_total, All-nil, All-cons, slice_get-get_or, Event, Reply, in_fetch, GateSide, GateTurn, back, enter, gave_back, grant, holds, let_go, look, remembers, shown_word, turned_away, units_out, can_hand_over, holds_after, State, unfinished_in, Turn, turn, admit_to, done_with, take_from, Subqueue, empty_subqueue, holds_less, start_sound, list_any-insert_key, lookup-insert_entry, Sound, gate_effect, Request, Offer, Next, Again, Later, Done, EndSeeds, Stats, RequestError, Asked, asked, Deferred, Exchange, Outcome, by_machine, client, after, deferring, deferring_taken, ends, admitting, entering, exchange, finishing, handing, is_count, is_due, is_entered, is_seen, is_empty, offering, put_back, replies, retaking, seeds_ended, stats_answer, taking, taking_again, taking_next, Frontier, deferrals_at, start, with_deferrals, request_for, answered, Settings, stats_for}
+use Rattle.crawl_session.proofs.Prelude.{◌≡◌, ℕ, suc, arith, ◌<◌, ◌≤◌, Bool, true, false, ◌||◌, if◌then◌else◌, List, [], ◌∷◌, length, nat_eq, get_or, slice_get, Option, Some, None, Result, Ok, Err, IfOk, refl, sym, ap, subst, ◌∙◌, true≢false, nat_tests, All, list_any, length-replicate, nat_cmp, is_at, nat_cmp_total, All-nil, All-cons, slice_get-get_or, Event, Reply, in_fetch, GateSide, GateTurn, back, enter, gave_back, grant, holds, let_go, look, remembers, shown_word, turned_away, units_out, can_hand_over, holds_after, State, unfinished_in, Turn, turn, admit_to, done_with, take_from, Subqueue, empty_subqueue, holds_less, start_sound, list_any-insert_key, lookup-insert_entry, Sound, gate_effect, Request, Offer, Next, Again, Later, Done, EndSeeds, Seen, Stats, RequestError, Told, Asked, asked, Deferred, Exchange, Outcome, by_machine, client, after, deferring, deferring_taken, ends, admitting, entering, exchange, finishing, handing, is_count, is_due, is_entered, is_seen, is_empty, offering, put_back, replies, retaking, seeds_ended, seen_reply, stats_answer, taking, taking_again, taking_next, Frontier, deferrals_at, start, with_deferrals, request_for, answered, Settings, stats_for}
 use Rattle.std.proofs.lemmas.Bool.{cond_both}
 use Rattle.crawl_core.specs.declared.event.Event.TheVariants as event
 use Rattle.crawl_core.specs.declared.reply.Reply.TheVariants as told
@@ -242,13 +242,19 @@ seeds_fit workers state rest = grind arith
 stats_told : (frontier : Frontier) (queue : Option ℕ) → CanBeAnswered (Ok (Stats queue)) (stats_answer (stats_for frontier queue))
 stats_told frontier queue = grind arith
 
+seen_told : (named count : ℕ) (before : Option ℕ) → CanBeAnswered (Ok (Seen named count)) (Told (seen_reply before))
+seen_told named count None = refl
+seen_told named count (Some n) = refl
+
 request_suits : (workers : ℕ) (frontier : Frontier) (request : Request) → IfOk (as_asked request) (IsAssigned workers) → 1 ≤ workers → AtRest workers frontier.machine → Suits workers request (exchange frontier request)
 request_suits workers frontier (Offer url named) assigned some rest =
-    suits_machine workers (Offer url named) frontier (offering frontier.machine url named) (offer_fits workers url named frontier.machine (assigned_below workers url named some assigned) rest)
+    let suits = suits_machine workers (Offer url named) frontier (offering frontier.machine url named) (offer_fits workers url named frontier.machine (assigned_below workers url named some assigned) rest) in
+    record { rests = suits.rests; told = suits.told }
 request_suits workers frontier (Next named) assigned some rest = next_suits workers named frontier (deferrals_at frontier named).waiting (deferrals_at frontier named).fetched rest
 request_suits workers frontier (Again named) assigned some rest = again_suits workers named frontier (deferrals_at frontier named).fetched rest
 request_suits workers frontier (Later named) assigned some rest = deferring_suits workers named frontier (deferrals_at frontier named).fetched rest
 request_suits workers frontier (Done named) assigned some rest = finishing_suits workers named frontier (deferrals_at frontier named).fetched rest
+request_suits workers frontier (Seen named count) assigned some rest = record { rests = rest; told = seen_told named count (slice_get frontier.seen named) }
 request_suits workers frontier (Stats queue) assigned some rest = record { rests = rest; told = stats_told frontier queue }
 request_suits workers frontier EndSeeds assigned some rest = suits_machine workers EndSeeds frontier (seeds_ended frontier.machine) (seeds_fit workers frontier.machine rest)
 

@@ -1,5 +1,5 @@
 -- The events of a session are a run.
-use Rattle.crawl_session.proofs.Prelude.{◌≡◌, ℕ, length, List, [], ◌∷◌, ◌++◌, map, Result, refl, sym, ap, subst, arith, common_steps, zip, Event, Reply, Run, IsRun, turn, Request, Offer, Next, Again, Later, Done, EndSeeds, Stats, RequestError, Exchange, Outcome, after, entering, exchange, Frontier, request_for, answered, line_exchange, history_of, state_after, Settings}
+use Rattle.crawl_session.proofs.Prelude.{◌≡◌, ℕ, length, List, [], ◌∷◌, ◌++◌, map, Result, refl, sym, ap, subst, arith, common_steps, zip, Event, Reply, Run, IsRun, turn, Request, Offer, Next, Again, Later, Done, EndSeeds, Seen, Stats, RequestError, Exchange, Outcome, after, entering, exchange, Frontier, request_for, answered, line_exchange, history_of, state_after, Settings}
 use Rattle.crawl_core.specs.State.{State, start}
 
 -- the events of an exchange lead from the state to its state
@@ -23,6 +23,7 @@ exchange_runs frontier (Again queue) = grind arith
 exchange_runs frontier (Later queue) = grind arith
 exchange_runs frontier (Done queue) = grind arith
 exchange_runs frontier (Stats queue) = refl
+exchange_runs frontier (Seen queue count) = refl
 exchange_runs frontier EndSeeds = grind arith
 
 pub answered_runs : (frontier : Frontier) (asked : Result Request RequestError) → RunsTo frontier (answered frontier asked)

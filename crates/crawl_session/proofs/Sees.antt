@@ -1,5 +1,5 @@
 -- What the answers say about URLs is what the events say.
-use Rattle.crawl_session.proofs.Prelude.{◌≡◌, ℕ, suc, ◌+◌, Bool, true, false, cond, if◌then◌else◌, nat_eq, slice_get, List, [], ◌∷◌, ◌++◌, map, Option, Some, None, Result, Ok, Err, refl, sym, ap, subst, ◌∙◌, true≢false, arith, nat_tests, cons_option, map-append, filter_map-append, sum_by-append, sum_by-cons, Event, Reply, in_fetch, Message, can_hand_over, State, turn, Subqueue, eqb_same, Told, Request, Offer, Next, Again, Later, Done, EndSeeds, Stats, RequestError, Deferred, Asked, asked, accepts, takes, finishes, puts_back, accepted_of, taken_of, done_of, put_back_of, NonePutBack, Deferrals, Frontier, NoneDeferred, deferrals_at, request_for, answered, line_exchange, history_of, Settings}
+use Rattle.crawl_session.proofs.Prelude.{◌≡◌, ℕ, suc, ◌+◌, Bool, true, false, cond, if◌then◌else◌, nat_eq, slice_get, List, [], ◌∷◌, ◌++◌, map, Option, Some, None, Result, Ok, Err, refl, sym, ap, subst, ◌∙◌, true≢false, arith, nat_tests, cons_option, map-append, filter_map-append, sum_by-append, sum_by-cons, Event, Reply, in_fetch, Message, can_hand_over, State, turn, Subqueue, eqb_same, Told, Request, Offer, Next, Again, Later, Done, EndSeeds, Seen, Stats, RequestError, Deferred, Asked, asked, accepts, takes, finishes, puts_back, accepted_of, taken_of, done_of, put_back_of, NonePutBack, Deferrals, Frontier, NoneDeferred, deferrals_at, request_for, answered, line_exchange, history_of, Settings}
 use Rattle.crawl_core.specs.declared.event.Event.TheVariants as event
 use Rattle.crawl_core.specs.declared.reply.Reply.TheVariants as told
 use Rattle.crawl_core.specs.declared.reply.Refusal.TheVariants as why
@@ -115,7 +115,9 @@ later_agrees frontier named none found is quiet =
         quiet
 
 request_agrees : (frontier : Frontier) (request : Request) → NoneDeferred frontier → ((queue : ℕ) → puts_back queue (Ok request) (exchange frontier request).answer ≡ false) → AgreesOn (Ok request) (exchange frontier request)
-request_agrees frontier (Offer url named) none quiet = agrees_by_machine (Ok (Offer url named)) frontier (offering frontier.machine url named) none (λ queue. offer_agrees queue named url frontier.machine)
+request_agrees frontier (Offer url named) none quiet =
+    let agrees = agrees_by_machine (Ok (Offer url named)) frontier (offering frontier.machine url named) none (λ queue. offer_agrees queue named url frontier.machine) in
+    record { agree = agrees.agree; none = agrees.none }
 request_agrees frontier (Next named) none quiet =
     let made = agrees_by_machine (Ok (Next named)) frontier (taking frontier.machine named) none (λ queue. next_agrees queue named frontier.machine) in
     let here = subst (λ b. AgreesOn (Ok (Next named)) (if b then retaking frontier named [] else by_machine frontier (taking frontier.machine named))) (not_due (slice_get frontier.machine.subqueues named)) made in
@@ -130,6 +132,7 @@ request_agrees frontier (Done named) none quiet =
     let done = turn frontier.machine (event.Done named) in
     let made = agrees_by_machine (Ok (Done named)) frontier (done_with frontier.machine named) none (λ queue. done_agrees queue named done.reply done.state) in
     subst (λ (d : Deferrals). AgreesOn (Ok (Done named)) (finishing frontier named d.fetched)) (sym (none named)) made
+request_agrees frontier (Seen named count) none quiet = record { agree = λ queue. record { accepted = refl; taken = refl; done = refl }; none = none }
 request_agrees frontier (Stats named) none quiet = record { agree = λ queue. record { accepted = refl; taken = refl; done = refl }; none = none }
 request_agrees frontier EndSeeds none quiet = agrees_by_machine (Ok EndSeeds) frontier (seeds_ended frontier.machine) none (λ queue. record { accepted = refl; taken = refl; done = refl })
 

@@ -1,11 +1,13 @@
 -- No answer depends on the words that senders remember from before.
-use Rattle.crawl_session.proofs.Prelude.{◌≡◌, ℕ, suc, Bool, true, cond, if◌then◌else◌, List, [], ◌∷◌, slice_get, Option, Some, None, Result, Ok, Err, refl, sym, ap, ◌∙◌, arith, nat_tests, is_at, insert_entry, lookup, nat_cmp, nat_cmp_total, Event, Reply, Word, GateSide, GateTurn, back, close, end_seeds, enter, enter_with, holds, remembers, shown_word, Message, in_fetch, can_hand_over, State, count_of, unfinished_in, Turn, turn, admit_to, by_gate, done_with, take_from, take_oldest, Subqueue, oldest, lookup-insert_entry, Request, Offer, Next, Again, Later, Done, EndSeeds, Stats, RequestError, Told, Deferred, Exchange, Outcome, by_machine, client, after, deferring, deferring_taken, ends, admitting, entering, exchange, finishing, handing, is_count, is_due, is_entered, is_seen, is_empty, offering, put_back, replies, retaking, seeds_ended, stats_answer, taking, taking_again, taking_next, request_for, Frontier, deferrals_at, with_deferrals, answered, answers, line_exchange, Settings, stats_for}
+use Rattle.crawl_session.proofs.Prelude.{◌≡◌, ℕ, suc, Bool, true, cond, if◌then◌else◌, List, [], ◌∷◌, slice_get, Option, Some, None, Result, Ok, Err, refl, sym, ap, ◌∙◌, arith, nat_tests, is_at, insert_entry, lookup, nat_cmp, nat_cmp_total, Event, Reply, Word, GateSide, GateTurn, back, close, end_seeds, enter, enter_with, holds, remembers, shown_word, Message, in_fetch, can_hand_over, State, count_of, unfinished_in, Turn, turn, admit_to, by_gate, done_with, take_from, take_oldest, Subqueue, oldest, lookup-insert_entry, Answer, Request, Offer, Next, Again, Later, Done, EndSeeds, Seen, Stats, RequestError, Told, Deferred, Exchange, Outcome, by_machine, client, after, deferring, deferring_taken, ends, admitting, entering, exchange, finishing, handing, is_count, is_due, is_entered, is_seen, is_empty, noted, offering, put_back, replies, retaking, seeds_ended, stats_answer, taking, taking_again, taking_next, request_for, Frontier, deferrals_at, with_deferrals, answered, answers, line_exchange, Settings, stats_for}
 use Rattle.crawl_core.specs.declared.event.Event.TheVariants as event
 use Rattle.crawl_core.specs.declared.reply.Reply.TheVariants as told
 use Rattle.crawl_core.specs.declared.reply.Refusal.TheVariants as why
 use Rattle.crawl_session.specs.Exchanges as exchanges
+use Rattle.crawl_session.specs.Seen.{seen_with}
 use Rattle.crawl_session.specs.Serving as serving
 use Rattle.crawl_session.specs.Steps.{with_words}
+use Rattle.crawl_session.proofs.Noted.{with_seen}
 
 abbrev pub Words : Type 0
 Words = List (ℕ × Word)
@@ -180,6 +182,16 @@ pub record AlikeOutcome (x y : Outcome) : Type 0 where
 machine_alike : (frontier : Frontier) (words : Words) (x y : Exchange) → Alike x y → AlikeOutcome (by_machine (with_words_of frontier words) x) (by_machine frontier y)
 machine_alike frontier words x y alike = record { answer = alike.answer; words = alike.words; state = ap (λ (s : State). record frontier { machine = s }) alike.state }
 
+-- the answers are the same, and so are the numbers of `seen` after them
+noted_alike : (named : ℕ) (x y : Outcome) → AlikeOutcome x y → AlikeOutcome (noted named x) (noted named y)
+noted_alike named x y alike = record {
+  answer = alike.answer;
+  words = alike.words;
+  state =
+      ap (λ (a : Answer). with_seen x.state (seen_with named a x.state.seen)) alike.answer
+      ∙ ap (λ (s : Frontier). with_seen s (seen_with named y.answer s.seen)) alike.state;
+}
+
 outcome_if : (b : Bool) (x y v w : Outcome) → AlikeOutcome x v → AlikeOutcome y w → AlikeOutcome (if b then x else y) (if b then v else w)
 outcome_if b x y v w first second = grind arith
 
@@ -241,11 +253,14 @@ stats_alike : (frontier : Frontier) (words : Words) (queue : Option ℕ) → sta
 stats_alike frontier words queue = grind arith
 
 exchange_alike : (frontier : Frontier) (words : Words) (request : Request) → AlikeOutcome (exchange (with_words_of frontier words) request) (exchange frontier request)
-exchange_alike frontier words (Offer url named) = machine_alike frontier words (offering (with_words frontier.machine words) url named) (offering frontier.machine url named) (offering_alike frontier.machine words url named)
+exchange_alike frontier words (Offer url named) =
+    noted_alike named (by_machine (with_words_of frontier words) (offering (with_words frontier.machine words) url named)) (by_machine frontier (offering frontier.machine url named))
+    (machine_alike frontier words (offering (with_words frontier.machine words) url named) (offering frontier.machine url named) (offering_alike frontier.machine words url named))
 exchange_alike frontier words (Next named) = next_alike frontier words named (deferrals_at frontier named).waiting (deferrals_at frontier named).fetched
 exchange_alike frontier words (Again named) = again_alike frontier words named (deferrals_at frontier named).fetched
 exchange_alike frontier words (Later named) = deferring_alike frontier words named (deferrals_at frontier named).fetched
 exchange_alike frontier words (Done named) = finishing_alike frontier words named (deferrals_at frontier named).fetched
+exchange_alike frontier words (Seen named count) = record { answer = refl; words = words; state = refl }
 exchange_alike frontier words (Stats queue) = record { answer = ap stats_answer (stats_alike frontier words queue); words = words; state = refl }
 exchange_alike frontier words EndSeeds = machine_alike frontier words (seeds_ended (with_words frontier.machine words)) (seeds_ended frontier.machine) (seeds_alike frontier.machine words)
 

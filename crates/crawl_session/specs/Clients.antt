@@ -1,6 +1,6 @@
 -- What the client of a session knows of URLs, only by its requests and their answers.
-use Rattle.std.specs.Prelude.{◌≡◌, ℕ, suc, ◌+◌, ◌≤◌, Bool, false, ◌||◌, List, [], ◌∷◌, ◌++◌, is_some, length, nat_eq, slice_get, if◌then◌else◌, Option, Some, None, Result, Ok, bytes_eq}
-use Rattle.std.specs.List.{cons_option, count_by, filter_map}
+use Rattle.std.specs.Prelude.{◌≡◌, ℕ, suc, ◌+◌, ◌-◌, ◌^◌, ◌≤◌, Bool, false, ◌||◌, List, [], ◌∷◌, ◌++◌, is_some, length, min, nat_eq, slice_get, if◌then◌else◌, Option, Some, None, Result, Ok, bytes_eq}
+use Rattle.std.specs.List.{cons_option, count_by, filter_map, sum_by}
 use Rattle.std.specs.Option.{option_or, option_to_list}
 use Rattle.crawl_core.specs.declared.reply.Reply.TheVariants as told
 use Rattle.crawl_core.specs.Flags.{one_if}
@@ -9,7 +9,7 @@ use Rattle.crawl_keys.specs.Assignment.{subqueue_of}
 use Rattle.crawl_session.specs.declared.answer.Answer.{Answer}
 use Rattle.crawl_session.specs.declared.answer.Answer.TheVariants.{Told, Unasked}
 use Rattle.crawl_session.specs.declared.request.Request.{Request}
-use Rattle.crawl_session.specs.declared.request.Request.TheVariants.{Offer, Next, Later, Done}
+use Rattle.crawl_session.specs.declared.request.Request.TheVariants.{Offer, Next, Later, Done, Seen}
 use Rattle.crawl_session.specs.declared.request.RequestError.{RequestError}
 use Rattle.crawl_session.specs.declared.request.RequestError.TheVariants as wrong
 use Rattle.crawl_session.specs.declared.stats.Stats.{Stats}
@@ -49,6 +49,12 @@ abbrev pub puts_back : ℕ → Result Request RequestError → Answer → Bool
 puts_back queue (Ok (Later named)) (Told (told.Count left)) = nat_eq named queue
 puts_back queue _ _ = false
 
+-- how many offers to the subqueue this one is that were answered `seen`: one, or those that a `seen` counts
+abbrev pub seen_by : ℕ → Result Request RequestError → Answer → ℕ
+seen_by queue (Ok (Offer url named)) (Told told.Seen) = if nat_eq named queue then 1 else 0
+seen_by queue (Ok (Seen named count)) (Told told.Seen) = if nat_eq named queue then count else 0
+seen_by queue _ _ = 0
+
 -- the URLs of which the client knows that they were accepted into the subqueue, in order; those that it took from it; and how many
 -- fetches of it were done
 abbrev pub accepted_of : ℕ → List Asked → List (List ℕ)
@@ -63,6 +69,10 @@ done_of queue asked = count_by (λ x. finishes queue x.request x.answer) asked
 -- how often a URL of the subqueue was put back
 abbrev pub put_back_of : ℕ → List Asked → ℕ
 put_back_of queue asked = count_by (λ x. puts_back queue x.request x.answer) asked
+
+-- how many offers to the subqueue were answered `seen`
+abbrev pub seen_of : ℕ → List Asked → ℕ
+seen_of queue asked = sum_by (λ x. seen_by queue x.request x.answer) asked
 
 -- no line put a URL back
 abbrev pub NonePutBack : List Asked → Type 0
@@ -152,9 +162,10 @@ pub record AllDone (asked : List Asked) : Type 0 where
   pub done : (queue : ℕ) → done_of queue asked ≡ length (accepted_of queue asked)
   pub each : (queue : ℕ) (url : List ℕ) → times url (done_urls queue asked) ≡ times url (accepted_of queue asked)
 
--- the numbers of a subqueue are those of the answers before
+-- the numbers of a subqueue are those of the answers before, up to the largest that the program counts to
 pub record IsTold (queue : ℕ) (asked : List Asked) (stats : Stats) : Type 0 where
   pub accepted : stats.accepted ≡ length (accepted_of queue asked)
   pub done : stats.done ≡ done_of queue asked
   pub in_progress : stats.in_progress ≡ one_if (is_some (busy_in queue asked))
   pub waiting : stats.accepted ≡ stats.done + stats.in_progress + stats.waiting
+  pub seen : stats.seen ≡ min (seen_of queue asked) (2 ^ 64 - 1)

@@ -13,6 +13,7 @@ use Rattle.crawl_session.specs.declared.request.RequestError.TheVariants as wron
 use Rattle.crawl_session.specs.Exchanges.{exchange}
 use Rattle.crawl_session.specs.Frontiers.{Frontier, Shows}
 use Rattle.crawl_session.specs.Parts.{request_for}
+use Rattle.crawl_session.specs.Seen.{seen_lines}
 use Rattle.crawl_session.specs.Sessions.{line_exchange, state_after}
 use Rattle.crawl_session.specs.Settings.{Settings, SessionView}
 
@@ -83,6 +84,10 @@ log_line line = line ++ line_end line
 
 abbrev pub log_text : List (List ℕ) → List ℕ
 log_text lines = flat_map log_line lines
+
+-- the lines of a compacted log: those that are needed, from this state on, and then those that keep the numbers of `seen`
+abbrev pub compacted : Settings → Frontier → List (List ℕ) → List (List ℕ)
+compacted settings state lines = needed settings had_none state lines ++ seen_lines 0 (state_after settings state lines).seen
 
 -- a line was given to a session: whether it is needed, and what is kept now
 pub record Gives (had : Had) (old : SessionView) (line : List ℕ) (is : Bool) (next : Had) (new : SessionView) : Type 0 where

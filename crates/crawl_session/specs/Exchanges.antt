@@ -13,11 +13,12 @@ use Rattle.crawl_core.specs.Subqueue.{Subqueue}
 use Rattle.crawl_session.specs.declared.answer.Answer.{Answer}
 use Rattle.crawl_session.specs.declared.answer.Answer.TheVariants.{Told, Counted}
 use Rattle.crawl_session.specs.declared.request.Request.{Request}
-use Rattle.crawl_session.specs.declared.request.Request.TheVariants.{Offer, Next, Again, Later, Done, EndSeeds, Stats}
+use Rattle.crawl_session.specs.declared.request.Request.TheVariants.{Offer, Next, Again, Later, Done, EndSeeds, Stats, Seen}
 use Rattle.crawl_session.specs.declared.deferrals.Deferred.{Deferred}
 use Rattle.crawl_session.specs.declared.stats.Stats as counts
 use Rattle.crawl_session.specs.Stats.{stats_for}
 use Rattle.crawl_session.specs.Frontiers.{Frontier, deferrals_at, waits_again, with_deferrals}
+use Rattle.crawl_session.specs.Seen.{add_seen, seen_with}
 
 -- the one sender of a session's offers: its client
 abbrev pub client : ℕ
@@ -104,6 +105,12 @@ by_machine frontier x = record { history = x.history; answer = x.answer; state =
 -- no event
 abbrev pub replies : Reply → Frontier → Outcome
 replies reply frontier = record { history = []; answer = Told reply; state = frontier }
+
+-- ---- `offer`
+
+-- an offer that is answered `seen` is counted
+abbrev pub noted : ℕ → Outcome → Outcome
+noted queue x = record x { state = record x.state { seen = seen_with queue x.answer x.state.seen } }
 
 -- ---- `next`
 
@@ -193,12 +200,24 @@ stats_answer (Some stats) = Counted stats
 abbrev pub counting : Frontier → Option ℕ → Outcome
 counting frontier queue = record { history = []; answer = stats_answer (stats_for frontier queue); state = frontier }
 
+-- ---- `seen`: no event
+
+abbrev pub seen_reply : Option ℕ → Reply
+seen_reply None = told.Refused why.NoSuch
+seen_reply (Some before) = told.Seen
+
+-- this many offers to the queue were answered `seen` before
+abbrev pub counting_seen : Frontier → ℕ → ℕ → Outcome
+counting_seen frontier queue count =
+    record { history = []; answer = Told (seen_reply (slice_get frontier.seen queue)); state = record frontier { seen = add_seen queue count frontier.seen } }
+
 -- what comes of a request
 abbrev pub exchange : Frontier → Request → Outcome
-exchange frontier (Offer url queue) = by_machine frontier (offering frontier.machine url queue)
+exchange frontier (Offer url queue) = noted queue (by_machine frontier (offering frontier.machine url queue))
 exchange frontier (Next queue) = taking_next frontier queue (deferrals_at frontier queue).waiting (deferrals_at frontier queue).fetched
 exchange frontier (Again queue) = taking_again frontier queue (deferrals_at frontier queue).fetched
 exchange frontier (Later queue) = deferring frontier queue (deferrals_at frontier queue).fetched
 exchange frontier (Done queue) = finishing frontier queue (deferrals_at frontier queue).fetched
 exchange frontier EndSeeds = by_machine frontier (seeds_ended frontier.machine)
 exchange frontier (Stats queue) = counting frontier queue
+exchange frontier (Seen queue count) = counting_seen frontier queue count

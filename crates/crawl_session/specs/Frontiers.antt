@@ -1,4 +1,4 @@
--- The state of a session: its machine, and the URLs that were put back and are not done.
+-- The state of a session: its machine, the URLs that were put back and are not done, and how many offers were answered `seen`.
 use Rattle.std.specs.Prelude.{◌≡◌, ℕ, ◌++◌, List, [], ◌∷◌, get_or, replicate, slice_set, Option, None}
 use Rattle.crawl_core.specs.Kept.{Kept}
 use Rattle.crawl_core.specs.Shows as machine
@@ -14,15 +14,17 @@ pub record Deferrals : Type 0 where
 abbrev pub no_deferrals : Deferrals
 no_deferrals = record { waiting = []; fetched = None }
 
--- the machine; what was put back to each queue; and how many senders there were for such URLs, from 1 on
+-- the machine; what was put back to each queue; how many senders there were for such URLs, from 1 on; and how many offers to each
+-- queue were answered `seen`
 pub record Frontier : Type 0 where
   pub machine : State
   pub deferrals : List Deferrals
   pub senders : ℕ
+  pub seen : List ℕ
 
 -- nothing was accepted, and nothing put back
 abbrev pub start : ℕ → ℕ → Frontier
-start workers max = record { machine = machine_state.start workers max; deferrals = replicate workers no_deferrals; senders = 0 }
+start workers max = record { machine = machine_state.start workers max; deferrals = replicate workers no_deferrals; senders = 0; seen = replicate workers 0 }
 
 -- what was put back to a queue
 abbrev pub deferrals_at : Frontier → ℕ → Deferrals
@@ -44,9 +46,11 @@ pub record KeptFrontier : Type 0 where
   pub machine : Kept
   pub deferrals : List Deferrals
   pub senders : ℕ
+  pub seen : List ℕ
 
 -- what is kept is this state's
 pub record Shows (kept : KeptFrontier) (frontier : Frontier) : Type 0 where
   pub machine : machine.Shows kept.machine frontier.machine
   pub deferrals : kept.deferrals ≡ frontier.deferrals
   pub senders : kept.senders ≡ frontier.senders
+  pub seen : kept.seen ≡ frontier.seen

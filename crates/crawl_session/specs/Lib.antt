@@ -10,6 +10,7 @@ pub mod Logs
 pub mod Parts
 pub mod Rebuilding
 pub mod Requests
+pub mod Seen
 pub mod Settings
 pub mod Sessions
 pub mod Serving

@@ -179,7 +179,8 @@ stats_json queue stats =
     (count_at (codes "done") stats.done
     (count_at (codes "in_progress") stats.in_progress
     (count_at (codes "waiting") stats.waiting
-    (count_at (codes "put_back") stats.put_back no_members)))))))
+    (count_at (codes "put_back") stats.put_back
+    (count_at (codes "seen") stats.seen no_members))))))))
 
 abbrev pub row_json : Row → Json
 row_json (variant.Url kind queue url) = url_json kind queue url

@@ -2,7 +2,7 @@
 use Rattle.std.specs.Prelude.{ℕ, ◌/◌, Bool, List, codes, nat_eq, if◌then◌else◌, Option, Some, None, Result, Ok, Err, bytes_eq}
 use Rattle.crawl_session.specs.declared.part.Part.{Part}
 use Rattle.crawl_session.specs.declared.request.Request.{Request}
-use Rattle.crawl_session.specs.declared.request.Request.TheVariants.{Offer, Next, Again, Later, Done, EndSeeds, Stats}
+use Rattle.crawl_session.specs.declared.request.Request.TheVariants.{Offer, Next, Again, Later, Done, EndSeeds, Stats, Seen}
 use Rattle.crawl_session.specs.declared.request.RequestError.{RequestError}
 use Rattle.crawl_session.specs.declared.request.RequestError.TheVariants as wrong
 use Rattle.crawl_session.specs.Requests.{request_of}
@@ -26,6 +26,7 @@ placed part (Done queue) = if is_own part queue then Ok (Done queue) else Err wr
 placed part EndSeeds = Ok EndSeeds
 placed part (Stats None) = Ok (Stats None)
 placed part (Stats (Some queue)) = if is_own part queue then Ok (Stats (Some queue)) else Err wrong.OtherQueue
+placed part (Seen queue count) = Ok (Seen queue count)
 
 abbrev pub placed_if : Part → Result Request RequestError → Result Request RequestError
 placed_if part (Ok request) = placed part request

@@ -1,5 +1,5 @@
 -- What a line asks of a frontier.
-use Rattle.std.specs.Prelude.{ℕ, List, codes, if◌then◌else◌, Option, Some, None, ok_or, Result, Ok, Err, option_map, bytes_eq}
+use Rattle.std.specs.Prelude.{ℕ, List, codes, if◌then◌else◌, Option, Some, None, ok_or, Result, Ok, Err, option_and_then, option_map, bytes_eq}
 use Rattle.crawl_keys.specs.Assignment.{subqueue_of}
 use Rattle.crawl_keys.specs.CanonicalText.{canonical, resolve}
 use Rattle.crawl_keys.specs.HostFilter.{allows}
@@ -11,7 +11,7 @@ use Rattle.text_lines.specs.Fields.{at_space}
 use Rattle.text_lines.specs.declared.lines.LineError.{LineError}
 use Rattle.text_lines.specs.declared.lines.LineError.TheVariants.{TooLong, NotText}
 use Rattle.crawl_session.specs.declared.request.Request.{Request}
-use Rattle.crawl_session.specs.declared.request.Request.TheVariants.{Offer, Next, Again, Later, Done, EndSeeds, Stats}
+use Rattle.crawl_session.specs.declared.request.Request.TheVariants.{Offer, Next, Again, Later, Done, EndSeeds, Stats, Seen}
 use Rattle.crawl_session.specs.declared.request.RequestError.{RequestError}
 use Rattle.crawl_session.specs.declared.request.RequestError.TheVariants as wrong
 
@@ -54,7 +54,14 @@ plain_request word =
     else if bytes_eq word (codes "stats") then Some (Stats None)
     else None
 
--- `next Q`, `again Q`, `later Q`, `done Q`, `stats Q`
+-- the numbers of `seen Q COUNT`
+abbrev pub seen_numbers : List ℕ × List ℕ → Option Request
+seen_numbers p = option_and_then (λ queue. option_map (Seen queue) (number_of 64 p.1)) (number_of 32 p.0)
+
+abbrev pub seen_request : Option (List ℕ × List ℕ) → Option Request
+seen_request parts = option_and_then seen_numbers parts
+
+-- `next Q`, `again Q`, `later Q`, `done Q`, `stats Q`, `seen Q COUNT`
 abbrev pub numbered_request : List ℕ → List ℕ → Option Request
 numbered_request word number =
     if bytes_eq word (codes "next") then option_map Next (number_of 32 number)
@@ -62,6 +69,7 @@ numbered_request word number =
     else if bytes_eq word (codes "later") then option_map Later (number_of 32 number)
     else if bytes_eq word (codes "done") then option_map Done (number_of 32 number)
     else if bytes_eq word (codes "stats") then option_map (λ queue. Stats (Some queue)) (number_of 32 number)
+    else if bytes_eq word (codes "seen") then seen_request (at_space number)
     else None
 
 abbrev pub request_from : ℕ → List (List ℕ) → List ℕ → Option (List ℕ × List ℕ) → Result Request RequestError

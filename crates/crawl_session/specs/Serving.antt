@@ -22,6 +22,7 @@ pub record GivenUp (state : Frontier) (kept : KeptFrontier) : Type 0 where
   pub machine : steps.GivenUp state.machine kept.machine
   pub deferrals : kept.deferrals ≡ state.deferrals
   pub senders : kept.senders ≡ state.senders
+  pub seen : kept.seen ≡ state.seen
 
 -- the same whatever state was kept
 abbrev pub GivesUp : KeptFrontier → KeptFrontier → Type 0

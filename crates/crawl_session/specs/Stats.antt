@@ -1,13 +1,14 @@
--- How many URLs a queue, or all queues, accepted, and how far these are.
-use Rattle.std.specs.Prelude.{ℕ, zero, suc, ◌+◌, ◌-◌, Bool, List, ◌++◌, codes, is_some, length, unwrap_or, Option, None, Some, decimal, option_map}
+-- How many URLs a queue, or all queues, accepted, how far these are, and how many offers were answered `seen`.
+use Rattle.std.specs.Prelude.{ℕ, zero, suc, ◌+◌, ◌-◌, Bool, List, ◌++◌, codes, get_or, is_some, length, unwrap_or, Option, None, Some, decimal, option_map}
 use Rattle.crawl_core.specs.declared.progress.Progress.{Progress}
 use Rattle.crawl_core.specs.Flags.{one_if}
 use Rattle.crawl_core.specs.Handing.{progress_of}
 use Rattle.crawl_session.specs.declared.stats.Stats.{Stats}
 use Rattle.crawl_session.specs.Frontiers.{Frontier, deferrals_at}
+use Rattle.crawl_session.specs.Seen.{sum_of}
 
 abbrev pub no_stats : Stats
-no_stats = record { accepted = 0; done = 0; in_progress = 0; waiting = 0; put_back = 0 }
+no_stats = record { accepted = 0; done = 0; in_progress = 0; waiting = 0; put_back = 0; seen = 0 }
 
 abbrev pub plus : Stats → Stats → Stats
 plus a b = record {
@@ -16,11 +17,13 @@ plus a b = record {
   in_progress = a.in_progress + b.in_progress;
   waiting = a.waiting + b.waiting;
   put_back = a.put_back + b.put_back;
+  seen = sum_of a.seen b.seen;
 }
 
--- of a queue with this state, in which the given number of URLs wait that were put back, and which may be busy with such a URL
-abbrev pub stats_of : Progress → ℕ → Bool → Stats
-stats_of progress put_back is_busy =
+-- of a queue with this state, in which the given number of URLs wait that were put back, and which may be busy with such a URL; and
+-- this many offers to it were answered `seen`
+abbrev pub stats_of : Progress → ℕ → Bool → ℕ → Stats
+stats_of progress put_back is_busy seen =
     let in_progress = one_if progress.busy + one_if is_busy in
     let waiting = (progress.accepted - progress.taken) + put_back in
     record {
@@ -29,12 +32,13 @@ stats_of progress put_back is_busy =
       in_progress = in_progress;
       waiting = waiting;
       put_back = put_back;
+      seen = seen;
     }
 
 -- of the queue with this number, if there is one
 abbrev pub stats_at : Frontier → ℕ → Option Stats
 stats_at frontier queue =
-    option_map (λ progress. stats_of progress (length (deferrals_at frontier queue).waiting) (is_some (deferrals_at frontier queue).fetched)) (progress_of frontier.machine queue)
+    option_map (λ progress. stats_of progress (length (deferrals_at frontier queue).waiting) (is_some (deferrals_at frontier queue).fetched) (get_or frontier.seen queue 0)) (progress_of frontier.machine queue)
 
 -- of the queues below this number
 abbrev pub stats_below : Frontier → ℕ → Stats
@@ -51,4 +55,4 @@ abbrev pub unfinished_text : Stats → List ℕ
 unfinished_text stats = codes " in-progress " ++ decimal stats.in_progress ++ codes " waiting " ++ decimal stats.waiting ++ codes " put-back " ++ decimal stats.put_back
 
 abbrev pub stats_text : Stats → List ℕ
-stats_text stats = codes "stats accepted " ++ decimal stats.accepted ++ codes " done " ++ decimal stats.done ++ unfinished_text stats
+stats_text stats = codes "stats accepted " ++ decimal stats.accepted ++ codes " done " ++ decimal stats.done ++ unfinished_text stats ++ codes " seen " ++ decimal stats.seen

@@ -6,7 +6,7 @@ use Rattle.crawl_core.specs.declared.reply.Refusal.TheVariants as why
 use Rattle.crawl_session.specs.declared.answer.Answer.{Answer}
 use Rattle.crawl_session.specs.declared.answer.Answer.TheVariants.{Told, Counted, Unasked}
 use Rattle.crawl_session.specs.declared.request.Request.{Request}
-use Rattle.crawl_session.specs.declared.request.Request.TheVariants.{Offer, Next, Again, Later, Done, EndSeeds, Stats}
+use Rattle.crawl_session.specs.declared.request.Request.TheVariants.{Offer, Next, Again, Later, Done, EndSeeds, Stats, Seen}
 use Rattle.crawl_session.specs.declared.request.RequestError.{RequestError}
 
 -- the replies that a request can be answered
@@ -32,6 +32,8 @@ can_be_told (Done queue) (told.Refused why.NoSuch) = true
 can_be_told EndSeeds (told.Count left) = true
 can_be_told EndSeeds (told.Refused why.Nothing) = true
 can_be_told (Stats (Some queue)) (told.Refused why.NoSuch) = true
+can_be_told (Seen queue count) told.Seen = true
+can_be_told (Seen queue count) (told.Refused why.NoSuch) = true
 can_be_told _ _ = false
 
 -- an answer that a line can have that asks this, or nothing for this reason

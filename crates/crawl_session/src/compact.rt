@@ -1,13 +1,15 @@
-//! A shorter log of a session: the lines that changed it, and one offer of each URL of another part.
-ghost use Rattle.std.specs.Prelude.{◌≡◌, ℕ, List, IfOk};
+//! A shorter log of a session: the lines that changed it, one offer of each URL of another part, and the numbers of `seen`.
+ghost use Rattle.std.specs.Prelude.{◌≡◌, [], ◌∷◌, ◌==◌, ℕ, List, IfOk, if◌then◌else◌, string_bytes};
 ghost use Rattle.std.specs.Io.KnownBytes.{Appends};
 ghost use Rattle.std.specs.Str.Lines.{lines};
 ghost use Rattle.crawl_session.specs.Compacting as spec;
 ghost use Rattle.crawl_session.specs.Compacting.{Compacts, Gives, GivesRequest};
+ghost use Rattle.crawl_session.specs.Seen.{seen_line, seen_lines};
 ghost use Rattle.crawl_session.specs.declared.answer.Answer.TheVariants.{Told};
 
 use crate::answer::Answer;
 use crate::request::{Request, RequestError};
+use crate::seen::SeenCounts;
 use crate::serving::ServeError;
 use crate::session::Session;
 use crate::texts::Texts;
@@ -118,6 +120,52 @@ fn is_closed(reply: &Reply) -> bool
     ensures { result ≡ spec.says_closed (Told reply.now) }
 {
     matches!(reply, Reply::Closed)
+}
+
+/// Writes the last lines of a compacted log: those that keep the numbers of `seen` of the session.
+///
+/// # Errors
+/// `CannotWrite`, `NoMemory`.
+pub fn write_seen<O: Write>(alloc: Global, session: &Session, out: &mut O) -> Result<(), ServeError>
+    ensures { IfOk result (λ _. Appends (O.contents out.old) (O.contents out.new) (spec.log_text (seen_lines 0 session.now.core.seen))) }
+{
+    write_counts(alloc, &session.frontier.seen, out)
+}
+
+/// Writes the lines that keep these numbers of `seen`.
+fn write_counts<O: Write>(alloc: Global, counts: &SeenCounts, out: &mut O) -> Result<(), ServeError>
+    ensures { IfOk result (λ _. Appends (O.contents out.old) (O.contents out.new) (spec.log_text (seen_lines 0 counts.now))) }
+{
+    let queues = counts.queues()?;
+    for queue in 0..queues {
+        write_count(alloc, queue, counts.get(queue), out)?;
+    }
+    Ok(())
+}
+
+/// Writes the line that keeps the number of `seen` of a queue, unless it is 0.
+fn write_count<O: Write>(
+    alloc: Global,
+    queue: u32,
+    count: u64,
+    out: &mut O,
+) -> Result<(), ServeError>
+    ensures { IfOk result (λ _. Appends (O.contents out.old) (O.contents out.new) (spec.log_text (if count == 0 then [] else seen_line queue count ∷ []))) }
+{
+    if count == 0 {
+        return Ok(());
+    }
+    let line = count_line(alloc, queue, count)?;
+    write_line(line.as_bytes(), out)
+}
+
+/// Returns the line that keeps the number of `seen` of a queue.
+fn count_line(alloc: Global, queue: u32, count: u64) -> Result<String, NoMemory>
+    ensures { IfOk result (λ line. string_bytes line ≡ seen_line queue count) }
+{
+    let mut line = String::new(alloc);
+    write!(line, "seen {queue} {count}")?;
+    Ok(line)
 }
 
 /// Writes a line with its line end.

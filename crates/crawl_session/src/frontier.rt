@@ -12,18 +12,20 @@ use crate::answer::Answer;
 use crate::deferrals::{DeferralQueues, Deferred};
 use crate::exchange::{again, end_seeds, finish, next, offer};
 use crate::request::Request;
+use crate::seen::SeenCounts;
 use crate::stats::Stats;
 use crawl_core::{Core, Event, NoMemory, Refusal, Reply, Text};
 use std::alloc::{AllocError, Global};
 use std::marker::Model;
 
-/// A machine, and the URLs that were put back and are not done.
+/// A machine, the URLs that were put back and are not done, and how many offers were answered `seen`.
 #[derive(Drop)]
 pub struct Frontier {
     core: Core,
     deferrals: DeferralQueues,
     /// The number of senders that these URLs have had. They are numbered from 1.
     senders: u64,
+    pub(crate) seen: SeenCounts,
 }
 
 impl Model for Frontier {
@@ -31,7 +33,7 @@ impl Model for Frontier {
 
     ghost Value = { KeptFrontier };
 
-    ghost view = { λ f. record { machine = f.core; deferrals = f.deferrals; senders = f.senders } };
+    ghost view = { λ f. record { machine = f.core; deferrals = f.deferrals; senders = f.senders; seen = f.seen } };
 }
 
 impl Frontier {
@@ -40,13 +42,15 @@ impl Frontier {
     /// # Errors
     /// Out of memory.
     pub fn new(alloc: Global, core: Core, workers: u32) -> Result<Frontier, NoMemory>
-        ensures { IfOk result (λ frontier. frontier ≡ record { machine = core; deferrals = replicate workers no_deferrals; senders = 0 }) }
+        ensures { IfOk result (λ frontier. frontier ≡ record { machine = core; deferrals = replicate workers no_deferrals; senders = 0; seen = replicate workers 0 }) }
     {
         let deferrals = DeferralQueues::new(alloc, workers)?;
+        let seen = SeenCounts::new(alloc, workers)?;
         Ok(Frontier {
             core,
             deferrals,
             senders: 0,
+            seen,
         })
     }
 
@@ -66,17 +70,28 @@ impl Frontier {
             Request::Later { queue } => self.later(queue)?,
             Request::Done { queue } => self.done(queue)?,
             Request::EndSeeds => self.end_seeds()?,
+            Request::Seen { queue, count } => self.count_seen(queue, count),
             Request::Stats { queue } => return self.stats(queue),
         };
         Ok(Answer::Told(reply))
     }
 
-    // `offer`, `end_seeds`, `take` and `finish` only call `exchange.rt`. They are functions only for the prover: each states for the
+    /// Offers the URL to the queue, and counts the offer if it is answered `seen`.
+    fn offer(&mut self, url: Text, queue: u32) -> Result<Reply, NoMemory>
+        ensures comes { IfOk result (λ reply. Comes (λ state. spec.noted queue (spec.by_machine state (spec.offering state.machine url queue))) self.old (Answer.Told reply) self.new) }
+        ensures err { OnErr result (GivesUp self.old self.new) }
+    {
+        let reply = self.offer_url(url, queue)?;
+        self.seen.note(queue, &reply);
+        Ok(reply)
+    }
+
+    // `offer_url`, `end_seeds`, `take` and `finish` only call `exchange.rt`. They are functions only for the prover: each states for the
     // frontier what its call does to the machine.
 
     /// Offers the URL to the machine's queue, for the session's client.
     #[tactic(auto, using(crate::proofs::Lifts::gives_up_lifts))]
-    fn offer(&mut self, url: Text, queue: u32) -> Result<Reply, NoMemory>
+    fn offer_url(&mut self, url: Text, queue: u32) -> Result<Reply, NoMemory>
         ensures comes { IfOk result (λ reply. Comes (λ state. spec.by_machine state (spec.offering state.machine url queue)) self.old (Answer.Told reply) self.new) }
         ensures err { OnErr result (GivesUp self.old self.new) }
     {
@@ -247,6 +262,17 @@ impl Frontier {
         Ok(Reply::Count(count))
     }
 
+    /// Counts that many more offers to the queue as answered `seen`. It is refused if there is no such queue.
+    fn count_seen(&mut self, queue: u32, count: u64) -> Reply
+        ensures { Comes (λ state. spec.counting_seen state queue count) self.old (Answer.Told result) self.new }
+    {
+        if self.seen.add(queue, count) {
+            Reply::Seen
+        } else {
+            Reply::Refused(Refusal::NoSuch)
+        }
+    }
+
     /// Counts the URLs of one queue, or of all queues if `queue` is `None`. It is refused if there is no such queue.
     fn stats(&self, queue: Option<u32>) -> Result<Answer, NoMemory>
         ensures { IfOk result (λ answer. Comes (λ state. spec.counting state queue) self.now answer self.now) }
@@ -268,7 +294,8 @@ impl Frontier {
             return Ok(None);
         };
         let is_busy = self.deferrals.fetched(queue).is_some();
-        let stats = Stats::of_queue(progress, self.deferrals.waiting(queue), is_busy)?;
+        let waiting = self.deferrals.waiting(queue);
+        let stats = Stats::of_queue(progress, waiting, is_busy, self.seen.get(queue))?;
         Ok(Some(stats))
     }
 

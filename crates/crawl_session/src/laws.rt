@@ -6,11 +6,12 @@ ghost use Rattle.std.specs.declared.hash.DefaultHasher.{DefaultHasher};
 ghost use Rattle.std.specs.Str.Lines.{lines};
 ghost use Rattle.crawl_core.specs.History.{accepted_urls, taken_urls, done_in};
 ghost use Rattle.crawl_core.specs.Invariants.{HasRoom};
+ghost use Rattle.crawl_core.specs.Limits.{queue_limit};
 ghost use Rattle.crawl_core.specs.Run.{Run};
 ghost use Rattle.crawl_core.specs.declared.reply.Reply.TheVariants as told;
 ghost use Rattle.crawl_core.specs.declared.word.Word.{Word};
 ghost use Rattle.crawl_session.specs.Clients.{AgainIfPutBack, AllDone, EachOnceInOrder, IsTold, NonePutBack, accepted_of, asked, busy_in, done_of, elsewhere_of, first_of_each, puts_back, taken_of};
-ghost use Rattle.crawl_session.specs.Compacting.{had_none, log_text, needed};
+ghost use Rattle.crawl_session.specs.Compacting.{compacted, log_text};
 ghost use Rattle.crawl_keys.specs.Assignment.{subqueue_of};
 ghost use Rattle.crawl_session.specs.Exchanges.{exchange};
 ghost use Rattle.crawl_session.specs.Frontiers.{Frontier, NoneDeferred, start};
@@ -49,11 +50,11 @@ pub fn sessions_go_on()
     ensures events { (settings : Settings) (state : Frontier) (front back : List (List ℕ)) → history_of settings state (front ++ back) ≡ history_of settings state front ++ history_of settings (state_after settings state front) back }
 {}
 
-/// A compacted log is as good as the whole one: a new session that is given only the lines of these bytes that are needed answers
-/// any further lines like one that was given all of them.
+/// A compacted log is as good as the whole one: a new session that is given its lines answers any further lines like one that was
+/// given all lines of these bytes.
 #[tactic(auto, using(crate::proofs::Compactions::compacted_answers))]
 pub fn a_compacted_log_goes_on()
-    ensures { (settings : Settings) (max : ℕ) (bytes : List ℕ) (more : List (List ℕ)) → 1 ≤ settings.workers → answers settings (state_after settings (start settings.workers max) (lines (log_text (needed settings had_none (start settings.workers max) (lines bytes))))) more
+    ensures { (settings : Settings) (max : ℕ) (bytes : List ℕ) (more : List (List ℕ)) → 1 ≤ settings.workers → settings.workers ≤ queue_limit → answers settings (state_after settings (start settings.workers max) (lines (log_text (compacted settings (start settings.workers max) (lines bytes))))) more
         ≡ answers settings (state_after settings (start settings.workers max) (lines bytes)) more }
 {}
 
@@ -61,7 +62,7 @@ pub fn a_compacted_log_goes_on()
 /// So the URLs of other parts can be sent to them again.
 #[tactic(auto, using(crate::proofs::Elsewheres::compacted_tells))]
 pub fn a_compacted_log_tells_elsewhere()
-    ensures { (settings : Settings) (max : ℕ) (bytes : List ℕ) → elsewhere_of (asked settings (start settings.workers max) (lines (log_text (needed settings had_none (start settings.workers max) (lines bytes))))) ≡ first_of_each [] (elsewhere_of (asked settings (start settings.workers max) (lines bytes))) }
+    ensures { (settings : Settings) (max : ℕ) (bytes : List ℕ) → settings.workers ≤ queue_limit → elsewhere_of (asked settings (start settings.workers max) (lines (log_text (compacted settings (start settings.workers max) (lines bytes))))) ≡ first_of_each [] (elsewhere_of (asked settings (start settings.workers max) (lines bytes))) }
 {}
 
 /// No answer depends on the words that senders remember. So if a line runs out of memory, each later line is answered as if that
@@ -100,8 +101,8 @@ pub fn later_needs_a_busy_queue()
         → puts_back queue (Ok (Later queue)) (line_exchange settings (state_after settings (start settings.workers max) front) line).answer ≡ is_some (busy_in queue (asked settings (start settings.workers max) front)) }
 {}
 
-/// The numbers of a subqueue are those of the answers before: how many URLs were accepted and are done, and whether the subqueue
-/// is busy. All others are waiting.
+/// The numbers of a subqueue are those of the answers before: how many URLs were accepted and are done, whether the subqueue is
+/// busy, and how many offers were answered `seen`. All others are waiting.
 #[tactic(auto, using(crate::proofs::Counting::stats_told))]
 pub fn stats_are_what_was_told()
     ensures { (settings : Settings) (max : ℕ) (lines : List (List ℕ)) (queue : ℕ) (stats : Stats) → stats_at (state_after settings (start settings.workers max) lines) queue ≡ Some stats → IsTold queue (asked settings (start settings.workers max) lines) stats }

@@ -15,6 +15,7 @@ mod log_start;
 mod part;
 mod rebuild;
 mod request;
+mod seen;
 mod serving;
 mod session;
 mod stats;
@@ -22,7 +23,7 @@ mod sums;
 mod texts;
 
 pub use answer::Answer;
-pub use compact::Compactor;
+pub use compact::{Compactor, write_seen};
 pub use inventory::Inventory;
 pub use list::{ListForm, Lister};
 pub use log::{read_settings, settings_line, whole_len};

@@ -6,6 +6,7 @@ ghost use Rattle.json.specs.Token.{begin_object, end_object, key, string, number
 ghost use Rattle.json.specs.Tree.{json_tokens};
 ghost use Rattle.crawl_session.specs.Listing as spec;
 ghost use Rattle.crawl_session.specs.Listing.{Gives, Lists};
+ghost use Rattle.crawl_session.specs.Stats.{stats_text};
 
 use crate::answer::Answer;
 use crate::request::{Request, RequestError};
@@ -360,8 +361,17 @@ fn text_line(alloc: Global, row: &Row) -> Result<Vec<u8>, NoMemory>
             let word = word(*kind);
             writeln!(line, "{word} {queue} {url}")?;
         }
-        Row::Stats { stats, .. } => writeln!(line, "{stats}")?,
+        Row::Stats { stats, .. } => return stats_line(alloc, stats),
     }
+    Ok(line.into_bytes())
+}
+
+/// Returns the line of numbers as text, with its LF.
+fn stats_line(alloc: Global, stats: &Stats) -> Result<Vec<u8>, NoMemory>
+    ensures { IfOk result (λ line. line.items ≡ stats_text stats.now ++ 10 ∷ []) }
+{
+    let mut line = String::new(alloc);
+    writeln!(line, "{stats}")?;
     Ok(line.into_bytes())
 }
 
@@ -435,7 +445,8 @@ fn put_stats(out: &mut Writer, queue: Option<u32>, stats: &Stats) -> Result<(), 
     put_count(out, "done", stats.done)?;
     put_count(out, "in_progress", stats.in_progress)?;
     put_count(out, "waiting", stats.waiting)?;
-    put_count(out, "put_back", stats.put_back)
+    put_count(out, "put_back", stats.put_back)?;
+    put_count(out, "seen", stats.seen)
 }
 
 /// Writes the queue of numbers; `null` if they are of all queues.

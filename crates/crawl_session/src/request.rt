@@ -8,7 +8,7 @@ ghost use Rattle.crawl_session.specs.declared.request.RequestError.TheVariants a
 
 use crawl_core::Text;
 use crawl_keys::{Base, CanonUrl, Filter, KeyError, canonical, hash};
-use crawl_replay::number32;
+use crawl_replay::{number32, number64};
 use std::alloc::{AllocError, Global};
 use text_lines::{LineError, split_space, text_of};
 
@@ -29,6 +29,8 @@ pub enum Request {
     EndSeeds,
     /// `stats`, `stats Q`: count the URLs of all subqueues, or of one.
     Stats { queue: Option<u32> },
+    /// `seen Q COUNT`: that many offers to the subqueue were answered `seen`. It is for compacted logs.
+    Seen { queue: u32, count: u64 },
 }
 
 /// Why a line is no request to the frontier: it has an error, or the frontier is not needed for its answer.
@@ -127,7 +129,8 @@ fn plain_request(word: &str) -> Option<Request>
     }
 }
 
-/// Returns the request of a line with a word and the number of a queue: `next`, `again`, `later`, `done` or `stats`.
+/// Returns the request of a line with a word and the number of a queue: `next`, `again`, `later`, `done` or `stats`, or `seen` with
+/// two numbers.
 fn numbered_request(word: &str, number: &str) -> Option<Request>
     ensures { result ≡ spec.numbered_request word.now number.now }
 {
@@ -147,8 +150,19 @@ fn numbered_request(word: &str, number: &str) -> Option<Request>
         "stats" => Some(Request::Stats {
             queue: Some(number32(number)?),
         }),
+        "seen" => seen_request(number),
         _ => None,
     }
+}
+
+/// Returns the request of a line `seen` with these numbers.
+fn seen_request(numbers: &str) -> Option<Request>
+    ensures { result ≡ spec.seen_request (at_space numbers.now) }
+{
+    let (queue, count) = split_space(numbers)?;
+    let queue = number32(queue)?;
+    let count = number64(count)?;
+    Some(Request::Seen { queue, count })
 }
 
 /// The offer of the text's canonical URL.

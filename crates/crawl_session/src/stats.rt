@@ -1,4 +1,4 @@
-//! How many URLs a queue, or all queues, accepted, and how far these are.
+//! How many URLs a queue, or all queues, accepted, how far these are, and how many offers were answered `seen`.
 ghost use Rattle.std.specs.Prelude.{◌≡◌, ◌+◌, Some, IfOk};
 ghost use Rattle.crawl_core.specs.Flags as flags;
 ghost use Rattle.crawl_session.specs.Stats as spec;
@@ -7,7 +7,7 @@ use crawl_core::{NoMemory, Progress};
 use std::alloc::AllocError;
 use std::fmt;
 
-/// How many URLs were accepted, and how many of these are done, in progress, and waiting.
+/// How many URLs were accepted, how many of these are done, in progress, and waiting, and how many offers were answered `seen`.
 #[derive(Clone, Copy, Debug, PartialEq, Eq)]
 pub struct Stats {
     pub accepted: u64,
@@ -16,6 +16,8 @@ pub struct Stats {
     pub waiting: u64,
     /// How many of those that are waiting were put back.
     pub put_back: u64,
+    /// How many offers were answered `seen`, up to 2^64 - 1.
+    pub seen: u64,
 }
 
 impl Stats {
@@ -29,15 +31,22 @@ impl Stats {
             in_progress: 0,
             waiting: 0,
             put_back: 0,
+            seen: 0,
         }
     }
 
-    /// Those of a queue with this state, in which `put_back` URLs wait that were put back. It may be busy with such a URL.
+    /// Those of a queue with this state, in which `put_back` URLs wait that were put back. It may be busy with such a URL. The given
+    /// number of offers to it were answered `seen`.
     ///
     /// # Errors
     /// A number is too large.
-    pub fn of_queue(progress: Progress, put_back: usize, is_busy: bool) -> Result<Stats, NoMemory>
-        ensures { IfOk result (λ stats. stats ≡ spec.stats_of progress put_back is_busy) }
+    pub fn of_queue(
+        progress: Progress,
+        put_back: usize,
+        is_busy: bool,
+        seen: u64,
+    ) -> Result<Stats, NoMemory>
+        ensures { IfOk result (λ stats. stats ≡ spec.stats_of progress put_back is_busy seen) }
     {
         let accepted = progress.accepted as u64;
         let put_back = put_back as u64;
@@ -50,6 +59,7 @@ impl Stats {
             in_progress,
             waiting,
             put_back,
+            seen,
         })
     }
 
@@ -66,6 +76,7 @@ impl Stats {
             in_progress: sum(self.in_progress, other.in_progress)?,
             waiting: sum(self.waiting, other.waiting)?,
             put_back: sum(self.put_back, other.put_back)?,
+            seen: self.seen.saturating_add(other.seen),
         })
     }
 }
@@ -77,7 +88,8 @@ impl fmt::Display for Stats {
         let accepted = self.accepted;
         let done = self.done;
         let rest = Unfinished(self);
-        write!(f, "stats accepted {accepted} done {done}{rest}")
+        let seen = self.seen;
+        write!(f, "stats accepted {accepted} done {done}{rest} seen {seen}")
     }
 }
 

@@ -1,12 +1,14 @@
 -- Buffers, compactions and lists in turns, and sessions that break off.
 use Rattle.session_log.proofs.Prelude.{◌≡◌, ℕ, ◌+◌, ◌-◌, ◌≤◌, Bool, true, List, [], ◌∷◌, ◌++◌, append-nil, append_assoc, Option, None, Some, drop, take, slice_range, refl, sym, ap, subst, ◌∙◌, arith, Appends-nil, Appends-trans, drop-take, drop-drop, IsBreak}
+use Rattle.std.proofs.lemmas.Grind.{flat_map-append}
 use Rattle.std.proofs.lemmas.List.Folds.{concat-append}
 use Rattle.std.specs.Io.KnownBytes.{Appends}
 use Rattle.std.specs.List.{concat}
 use Rattle.std.specs.declared.hash.DefaultHasher.{DefaultHasher}
-use Rattle.crawl_session.specs.Compacting.{Compacts, Had}
+use Rattle.crawl_session.specs.Compacting.{Compacts, Had, had_none, log_line, log_text, needed}
 use Rattle.crawl_session.specs.Frontiers.{Frontier, Shows, start}
 use Rattle.crawl_session.specs.Listing.{Listed, Lists, done_in, in_progress_below, list_text, pending_below, stats_in}
+use Rattle.crawl_session.specs.Seen.{seen_lines}
 use Rattle.crawl_session.specs.Sessions.{state_after}
 use Rattle.crawl_session.specs.Settings.{Settings, SessionView}
 use Rattle.crawl_session.specs.declared.list.ListForm.{ListForm}
@@ -115,7 +117,29 @@ compacted_piece had old requests front piece text next new out_old out_new none 
   compacts = subst (λ t. Compacts had old requests t next new) (sym (whole ∙ ap (λ l. l ++ text) none) ∙ sym (append-nil piece)) compacts;
 }
 
--- the first line was appended, and then the lines that are needed
+-- what a writer gained, of which the text is known
+pub gained_text : (front piece text : List ℕ) (old new : Summing) → front ≡ [] → piece ≡ front ++ text → Gained (piece ∷ []) old new → Gained (text ∷ []) old new
+gained_text front piece text old new none whole gained = subst (λ p. Gained (p ∷ []) old new) (whole ∙ ap (λ l. l ++ text) none) gained
+
+-- after the lines that are needed, those that keep the numbers of `seen` were appended
+pub compacted_whole : (old : SessionView) (next : Had) (mid : SessionView) (out_old out_mid out_new : Summing) → Compacted had_none old next mid out_old out_mid → Gained (log_text (seen_lines 0 mid.core.seen) ∷ []) out_mid out_new → IsCompacted old [] out_old.sum out_old.contents out_new.contents
+compacted_whole old next mid out_old out_mid out_new one last =
+    let text = log_text (seen_lines 0 mid.core.seen) in
+    record {
+      requests = one.requests;
+      pieces = one.pieces ++ text ∷ [];
+      gained = (gained_both one.pieces (text ∷ []) out_old out_mid out_new one.gained last).gained;
+      shortest = λ state shown.
+          let done = one.compacts.comes state shown in
+          let front = needed old.settings had_none state one.requests in
+          concat-append one.pieces (text ∷ [])
+          ∙ ap (λ l. concat one.pieces ++ l) (append-nil text)
+          ∙ ap (λ l. l ++ text) done.0
+          ∙ ap (λ seen. log_text front ++ log_text (seen_lines 0 seen)) done.1.1.seen
+          ∙ sym (flat_map-append log_line front (seen_lines 0 (state_after old.settings state one.requests).seen));
+    }
+
+-- the first line was appended, and then the other lines
 pub compacted_first : (session : SessionView) (first : List ℕ) (old mid new : Summing) → Gained (first ∷ []) old mid → IsCompacted session [] mid.sum mid.contents new.contents → IsCompacted session (first ∷ []) old.sum old.contents new.contents
 compacted_first session first old mid new one two = record {
   requests = two.requests;

@@ -6,7 +6,7 @@ use Rattle.std.specs.Option.{option_or}
 use Rattle.std.specs.declared.alloc.Global.{Global}
 use Rattle.std.specs.declared.hash.DefaultHasher.{DefaultHasher}
 use Rattle.crawl_keys.specs.HostFilter.{filter_of}
-use Rattle.crawl_session.specs.Compacting.{Compacts, Had, had_none, log_text, needed}
+use Rattle.crawl_session.specs.Compacting.{Compacts, Had, compacted, log_text}
 use Rattle.crawl_session.specs.Frontiers.{Frontier, Shows, start}
 use Rattle.crawl_session.specs.Listing.{done_in}
 use Rattle.crawl_session.specs.LogStarts.{start_text}
@@ -46,13 +46,13 @@ pub record Compacted (had : Had) (old : SessionView) (next : Had) (new : Session
   pub gained : Gained pieces out_old out_new
   pub compacts : Compacts had old requests (concat pieces) next new
 
--- the writer gained these first lines, and then those of some requests that a new session needs, whatever state it is in: each piece
--- of them with its checksum
+-- the writer gained these first lines, and then those of the compacted log of some requests, whatever state the session was in: each
+-- piece of them with its checksum
 pub record IsCompacted (session : SessionView) (first : List (List ℕ)) (sum : Option DefaultHasher) (out_old out_new : Option (List ℕ)) : Type 0 where
   pub requests : List (List ℕ)
   pub pieces : List (List ℕ)
   pub gained : Appends out_old out_new (framed_pieces sum (first ++ pieces))
-  pub shortest : (state : Frontier) → Shows session.core state → concat pieces ≡ log_text (needed session.settings had_none state requests)
+  pub shortest : (state : Frontier) → Shows session.core state → concat pieces ≡ log_text (compacted session.settings state requests)
 
 -- ---- other settings
 

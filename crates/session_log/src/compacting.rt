@@ -1,6 +1,8 @@
 //! The compacted log of a session, in a new file, with the same settings or with other ones.
 ghost use Rattle.std.specs.Prelude.{◌≡◌, ◌∷◌, [], Ok, IfOk, IsOk, OnOk, string_bytes};
-ghost use Rattle.session_log.specs.Compaction.{Compacted, IsCompacted, IsRebuilt, summing};
+ghost use Rattle.crawl_session.specs.Compacting.{log_text};
+ghost use Rattle.crawl_session.specs.Seen.{seen_lines};
+ghost use Rattle.session_log.specs.Compaction.{Compacted, Gained, IsCompacted, IsRebuilt, summing};
 ghost use Rattle.session_log.specs.Plans.{IsSessionPlan};
 
 use crate::compact_plan::CompactPlan;
@@ -11,14 +13,15 @@ use crate::new_log::{NewLog, create_partial, publish};
 use crate::opening::{OpenedLog, open_session};
 use crate::plan::SessionPlan;
 use crate::rebuilding::{filter_within, rebuild_to};
-use crawl_session::{Compactor, LeftOut, Session};
+use crawl_session::{Compactor, LeftOut, Session, write_seen};
 use std::alloc::Global;
 use std::fs::{self, Files, OpenFile};
 use std::io::{self, Read, Seek, Write};
 
-/// Writes a compacted copy of the log to a new file. With the settings of the log, the copy has only the requests that are needed. With
-/// other settings, it has the same URLs done and not done. The log does not change. The new file gets its name when it is whole and
-/// synced to disk. If the program is killed, the new file is whole or does not exist, but a file with its temporary name may remain.
+/// Writes a compacted copy of the log to a new file. With the settings of the log, the copy has only the requests that are needed, and
+/// the numbers of `seen`. With other settings, it has the same URLs done and not done. The log does not change. The new file gets its
+/// name when it is whole and synced to disk. If the program is killed, the new file is whole or does not exist, but a file with its
+/// temporary name may remain.
 ///
 /// Returns how many URLs the new log leaves out, because its suffix does not allow them.
 ///
@@ -98,7 +101,7 @@ fn finish(written: Result<LeftOut, LogFault>, synced: io::Result<()>) -> Result<
     }
 }
 
-/// Writes the first line of the log, and the requests that are needed. It leaves out no URL.
+/// Writes the first line of the log, the requests that are needed, and the numbers of `seen`. It leaves out no URL.
 fn compact_to<F: Read + Seek, O: Write>(
     alloc: Global,
     session: &mut Session,
@@ -113,8 +116,8 @@ fn compact_to<F: Read + Seek, O: Write>(
     Ok(LeftOut::none())
 }
 
-/// Runs these lines, and writes those that are needed. Fails with `CannotRead` also if a line is too long for the reader.
-#[tactic(auto, using(crate::proofs::Logs::compacted_none))]
+/// Runs these lines, and writes those that are needed, and the numbers of `seen`. Fails with `CannotRead` also if a line is too long for the reader.
+#[tactic(auto, using(crate::proofs::Logs::compacted_none, crate::proofs::Logs::compacted_whole))]
 fn compact_lines<F: Read + Seek, O: Write>(
     alloc: Global,
     session: &mut Session,
@@ -127,7 +130,23 @@ fn compact_lines<F: Read + Seek, O: Write>(
     while lines.read()? {
         compact_bytes(alloc, &mut compactor, session, lines.as_slice(), new)?;
     }
-    lines.finish()
+    lines.finish()?;
+    append_seen(alloc, session, new)?;
+    Ok(())
+}
+
+/// Writes the lines that keep the numbers of `seen` of the session.
+fn append_seen<O: Write>(
+    alloc: Global,
+    session: &Session,
+    new: &mut NewLog<O>,
+) -> Result<(), LogFault>
+    ensures gained { OnOk result (Gained (log_text (seen_lines 0 session.now.core.seen) ∷ []) (summing new.old.frame.sum (O.contents new.old.file)) (summing new.new.frame.sum (O.contents new.new.file))) }
+{
+    let mut text = Vec::new(alloc);
+    write_seen(alloc, session, &mut text)?;
+    new.append(&text)?;
+    Ok(())
 }
 
 /// Runs the lines of these bytes, and writes those that are needed.

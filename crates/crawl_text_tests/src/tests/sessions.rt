@@ -30,7 +30,7 @@ const ROWS: &[(&str, &str)] = &[
     ("next 0", "taken http://a.test/z?q"),
     (
         "stats",
-        "stats accepted 2 done 0 in-progress 1 waiting 1 put-back 1",
+        "stats accepted 2 done 0 in-progress 1 waiting 1 put-back 1 seen 1",
     ),
     ("later 0", "count 3"),
     ("next 0", "taken http://a.test/"),
@@ -45,7 +45,7 @@ const ROWS: &[(&str, &str)] = &[
     ("next 0", "closed"),
     (
         "stats 0",
-        "stats accepted 2 done 2 in-progress 0 waiting 0 put-back 0",
+        "stats accepted 2 done 2 in-progress 0 waiting 0 put-back 0 seen 1",
     ),
     ("stats 1", "refused nosuch"),
     ("offer http://a.test/", "refused closed"),
@@ -187,7 +187,7 @@ next 0
 ";
 
 const PUT_BACK_AS_TEXT: &str = "done 0 http://a.test/2
-stats accepted 2 done 1 in-progress 1 waiting 0 put-back 0
+stats accepted 2 done 1 in-progress 1 waiting 0 put-back 0 seen 0
 in-progress 0 http://a.test/1
 ";
 
@@ -204,14 +204,14 @@ next 0
 ";
 
 const PENDING_AS_TEXT: &str = "done 0 http://a.test/2
-stats accepted 3 done 1 in-progress 1 waiting 1 put-back 1
+stats accepted 3 done 1 in-progress 1 waiting 1 put-back 1 seen 0
 in-progress 0 http://a.test/3?q=\\
 pending 0 http://a.test/1
 ";
 
 const PENDING_AS_JSON: &str = r#"{"kind":"done","queue":0,"url":"http://a.test/2"}
-{"kind":"stats","queue":null,"accepted":3,"done":1,"in_progress":1,"waiting":1,"put_back":1}
-{"kind":"stats","queue":0,"accepted":3,"done":1,"in_progress":1,"waiting":1,"put_back":1}
+{"kind":"stats","queue":null,"accepted":3,"done":1,"in_progress":1,"waiting":1,"put_back":1,"seen":0}
+{"kind":"stats","queue":0,"accepted":3,"done":1,"in_progress":1,"waiting":1,"put_back":1,"seen":0}
 {"kind":"in_progress","queue":0,"url":"http://a.test/3?q=\\"}
 {"kind":"pending","queue":0,"url":"http://a.test/1"}
 "#;

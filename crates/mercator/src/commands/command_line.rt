@@ -48,7 +48,7 @@ Each request is one line, and is answered immediately by one line:
   later Q         count COUNT | refused nothing | refused nosuch
   done Q          count COUNT | refused nothing | refused nosuch
   endseeds        count COUNT | refused nothing
-  stats           stats accepted A done D in-progress P waiting W put-back B
+  stats           stats accepted A done D in-progress P waiting W put-back B seen S
   stats Q         as for stats, with the numbers of queue Q | refused nosuch
 Only with --part:
   sync            synced
