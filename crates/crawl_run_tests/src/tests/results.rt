@@ -16,18 +16,11 @@ pub fn result_at(alloc: Global, target: &Target) -> Option<PageResult> {
     }
 }
 
+/// The page of a saved web at the URL of a text.
 pub fn result_of(alloc: Global, web: &SavedWeb, text: &str) -> Option<PageResult> {
-    match canonical(alloc, text) {
-        Ok(url) => fetched(alloc, web, url),
-        Err(_) => None,
-    }
-}
-
-fn fetched(alloc: Global, web: &SavedWeb, url: CanonUrl) -> Option<PageResult> {
-    match web.fetch(alloc, &url) {
-        Ok(page) => Some(PageResult { url, page }),
-        Err(_) => None,
-    }
+    let url = canonical(alloc, text).ok()?;
+    let page = web.fetch(alloc, &url).ok()?;
+    Some(PageResult { url, page })
 }
 
 /// The URLs of those of these texts that have one.

@@ -136,20 +136,17 @@ static ROWS: [Row; 8] = [
 ];
 
 impl Row {
-    fn run(&self, how: How) -> Run<'static> {
-        Run {
+    fn found<R: Threads + Wait + Sync>(&self, rt: &R, alloc: Global, how: How) -> Option<Found> {
+        let source = Counting::new(alloc, self.web, self.fails)?;
+        let run = Run {
             workers: self.workers,
             max_pending: self.max_pending,
             suffixes: self.suffixes,
             seeds: if self.workers == 1 { &[A] } else { &[A, B] },
             how,
             urls: self.urls,
-        }
-    }
-
-    fn found<R: Threads + Wait + Sync>(&self, rt: &R, alloc: Global, how: How) -> Option<Found> {
-        let source = Counting::new(alloc, self.web, self.fails)?;
-        self.run(how).found(rt, alloc, &source)
+        };
+        run.found(rt, alloc, &source)
     }
 
     fn holds<R: Threads + Wait + Sync>(&self, rt: &R, alloc: Global) -> bool {

@@ -2,7 +2,7 @@
 ghost use Rattle.std.specs.Prelude.{◌≡◌};
 
 use crate::tests::results::count_at;
-use crawl_frontier::{ClosedWorker, Frontier, Name, Seeder, Sender, Setup, Worker};
+use crawl_frontier::{Frontier, Name, Seeder, Sender, Setup, Worker};
 use crawl_keys::{Filter, canonical};
 use crawl_pages::Fetch;
 use crawl_workers::{WorkerEnd, run_threads, run_turns, run_worker};
@@ -164,16 +164,10 @@ pub fn finishes<K: Name>(
     sender: Sender<K>,
     ends: Vec<WorkerEnd<K>>,
 ) -> bool {
-    let closed = closed_of(alloc, ends);
-    let mut senders = Vec::new(alloc);
-    let _ = senders.push(sender);
-    frontier.finish(closed, senders).is_ok()
-}
-
-fn closed_of<K: Name>(alloc: Global, ends: Vec<WorkerEnd<K>>) -> Vec<ClosedWorker<K>> {
-    let mut closed = Vec::new(alloc);
+    let (mut closed, mut senders) = (Vec::new(alloc), Vec::new(alloc));
     for end in ends {
         let _ = closed.push(end.closed);
     }
-    closed
+    let _ = senders.push(sender);
+    frontier.finish(closed, senders).is_ok()
 }

@@ -3,10 +3,10 @@ ghost use Rattle.std.specs.Prelude.{◌≡◌};
 
 use crate::tests::certificate::tables::Group;
 use crate::tests::runs::seeded;
-use crawl_frontier::{Account, Frontier, Name, Sender, Setup};
+use crawl_frontier::{Account, Frontier, Name, Setup};
 use crawl_keys::Filter;
 use crawl_pages::PageResult;
-use crawl_workers::{WorkerEnd, run_turns};
+use crawl_workers::run_turns;
 use saved_web::SavedWeb;
 use std::alloc::Global;
 use std::marker::Brand;
@@ -22,27 +22,7 @@ pub struct Run {
     pub results: Vec<PageResult>,
 }
 
-// The account of the run, with what all workers found.
-fn finished<K: Name>(
-    alloc: Global,
-    frontier: Frontier<K>,
-    sender: Sender<K>,
-    ends: Vec<WorkerEnd<K>>,
-) -> Option<Run> {
-    let (mut closed, mut results) = (Vec::new(alloc), Vec::new(alloc));
-    for end in ends {
-        let mut found = end.results;
-        let _ = results.append(&mut found);
-        let _ = closed.push(end.closed);
-    }
-    let mut senders = Vec::new(alloc);
-    let _ = senders.push(sender);
-    match frontier.finish(closed, senders) {
-        Ok(account) => Some(Run { account, results }),
-        Err(_) => None,
-    }
-}
-
+// The account of a crawl from these seeds, with what all workers found.
 fn crawl<K: Name, R: Wait>(
     rt: &R,
     alloc: Global,
@@ -59,7 +39,16 @@ fn crawl<K: Name, R: Wait>(
     let (frontier, workers, seeder) = Frontier::<K>::new(alloc, setup, filter).ok()?;
     let sender = seeded(rt, alloc, &frontier, seeder, seeds);
     let ends = run_turns(rt, alloc, &frontier, workers, web).unwrap_or(Vec::new(alloc));
-    finished(alloc, frontier, sender, ends)
+    let (mut closed, mut results) = (Vec::new(alloc), Vec::new(alloc));
+    for end in ends {
+        let mut found = end.results;
+        let _ = results.append(&mut found);
+        let _ = closed.push(end.closed);
+    }
+    let mut senders = Vec::new(alloc);
+    let _ = senders.push(sender);
+    let account = frontier.finish(closed, senders).ok()?;
+    Some(Run { account, results })
 }
 
 // The group's run over the web.
