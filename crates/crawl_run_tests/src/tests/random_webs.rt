@@ -136,9 +136,11 @@ fn has_pages(alloc: Global, web: &SavedWeb, lines: &[Line]) -> bool {
     for (index, line) in lines.iter().enumerate() {
         let Some(url) = &line.url else { continue };
         let after = lines.get(index.saturating_add(1)..).unwrap_or(&[]);
-        match (web.fetch(alloc, url), page_of(alloc, url, after)) {
-            (Ok(found), Ok(expected)) if found == expected => {}
-            _ => return false,
+        let (Ok(found), Ok(expected)) = (web.fetch(alloc, url), page_of(alloc, url, after)) else {
+            return false;
+        };
+        if found != expected {
+            return false;
         }
     }
     true

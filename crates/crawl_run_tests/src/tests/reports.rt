@@ -158,9 +158,11 @@ fn is_reported(alloc: Global, row: &Row) -> bool {
 
 fn push_results(alloc: Global, results: &mut Vec<PageResult>, targets: &[Target]) -> bool {
     for target in targets {
-        match result_at(alloc, target) {
-            Some(result) if results.push(result).is_ok() => {}
-            _ => return false,
+        let Some(result) = result_at(alloc, target) else {
+            return false;
+        };
+        if results.push(result).is_err() {
+            return false;
         }
     }
     true
@@ -209,9 +211,11 @@ fn are_chunks(alloc: Global, chunks: &[Vec<u8>], row: &Row) -> bool {
 // Whether a copy of each is equal.
 fn are_copied(results: &[PageResult]) -> bool {
     for one in results {
-        match one.copy() {
-            Ok(copy) if copy == *one => {}
-            _ => return false,
+        let Ok(copy) = one.copy() else {
+            return false;
+        };
+        if copy != *one {
+            return false;
         }
     }
     true

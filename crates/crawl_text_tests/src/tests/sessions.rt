@@ -66,9 +66,11 @@ fn wrong_answer(alloc: Global) -> Option<&'static str> {
         return Some("no session");
     };
     for (line, expected) in ROWS {
-        match answer(alloc, &mut session, line) {
-            Ok(found) if found.as_str() == *expected => {}
-            _ => return Some(line),
+        let Ok(found) = answer(alloc, &mut session, line) else {
+            return Some(line);
+        };
+        if found.as_str() != *expected {
+            return Some(line);
         }
     }
     None
