@@ -47,15 +47,14 @@ pub fn are_urls(urls: &[CanonUrl], texts: &[&str]) -> bool {
     true
 }
 
-/// How many of the results have the URLs at their indices.
-pub fn count_at(results: &[PageResult], texts: &[&str]) -> usize {
-    let mut count = 0usize;
+/// Whether the results have these URLs, in this order.
+pub fn have_urls(results: &[PageResult], texts: &[&str]) -> bool {
     for (result, text) in results.iter().zip(texts) {
-        if result.url.as_str() == *text {
-            count = count.saturating_add(1);
+        if result.url.as_str() != *text {
+            return false;
         }
     }
-    count
+    results.len() == texts.len()
 }
 
 /// Whether the results have this report.

@@ -1,12 +1,13 @@
 //! Certificates of runs whose results were changed, on one thread and by threads.
-use crate::tests::certificate::accounts::{Run, run_of};
 use crate::tests::certificate::tables::{
     Case, Change, END, Expected, FAULTS_IN_EACH_CHUNK, FIRST, GROUPS, Group, LONG_WEB,
 };
-use crate::tests::results::{count_at, urls_of};
+use crate::tests::results::{have_urls, urls_of};
+use crate::tests::runs::{How, Left, Run};
 use crawl_certificate::{CertError, CertifySettings, CrawlResult, Culprit, certify, certify_with};
 use crawl_keys::{Filter, canonical};
 use crawl_pages::{Page, PageResult};
+use saved_web::SavedWeb;
 use std::alloc::Global;
 use std::sync::Wait;
 use std::test::Fail;
@@ -56,12 +57,9 @@ fn changed(alloc: Global, found: &[PageResult], change: Change) -> Vec<PageResul
 }
 
 fn are_pages(found: &CrawlResult, expected: Expected) -> bool {
-    let pages = found.pages();
     match expected {
-        Expected::Pages(urls) => {
-            pages.len() == urls.len() && count_at(pages, urls) == urls.len()
-        }
-        Expected::Count(count) => pages.len() == count,
+        Expected::Pages(urls) => have_urls(found.pages(), urls),
+        Expected::Count(count) => found.pages().len() == count,
         Expected::Fault(..) => false,
     }
 }
@@ -86,7 +84,7 @@ fn is_named(found: &Result<CrawlResult, Culprit>, expected: Expected) -> bool {
 }
 
 // Whether the outcome is the expected one on one thread, and with its culprit by threads.
-fn holds<R: Threads + Sync>(rt: &R, alloc: Global, run: &Run, case: &Case) -> Option<bool> {
+fn holds<R: Threads + Sync>(rt: &R, alloc: Global, run: &Left, case: &Case) -> Option<bool> {
     let (within, seeds, change, expected) = *case;
     let filter = Filter::new(alloc, within).ok()?;
     let urls = urls_of(alloc, seeds);
@@ -96,9 +94,27 @@ fn holds<R: Threads + Sync>(rt: &R, alloc: Global, run: &Run, case: &Case) -> Op
     Some(is_expected(&one, expected) && is_named(&other, expected))
 }
 
+// What the group's run over the web left, with room for all URLs, turn by turn.
+fn left_of<R: Threads + Wait + Sync>(
+    rt: &R,
+    alloc: Global,
+    group: &Group,
+    web: &str,
+) -> Option<Left> {
+    let web = SavedWeb::read(alloc, web.as_bytes()).ok()?;
+    let run = Run {
+        workers: group.workers,
+        max_pending: 30_000,
+        within: group.within,
+        seeds: group.seeds,
+        how: How::Turns,
+    };
+    run.left(rt, alloc, &web)
+}
+
 // The number of cases of the group that hold before one does not.
 fn holding<R: Threads + Wait + Sync>(rt: &R, alloc: Global, group: &Group, web: &str) -> usize {
-    let Some(run) = run_of(rt, alloc, group, web) else {
+    let Some(run) = left_of(rt, alloc, group, web) else {
         return 0;
     };
     for (index, case) in group.cases.iter().enumerate() {
