@@ -3,11 +3,10 @@ use crate::tests::certificate::tables::{
     Case, Change, END, Expected, FAULTS_IN_EACH_CHUNK, FIRST, GROUPS, Group, LONG_WEB,
 };
 use crate::tests::results::{have_urls, urls_of};
-use crate::tests::runs::{How, Left, Run};
+use crate::tests::runs::Left;
 use crawl_certificate::{CertError, CertifySettings, CrawlResult, Culprit, certify, certify_with};
 use crawl_keys::{Filter, canonical};
 use crawl_pages::{Page, PageResult};
-use saved_web::SavedWeb;
 use std::alloc::Global;
 use std::sync::Wait;
 use std::test::Fail;
@@ -94,27 +93,9 @@ fn holds<R: Threads + Sync>(rt: &R, alloc: Global, run: &Left, case: &Case) -> O
     Some(is_expected(&one, expected) && is_named(&other, expected))
 }
 
-// What the group's run over the web left, with room for all URLs, turn by turn.
-fn left_of<R: Threads + Wait + Sync>(
-    rt: &R,
-    alloc: Global,
-    group: &Group,
-    web: &str,
-) -> Option<Left> {
-    let web = SavedWeb::read(alloc, web.as_bytes()).ok()?;
-    let run = Run {
-        workers: group.workers,
-        max_pending: 30_000,
-        within: group.within,
-        seeds: group.seeds,
-        how: How::Turns,
-    };
-    run.left(rt, alloc, &web)
-}
-
 // The number of cases of the group that hold before one does not.
 fn holding<R: Threads + Wait + Sync>(rt: &R, alloc: Global, group: &Group, web: &str) -> usize {
-    let Some(run) = left_of(rt, alloc, group, web) else {
+    let Some(run) = group.left(rt, alloc, web) else {
         return 0;
     };
     for (index, case) in group.cases.iter().enumerate() {
