@@ -200,7 +200,7 @@ fn pages_of_a_folder(rt: HostRuntime) {
     }
 }
 
-// Whether the two pages are beside each other, and a name leads to one URL from both, as the row says.
+// Whether the row says so of both pages, also whether a name leads to one URL from both.
 fn is_pair(alloc: Global, row: &Pair) -> bool {
     let (Ok(one), Ok(other)) = (Base::canonical(alloc, row.0), Base::canonical(alloc, row.1)) else {
         return false;
