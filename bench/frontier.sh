@@ -18,18 +18,40 @@ most_slowing=1.9  # ratio of the time among many URLs to that among few
 most_bytes=300    # per URL that was offered once and taken
 
 cd "$(dirname "$0")/../crates/library_calls"
-rt run -- urls 1 1 > /dev/null
+rt run -- crawler > /dev/null
 program=$PWD/out/library_calls
 scratch=$(mktemp -d)
 trap 'rm -r "$scratch"' EXIT
 status=0
 
+# URLs of 56 bytes, of 1,000 hosts.
+for count in "$few" "$many"; do
+    awk -v count="$count" 'BEGIN {
+        for (n = 0; n < count; n++) {
+            printf "http://host-%04d.example.test/part-%d/page-%07d.html\n", n % 1000, n % 7, n
+        }
+    }' > "$scratch/$count.urls"
+done
+
+# work NAME URLS THREADS: prints the arguments of a piece of work. `lines` only reads the lines, `made` makes their URLs, `new`
+# offers each once, `seen` offers all of them again, and `taken` also takes them.
+work() {
+    case $1 in
+    lines) echo "lines 1 $3 $scratch/$2.urls" ;;
+    made) echo "offered 0 $3 $scratch/$2.urls" ;;
+    new) echo "offered 1 $3 $scratch/$2.urls" ;;
+    seen) echo "offered $((repeats + 1)) $3 $scratch/$2.urls" ;;
+    taken) echo "taken $((repeats + 1)) $3 $scratch/$2.urls" ;;
+    esac
+}
+
 # nanoseconds WORK URLS THREADS: prints the least elapsed time of a piece of work.
 nanoseconds() {
-    local best= start spent
+    local best= start spent words
+    read -ra words <<< "$(work "$1" "$2" "$3")"
     for _ in $(seq "$runs"); do
         start=$(date +%s%N)
-        "$program" "$1" "$2" "$3" > /dev/null
+        "$program" "${words[@]}" > /dev/null
         spent=$(($(date +%s%N) - start))
         if [ -z "$best" ] || [ "$spent" -lt "$best" ]; then best=$spent; fi
     done
@@ -38,13 +60,17 @@ nanoseconds() {
 
 # instructions WORK URLS: prints the instructions of a piece of work on one thread.
 instructions() {
-    valgrind --tool=callgrind --callgrind-out-file="$scratch/out" "$program" "$1" "$2" 1 2>&1 > /dev/null |
+    local words
+    read -ra words <<< "$(work "$1" "$2" 1)"
+    valgrind --tool=callgrind --callgrind-out-file="$scratch/out" "$program" "${words[@]}" 2>&1 > /dev/null |
         awk '/Collected/ { print $NF }'
 }
 
 # resident WORK URLS: prints the peak resident memory of a piece of work, in bytes.
 resident() {
-    env time -o "$scratch/peak" -f %M "$program" "$1" "$2" 1 > /dev/null
+    local words
+    read -ra words <<< "$(work "$1" "$2" 1)"
+    env time -o "$scratch/peak" -f %M "$program" "${words[@]}" > /dev/null
     echo $(($(cat "$scratch/peak") * 1024))
 }
 
@@ -54,7 +80,7 @@ bounded() {
     if ! awk -v is="$2" -v most="$3" 'BEGIN { exit is > most }'; then status=1; fi
 }
 
-made=$(instructions urls "$few")
+made=$(instructions made "$few")
 new=$(instructions new "$few")
 seen=$(instructions seen "$few")
 taken=$(instructions taken "$few")
@@ -62,13 +88,13 @@ bounded "instructions per new offer" $(((new - made) / few)) "$most_new"
 bounded "instructions per seen offer" $(((seen - new) / few / repeats)) "$most_seen"
 echo "instructions per URL taken and finished: $(((taken - seen) / few))"
 
-bounded "bytes per URL" $((($(resident new "$many") - $(resident new 1)) / many)) "$most_bytes"
-echo "bytes per URL after it was seen $repeats times: $((($(resident seen "$many") - $(resident seen 1)) / many))"
+bounded "bytes per URL" $((($(resident new "$many") - $(resident lines "$many")) / many)) "$most_bytes"
+echo "bytes per URL after it was seen $repeats times: $((($(resident seen "$many") - $(resident lines "$many")) / many))"
 
 # costs URLS THREADS: prints the nanoseconds per new offer, per seen offer, and per URL taken and finished.
 costs() {
     local count=$1 threads=$2 made new seen taken
-    made=$(nanoseconds urls "$count" "$threads")
+    made=$(nanoseconds made "$count" "$threads")
     new=$(nanoseconds new "$count" "$threads")
     seen=$(nanoseconds seen "$count" "$threads")
     taken=$(nanoseconds taken "$count" "$threads")

@@ -104,7 +104,7 @@ def ask(lines: List[str]) -> List[str]:
     with tempfile.TemporaryDirectory() as folder:
         with open(os.path.join(folder, "vectors.txt"), "w") as vectors:
             vectors.writelines(line + "\n" for line in lines)
-        done = subprocess.run([PROGRAM, "vectors"], cwd=folder, stdout=subprocess.PIPE, check=True)
+        done = subprocess.run([PROGRAM, "vectors", "0", "0", "vectors.txt"], cwd=folder, stdout=subprocess.PIPE, check=True)
     lines = done.stdout.decode().split("\n")[:-2]
     return [line.rsplit(" => ", 1)[1].removesuffix(", and not ") for line in lines]
 

@@ -283,47 +283,24 @@ where
     print_end(rt, finish(alloc, frontier, hands));
 }
 
-fn run_lines<R: Print + Threads + Wait + Sync>(
-    rt: &R,
-    alloc: Global,
-    filter: &Filter,
-    workers: u64,
-    max_pending: u64,
-    lines: &Lines,
-) {
-    let workers = u32::try_from(workers).unwrap_or(u32::MAX);
-    match Setup::new(alloc, workers, max_pending) {
-        Ok(setup) => calls::<Brand, R>(rt, alloc, setup, filter, lines),
-        Err(fault) => print_fault(rt, fault),
-    }
-}
-
 fn print_fault<R: Print>(rt: &R, fault: FrontierError) {
     let _ = println!(rt; "{fault}");
 }
 
-// The lines of a frontier with these suffixes.
-fn run_within<R: Print + Threads + Wait + Sync>(
-    rt: &R,
-    alloc: Global,
-    suffixes: &str,
-    workers: u64,
-    max_pending: u64,
-    lines: &Lines,
-) {
-    if let Some(filter) = filter_by(alloc, suffixes) {
-        run_lines(rt, alloc, &filter, workers, max_pending, lines);
-    }
-}
-
-fn run_block<R: Print + Threads + Wait + Sync>(rt: &R, alloc: Global, block: &str) {
+// Makes the calls of a block, or returns nothing if an allocation fails first.
+fn run_block<R: Print + Threads + Wait + Sync>(rt: &R, alloc: Global, block: &str) -> Option<()> {
     let (first, lines) = block.split_once('\n').unwrap_or((block, ""));
     let (_, first) = word(first);
     let (workers, first) = number(first);
     let (max_pending, suffixes) = number(first);
-    if let Ok(text) = String::from_str(alloc, lines) {
-        run_within(rt, alloc, suffixes, workers, max_pending, &Lines { text });
+    let text = String::from_str(alloc, lines).ok()?;
+    let filter = filter_by(alloc, suffixes)?;
+    let workers = u32::try_from(workers).unwrap_or(u32::MAX);
+    match Setup::new(alloc, workers, max_pending) {
+        Ok(setup) => calls::<Brand, R>(rt, alloc, setup, &filter, &Lines { text }),
+        Err(fault) => print_fault(rt, fault),
     }
+    Some(())
 }
 
 /// Makes the calls of each block and prints their outcomes, with an empty line after each block.
@@ -331,7 +308,7 @@ pub fn run_blocks<R: Print + Threads + Wait + Sync>(rt: &R, alloc: Global, text:
     let mut rest = text;
     for _ in 0..text.len() {
         let (block, more) = rest.split_once("\n\n").unwrap_or((rest, ""));
-        run_block(rt, alloc, block);
+        let _ = run_block(rt, alloc, block);
         print_word(rt, "");
         if more.is_empty() {
             return;

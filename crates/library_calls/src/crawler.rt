@@ -1,9 +1,7 @@
 //! A crawler: a thread for each worker, which fetches the pages of its hosts.
 ghost use Rattle.std.specs.Prelude.{◌≡◌};
 
-use crawl_frontier::{
-    Account, BusyWorker, ClosedWorker, FinishError, Frontier, Name, Seeder, Setup, Turn, Worker,
-};
+use crawl_frontier::{Account, BusyWorker, ClosedWorker, Frontier, Name, Setup, Turn, Worker};
 use crawl_keys::{CanonUrl, Filter, canonical, resolve};
 use std::alloc::Global;
 use std::marker::Brand;
@@ -58,85 +56,37 @@ fn crawl<K: Name, R: Wait>(
     unreachable!()
 }
 
-// Crawls from a seed, with a thread for each worker. A part that is lost because memory ran out is missing at the end.
+// Crawls from a seed, with a thread for each worker. A part that is lost because an allocation failed is missing at the end.
 fn crawl_from<K: Name + Send + Sync, R: Threads + Wait + Sync>(
-    rt: &R,
-    alloc: Global,
-    frontier: Frontier<K>,
-    workers: Vec<Worker<K>>,
-    mut seeder: Seeder<K>,
-    seed: &CanonUrl,
-) -> Option<Result<Account, FinishError>> {
-    let _ = seeder.offer(rt, &frontier, seed);
-    let mut senders = Vec::new(alloc);
-    let _ = senders.push(seeder.end(&frontier));
-    let shared = &frontier;
-    match thread::map_vec(rt, workers, &|worker| crawl(rt, alloc, shared, worker)) {
-        Ok(closed) => Some(frontier.finish(closed, senders)),
-        Err(_) => None,
-    }
-}
-
-fn crawl_by<K: Name + Send + Sync, R: Threads + Wait + Sync>(
     rt: &R,
     alloc: Global,
     setup: Setup,
     filter: &Filter,
     seed: &CanonUrl,
-) -> Option<Result<Account, FinishError>>
+) -> Option<Account>
     requires gate { setup.gate ≡ K.gate }
     requires workers { setup.workers ≡ K.workers }
     requires queues { setup.queues ≡ K.queues }
     requires filter { filter.now ≡ K.filter }
 {
-    match Frontier::<K>::new(alloc, setup, filter) {
-        Ok((frontier, workers, seeder)) => crawl_from(rt, alloc, frontier, workers, seeder, seed),
-        Err(_) => None,
-    }
-}
-
-fn crawl_within<R: Threads + Wait + Sync>(
-    rt: &R,
-    alloc: Global,
-    filter: &Filter,
-    seed: &CanonUrl,
-) -> Option<(usize, usize)> {
-    match Setup::new(alloc, 2, 100) {
-        Ok(setup) => counts(crawl_by::<Brand, R>(rt, alloc, setup, filter, seed)),
-        Err(_) => None,
-    }
-}
-
-fn counts(end: Option<Result<Account, FinishError>>) -> Option<(usize, usize)> {
-    match end {
-        Some(Ok(account)) => counts_of(&account),
-        _ => None,
-    }
-}
-
-fn counts_of(account: &Account) -> Option<(usize, usize)> {
-    if account.workers() == 2 {
-        Some((account.queue(0).len(), account.queue(1).len()))
-    } else {
-        None
-    }
-}
-
-fn accepted_from<R: Threads + Wait + Sync>(
-    rt: &R,
-    alloc: Global,
-    seed: &CanonUrl,
-) -> Option<(usize, usize)> {
-    match Filter::new(alloc, &[]) {
-        Ok(filter) => crawl_within(rt, alloc, &filter, seed),
-        Err(_) => None,
-    }
+    let (frontier, workers, mut seeder) = Frontier::<K>::new(alloc, setup, filter).ok()?;
+    let _ = seeder.offer(rt, &frontier, seed);
+    let mut senders = Vec::new(alloc);
+    let _ = senders.push(seeder.end(&frontier));
+    let shared = &frontier;
+    let closed = thread::map_vec(rt, workers, &|worker| crawl(rt, alloc, shared, worker)).ok()?;
+    frontier.finish(closed, senders).ok()
 }
 
 /// How many URLs each of the two queues accepted: b.test is of queue 0; a.test and c.test are of queue 1.
 pub fn accepted<R: Threads + Wait + Sync>(rt: &R, alloc: Global) -> Option<(usize, usize)> {
-    match canonical(alloc, "http://a.test") {
-        Ok(seed) => accepted_from(rt, alloc, &seed),
-        Err(_) => None,
+    let seed = canonical(alloc, "http://a.test").ok()?;
+    let filter = Filter::new(alloc, &[]).ok()?;
+    let setup = Setup::new(alloc, 2, 100).ok()?;
+    let account = crawl_from::<Brand, R>(rt, alloc, setup, &filter, &seed)?;
+    if account.workers() == 2 {
+        Some((account.queue(0).len(), account.queue(1).len()))
+    } else {
+        None
     }
 }

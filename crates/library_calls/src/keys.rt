@@ -1,39 +1,77 @@
-//! The pieces of work of keys.
-use crate::urls::Work;
-use crate::{filters, urls};
+//! Work to measure with the URLs and links of a text's lines.
+use crate::filters::allowed;
+use crawl_keys::{Base, CanonUrl, KeyError, canonical};
 use std::alloc::Global;
+use std::collections::BTreeSet;
 
-/// Does the work of this name, and returns how many bytes of text came out.
-pub fn done(alloc: Global, name: &str, count: u32) -> Option<u64> {
-    match work(name) {
-        Some(work) => urls::made(alloc, work, count),
-        None => kept_or_allowed(alloc, name, count),
+/// The page that the links are joined to.
+const PAGE: &str = "http://host-000.crawl.test/section/page-000000?view=full";
+
+/// How many copies of each URL the work `shared` keeps.
+const COPIES: u32 = 3;
+
+/// Does the work of this name, and returns how many bytes came out.
+pub fn done(alloc: Global, name: &str, count: u32, text: &str) -> Option<u64> {
+    match name {
+        "kept" => kept(alloc, text, 0),
+        "shared" => kept(alloc, text, COPIES),
+        "allowed" => allowed(alloc, text, count),
+        _ => {
+            let page = Base::canonical(alloc, PAGE).ok()?;
+            made(alloc, &page, name, text, count)
+        }
     }
 }
 
-fn work(name: &str) -> Option<Work> {
+/// The bytes of what is made of each line, the given number of times.
+fn made(alloc: Global, page: &Base, name: &str, text: &str, count: u32) -> Option<u64> {
+    let mut bytes = 0u64;
+    for _ in 0..count {
+        for line in text.lines() {
+            bytes = bytes.wrapping_add(made_of(alloc, page, name, line)?);
+        }
+    }
+    Some(bytes)
+}
+
+fn made_of(alloc: Global, page: &Base, name: &str, line: &str) -> Option<u64> {
     match name {
-        "texts" => Some(Work::Texts),
-        "canonical" => Some(Work::Canonical),
-        "spelled" => Some(Work::PlainTexts),
-        "plain" => Some(Work::Plain),
-        "links" => Some(Work::Links),
-        "joined" => Some(Work::Joined),
-        "by_host" => Some(Work::Link("//host-001.crawl.test/section/page-000001?view=full")),
-        "rooted" => Some(Work::Link("/section/page-000001?view=full")),
-        "beside" => Some(Work::Link("page-000001?view=full")),
-        "part" => Some(Work::Link("#part")),
-        "odd" => Some(Work::Link("/section/./page-000001?view=full")),
+        "lines" => Some(line.len() as u64),
+        "canonical" => bytes_of(canonical(alloc, line)),
+        "joined" => bytes_of(page.resolve(alloc, line)),
         _ => None,
     }
 }
 
-fn kept_or_allowed(alloc: Global, name: &str, count: u32) -> Option<u64> {
-    match name {
-        "kept" => urls::kept(alloc, count, 0),
-        "shared" => urls::kept(alloc, count, urls::COPIES),
-        "one" => filters::allowed(alloc, count, 1),
-        "many" => filters::allowed(alloc, count, filters::SUFFIXES),
-        _ => None,
+fn bytes_of(url: Result<CanonUrl, KeyError>) -> Option<u64> {
+    match url {
+        Ok(url) => Some(url.as_str().len() as u64),
+        Err(_) => None,
     }
+}
+
+/// Keeps the URLs in a set, and the given number of copies of each in a list.
+fn kept(alloc: Global, text: &str, copies: u32) -> Option<u64> {
+    let mut list = Vec::new(alloc);
+    let mut set = BTreeSet::new(alloc);
+    keep(alloc, &mut set, &mut list, text, copies)
+}
+
+fn keep(
+    alloc: Global,
+    set: &mut BTreeSet<CanonUrl>,
+    list: &mut Vec<CanonUrl>,
+    text: &str,
+    copies: u32,
+) -> Option<u64> {
+    let mut bytes = 0u64;
+    for line in text.lines() {
+        let url = canonical(alloc, line).ok()?;
+        bytes = bytes.wrapping_add(url.as_str().len() as u64);
+        for _ in 0..copies {
+            list.push(url.copy().ok()?).ok()?;
+        }
+        set.insert(url).ok()?;
+    }
+    Some(bytes)
 }

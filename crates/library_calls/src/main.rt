@@ -1,15 +1,13 @@
-//! Calls that no command makes, for tests and benchmarks: `library_calls WORK COUNT THREADS ..` does each piece of work and
-//! prints what came of it. `vectors` asks for those of a table, `calls` makes the calls that standard input has, and `crawler`
-//! crawls a small web; what follows is work to measure.
+//! Calls that no command makes, for tests and benchmarks: `library_calls WORK COUNT THREADS FILE ..` does each piece of work and
+//! prints what came of it. `vectors` tries the vectors of FILE, `calls` makes the calls of standard input, and `crawler` crawls a
+//! small web. What follows is work to measure: it has the lines of FILE, COUNT times.
 //!
-//! Of `crawl_keys`, with how many bytes came out: `texts` (makes the texts of URLs), `canonical` (and canonicalises each),
-//! `spelled` and `plain` (likewise for URLs that are canonical as they are), `links` (makes the texts of links), `joined` (and
-//! joins each to its page), `by_host`, `rooted`, `beside`, `part` and `odd` (joins one link, the last of which has dot segments),
-//! `kept` (keeps each URL in a set), `shared` (and three copies of it), `one` (asks a filter of one host for 64 URLs, COUNT
-//! times) or `many` (asks a filter of 100,000 hosts).
+//! Of `crawl_keys`, with the number of bytes that came out: `lines` (the lines themselves), `canonical` (their canonical URLs),
+//! `joined` (the URLs that they are as links of a page), `allowed` (those of the URLs after the first line that are within one of
+//! the suffixes in the first line), or, once, `kept` (keeps the URLs in a set) and `shared` (and three copies of each).
 //!
-//! Of `crawl_frontier`, with what became of the URLs: `urls` (makes the URLs), `new` (and offers each once), `seen` (and then
-//! all of them five times again), or `taken` (and then takes them, and is done with each), by the given number of threads.
+//! Of `crawl_frontier`, with what became of the URLs, by THREADS threads: `offered` (offers them), or `taken` (and then takes
+//! them, and is done with each).
 #![tactic(auto)]
 
 mod calls;
@@ -26,79 +24,83 @@ mod urls;
 mod vectors;
 mod words;
 
-use frontier::Plan;
 use std::alloc::Global;
 use std::process::ExitCode;
 use std::sync::Wait;
+use std::sync::atomic::Ordering;
 use std::thread::Threads;
 use std::{fs, io};
+use threads::Tally;
 use words::{number, word};
 
 /// How many pieces of work there are at most.
 const MOST: usize = 8;
 
-/// The table of vectors, in the folder that the program runs in.
-const VECTORS: &str = "vectors.txt";
-
 fn main(rt: HostRuntime) -> ExitCode {
     for piece in 0..MOST {
-        let mut room = [0u8; 16];
-        let name = word(&rt, 3 * piece + 1, &mut room);
+        let at = 4 * piece + 1;
+        let (mut room, mut other) = ([0u8; 256], [0u8; 256]);
+        let name = word(&rt, at, &mut room);
         if name.is_empty() && piece > 0 {
             return ExitCode::SUCCESS;
         }
-        if name == "vectors" {
-            if let Ok(table) = fs::read_to_string(&rt, VECTORS) {
-                vectors::run(&rt, rt.alloc(), &table);
-            }
-            continue;
-        }
         if name == "calls" {
-            if let Ok(text) = io::read_to_string(rt.alloc(), rt.reader()) {
-                calls::run_blocks(&rt, rt.alloc(), &text);
-            }
+            let Ok(text) = io::read_to_string(rt.alloc(), rt.reader()) else {
+                return ExitCode::FAILURE;
+            };
+            calls::run_blocks(&rt, rt.alloc(), &text);
             continue;
         }
         if name == "crawler" {
             let _ = println!(rt; "{:?}", crawler::accepted(&rt, rt.alloc()));
             continue;
         }
-        let (count, threads) = (number(&rt, 3 * piece + 2), number(&rt, 3 * piece + 3));
-        if done(&rt, rt.alloc(), name, count, threads).is_none() {
-            let _ = eprintln!(rt; "{name}: no such work, no number, or no memory");
+        let (count, threads) = (number(&rt, at + 1), number(&rt, at + 2));
+        let is_done = match fs::read_to_string(&rt, word(&rt, at + 3, &mut other)) {
+            Ok(text) => done(&rt, rt.alloc(), name, count, threads, &text),
+            Err(_) => false,
+        };
+        if !is_done {
+            let _ = eprintln!(rt; "{name}: no such work, no file, or no memory");
             return ExitCode::FAILURE;
         }
     }
     ExitCode::SUCCESS
 }
 
-/// Does a piece of work, and prints what came of it.
+/// Does a piece of work, and prints what came of it. Returns whether something did.
 fn done<R: Print + Threads + Wait + Sync>(
     rt: &R,
     alloc: Global,
     name: &str,
-    count: Option<u32>,
-    threads: Option<u32>,
-) -> Option<()> {
-    let count = count?;
-    match Plan::of(name) {
-        None => tell_bytes(rt, name, count, keys::done(alloc, name, count)?),
-        Some(plan) => {
-            let threads = threads?;
-            let found = frontier::done(rt, alloc, count, threads, plan)?;
-            tell_urls(rt, name, count, threads, found);
+    count: u32,
+    threads: u32,
+    text: &str,
+) -> bool {
+    match name {
+        "vectors" => {
+            vectors::run(rt, alloc, text);
+            true
         }
+        "offered" | "taken" => {
+            let tally = Tally::new(count, name == "taken");
+            let found = frontier::done(rt, alloc, text, threads, &tally);
+            found.is_some() && print_tally(rt, name, &tally)
+        }
+        _ => print_bytes(rt, name, keys::done(alloc, name, count, text)),
     }
-    Some(())
 }
 
-fn tell_bytes<R: Print>(rt: &R, name: &str, count: u32, bytes: u64) {
-    let _ = println!(rt; "{name} {count}: {bytes} bytes");
+fn print_bytes<R: Print>(rt: &R, name: &str, bytes: Option<u64>) -> bool {
+    match bytes {
+        Some(bytes) => println!(rt; "{name}: {bytes} bytes").is_ok(),
+        None => false,
+    }
 }
 
-fn tell_urls<R: Print>(rt: &R, name: &str, count: u32, threads: u32, found: (u64, u64, u64)) {
-    let (accepted, seen, taken) = found;
-    let _ = println!(rt;
-        "{name} {count} by {threads}: {accepted} accepted, {seen} seen, {taken} taken"
-    );
+fn print_tally<R: Print>(rt: &R, name: &str, tally: &Tally) -> bool {
+    let accepted = tally.accepted.load(Ordering::SeqCst);
+    let seen = tally.seen.load(Ordering::SeqCst);
+    let taken = tally.taken.load(Ordering::SeqCst);
+    println!(rt; "{name}: {accepted} accepted, {seen} seen, {taken} taken").is_ok()
 }

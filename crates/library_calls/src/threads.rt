@@ -3,76 +3,81 @@ use crawl_frontier::{Frontier, Name, Offer, Seeder, Sender, Turn, Worker};
 use crawl_keys::CanonUrl;
 use std::alloc::Global;
 use std::sync::Wait;
+use std::sync::atomic::{AtomicU64, Ordering};
 use std::thread::{self, Threads, yield_now};
 
-/// A sender and the URLs that it offers.
+/// How often each URL is offered, whether all are then taken, and what became of them.
 #[derive(Drop)]
-struct Part<'a, K: Name> {
-    sender: Sender<K>,
-    urls: &'a [CanonUrl],
+pub struct Tally {
+    pub rounds: u32,
+    pub takes: bool,
+    pub accepted: AtomicU64,
+    pub seen: AtomicU64,
+    pub taken: AtomicU64,
 }
 
-fn sum_of(counts: &[(u64, u64)]) -> (u64, u64) {
-    let mut sum = (0u64, 0u64);
-    for count in counts {
-        sum = (sum.0.saturating_add(count.0), sum.1.saturating_add(count.1));
+impl Tally {
+    pub fn new(rounds: u32, takes: bool) -> Tally {
+        Tally {
+            rounds,
+            takes,
+            accepted: AtomicU64::new(0),
+            seen: AtomicU64::new(0),
+            taken: AtomicU64::new(0),
+        }
     }
-    sum
 }
 
-/// Offers all URLs in `rounds` rounds, by a thread for each worker. Returns how many were accepted, and how many seen.
+/// A sender for each worker. If an allocation fails, there are fewer.
+fn senders<K: Name>(
+    alloc: Global,
+    frontier: &Frontier<K>,
+    seeder: &mut Seeder<K>,
+) -> Vec<Sender<K>> {
+    let mut senders = Vec::new(alloc);
+    for id in 0..frontier.workers() {
+        if let Ok(sender) = seeder.another(alloc, frontier, 1000 + u64::from(id)) {
+            let _ = senders.push(sender);
+        }
+    }
+    senders
+}
+
+/// Offers all URLs in rounds, by a thread for each worker.
 pub fn offer<K: Name + Send + Sync, R: Threads + Wait + Sync>(
     rt: &R,
     alloc: Global,
     frontier: &Frontier<K>,
     seeder: &mut Seeder<K>,
     urls: &[CanonUrl],
-    rounds: u32,
-) -> Option<(u64, u64)> {
-    let parts = parts(alloc, frontier, seeder, urls);
-    match thread::map_vec(rt, parts, &|part| offer_part(rt, frontier, part, rounds)) {
-        Ok(counts) => Some(sum_of(counts.as_slice())),
-        Err(_) => None,
-    }
-}
-
-// A part that is lost because memory ran out offers nothing.
-fn push_part<'a, K: Name>(
-    alloc: Global,
-    frontier: &Frontier<K>,
-    seeder: &mut Seeder<K>,
-    parts: &mut Vec<Part<'a, K>>,
-    urls: &'a [CanonUrl],
+    tally: &Tally,
 ) {
-    let id = 1000 + parts.len() as u64;
-    if let Ok(sender) = seeder.another(alloc, frontier, id) {
-        let _ = parts.push(Part { sender, urls });
-    }
+    let mut senders = senders(alloc, frontier, seeder);
+    let size = urls.len().div_ceil(frontier.workers() as usize);
+    thread::for_each_mut(
+        rt,
+        &mut senders,
+        frontier.workers() as usize,
+        &|index, sender| { offer_part(rt, frontier, sender, part_at(urls, size, index), tally) },
+    );
 }
 
-fn parts<'a, K: Name>(
-    alloc: Global,
-    frontier: &Frontier<K>,
-    seeder: &mut Seeder<K>,
-    urls: &'a [CanonUrl],
-) -> Vec<Part<'a, K>> {
-    let size = urls.len().div_ceil(frontier.workers() as usize).max(1);
-    let mut parts = Vec::new(alloc);
-    for urls in urls.chunks(size) {
-        push_part(alloc, frontier, seeder, &mut parts, urls);
-    }
-    parts
+/// The URLs of the sender at this index.
+fn part_at(urls: &[CanonUrl], size: usize, index: usize) -> &[CanonUrl] {
+    let first = index.saturating_mul(size);
+    let end = first.saturating_add(size).min(urls.len());
+    urls.get(first..end).unwrap_or(&[])
 }
 
 fn offer_part<K: Name, R: Wait>(
     rt: &R,
     frontier: &Frontier<K>,
-    part: Part<K>,
-    rounds: u32,
-) -> (u64, u64) {
-    let Part { mut sender, urls } = part;
+    sender: &mut Sender<K>,
+    urls: &[CanonUrl],
+    tally: &Tally,
+) {
     let (mut accepted, mut seen) = (0u64, 0u64);
-    for _ in 0..rounds {
+    for _ in 0..tally.rounds {
         for url in urls {
             match sender.offer(rt, frontier, url) {
                 Ok(Offer::Accepted { .. }) => accepted = accepted.saturating_add(1),
@@ -81,24 +86,26 @@ fn offer_part<K: Name, R: Wait>(
             }
         }
     }
-    (accepted, seen)
+    tally.accepted.fetch_add(accepted, Ordering::SeqCst);
+    tally.seen.fetch_add(seen, Ordering::SeqCst);
 }
 
-/// Takes all URLs by the workers. Returns how many.
+/// Takes all URLs, by a thread for each worker.
 pub fn take<K: Name + Send + Sync, R: Threads + Wait + Sync>(
     rt: &R,
     frontier: &Frontier<K>,
     workers: Vec<Worker<K>>,
-) -> Option<u64> {
-    let counts = thread::map_vec(rt, workers, &|worker| take_own(rt, frontier, worker)).ok()?;
-    let mut sum = 0u64;
-    for count in counts.as_slice() {
-        sum = sum.saturating_add(*count);
-    }
-    Some(sum)
+    tally: &Tally,
+) -> bool {
+    thread::map_vec(rt, workers, &|worker| take_own(rt, frontier, worker, tally)).is_ok()
 }
 
-fn take_own<K: Name, R: Wait>(rt: &R, frontier: &Frontier<K>, mut worker: Worker<K>) -> u64 {
+fn take_own<K: Name, R: Wait>(
+    rt: &R,
+    frontier: &Frontier<K>,
+    mut worker: Worker<K>,
+    tally: &Tally,
+) {
     let mut taken = 0u64;
     for _ in rt.forever() {
         match worker.next(rt, frontier) {
@@ -110,7 +117,10 @@ fn take_own<K: Name, R: Wait>(rt: &R, frontier: &Frontier<K>, mut worker: Worker
                 yield_now();
                 worker = idle;
             }
-            Turn::Closed(_) => return taken,
+            Turn::Closed(_) => {
+                tally.taken.fetch_add(taken, Ordering::SeqCst);
+                return;
+            }
         }
     }
     unreachable!()

@@ -1,5 +1,4 @@
 //! What no clause says: that certificates are given, and that each error is the one that is meant.
-mod accounts;
 mod faults;
 mod messages;
 mod tables;

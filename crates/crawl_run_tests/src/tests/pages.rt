@@ -105,18 +105,13 @@ fn has_page(alloc: Global, row: &Row) -> bool {
 }
 
 fn gives_page(alloc: Global, web: &SavedWeb, row: &Row) -> bool {
-    match result_of(alloc, web, row.url) {
-        Some(result) => {
-            is_kind(&result.page, row) && are_urls(links_of(&result.page), row.leads_to)
-        }
-        None => false,
-    }
-}
-
-fn is_kind(page: &Page, row: &Row) -> bool {
-    match page {
+    let Some(result) = result_of(alloc, web, row.url) else {
+        return false;
+    };
+    let is_kind = match &result.page {
         Page::Found { skipped, .. } => row.kind == "found" && *skipped == row.skipped,
         Page::Moved { .. } => row.kind == "moved",
         Page::Missing => row.kind == "missing",
-    }
+    };
+    is_kind && are_urls(links_of(&result.page), row.leads_to)
 }

@@ -1,7 +1,6 @@
 //! 10,000 random inputs of `SavedWeb::read`, from a fixed seed. It must return for each, and agree with a second reader on the
 //! error and its line, or on every page.
 use crate::tests::second_reader::{Line, error_of, lines_of, page_of};
-use crawl_keys::CanonUrl;
 use crawl_pages::Fetch;
 use saved_web::{SavedWeb, WebError};
 use std::alloc::{AllocError, Global};
@@ -135,41 +134,28 @@ fn push_long_link(bytes: &mut Vec<u8>, letters: usize) -> Result<(), AllocError>
 // Whether the web has the page of each page line.
 fn has_pages(alloc: Global, web: &SavedWeb, lines: &[Line]) -> bool {
     for (index, line) in lines.iter().enumerate() {
+        let Some(url) = &line.url else { continue };
         let after = lines.get(index.saturating_add(1)..).unwrap_or(&[]);
-        if let Some(url) = &line.url {
-            if !has_page(alloc, web, url, after) {
-                return false;
-            }
+        let (Ok(found), Ok(expected)) = (web.fetch(alloc, url), page_of(alloc, url, after)) else {
+            return false;
+        };
+        if found != expected {
+            return false;
         }
     }
     true
-}
-
-fn has_page(alloc: Global, web: &SavedWeb, url: &CanonUrl, after: &[Line]) -> bool {
-    match (web.fetch(alloc, url), page_of(alloc, url, after)) {
-        (Ok(found), Ok(expected)) => found == expected,
-        _ => false,
-    }
-}
-
-// Whether the reader agrees with the lines and their error.
-fn agrees(alloc: Global, bytes: &[u8], lines: &[Line], error: Option<WebError>) -> bool {
-    match (SavedWeb::read(alloc, bytes), error) {
-        (Ok(web), None) => has_pages(alloc, &web, lines),
-        (Err(found), Some(error)) => found == error,
-        _ => false,
-    }
 }
 
 // The index of the result, if the readers agree on it.
 fn read_twice(alloc: Global, bytes: &[u8]) -> Option<usize> {
     let lines = lines_of(alloc, bytes).ok()?;
     let error = error_of(lines.as_slice());
-    if agrees(alloc, bytes, lines.as_slice(), error) {
-        Some(index_of(error))
-    } else {
-        None
-    }
+    let agree = match (SavedWeb::read(alloc, bytes), error) {
+        (Ok(web), None) => has_pages(alloc, &web, lines.as_slice()),
+        (Err(found), Some(error)) => found == error,
+        _ => false,
+    };
+    agree.then_some(index_of(error))
 }
 
 fn index_of(error: Option<WebError>) -> usize {
@@ -186,12 +172,6 @@ fn index_of(error: Option<WebError>) -> usize {
     }
 }
 
-fn count_one(counts: &mut [u32], index: usize) {
-    if let Some(count) = counts.get_mut(index) {
-        *count = count.saturating_add(1);
-    }
-}
-
 #[test]
 fn reads_random_webs_like_a_second_reader(rt: HostRuntime) -> Result<(), Fail> {
     let mut random = Random { state: 2026 };
@@ -200,7 +180,9 @@ fn reads_random_webs_like_a_second_reader(rt: HostRuntime) -> Result<(), Fail> {
         let bytes = random.input(rt.alloc())?;
         let result = read_twice(rt.alloc(), bytes.as_slice());
         assert!(rt; result.is_some(), "{bytes:?}");
-        count_one(&mut counts, result.unwrap_or(0));
+        if let Some(count) = counts.get_mut(result.unwrap_or(0)) {
+            *count = count.saturating_add(1);
+        }
     }
     for (result, count) in RESULTS.iter().zip(counts.iter()) {
         assert!(rt; *count >= LEAST, "{result}: {count} inputs");

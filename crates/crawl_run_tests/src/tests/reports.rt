@@ -158,18 +158,14 @@ fn is_reported(alloc: Global, row: &Row) -> bool {
 
 fn push_results(alloc: Global, results: &mut Vec<PageResult>, targets: &[Target]) -> bool {
     for target in targets {
-        if !push_result(alloc, results, target) {
+        let Some(result) = result_at(alloc, target) else {
+            return false;
+        };
+        if results.push(result).is_err() {
             return false;
         }
     }
     true
-}
-
-fn push_result(alloc: Global, results: &mut Vec<PageResult>, target: &Target) -> bool {
-    match result_at(alloc, target) {
-        Some(result) => results.push(result).is_ok(),
-        None => false,
-    }
 }
 
 // Whether the results, in the order of their URLs, are printed as their report and then its sources.
@@ -215,18 +211,14 @@ fn are_chunks(alloc: Global, chunks: &[Vec<u8>], row: &Row) -> bool {
 // Whether a copy of each is equal.
 fn are_copied(results: &[PageResult]) -> bool {
     for one in results {
-        if !is_copied(one) {
+        let Ok(copy) = one.copy() else {
+            return false;
+        };
+        if copy != *one {
             return false;
         }
     }
     true
-}
-
-fn is_copied(one: &PageResult) -> bool {
-    match one.copy() {
-        Ok(copy) => copy == *one,
-        Err(_) => false,
-    }
 }
 
 /// A saved web, and the report of its page as if it had more links by the most that a `u64` can count.
@@ -253,20 +245,11 @@ fn links_past_64_bits(rt: HostRuntime) {
 }
 
 fn is_counted(alloc: Global, row: &Target) -> bool {
-    match result_at(alloc, &(row.0, "http://a.test/")) {
-        Some(result) => is_report(alloc, &[with_most_skipped(result)], row.1),
-        None => false,
-    }
-}
-
-fn with_most_skipped(one: PageResult) -> PageResult {
-    let PageResult { url, page } = one;
-    let page = match page {
-        Page::Found { links, .. } => Page::Found {
-            links,
-            skipped: u64::MAX,
-        },
-        other => other,
+    let Some(mut result) = result_at(alloc, &(row.0, "http://a.test/")) else {
+        return false;
     };
-    PageResult { url, page }
+    if let Page::Found { skipped, .. } = &mut result.page {
+        *skipped = u64::MAX;
+    }
+    is_report(alloc, &[result], row.1)
 }

@@ -16,18 +16,11 @@ pub fn result_at(alloc: Global, target: &Target) -> Option<PageResult> {
     }
 }
 
+/// The page of a saved web at the URL of a text.
 pub fn result_of(alloc: Global, web: &SavedWeb, text: &str) -> Option<PageResult> {
-    match canonical(alloc, text) {
-        Ok(url) => fetched(alloc, web, url),
-        Err(_) => None,
-    }
-}
-
-fn fetched(alloc: Global, web: &SavedWeb, url: CanonUrl) -> Option<PageResult> {
-    match web.fetch(alloc, &url) {
-        Ok(page) => Some(PageResult { url, page }),
-        Err(_) => None,
-    }
+    let url = canonical(alloc, text).ok()?;
+    let page = web.fetch(alloc, &url).ok()?;
+    Some(PageResult { url, page })
 }
 
 /// The URLs of those of these texts that have one.
@@ -54,15 +47,14 @@ pub fn are_urls(urls: &[CanonUrl], texts: &[&str]) -> bool {
     true
 }
 
-/// How many of the results have the URLs at their indices.
-pub fn count_at(results: &[PageResult], texts: &[&str]) -> usize {
-    let mut count = 0usize;
+/// Whether the results have these URLs, in this order.
+pub fn have_urls(results: &[PageResult], texts: &[&str]) -> bool {
     for (result, text) in results.iter().zip(texts) {
-        if result.url.as_str() == *text {
-            count = count.saturating_add(1);
+        if result.url.as_str() != *text {
+            return false;
         }
     }
-    count
+    results.len() == texts.len()
 }
 
 /// Whether the results have this report.

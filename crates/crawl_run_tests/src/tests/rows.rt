@@ -1,5 +1,6 @@
 //! Test vectors: what workers lose, and what they find, in order.
-use crate::tests::runs::{Found, How, Run};
+use crate::tests::results::have_urls;
+use crate::tests::runs::{How, Left, Run};
 use crate::tests::sources::{Counting, Fails, OneMoved};
 use crate::tests::webs::TWO_LINKS;
 use crawl_keys::canonical;
@@ -30,13 +31,13 @@ struct Row {
     fails: Fails,
     workers: u32,
     max_pending: u64,
-    suffixes: &'static [&'static str],
+    within: &'static [&'static str],
     hows: &'static [How],
     lost: u64,
     urls: &'static [&'static str],
 }
 
-const ONE_WORKER: &[How] = &[How::Turns, How::Alone, How::Threads];
+const ONE_WORKER: &[How] = &[How::Turns, How::Each, How::Threads];
 
 // One worker begins at a.test. Of two, who begin at both hosts, the first has b.test, and the second a.test.
 static ROWS: [Row; 8] = [
@@ -46,7 +47,7 @@ static ROWS: [Row; 8] = [
         fails: Fails::None,
         workers: 1,
         max_pending: 2,
-        suffixes: &[],
+        within: &[],
         hows: ONE_WORKER,
         lost: 1,
         urls: &[A, PATH_1],
@@ -57,7 +58,7 @@ static ROWS: [Row; 8] = [
         fails: Fails::None,
         workers: 1,
         max_pending: 3,
-        suffixes: &[],
+        within: &[],
         hows: ONE_WORKER,
         lost: 0,
         urls: &[A, PATH_1, PATH_2],
@@ -69,7 +70,7 @@ static ROWS: [Row; 8] = [
         fails: Fails::None,
         workers: 1,
         max_pending: 2,
-        suffixes: &[],
+        within: &[],
         hows: ONE_WORKER,
         lost: 2,
         urls: &[A, PATH_1],
@@ -81,7 +82,7 @@ static ROWS: [Row; 8] = [
         fails: Fails::None,
         workers: 1,
         max_pending: 2,
-        suffixes: &[],
+        within: &[],
         hows: ONE_WORKER,
         lost: 0,
         urls: &[A, PATH_1],
@@ -92,7 +93,7 @@ static ROWS: [Row; 8] = [
         fails: Fails::None,
         workers: 1,
         max_pending: 9,
-        suffixes: &["a.test"],
+        within: &["a.test"],
         hows: ONE_WORKER,
         lost: 0,
         urls: &[A, PATH_1],
@@ -104,7 +105,7 @@ static ROWS: [Row; 8] = [
         fails: Fails::All,
         workers: 1,
         max_pending: 9,
-        suffixes: &[],
+        within: &[],
         hows: ONE_WORKER,
         lost: 1,
         urls: &[],
@@ -117,8 +118,8 @@ static ROWS: [Row; 8] = [
         fails: Fails::Lonely,
         workers: 2,
         max_pending: 9,
-        suffixes: &[],
-        hows: &[How::Threads, How::Pair],
+        within: &[],
+        hows: &[How::Threads, How::Each],
         lost: 0,
         urls: &[B, A],
     },
@@ -128,7 +129,7 @@ static ROWS: [Row; 8] = [
         fails: Fails::Lonely,
         workers: 2,
         max_pending: 9,
-        suffixes: &[],
+        within: &[],
         hows: &[How::Turns],
         lost: 1,
         urls: &[A],
@@ -136,30 +137,33 @@ static ROWS: [Row; 8] = [
 ];
 
 impl Row {
-    fn run(&self, how: How) -> Run<'static> {
-        Run {
+    fn left<R: Threads + Wait + Sync>(&self, rt: &R, alloc: Global, how: How) -> Option<Left> {
+        let source = Counting::new(alloc, self.web, self.fails)?;
+        let run = Run {
             workers: self.workers,
             max_pending: self.max_pending,
-            suffixes: self.suffixes,
+            within: self.within,
             seeds: if self.workers == 1 { &[A] } else { &[A, B] },
             how,
-            urls: self.urls,
-        }
-    }
-
-    fn found<R: Threads + Wait + Sync>(&self, rt: &R, alloc: Global, how: How) -> Option<Found> {
-        let source = Counting::new(alloc, self.web, self.fails)?;
-        self.run(how).found(rt, alloc, &source)
+        };
+        run.left(rt, alloc, &source)
     }
 
     fn holds<R: Threads + Wait + Sync>(&self, rt: &R, alloc: Global) -> bool {
-        let count = self.urls.len();
         for how in self.hows {
-            if self.found(rt, alloc, *how) != Some((self.lost, count, count)) {
+            if !is_left(&self.left(rt, alloc, *how), self.lost, self.urls) {
                 return false;
             }
         }
         true
+    }
+}
+
+// Whether the run lost this number of URLs, and its results have these URLs, in order.
+fn is_left(left: &Option<Left>, lost: u64, urls: &[&str]) -> bool {
+    match left {
+        Some(left) => left.lost == lost && have_urls(&left.results, urls),
+        None => false,
     }
 }
 
@@ -170,8 +174,8 @@ fn rows_of_workers(rt: HostRuntime) {
     }
 }
 
-// What a worker finds in a source of one page that has moved.
-fn found_of_moved<R: Threads + Wait + Sync>(rt: &R, alloc: Global) -> Option<Found> {
+// What a run of one worker leaves whose source has one page, which has moved.
+fn left_of_moved<R: Threads + Wait + Sync>(rt: &R, alloc: Global) -> Option<Left> {
     let source = OneMoved {
         from: canonical(alloc, A).ok()?,
         to: canonical(alloc, B).ok()?,
@@ -179,15 +183,14 @@ fn found_of_moved<R: Threads + Wait + Sync>(rt: &R, alloc: Global) -> Option<Fou
     let run = Run {
         workers: 1,
         max_pending: 9,
-        suffixes: &[],
+        within: &[],
         seeds: &[A],
         how: How::Turns,
-        urls: &[A, B],
     };
-    run.found(rt, alloc, &source)
+    run.left(rt, alloc, &source)
 }
 
 #[test]
 fn follows_a_page_that_moved(rt: HostRuntime) {
-    assert!(rt; found_of_moved(&rt, rt.alloc()) == Some((0, 2, 2)));
+    assert!(rt; is_left(&left_of_moved(&rt, rt.alloc()), 0, &[A, B]));
 }

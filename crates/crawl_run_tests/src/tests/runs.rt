@@ -1,63 +1,66 @@
-//! A run from its seeds to its account, so that a row is data.
+//! Runs from their seeds to their accounts, so that a row is data.
 ghost use Rattle.std.specs.Prelude.{◌≡◌};
 
-use crate::tests::results::count_at;
-use crawl_frontier::{ClosedWorker, Frontier, Name, Seeder, Sender, Setup, Worker};
-use crawl_keys::{Filter, canonical};
-use crawl_pages::Fetch;
+use crate::tests::results::urls_of;
+use crawl_frontier::{Account, ClosedWorker, Frontier, Name, Seeder, Sender, Setup, Worker};
+use crawl_keys::Filter;
+use crawl_pages::{PageResult, SessionFetch};
 use crawl_workers::{WorkerEnd, run_threads, run_turns, run_worker};
 use std::alloc::Global;
 use std::marker::Brand;
 use std::sync::Wait;
-use std::thread::{Threads, join};
+use std::thread::{self, Threads};
 
-// Which call runs the workers.
+/// The call that runs the workers.
 #[derive(Clone, Copy)]
 pub enum How {
     Turns,
     Threads,
-    // `run_worker` on the calling thread, for one worker.
-    Alone,
-    // `run_worker` in each of two scoped threads, for two workers.
-    Pair,
+    /// `run_worker` for each of them, each in a thread of its own if there are several.
+    Each,
 }
 
-// A run: its frontier, its seeds, which call, and the URLs that its results may have, in order.
+/// The settings of a run, and its seeds.
 #[derive(Clone, Copy)]
-pub struct Run<'a> {
+pub struct Run {
     pub workers: u32,
     pub max_pending: u64,
-    pub suffixes: &'a [&'a str],
-    pub seeds: &'a [&'a str],
+    pub within: &'static [&'static str],
+    pub seeds: &'static [&'static str],
     pub how: How,
-    pub urls: &'a [&'a str],
 }
 
-// What all workers lost, how many results they have, and how many of these are at their indices in the run's URLs.
-pub type Found = (u64, usize, usize);
+/// What a run left: its account, the results of all workers in the order of their queues, and how many URLs they lost.
+#[derive(Drop)]
+pub struct Left {
+    pub account: Account,
+    pub results: Vec<PageResult>,
+    pub lost: u64,
+}
 
-impl Run<'_> {
-    // What is found, if the ends come by index and have an account.
-    pub fn found<F: Fetch + Sync, R: Threads + Wait + Sync>(
+impl Run {
+    /// Runs the workers of a new frontier with this source. Returns nothing if their ends are not in the order of the queues, or if there
+    /// is no account.
+    pub fn left<F: SessionFetch + Sync, R: Threads + Wait + Sync>(
         self,
         rt: &R,
         alloc: Global,
-        fetcher: &F,
-    ) -> Option<Found> {
-        let filter = Filter::new(alloc, self.suffixes).ok()?;
+        source: &F,
+    ) -> Option<Left> {
+        let filter = Filter::new(alloc, self.within).ok()?;
         let setup = Setup::new(alloc, self.workers, self.max_pending).ok()?;
-        found_by::<Brand, F, R>(rt, alloc, setup, &filter, self, fetcher)
+        left_by::<Brand, F, R>(rt, alloc, setup, &filter, self, source)
     }
 }
 
-fn found_by<K: Name + Send + Sync, F: Fetch + Sync, R: Threads + Wait + Sync>(
+fn left_by<K: Name + Send + Sync, F: SessionFetch + Sync, R: Threads + Wait + Sync>(
     rt: &R,
     alloc: Global,
     setup: Setup,
     filter: &Filter,
-    run: Run<'_>,
-    fetcher: &F,
-) -> Option<Found>
+    run: Run,
+    source: &F,
+) -> Option<Left>
     requires gate { setup.gate ≡ K.gate }
     requires workers { setup.workers ≡ K.workers }
     requires queues { setup.queues ≡ K.queues }
@@ -65,115 +68,84 @@ fn found_by<K: Name + Send + Sync, F: Fetch + Sync, R: Threads + Wait + Sync>(
 {
     let (frontier, workers, seeder) = Frontier::<K>::new(alloc, setup, filter).ok()?;
     let sender = seeded(rt, alloc, &frontier, seeder, run.seeds);
-    let ends = run_by(rt, alloc, &frontier, workers, run.how, fetcher);
-    let found = found_in(&ends, run)?;
-    if finishes(alloc, frontier, sender, ends) {
-        Some(found)
-    } else {
-        None
-    }
+    let ends = ends_of(rt, alloc, &frontier, workers, run.how, source);
+    finished(alloc, frontier, sender, ends)
 }
 
 // Offers the seeds.
-pub fn seeded<K: Name, R: Wait>(
+fn seeded<K: Name, R: Wait>(
     rt: &R,
     alloc: Global,
     frontier: &Frontier<K>,
     mut seeder: Seeder<K>,
     seeds: &[&str],
 ) -> Sender<K> {
-    for text in seeds {
-        if let Ok(url) = canonical(alloc, text) {
-            let _ = seeder.offer(rt, frontier, &url);
-        }
+    for url in urls_of(alloc, seeds).as_slice() {
+        let _ = seeder.offer(rt, frontier, url);
     }
     seeder.end(frontier)
 }
 
 // The ends of all workers, or none if the call fails.
-fn run_by<K: Name + Send + Sync, F: Fetch + Sync, R: Threads + Wait + Sync>(
+fn ends_of<K: Name + Send + Sync, F: SessionFetch + Sync, R: Threads + Wait + Sync>(
     rt: &R,
     alloc: Global,
     frontier: &Frontier<K>,
     workers: Vec<Worker<K>>,
     how: How,
-    fetcher: &F,
+    source: &F,
 ) -> Vec<WorkerEnd<K>> {
     let ends = match how {
-        How::Turns => run_turns(rt, alloc, frontier, workers, fetcher),
-        How::Threads => run_threads(rt, alloc, frontier, workers, fetcher),
-        How::Alone => return alone(rt, alloc, frontier, workers, fetcher),
-        How::Pair => return pair(rt, alloc, frontier, workers, fetcher),
+        How::Turns => run_turns(rt, alloc, frontier, workers, source),
+        How::Threads => run_threads(rt, alloc, frontier, workers, source),
+        How::Each => return each(rt, alloc, frontier, workers, source),
     };
     ends.unwrap_or(Vec::new(alloc))
 }
 
-fn alone<K: Name, F: Fetch, R: Wait>(
+fn each<K: Name + Send + Sync, F: SessionFetch + Sync, R: Threads + Wait + Sync>(
     rt: &R,
     alloc: Global,
     frontier: &Frontier<K>,
     workers: Vec<Worker<K>>,
-    fetcher: &F,
+    source: &F,
 ) -> Vec<WorkerEnd<K>> {
-    let mut ends = Vec::new(alloc);
-    for worker in workers {
-        let _ = ends.push(run_worker(rt, alloc, frontier, worker, fetcher));
-    }
-    ends
+    let run = |worker| run_worker(rt, alloc, frontier, worker, source);
+    thread::map_vec(rt, workers, &run).unwrap_or(Vec::new(alloc))
 }
 
-fn pair<K: Name + Send + Sync, F: Fetch + Sync, R: Threads + Wait + Sync>(
-    rt: &R,
-    alloc: Global,
-    frontier: &Frontier<K>,
-    mut workers: Vec<Worker<K>>,
-    fetcher: &F,
-) -> Vec<WorkerEnd<K>> {
-    let mut ends = Vec::new(alloc);
-    if let (Some(other), Some(one)) = (workers.pop(), workers.pop()) {
-        let (one, other) = join(
-            rt,
-            move || run_worker(rt, alloc, frontier, one, fetcher),
-            move || run_worker(rt, alloc, frontier, other, fetcher),
-        );
-        let _ = ends.push(one);
-        let _ = ends.push(other);
-    }
-    ends
-}
-
-// What the ends have, if they come by index.
-fn found_in<K: Name>(ends: &[WorkerEnd<K>], run: Run<'_>) -> Option<Found> {
-    let (mut lost, mut results, mut listed) = (0u64, 0usize, 0usize);
-    for (place, end) in ends.iter().enumerate() {
-        if end.closed.queue() as usize != place {
-            return None;
-        }
-        let urls = run.urls.get(results..).unwrap_or(&[]);
-        lost = lost.saturating_add(end.lost);
-        listed = listed.saturating_add(count_at(&end.results, urls));
-        results = results.saturating_add(end.results.len());
-    }
-    Some((lost, results, listed))
-}
-
-// Whether the frontier has an account.
-pub fn finishes<K: Name>(
+// The account of the run, with what all workers found.
+fn finished<K: Name>(
     alloc: Global,
     frontier: Frontier<K>,
     sender: Sender<K>,
     ends: Vec<WorkerEnd<K>>,
-) -> bool {
-    let closed = closed_of(alloc, ends);
+) -> Option<Left> {
+    let (mut closed, mut results) = (Vec::new(alloc), Vec::new(alloc));
+    let lost = gather(ends, &mut closed, &mut results)?;
     let mut senders = Vec::new(alloc);
     let _ = senders.push(sender);
-    frontier.finish(closed, senders).is_ok()
+    let account = frontier.finish(closed, senders).ok()?;
+    Some(Left {
+        account,
+        results,
+        lost,
+    })
 }
 
-fn closed_of<K: Name>(alloc: Global, ends: Vec<WorkerEnd<K>>) -> Vec<ClosedWorker<K>> {
-    let mut closed = Vec::new(alloc);
+// Takes the ends apart, if they are in the order of the queues, and returns how many URLs were lost.
+fn gather<K: Name>(
+    ends: Vec<WorkerEnd<K>>,
+    closed: &mut Vec<ClosedWorker<K>>,
+    results: &mut Vec<PageResult>,
+) -> Option<u64> {
+    let (mut lost, mut in_order) = (0u64, true);
     for end in ends {
+        in_order = in_order && end.closed.queue() as usize == closed.len();
+        lost = lost.saturating_add(end.lost);
+        let mut found = end.results;
+        let _ = results.append(&mut found);
         let _ = closed.push(end.closed);
     }
-    closed
+    in_order.then_some(lost)
 }

@@ -35,13 +35,12 @@ pub fn lines_of(alloc: Global, bytes: &[u8]) -> Result<Vec<Line>, AllocError> {
 }
 
 fn with_url(alloc: Global, bytes: Vec<u8>) -> Line {
-    let url = url_in(alloc, bytes.as_slice());
+    let text = str::from_utf8(bytes.as_slice()).unwrap_or("");
+    let url = match text.strip_prefix("page ") {
+        Some(url) => canonical(alloc, url).ok(),
+        None => None,
+    };
     Line { bytes, url }
-}
-
-fn url_in(alloc: Global, line: &[u8]) -> Option<CanonUrl> {
-    let text = str::from_utf8(line).ok()?;
-    canonical(alloc, text.strip_prefix("page ")?).ok()
 }
 
 /// The error of the first line that has one.
@@ -69,7 +68,8 @@ fn error_at(lines: &[Line], index: usize) -> Option<WebError> {
         return Some(WebError::NotText(number));
     };
     if index == 0 {
-        return header_error(text);
+        let is_header = text == "savedweb 1" || text == "savedweb 2";
+        return (!is_header).then_some(WebError::BadHeader);
     }
     if text.is_empty() {
         None
@@ -81,14 +81,6 @@ fn error_at(lines: &[Line], index: usize) -> Option<WebError> {
         error_under(above, number, true)
     } else {
         Some(WebError::BadLine(number))
-    }
-}
-
-fn header_error(text: &str) -> Option<WebError> {
-    if text == "savedweb 1" || text == "savedweb 2" {
-        None
-    } else {
-        Some(WebError::BadHeader)
     }
 }
 
@@ -105,18 +97,12 @@ fn page_error(above: &[Line], url: &Option<CanonUrl>, number: u64) -> Option<Web
         return Some(WebError::BadPageUrl(number));
     };
     for line in above {
-        if is_page_of(line, url) {
-            return Some(WebError::PageTwice(number));
+        match &line.url {
+            Some(other) if *other == *url => return Some(WebError::PageTwice(number)),
+            _ => {}
         }
     }
     None
-}
-
-fn is_page_of(line: &Line, url: &CanonUrl) -> bool {
-    match &line.url {
-        Some(other) => *other == *url,
-        None => false,
-    }
 }
 
 // The error of a link line or of a moved line.

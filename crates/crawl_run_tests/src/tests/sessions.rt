@@ -2,13 +2,10 @@
 ghost use Rattle.std.specs.Prelude.{◌≡◌, Some, IfSome, IfOk};
 ghost use Rattle.crawl_pages.specs.declared.page.Page.TheVariants.{Moved};
 
-use crate::tests::runs::{How, finishes, seeded};
-use crawl_frontier::{Frontier, Name, Setup};
-use crawl_keys::{CanonUrl, Filter, KeyError, canonical};
+use crate::tests::runs::{How, Run};
+use crawl_keys::{CanonUrl, KeyError, canonical};
 use crawl_pages::{FetchError, Page, SessionFetch};
-use crawl_workers::{run_threads, run_turns};
 use std::alloc::Global;
-use std::marker::Brand;
 use std::sync::Wait;
 use std::sync::atomic::{AtomicU64, Ordering};
 use std::thread::Threads;
@@ -65,7 +62,7 @@ fn moved_to(url: &CanonUrl) -> Result<Page, FetchError>
     }
 }
 
-const SEEDS: [&str; 3] = ["http://a.test/", "http://b.test/", "http://a.test/x"];
+static SEEDS: [&str; 3] = ["http://a.test/", "http://b.test/", "http://a.test/x"];
 
 // Returns the sum of the seeds' hashes.
 fn hashes_of_seeds(alloc: Global) -> u64 {
@@ -78,38 +75,6 @@ fn hashes_of_seeds(alloc: Global) -> u64 {
     sum
 }
 
-// Returns the number of the workers' results, if they have an account.
-fn results_of<K: Name + Send + Sync, F: SessionFetch + Sync, R: Threads + Wait + Sync>(
-    rt: &R,
-    alloc: Global,
-    setup: Setup,
-    filter: &Filter,
-    how: How,
-    source: &F,
-) -> Option<usize>
-    requires gate { setup.gate ≡ K.gate }
-    requires workers { setup.workers ≡ K.workers }
-    requires queues { setup.queues ≡ K.queues }
-    requires filter { filter.now ≡ K.filter }
-{
-    let (frontier, workers, seeder) = Frontier::<K>::new(alloc, setup, filter).ok()?;
-    let sender = seeded(rt, alloc, &frontier, seeder, &SEEDS);
-    let ends = match how {
-        How::Turns => run_turns(rt, alloc, &frontier, workers, source),
-        _ => run_threads(rt, alloc, &frontier, workers, source),
-    };
-    let ends = ends.unwrap_or(Vec::new(alloc));
-    let mut results = 0usize;
-    for end in ends.iter() {
-        results = results.saturating_add(end.results.len());
-    }
-    if finishes(alloc, frontier, sender, ends) {
-        Some(results)
-    } else {
-        None
-    }
-}
-
 // Returns the number of results, and the sum of the hashes that the source was to expect.
 fn found_by<R: Threads + Wait + Sync>(
     rt: &R,
@@ -117,13 +82,19 @@ fn found_by<R: Threads + Wait + Sync>(
     workers: u32,
     how: How,
 ) -> Option<(usize, u64)> {
-    let setup = Setup::new(alloc, workers, 9).ok()?;
-    let filter = Filter::new(alloc, &[]).ok()?;
-    let to = canonical(alloc, "http://c.test/").ok()?;
-    let expected = AtomicU64::new(0);
-    let source = AllMoved { to, expected };
-    let results = results_of::<Brand, AllMoved, R>(rt, alloc, setup, &filter, how, &source)?;
-    Some((results, source.expected.load(Ordering::SeqCst)))
+    let source = AllMoved {
+        to: canonical(alloc, "http://c.test/").ok()?,
+        expected: AtomicU64::new(0),
+    };
+    let run = Run {
+        workers,
+        max_pending: 9,
+        within: &[],
+        seeds: &SEEDS,
+        how,
+    };
+    let left = run.left(rt, alloc, &source)?;
+    Some((left.results.len(), source.expected.load(Ordering::SeqCst)))
 }
 
 // The results are those of three seeds and of the URL that all pages moved to.

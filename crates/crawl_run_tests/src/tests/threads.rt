@@ -1,5 +1,5 @@
 //! Runs with few and many workers: that each URL is fetched once, and that all workers end whatever is lost.
-use crate::tests::runs::{Found, How, Run};
+use crate::tests::runs::{How, Run};
 use crate::tests::sources::{Counting, Fails};
 use crate::tests::webs::RING;
 use std::alloc::Global;
@@ -7,26 +7,28 @@ use std::sync::Wait;
 use std::test::Fail;
 use std::thread::Threads;
 
-// What a run with room for all URLs finds from the seed, and the number of its fetches.
-fn fetches<R: Threads + Wait + Sync>(
+/// How many URLs a run lost, how many results it has, and the number of its fetches.
+type Counts = (u64, usize, u64);
+
+// The counts of a run with room for all URLs.
+fn counts<R: Threads + Wait + Sync>(
     rt: &R,
     alloc: Global,
     web: &str,
     fails: Fails,
     workers: u32,
     how: How,
-) -> Option<(Found, u64)> {
+) -> Option<Counts> {
     let source = Counting::new(alloc, web, fails)?;
     let run = Run {
         workers,
         max_pending: 1_000_000,
-        suffixes: &[],
+        within: &[],
         seeds: &["http://a.test/"],
         how,
-        urls: &[],
     };
-    let found = run.found(rt, alloc, &source)?;
-    Some((found, source.begun()))
+    let left = run.left(rt, alloc, &source)?;
+    Some((left.lost, left.results.len(), source.begun()))
 }
 
 // The URLs of results differ, and each has the page of its URL, so four fetches for four results are one for each. An offer that
@@ -35,8 +37,8 @@ fn fetches<R: Threads + Wait + Sync>(
 fn each_url_of_the_ring_is_fetched_once(rt: HostRuntime) {
     for workers in [1, 2, 3, 64, 512] {
         for how in [How::Turns, How::Threads] {
-            let found = fetches(&rt, rt.alloc(), RING, Fails::None, workers, how);
-            assert!(rt; found == Some(((0, 4, 0), 4)), "{workers} workers");
+            let counts = counts(&rt, rt.alloc(), RING, Fails::None, workers, how);
+            assert!(rt; counts == Some((0, 4, 4)), "{workers} workers");
         }
     }
 }
@@ -66,8 +68,8 @@ fn loses_each_third<R: Threads + Wait + Sync>(
     text: &str,
     workers: u32,
 ) -> bool {
-    match fetches(rt, alloc, text, Fails::EachThird, workers, How::Threads) {
-        Some(((lost, results, _), fetched)) => {
+    match counts(rt, alloc, text, Fails::EachThird, workers, How::Threads) {
+        Some((lost, results, fetched)) => {
             lost == fetched / 3 && results as u64 == fetched - fetched / 3
         }
         None => false,

@@ -151,20 +151,29 @@ const SHEETS: &[(&str, &[(usize, &str)])] = &[
 ];
 
 fn are_links(found: &Texts, begin: usize, links: &[(usize, &str)]) -> bool {
+    for (one, (index, text)) in found.texts.iter().zip(links) {
+        if one.0 != begin.wrapping_add(*index) || one.1.as_slice() != text.as_bytes() {
+            return false;
+        }
+    }
     found.texts.len() == links.len()
-        && found.texts.iter().zip(links).all(|(one, (index, text))| {
-            one.0 == begin.wrapping_add(*index) && one.1.as_slice() == text.as_bytes()
-        })
 }
 
 fn are_ids(found: &Texts, ids: &[&str]) -> bool {
+    for (one, id) in found.texts.iter().zip(ids) {
+        if one.1.as_slice() != id.as_bytes() {
+            return false;
+        }
+    }
     found.texts.len() == ids.len()
-        && found
-            .texts
-            .iter()
-            .zip(ids)
-            .all(|(one, id)| one.1.as_slice() == id.as_bytes())
 }
+
+/// Documents of this syntax, of whose styles the links are read or not.
+const DOCUMENTS: &[(Syntax, bool, &[Row])] = &[
+    (Syntax::Html, false, HTML),
+    (Syntax::Xhtml, false, XHTML),
+    (Syntax::Html, true, STYLED),
+];
 
 fn has_row(alloc: Global, syntax: Syntax, styles: bool, row: &Row) -> bool {
     let (document, links, ids) = row;
@@ -185,23 +194,11 @@ fn has_row(alloc: Global, syntax: Syntax, styles: bool, row: &Row) -> bool {
 }
 
 #[test]
-fn documents_in_html(rt: HostRuntime) {
-    for row in HTML {
-        assert!(rt; has_row(rt.alloc(), Syntax::Html, false, row), "{}", row.0);
-    }
-}
-
-#[test]
-fn documents_in_xhtml(rt: HostRuntime) {
-    for row in XHTML {
-        assert!(rt; has_row(rt.alloc(), Syntax::Xhtml, false, row), "{}", row.0);
-    }
-}
-
-#[test]
-fn links_of_styles(rt: HostRuntime) {
-    for row in STYLED {
-        assert!(rt; has_row(rt.alloc(), Syntax::Html, true, row), "{}", row.0);
+fn documents_and_their_styles(rt: HostRuntime) {
+    for (syntax, styles, rows) in DOCUMENTS {
+        for row in *rows {
+            assert!(rt; has_row(rt.alloc(), *syntax, *styles, row), "{}", row.0);
+        }
     }
 }
 

@@ -33,19 +33,16 @@ fn canonical_hosts(rt: HostRuntime) {
     }
 }
 
+// Whether the text has this URL, and a copy of it is equal, also as a key of maps.
 fn is_host(alloc: Global, row: &Host) -> bool {
-    match canonical(alloc, row.0) {
-        Ok(url) => url.as_str() == row.1 && url.host_key() == row.2 && is_copied(&url),
+    let Ok(url) = canonical(alloc, row.0) else {
+        return false;
+    };
+    let is_copied = match url.copy() {
+        Ok(copy) => copy == url && copy.hashed() == url.hashed(),
         Err(_) => false,
-    }
-}
-
-// Whether a copy is equal, also as a key of maps.
-fn is_copied(url: &CanonUrl) -> bool {
-    match url.copy() {
-        Ok(copy) => copy == *url && copy.hashed() == url.hashed(),
-        Err(_) => false,
-    }
+    };
+    url.as_str() == row.1 && url.host_key() == row.2 && is_copied
 }
 
 /// A host key and its hash.
@@ -61,11 +58,11 @@ fn hash_table(rt: HostRuntime) {
     for row in HASHES {
         assert!(rt; hash(row.0) == row.1, "{}", row.0);
     }
-    assert!(rt; are_numbers_of_subqueues());
-}
-
-fn are_numbers_of_subqueues() -> bool {
-    !can_assign(0) && can_assign(1) && can_assign(SUBQUEUES_LIMIT) && !can_assign(513)
+    let are_numbers = !can_assign(0)
+        && can_assign(1)
+        && can_assign(SUBQUEUES_LIMIT)
+        && !can_assign(513);
+    assert!(rt; are_numbers, "numbers of subqueues");
 }
 
 /// Some of the URLs that were picked to have the hash 0, for tests with many of them.
@@ -123,17 +120,14 @@ fn resolved_links(rt: HostRuntime) {
 
 // Whether the link leads there from one page, by its URL and by its base.
 fn leads(alloc: Global, row: &Row) -> bool {
-    match canonical(alloc, "http://a.test/d/e?q") {
-        Ok(page) => {
-            is_answer(resolve(alloc, &page, row.0), row.1) && leads_from_base(alloc, &page, row)
+    let Ok(page) = canonical(alloc, "http://a.test/d/e?q") else {
+        return false;
+    };
+    match Base::new(alloc, &page) {
+        Ok(base) => {
+            is_answer(resolve(alloc, &page, row.0), row.1)
+                && is_answer(base.resolve(alloc, row.0), row.1)
         }
-        Err(_) => false,
-    }
-}
-
-fn leads_from_base(alloc: Global, page: &CanonUrl, row: &Row) -> bool {
-    match Base::new(alloc, page) {
-        Ok(base) => is_answer(base.resolve(alloc, row.0), row.1),
         Err(_) => false,
     }
 }
@@ -141,15 +135,9 @@ fn leads_from_base(alloc: Global, page: &CanonUrl, row: &Row) -> bool {
 fn is_answer(told: Result<CanonUrl, KeyError>, text: &str) -> bool {
     match told {
         Ok(url) => url.as_str() == text,
-        Err(error) => is_reason(error, text),
-    }
-}
-
-fn is_reason(error: KeyError, text: &str) -> bool {
-    match error {
-        KeyError::NotUrl => text == "not a URL",
-        KeyError::NotHttp => text == "not http or https",
-        KeyError::NoMemory => false,
+        Err(KeyError::NotUrl) => text == "not a URL",
+        Err(KeyError::NotHttp) => text == "not http or https",
+        Err(KeyError::NoMemory) => false,
     }
 }
 
@@ -175,7 +163,7 @@ fn bases_of_texts(rt: HostRuntime) {
 fn is_base(alloc: Global, row: &Row) -> bool {
     match Base::canonical(alloc, row.0) {
         Ok(base) => base.as_str() == row.1 && is_answer(base.resolve(alloc, "#g"), row.1),
-        Err(error) => is_reason(error, row.1),
+        Err(error) => is_answer(Err(error), row.1),
     }
 }
 
@@ -212,28 +200,14 @@ fn pages_of_a_folder(rt: HostRuntime) {
     }
 }
 
+// Whether the row says so of both pages, also whether a name leads to one URL from both.
 fn is_pair(alloc: Global, row: &Pair) -> bool {
-    match Base::canonical(alloc, row.0) {
-        Ok(base) => lies_so(alloc, &base, row),
-        Err(_) => false,
-    }
-}
-
-fn lies_so(alloc: Global, one: &Base, row: &Pair) -> bool {
-    match Base::canonical(alloc, row.1) {
-        Ok(other) => {
-            one.is_beside(&other) == row.2
-                && other.is_beside(one) == row.2
-                && share_a_name(alloc, one, &other) == row.2
-        }
-        Err(_) => false,
-    }
-}
-
-// Whether a name leads to one URL from both.
-fn share_a_name(alloc: Global, one: &Base, other: &Base) -> bool {
+    let (Ok(one), Ok(other)) = (Base::canonical(alloc, row.0), Base::canonical(alloc, row.1)) else {
+        return false;
+    };
     let from_one = one.resolve(alloc, "x");
-    from_one.is_ok() && from_one == other.resolve(alloc, "x")
+    let share_a_name = from_one.is_ok() && from_one == other.resolve(alloc, "x");
+    one.is_beside(&other) == row.2 && other.is_beside(&one) == row.2 && share_a_name == row.2
 }
 
 /// A text, and how its URL relates to that of `http://a.test?q#f`.
@@ -252,30 +226,18 @@ fn spellings_are_equal(rt: HostRuntime) {
 
 // The order, if the URLs are equal and keys of one set exactly if the order says so.
 fn compares(alloc: Global, input: &str) -> Option<Ordering> {
-    match canonical(alloc, input) {
-        Ok(url) => compares_to_one(alloc, &url),
-        Err(_) => None,
-    }
-}
-
-fn compares_to_one(alloc: Global, url: &CanonUrl) -> Option<Ordering> {
-    match canonical(alloc, "http://a.test?q#f") {
-        Ok(one) => {
-            let order = url.cmp(&one);
-            let is_same = order == Ordering::Equal;
-            if (*url == one) == is_same && is_key_of_set(alloc, one, url) == is_same {
-                Some(order)
-            } else {
-                None
-            }
-        }
-        Err(_) => None,
-    }
-}
-
-fn is_key_of_set(alloc: Global, one: CanonUrl, url: &CanonUrl) -> bool {
+    let url = canonical(alloc, input).ok()?;
+    let one = canonical(alloc, "http://a.test?q#f").ok()?;
+    let order = url.cmp(&one);
+    let is_equal = url == one;
     let mut set = HashSet::new(alloc);
-    set.insert(one).is_ok() && set.contains(url)
+    let is_key = set.insert(one).is_ok() && set.contains(&url);
+    let is_same = order == Ordering::Equal;
+    if is_equal == is_same && is_key == is_same {
+        Some(order)
+    } else {
+        None
+    }
 }
 
 const ALLOWED: &[(&str, bool)] = &[
@@ -288,38 +250,26 @@ const ALLOWED: &[(&str, bool)] = &[
 // A filter and its copy allow the same URLs. An error has the index of a bad suffix.
 #[test]
 fn filter_suffixes(rt: HostRuntime) {
-    assert!(rt; second_is_bad(rt.alloc()));
-    for row in ALLOWED {
-        assert!(rt; is_allowed(rt.alloc(), row), "{}", row.0);
+    let second = Filter::new(rt.alloc(), &["a.test", ""]).err();
+    assert!(rt;
+        second == Some(FilterError::BadSuffix(1)),
+        "the second suffix is bad"
+    );
+    for (text, is_within) in ALLOWED {
+        assert!(rt; is_allowed(rt.alloc(), text) == Some(*is_within), "{text}");
     }
 }
 
-fn second_is_bad(alloc: Global) -> bool {
-    matches!(
-        Filter::new(alloc, &["a.test", ""]),
-        Err(FilterError::BadSuffix(1))
-    )
-}
-
-// Whether the filter of one suffix and its copy say so of the URL.
-fn is_allowed(alloc: Global, row: &(&str, bool)) -> bool {
-    match canonical(alloc, row.0) {
-        Ok(url) => filter_says(alloc, &url, row.1),
-        Err(_) => false,
-    }
-}
-
-fn filter_says(alloc: Global, url: &CanonUrl, allowed: bool) -> bool {
-    match Filter::new(alloc, &["a.test"]) {
-        Ok(filter) => filter.allows(url) == allowed && copy_says(&filter, url, allowed),
-        Err(_) => false,
-    }
-}
-
-fn copy_says(filter: &Filter, url: &CanonUrl, allowed: bool) -> bool {
-    match filter.copy() {
-        Ok(copy) => copy.allows(url) == allowed,
-        Err(_) => false,
+// Whether the filter of one suffix allows the URL. None if its copy does not agree.
+fn is_allowed(alloc: Global, text: &str) -> Option<bool> {
+    let url = canonical(alloc, text).ok()?;
+    let filter = Filter::new(alloc, &["a.test"]).ok()?;
+    let copy = filter.copy().ok()?;
+    let is_allowed = filter.allows(&url);
+    if copy.allows(&url) == is_allowed {
+        Some(is_allowed)
+    } else {
+        None
     }
 }
 

@@ -3,16 +3,18 @@ use crawl_keys::Filter;
 use crawl_session::{Inventory, LeftOut, RebuildError, Session, rebuild_log};
 use std::alloc::Global;
 
-/// A log of a session with one queue, and the lines of a log of a session with other settings.
+/// A log of a session with this number of queues, and what is rebuilt for a session with other settings.
 struct Row {
     log: &'static str,
+    queues: u32,
     workers: u32,
     max: u64,
     within: &'static str,
-    wanted: &'static str,
-    all: u64,
-    unfinished: u64,
+    rebuilt: Rebuilt,
 }
+
+/// The lines of a log, the number of URLs that it leaves out, and how many of these are unfinished; or that there is no room.
+type Rebuilt = Result<(&'static str, u64, u64), RebuildError>;
 
 /// Two hosts, of which `a.test` has a URL that is done and one in progress.
 const BEGUN: &str = "offer http://a.test/1
@@ -38,70 +40,7 @@ next 0
 later 0
 ";
 
-const ROWS: &[Row] = &[
-    Row {
-        log: BEGUN,
-        workers: 2,
-        max: 2,
-        within: "test",
-        wanted: "endseeds
-offer http://a.test/1
-next 1
-done 1
-offer http://a.test/2
-offer http://b.test/
-",
-        all: 0,
-        unfinished: 0,
-    },
-    Row {
-        log: BEGUN,
-        workers: 1,
-        max: 40,
-        within: "b.test",
-        wanted: "endseeds
-offer http://b.test/
-",
-        all: 2,
-        unfinished: 1,
-    },
-    Row {
-        log: CLOSED,
-        workers: 2,
-        max: 1,
-        within: "test",
-        wanted: "endseeds
-offer http://b.test/
-next 0
-done 0
-next 0
-",
-        all: 0,
-        unfinished: 0,
-    },
-    Row {
-        log: PUT_BACK,
-        workers: 1,
-        max: 3,
-        within: "test",
-        wanted: "offer http://a.test/2
-offer http://a.test/1
-",
-        all: 0,
-        unfinished: 0,
-    },
-    Row {
-        log: "",
-        workers: 1,
-        max: 1,
-        within: "test",
-        wanted: "",
-        all: 0,
-        unfinished: 0,
-    },
-];
-
-/// A log of a session with two queues. The first URL of each queue comes first.
+/// A log of a session with two queues.
 const TWO_QUEUES: &str = "offer http://a.test/1
 offer http://a.test/2
 offer http://a.test/3
@@ -115,6 +54,105 @@ offer http://b.test/2
 offer http://a.test/2
 offer http://a.test/3
 ";
+
+const ROWS: &[Row] = &[
+    Row {
+        log: BEGUN,
+        queues: 1,
+        workers: 2,
+        max: 2,
+        within: "test",
+        rebuilt: Ok((
+            "endseeds
+offer http://a.test/1
+next 1
+done 1
+offer http://a.test/2
+offer http://b.test/
+",
+            0,
+            0,
+        )),
+    },
+    Row {
+        log: BEGUN,
+        queues: 1,
+        workers: 1,
+        max: 40,
+        within: "b.test",
+        rebuilt: Ok((
+            "endseeds
+offer http://b.test/
+",
+            2,
+            1,
+        )),
+    },
+    Row {
+        log: CLOSED,
+        queues: 1,
+        workers: 2,
+        max: 1,
+        within: "test",
+        rebuilt: Ok((
+            "endseeds
+offer http://b.test/
+next 0
+done 0
+next 0
+",
+            0,
+            0,
+        )),
+    },
+    Row {
+        log: PUT_BACK,
+        queues: 1,
+        workers: 1,
+        max: 3,
+        within: "test",
+        rebuilt: Ok((
+            "offer http://a.test/2
+offer http://a.test/1
+",
+            0,
+            0,
+        )),
+    },
+    Row {
+        log: "",
+        queues: 1,
+        workers: 1,
+        max: 1,
+        within: "test",
+        rebuilt: Ok(("", 0, 0)),
+    },
+    // The first URL of each queue comes first.
+    Row {
+        log: TWO_QUEUES,
+        queues: 2,
+        workers: 1,
+        max: 40,
+        within: "test",
+        rebuilt: Ok((BY_TURNS, 0, 0)),
+    },
+    Row {
+        log: BEGUN,
+        queues: 1,
+        workers: 1,
+        max: 1,
+        within: "test",
+        rebuilt: Err(RebuildError::Full),
+    },
+    Row {
+        log: PUT_BACK,
+        queues: 1,
+        workers: 1,
+        max: 2,
+        within: "test",
+        rebuilt: Err(RebuildError::Full),
+    },
+];
 
 fn session(alloc: Global, workers: u32, max: u64, within: &str) -> Option<Session> {
     match Filter::new(alloc, &[within]) {
@@ -139,63 +177,31 @@ fn rebuilt(
 }
 
 fn is_rebuilt(alloc: Global, row: &Row) -> bool {
-    let Some(mut old) = session(alloc, 1, 40, "test") else {
+    let Some(mut old) = session(alloc, row.queues, 40, "test") else {
         return false;
     };
     let Some(mut new) = session(alloc, row.workers, row.max, row.within) else {
         return false;
     };
-    match rebuilt(alloc, &mut old, row.log, &mut new) {
-        Ok((lines, left_out)) => {
-            lines.as_slice() == row.wanted.as_bytes()
-                && left_out.all == row.all
-                && left_out.unfinished == row.unfinished
+    match (rebuilt(alloc, &mut old, row.log, &mut new), row.rebuilt) {
+        (Ok((lines, left_out)), Ok((expected, all, unfinished))) => {
+            lines.as_slice() == expected.as_bytes()
+                && left_out.all == all
+                && left_out.unfinished == unfinished
         }
-        Err(_) => false,
+        (Err(error), Err(expected)) => error == expected,
+        _ => false,
     }
 }
 
 #[test]
 fn rebuilds_a_log(rt: HostRuntime) {
     for row in ROWS {
-        assert!(rt; is_rebuilt(rt.alloc(), row), "{}", row.wanted);
+        assert!(rt;
+            is_rebuilt(rt.alloc(), row),
+            "limit {}: {}",
+            row.max,
+            row.log
+        );
     }
-}
-
-fn is_by_turns(alloc: Global) -> bool {
-    let Some(mut old) = session(alloc, 2, 40, "test") else {
-        return false;
-    };
-    let Some(mut new) = session(alloc, 1, 40, "test") else {
-        return false;
-    };
-    match rebuilt(alloc, &mut old, TWO_QUEUES, &mut new) {
-        Ok((lines, _left_out)) => lines.as_slice() == BY_TURNS.as_bytes(),
-        Err(_) => false,
-    }
-}
-
-#[test]
-fn rebuilds_a_log_by_turns(rt: HostRuntime) {
-    assert!(rt; is_by_turns(rt.alloc()));
-}
-
-/// Whether this log has no room in a session with this limit.
-fn is_full(alloc: Global, log: &str, max: u64) -> bool {
-    let Some(mut old) = session(alloc, 1, 40, "test") else {
-        return false;
-    };
-    let Some(mut new) = session(alloc, 1, max, "test") else {
-        return false;
-    };
-    match rebuilt(alloc, &mut old, log, &mut new) {
-        Ok(_) => false,
-        Err(why) => why == RebuildError::Full,
-    }
-}
-
-#[test]
-fn rebuilds_no_log_without_room(rt: HostRuntime) {
-    assert!(rt; is_full(rt.alloc(), BEGUN, 1));
-    assert!(rt; is_full(rt.alloc(), PUT_BACK, 2));
 }

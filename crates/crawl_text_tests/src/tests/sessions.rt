@@ -60,49 +60,42 @@ fn answer(alloc: Global, session: &mut Session, line: &str) -> Result<String, Al
     format!(in alloc; "{answer}")
 }
 
-fn is_answered(alloc: Global, session: &mut Session, row: &(&str, &str)) -> bool {
-    match answer(alloc, session, row.0) {
-        Ok(told) => told.as_str() == row.1,
-        Err(_) => false,
-    }
-}
-
-/// Whether the session gives each answer in turn.
-fn are_answered(alloc: Global, session: &mut Session) -> bool {
-    for row in ROWS {
-        if !is_answered(alloc, session, row) {
-            return false;
+/// The number of requests before the first that has another answer.
+fn right_answers(alloc: Global) -> usize {
+    let Some(mut session) = session(alloc) else {
+        return 0;
+    };
+    for (index, row) in ROWS.iter().enumerate() {
+        let Ok(found) = answer(alloc, &mut session, row.0) else {
+            return index;
+        };
+        if found.as_str() != row.1 {
+            return index;
         }
     }
-    true
+    ROWS.len()
 }
 
 #[test]
 fn a_line_for_which_memory_was_out_is_asked_again(rt: HostRuntime) {
-    let answered = match session(rt.alloc()) {
-        Some(mut session) => are_answered(rt.alloc(), &mut session),
-        None => false,
-    };
-    assert!(rt; answered);
+    let right = right_answers(rt.alloc());
+    assert!(rt; right == ROWS.len(), "request {right}, from 0");
 }
 
 /// Whether this part of a log is kept.
-fn is_compacted(alloc: Global, session: &mut Session, log: &str, wanted: &str) -> bool {
-    let mut kept = Vec::new(alloc);
-    let ended = Compactor::new(alloc).compact(session, log.as_bytes(), &mut kept);
-    ended.is_ok() && kept.as_slice() == wanted.as_bytes()
+fn is_compacted(alloc: Global, log: &str, kept: &str) -> bool {
+    let Some(mut session) = session(alloc) else {
+        return false;
+    };
+    let mut lines = Vec::new(alloc);
+    let ended = Compactor::new(alloc).compact(&mut session, log.as_bytes(), &mut lines);
+    ended.is_ok() && lines.as_slice() == kept.as_bytes()
 }
 
 // A command removes such a line.
 #[test]
 fn compacts_a_log_whose_last_line_has_no_end(rt: HostRuntime) {
-    let compacted = match session(rt.alloc()) {
-        Some(mut session) => {
-            is_compacted(rt.alloc(), &mut session, "done 0\nendseeds", "endseeds\n")
-        }
-        None => false,
-    };
-    assert!(rt; compacted);
+    assert!(rt; is_compacted(rt.alloc(), "done 0\nendseeds", "endseeds\n"));
 }
 
 /// The first line of a log; the number of its part and the number of parts, or 0 of 0; its identity, or nothing; and the rest.
@@ -242,11 +235,18 @@ fn are_lists(alloc: Global, log: &str, form: ListForm, wanted: &str) -> bool {
     }
 }
 
+/// A log, a form of its lists, and these.
+const LISTS: &[(&str, ListForm, &str)] = &[
+    (PUT_BACK, ListForm::Text, PUT_BACK_AS_TEXT),
+    (PENDING, ListForm::Text, PENDING_AS_TEXT),
+    (PENDING, ListForm::Json, PENDING_AS_JSON),
+];
+
 #[test]
 fn lists_the_urls_of_a_log(rt: HostRuntime) {
-    assert!(rt; are_lists(rt.alloc(), PUT_BACK, ListForm::Text, PUT_BACK_AS_TEXT));
-    assert!(rt; are_lists(rt.alloc(), PENDING, ListForm::Text, PENDING_AS_TEXT));
-    assert!(rt; are_lists(rt.alloc(), PENDING, ListForm::Json, PENDING_AS_JSON));
+    for (log, form, wanted) in LISTS {
+        assert!(rt; are_lists(rt.alloc(), log, *form, wanted), "{wanted}");
+    }
 }
 
 /// The lines of a log, and the checksum line after them: `hash` of these bytes in Python 3.11 with `PYTHONHASHSEED=0`, its low 32

@@ -1,11 +1,11 @@
 //! Certificates of runs whose results were changed, on one thread and by threads.
-use crate::tests::certificate::accounts::{Run, run_of};
 use crate::tests::certificate::tables::{
     Case, Change, END, Expected, FAULTS_IN_EACH_CHUNK, FIRST, GROUPS, Group, LONG_WEB,
 };
-use crate::tests::results::{count_at, urls_of};
+use crate::tests::results::{have_urls, urls_of};
+use crate::tests::runs::Left;
 use crawl_certificate::{CertError, CertifySettings, CrawlResult, Culprit, certify, certify_with};
-use crawl_keys::{CanonUrl, Filter, canonical};
+use crawl_keys::{Filter, canonical};
 use crawl_pages::{Page, PageResult};
 use std::alloc::Global;
 use std::sync::Wait;
@@ -32,20 +32,12 @@ fn new_page(alloc: Global, url: &str, change: Change) -> Option<Page> {
     }
 }
 
-// Whether the change removes the result of this URL.
-fn is_left_out(url: &str, change: Change) -> bool {
-    match change {
-        Change::Without(at) => at == url,
-        _ => false,
-    }
-}
-
 // Copies of the results, with the change.
 fn changed(alloc: Global, found: &[PageResult], change: Change) -> Vec<PageResult> {
     let mut results = Vec::new(alloc);
     for one in found {
         let url = one.url.as_str();
-        if is_left_out(url, change) {
+        if matches!(change, Change::Without(at) if at == url) {
             continue;
         }
         let Ok(mut copy) = one.copy() else { continue };
@@ -54,35 +46,19 @@ fn changed(alloc: Global, found: &[PageResult], change: Change) -> Vec<PageResul
         }
         let _ = results.push(copy);
     }
-    results
-}
-
-// The result that the change adds at the end.
-fn one_more(alloc: Global, change: Change) -> Option<PageResult> {
-    let Change::More(url) = change else {
-        return None;
-    };
-    Some(PageResult {
-        url: canonical(alloc, url).ok()?,
-        page: Page::Missing,
-    })
-}
-
-fn results_of(alloc: Global, found: &[PageResult], change: Change) -> Vec<PageResult> {
-    let mut results = changed(alloc, found, change);
-    if let Some(one) = one_more(alloc, change) {
-        let _ = results.push(one);
+    if let Change::More(url) = change
+        && let Ok(url) = canonical(alloc, url)
+    {
+        let page = Page::Missing;
+        let _ = results.push(PageResult { url, page });
     }
     results
 }
 
 fn are_pages(found: &CrawlResult, expected: Expected) -> bool {
-    let pages = found.pages();
     match expected {
-        Expected::Pages(urls) => {
-            pages.len() == urls.len() && count_at(pages, urls) == urls.len()
-        }
-        Expected::Count(count) => pages.len() == count,
+        Expected::Pages(urls) => have_urls(found.pages(), urls),
+        Expected::Count(count) => found.pages().len() == count,
         Expected::Fault(..) => false,
     }
 }
@@ -95,29 +71,23 @@ fn is_expected(found: &Result<CrawlResult, CertError>, expected: Expected) -> bo
     }
 }
 
-fn is_url(named: &Option<CanonUrl>, url: &str) -> bool {
-    match named {
-        Some(named) => named.as_str() == url,
-        None => false,
-    }
-}
-
 fn is_named(found: &Result<CrawlResult, Culprit>, expected: Expected) -> bool {
     match (found, expected) {
         (Ok(found), expected) => are_pages(found, expected),
-        (Err(culprit), Expected::Fault(cause, url)) => {
-            culprit.cause == cause && is_url(&culprit.url, url)
-        }
+        (Err(culprit), Expected::Fault(cause, url)) => match &culprit.url {
+            Some(named) => culprit.cause == cause && named.as_str() == url,
+            None => false,
+        },
         _ => false,
     }
 }
 
 // Whether the outcome is the expected one on one thread, and with its culprit by threads.
-fn holds<R: Threads + Sync>(rt: &R, alloc: Global, run: &Run, case: &Case) -> Option<bool> {
+fn holds<R: Threads + Sync>(rt: &R, alloc: Global, run: &Left, case: &Case) -> Option<bool> {
     let (within, seeds, change, expected) = *case;
     let filter = Filter::new(alloc, within).ok()?;
     let urls = urls_of(alloc, seeds);
-    let results = results_of(alloc, &run.results, change);
+    let results = changed(alloc, &run.results, change);
     let one = certify(alloc, &filter, &urls, &run.account, &results);
     let other = certify_with(rt, IN_THREADS, &filter, &urls, &run.account, results);
     Some(is_expected(&one, expected) && is_named(&other, expected))
@@ -125,7 +95,7 @@ fn holds<R: Threads + Sync>(rt: &R, alloc: Global, run: &Run, case: &Case) -> Op
 
 // The number of cases of the group that hold before one does not.
 fn holding<R: Threads + Wait + Sync>(rt: &R, alloc: Global, group: &Group, web: &str) -> usize {
-    let Some(run) = run_of(rt, alloc, group, web) else {
+    let Some(run) = group.left(rt, alloc, web) else {
         return 0;
     };
     for (index, case) in group.cases.iter().enumerate() {

@@ -1,7 +1,12 @@
 //! Runs, changes of their results, and what their certificate is expected to be.
+use crate::tests::runs::{How, Left, Run};
 use crate::tests::webs::{MOVED, RING};
 use crawl_certificate::CertError;
 use crawl_certificate::CertError::{LinkMissing, NotFetched, SeedMissing, Twice, Unfounded};
+use saved_web::SavedWeb;
+use std::alloc::Global;
+use std::sync::Wait;
+use std::thread::Threads;
 
 /// A run, and cases with changes of its results.
 #[derive(Drop)]
@@ -12,6 +17,21 @@ pub struct Group {
     pub seeds: Texts,
     pub web: &'static str,
     pub cases: &'static [Case],
+}
+
+impl Group {
+    /// What the run over a web leaves, with room for all URLs, turn by turn.
+    pub fn left<R: Threads + Wait + Sync>(&self, rt: &R, alloc: Global, web: &str) -> Option<Left> {
+        let web = SavedWeb::read(alloc, web.as_bytes()).ok()?;
+        let run = Run {
+            workers: self.workers,
+            max_pending: 30_000,
+            within: self.within,
+            seeds: self.seeds,
+            how: How::Turns,
+        };
+        run.left(rt, alloc, &web)
+    }
 }
 
 pub type Texts = &'static [&'static str];

@@ -1,6 +1,6 @@
 //! That the walk by threads sees each link that made an entry, so that none is looked up.
-use crate::tests::certificate::accounts::{Run, run_of};
 use crate::tests::certificate::tables::{PAGES, WORKERS, many_hosts};
+use crate::tests::runs::Left;
 use crawl_certificate::testing::seen_linked;
 use std::alloc::Global;
 use std::test::Fail;
@@ -24,22 +24,15 @@ fn url_of(alloc: Global, page: u32) -> Result<String, Fail> {
     Ok(format!(in alloc; "http://h{}.test/p{page}", page % 20)?)
 }
 
-fn is_marked(marks: &[bool], index: usize) -> bool {
-    match marks.get(index) {
-        Some(mark) => *mark,
-        None => false,
-    }
-}
-
 // Whether there is this number of pages, and every entry with hops is seen to be linked.
-fn is_all_seen<R: Threads + Sync>(rt: &R, alloc: Global, run: &Run) -> bool {
+fn is_all_seen<R: Threads + Sync>(rt: &R, alloc: Global, run: &Left) -> bool {
     let Ok(Some(marks)) = seen_linked(rt, alloc, &run.account, &run.results) else {
         return false;
     };
     let mut index: usize = 0;
     for queue in 0..run.account.workers() {
         for entry in run.account.queue(queue) {
-            if entry.hops > 0 && !is_marked(&marks, index) {
+            if entry.hops > 0 && marks.get(index) != Some(&true) {
                 return false;
             }
             index = index.saturating_add(1);
@@ -53,7 +46,7 @@ fn links_seen_by_threads(rt: HostRuntime) -> Result<(), Fail> {
     let text = web_of_many_hosts(rt.alloc())?;
     for workers in WORKERS {
         let group = many_hosts(workers);
-        let seen = match run_of(&rt, rt.alloc(), &group, &text) {
+        let seen = match group.left(&rt, rt.alloc(), &text) {
             Some(run) => is_all_seen(&rt, rt.alloc(), &run),
             None => false,
         };

@@ -168,20 +168,16 @@ const ROWS: [Row; 11] = [
     },
 ];
 
-/// How many URLs this queue has.
-fn count_of(counts: &[(usize, u64)], queue: usize) -> u64 {
-    for (at, count) in counts {
-        if *at == queue {
-            return *count;
-        }
-    }
-    0
-}
-
-/// Whether these are the counts of all queues.
+/// Whether these are the counts of all queues. Those that are not in the row are 0.
 fn are_counts(found: &[u64], counts: &[(usize, u64)]) -> bool {
     for (queue, count) in found.iter().enumerate() {
-        if *count != count_of(counts, queue) {
+        let mut expected = 0;
+        for (at, own) in counts {
+            if *at == queue {
+                expected = *own;
+            }
+        }
+        if *count != expected {
             return false;
         }
     }
@@ -205,23 +201,13 @@ fn result_of<R: Threads + Wait + Sync>(
     plan.result(rt, alloc, &web)
 }
 
-fn is_expected(
-    alloc: Global,
-    row: &Row,
-    found: &Crawled,
-    report: &str,
-    counts: &[(usize, u64)],
-) -> bool {
-    is_report(alloc, found.result.pages(), report)
-        && found.counts.len() == row.workers as usize
-        && are_counts(&found.counts, counts)
-}
-
 /// Whether the result is the expected one.
 fn holds<R: Threads + Wait + Sync>(rt: &R, alloc: Global, row: &Row, mode: Mode) -> bool {
     match (result_of(rt, alloc, row, mode), &row.expected) {
         (Some(Ok(found)), Expected::Report(report, counts)) => {
-            is_expected(alloc, row, &found, report, counts)
+            is_report(alloc, found.result.pages(), report)
+                && found.counts.len() == row.workers as usize
+                && are_counts(&found.counts, counts)
         }
         (Some(Err(error)), Expected::Fails(expected)) => error == *expected,
         _ => false,

@@ -6,7 +6,7 @@ use crate::tests::whole::crawls::{A, B, Plan};
 use crawl_certificate::CertError;
 use crawl_keys::canonical;
 use crawl_pages::Fetch;
-use crawl_run::{CrawlError, Crawled, Mode};
+use crawl_run::{CrawlError, Mode};
 use std::alloc::Global;
 use std::sync::Wait;
 use std::thread::Threads;
@@ -31,15 +31,6 @@ struct Expected {
     counts: &'static [u64],
 }
 
-fn outcome_of(alloc: Global, found: &Crawled, expected: Expected) -> Outcome {
-    let are_counts = expected.counts.is_empty() || found.counts.as_slice() == expected.counts;
-    if are_counts && is_report(alloc, found.result.pages(), expected.report) {
-        Outcome::Expected
-    } else {
-        Outcome::Other
-    }
-}
-
 /// The outcome of a crawl with room for all URLs.
 fn outcome_by<F: Fetch + Sync, R: Threads + Wait + Sync>(
     rt: &R,
@@ -49,7 +40,15 @@ fn outcome_by<F: Fetch + Sync, R: Threads + Wait + Sync>(
     expected: Expected,
 ) -> Outcome {
     match plan.result(rt, alloc, source) {
-        Some(Ok(found)) => outcome_of(alloc, &found, expected),
+        Some(Ok(found)) => {
+            let are_counts = expected.counts.is_empty()
+                || found.counts.as_slice() == expected.counts;
+            if are_counts && is_report(alloc, found.result.pages(), expected.report) {
+                Outcome::Expected
+            } else {
+                Outcome::Other
+            }
+        }
         Some(Err(CrawlError::Cert(CertError::NotFetched))) => Outcome::Lacks,
         _ => Outcome::Fault,
     }

@@ -58,16 +58,6 @@ fn event_of(alloc: Global, call: Call) -> Option<Event> {
     })
 }
 
-fn refused(why: Refusal) -> Kind {
-    match why {
-        Refusal::Closed => Kind::NotOpen,
-        Refusal::Full => Kind::Full,
-        Refusal::Nothing => Kind::Nothing,
-        Refusal::Busy => Kind::Busy,
-        Refusal::NoSuch => Kind::NoSuch,
-    }
-}
-
 fn said_of(reply: &Reply) -> Said<'_> {
     match reply {
         Reply::Word { count, closed } => {
@@ -83,31 +73,25 @@ fn said_of(reply: &Reply) -> Said<'_> {
         Reply::Empty => (Kind::Empty, 0, 0, ""),
         Reply::Closed => (Kind::Closed, 0, 0, ""),
         Reply::Pending(count) => (Kind::Pending, *count, 0, ""),
-        Reply::Refused(why) => (refused(*why), 0, 0, ""),
+        Reply::Refused(Refusal::Closed) => (Kind::NotOpen, 0, 0, ""),
+        Reply::Refused(Refusal::Full) => (Kind::Full, 0, 0, ""),
+        Reply::Refused(Refusal::Nothing) => (Kind::Nothing, 0, 0, ""),
+        Reply::Refused(Refusal::Busy) => (Kind::Busy, 0, 0, ""),
+        Reply::Refused(Refusal::NoSuch) => (Kind::NoSuch, 0, 0, ""),
     }
-}
-
-fn events_of(alloc: Global, steps: &[Step]) -> Option<Vec<Event>> {
-    let mut events = Vec::new(alloc);
-    for (call, _) in steps {
-        events.push(event_of(alloc, *call)?).ok()?;
-    }
-    Some(events)
-}
-
-// The replies are those of the steps.
-fn are_said(replies: &[Reply], steps: &[Step]) -> bool {
-    for (reply, (_, said)) in replies.iter().zip(steps) {
-        if said_of(reply) != *said {
-            return false;
-        }
-    }
-    replies.len() == steps.len()
 }
 
 /// Whether a run of a machine with this number of subqueues and units has the replies of the steps.
 pub fn as_by_run(alloc: Global, workers: u32, max: u64, steps: &[Step]) -> Option<bool> {
-    let events = events_of(alloc, steps)?;
+    let mut events = Vec::new(alloc);
+    for (call, _) in steps {
+        events.push(event_of(alloc, *call)?).ok()?;
+    }
     let replies = run(alloc, workers, max, &events).ok()?;
-    Some(are_said(&replies, steps))
+    for (reply, (_, said)) in replies.iter().zip(steps) {
+        if said_of(reply) != *said {
+            return Some(false);
+        }
+    }
+    Some(replies.len() == steps.len())
 }
