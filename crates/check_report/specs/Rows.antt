@@ -139,7 +139,9 @@ listed lists f = record {
   worst = f.worst;
   redirects = f.redirects;
   unreached = if_listed lists.unreached f.unreached;
+  unlisted = if_listed lists.unlisted f.unlisted;
   unused_ignores = f.unused_ignores;
+  base_hint = f.base_hint;
 }
 
 abbrev pub count_if : Bool → ℕ → Option ℕ

@@ -173,10 +173,12 @@ fn listed<'r>(findings: &Findings<'r>, lists: Lists) -> Findings<'r>
     ensures worst { result.worst.now ≡ (listed lists findings.now).worst.now }
     ensures redirects { result.redirects.now ≡ (listed lists findings.now).redirects.now }
     ensures unreached { result.unreached.now ≡ (listed lists findings.now).unreached.now }
+    ensures unlisted { result.unlisted.now ≡ (listed lists findings.now).unlisted.now }
     ensures unused { result.unused_ignores.now ≡ (listed lists findings.now).unused_ignores.now }
 {
     Findings {
         unreached: if_listed(lists.unreached, findings.unreached),
+        unlisted: if_listed(lists.unlisted, findings.unlisted),
         ..*findings
     }
 }

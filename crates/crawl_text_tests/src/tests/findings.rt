@@ -513,7 +513,9 @@ fn printed(alloc: Global) -> Option<[bool; 7]> {
         worst: &worst,
         redirects: &redirects,
         unreached: &unreached,
+        unlisted: &[],
         unused_ignores: &unused,
+        base_hint: None,
     };
     let contents = Contents {
         lists: Lists {
@@ -537,7 +539,9 @@ fn nothing(alloc: Global) -> Option<bool> {
         worst: &[],
         redirects: &[],
         unreached: &unreached,
+        unlisted: &[],
         unused_ignores: &[],
+        base_hint: None,
     };
     let contents = Contents {
         lists: Lists::default(),
@@ -558,7 +562,9 @@ fn annotated(alloc: Global, folder: &str) -> Option<Vec<u8>> {
         worst: &[],
         redirects: &[],
         unreached: &[],
+        unlisted: &[],
         unused_ignores: &[],
+        base_hint: None,
     };
     let contents = Contents {
         lists: Lists::default(),
@@ -596,7 +602,9 @@ fn seen(alloc: Global, row: &Seen) -> Option<[bool; 3]> {
         worst: &[],
         redirects: &[],
         unreached: &[],
+        unlisted: &[],
         unused_ignores: &unused,
+        base_hint: None,
     };
     let contents = Contents {
         lists: Lists::default(),
@@ -639,7 +647,9 @@ fn is_headed(alloc: Global, row: &Heading) -> Option<bool> {
         worst: &[],
         redirects: &[],
         unreached: &[],
+        unlisted: &[],
         unused_ignores: &[],
+        base_hint: None,
     };
     let contents = Contents {
         lists: Lists::default(),
@@ -713,7 +723,9 @@ fn is_by_file(alloc: Global) -> Option<bool> {
         worst: &[],
         redirects: &[],
         unreached: &[],
+        unlisted: &[],
         unused_ignores: &[],
+        base_hint: None,
     };
     let contents = Contents {
         lists: Lists {
@@ -754,7 +766,9 @@ fn has_sources(alloc: Global) -> Option<[bool; 2]> {
         worst: &[],
         redirects: &[],
         unreached: &[],
+        unlisted: &[],
         unused_ignores: &[],
+        base_hint: None,
     };
     let contents = Contents {
         lists: Lists::default(),
