@@ -11,10 +11,12 @@ not_utf8 bytes other = elim (cases_Bool (is_utf8 bytes)) [ inl is ↦ absurd (ot
 -- ---- what is decoded
 
 pub decoded_text : (text bytes : List ℕ) → bytes ≡ unescaped text → IsUtf8 bytes → decoded text ≡ bytes
+unfolding decoded
 decoded_text text bytes same utf8 =
     cond-true (is_utf8 (unescaped text)) _ _ (sym (ap is_utf8 same) ∙ is_utf8-from_IsUtf8 bytes utf8) ∙ sym same
 
 pub decoded_other : (text bytes : List ℕ) → bytes ≡ unescaped text → ¬ (IsUtf8 bytes) → decoded text ≡ text
+unfolding decoded
 decoded_other text bytes same other = cond-false (is_utf8 (unescaped text)) _ _ (sym (ap is_utf8 same) ∙ not_utf8 bytes other)
 
 pub readable_text : (bytes : List ℕ) → IsUtf8 bytes → readable_in bytes ≡ readable_only (chars bytes)

@@ -1,18 +1,59 @@
 -- Test suites of a report as JUnit XML.
-use Rattle.check_report.proofs.Prelude.{common_steps, ◌≡◌, ℕ, ◌+◌, ◌<◌, ◌≤◌, Bool, true, false, List, [], ◌∷◌, ◌++◌, drop, length, map, take, zero, suc, refl, sym, ap, ◌∙◌, arith, append_assoc, IsUtf8, chars_past_char, cond-false, cond-true, cases_Bool, inl, inr, length-prefix_len, prefix_len, slice_index, string_bytes, take-map}
+use Rattle.check_report.proofs.Prelude.{Bor, common_steps, ◌≡◌, ℕ, ◌+◌, ◌<◌, ◌≤◌, Bool, true, false, List, [], ◌∷◌, ◌++◌, drop, length, map, take, zero, suc, refl, sym, ap, ◌∙◌, arith, append_assoc, IsUtf8, chars-nil, chars_past_char, cond-false, cond-true, cases_Bool, flat_map, flat_map-map, inl, inr, length-prefix_len, prefix_len, slice_index, string_bytes, take-map}
 use Rattle.std.proofs.lemmas.List.{drop-map, length-map}
 use Rattle.std.proofs.lemmas.List.Sums.{prefix_len-le-length}
 use Rattle.std.proofs.lemmas.Slice.Eq.{bytes_eq-Decides}
 use Rattle.std.specs.Char.{encode_utf8}
 use Rattle.std.specs.List.{take_while}
-use Rattle.check_report.specs.Junit.{first_suite, is_in, suite_len, suites_from, xml, xml_char}
-use Rattle.check_report.specs.Order.{link_of}
+use Rattle.check_report.specs.Junit.{bare_case, bare_suite, first_suite, good_suite, is_in, link_case, no_file, suite_end, suite_len, suite_start, suites, suites_from, xml, xml_char}
+use Rattle.check_report.specs.Order.{bare_targets, link_of, links_by_file}
 use Rattle.check_report.specs.declared.ordered.Link.{Link}
 use Rattle.check_report.specs.declared.value.Broken.{Broken}
 use Rattle.check_report.specs.declared.value.Place.{Place}
 
 pub xml_put : (old new text rest : List ℕ) (c : ℕ) → IsUtf8 text → text ≡ encode_utf8 c ++ rest → new ≡ old ++ xml_char c → new ++ xml rest ≡ old ++ xml text
+unfolding xml
 xml_put old new text rest c utf8 is put = grind (arith, common_steps, chars_past_char)
+
+pub xml_none : (text : List ℕ) → length text ≡ 0 → xml text ≡ []
+unfolding xml
+xml_none [] none = ap (flat_map xml_char) chars-nil
+xml_none (b ∷ bs) none = absurd (omega arith)
+
+-- ---- the suites
+
+pub suites_none : (folder : List ℕ) (targets : List (Bor Broken)) → length targets ≡ 0 → suites folder (map (λ (t : Bor Broken). t.now) targets) ≡ good_suite
+suites_none folder [] none = refl
+suites_none folder (target ∷ targets) none = absurd (omega arith)
+
+pub suites_some : (folder : List ℕ) (targets : List (Bor Broken)) → 0 < length targets
+    → suites folder (map (λ (t : Bor Broken). t.now) targets)
+    ≡ suites_from folder 0 (links_by_file true (map (λ (t : Bor Broken). t.now) targets)) ++ bare_suite (bare_targets (map (λ (t : Bor Broken). t.now) targets))
+suites_some folder [] some = absurd (omega arith)
+suites_some folder (target ∷ targets) some = refl
+
+-- ---- the targets without locations
+
+pub no_bare_suite : (bare : List (Bor Broken)) → length bare ≡ 0 → bare_suite (map (λ (t : Bor Broken). t.now) bare) ≡ []
+no_bare_suite [] none = refl
+no_bare_suite (target ∷ bare) none = absurd (omega arith)
+
+pub some_bare_suite : (bare : List (Bor Broken)) → 0 < length bare
+    → bare_suite (map (λ (t : Bor Broken). t.now) bare) ≡ suite_start no_file (length bare) ++ flat_map (λ (t : Bor Broken). bare_case t.now) bare ++ suite_end
+some_bare_suite [] some = absurd (omega arith)
+some_bare_suite (target ∷ bare) some =
+    let of = λ (t : Bor Broken). t.now in
+    let all = target ∷ bare in
+    (λ i. suite_start no_file (length-map all of i) ++ flat_map-map bare_case of all i ++ suite_end)
+
+-- ---- the suite of a file
+
+pub file_suite_of : (folder : List ℕ) (links : List Link) (first : Link) → slice_index links 0 ≡ first → 0 < length links
+    → first_suite folder (map link_of links) ≡ suite_start (string_bytes first.place.now.file) (length links) ++ flat_map (λ (l : Link). link_case folder (link_of l)) links ++ suite_end
+file_suite_of folder [] first at some = absurd (omega arith)
+file_suite_of folder (link ∷ links) first at some =
+    let all = link ∷ links in
+    (λ i. suite_start (string_bytes (at i).place.now.file) (length-map all link_of i) ++ flat_map-map (link_case folder) link_of all i ++ suite_end)
 
 -- ---- the links in one file
 

@@ -18,21 +18,21 @@ use Rattle.check_report.specs.declared.value.Place.{Place}
 abbrev pub xml_char : ℕ → List ℕ
 xml_char c = if (c == 65534) || (c == 65535) then escape_of c else html_char c
 
-abbrev pub xml : List ℕ → List ℕ
+unfoldable pub xml : List ℕ → List ℕ
 xml text = flat_map xml_char (chars text)
 
 -- an attribute, with the space before it
-abbrev pub attribute : List ℕ → List ℕ → List ℕ
+unfoldable pub attribute : List ℕ → List ℕ → List ℕ
 attribute name text = codes " " ++ name ++ codes "=\"" ++ xml text ++ codes "\""
 
 -- ---- test cases
 
 -- the start of a test case: its name and its class
-abbrev pub case_start : List ℕ → List ℕ → List ℕ
+unfoldable pub case_start : List ℕ → List ℕ → List ℕ
 case_start name class = codes "<testcase" ++ attribute (codes "name") name ++ attribute (codes "classname") class
 
 -- what failed, and the end of the test case
-abbrev pub failure : Kind → List ℕ → List ℕ
+unfoldable pub failure : Kind → List ℕ → List ℕ
 failure kind message =
     codes "><failure" ++ attribute (codes "type") (rule_id kind) ++ attribute (codes "message") message ++ codes ">" ++ xml message ++ codes "</failure></testcase>\n"
 
@@ -55,7 +55,7 @@ bare_case b = case_start (target_name b) no_file ++ failure b.kind (target_messa
 
 -- ---- test suites
 
-abbrev pub suite_start : List ℕ → ℕ → List ℕ
+unfoldable pub suite_start : List ℕ → ℕ → List ℕ
 suite_start name count =
     codes "<testsuite" ++ attribute (codes "name") name ++ counted (codes " tests=\"") count ++ counted (codes "\" failures=\"") count ++ codes "\" errors=\"0\">\n"
 

@@ -43,9 +43,9 @@ abbrev pub message_start : Broken → List ℕ
 message_start b = target_name b ++ codes ": " ++ message b.kind
 
 -- the message about a target without locations
-abbrev pub target_message : Broken → List ℕ
+unfoldable pub target_message : Broken → List ℕ
 target_message b = message_start b ++ advice_part b
 
 -- the message about a link
-abbrev pub link_message : Broken → Place → List ℕ
+unfoldable pub link_message : Broken → Place → List ℕ
 link_message b p = message_start b ++ written_part b (option_map string_bytes p.written) ++ advice_part b

@@ -60,7 +60,7 @@ abbrev pub unescaped : List ℕ → List ℕ
 unescaped text = unescaped_from 0 text
 
 -- the same, or the text itself if that is not UTF-8
-abbrev pub decoded : List ℕ → List ℕ
+unfoldable pub decoded : List ℕ → List ℕ
 decoded text = if is_utf8 (unescaped text) then unescaped text else text
 
 -- ---- names

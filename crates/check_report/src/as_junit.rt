@@ -112,6 +112,7 @@ fn put_file_suite(out: &mut Vec<u8>, folder: &str, links: &[Link<'_>]) -> Result
 }
 
 /// Appends the start of a suite with this name and number of test cases.
+#[tactic(auto, unfolding(crate::specs::Junit::suite_start))]
 fn put_suite_start(out: &mut Vec<u8>, name: &str, count: u64) -> Result<(), NoMemory>
     ensures { OnOk result (out.new.items ≡ out.old.items ++ suite_start name.now count) }
 {
@@ -173,6 +174,7 @@ fn push_count(text: &mut String, count: u64) -> Result<(), NoMemory>
 }
 
 /// Appends the start of a test case: its name and its class.
+#[tactic(auto, unfolding(crate::specs::Junit::case_start))]
 fn put_case_start(out: &mut Vec<u8>, name: &str, class: &str) -> Result<(), NoMemory>
     ensures { OnOk result (out.new.items ≡ out.old.items ++ case_start name.now class.now) }
 {
@@ -182,6 +184,7 @@ fn put_case_start(out: &mut Vec<u8>, name: &str, class: &str) -> Result<(), NoMe
 }
 
 /// Appends what failed, and the end of the test case.
+#[tactic(auto, unfolding(crate::specs::Junit::failure))]
 fn put_failure(out: &mut Vec<u8>, kind: Kind, message: &str) -> Result<(), NoMemory>
     ensures { OnOk result (out.new.items ≡ out.old.items ++ failure kind message.now) }
 {

@@ -24,6 +24,7 @@ pub fn rule_id(kind: Kind) -> &'static str
 }
 
 /// The message about a link: its target, what is wrong with it, the link as it is written, and what is suggested.
+#[tactic(auto, unfolding(crate::specs::Messages::link_message))]
 pub fn link_message(alloc: Global, broken: &Broken, place: &Place) -> Result<String, NoMemory>
     ensures { IfOk result (λ text. string_bytes text ≡ link_message broken.now place.now) }
 {
@@ -34,6 +35,7 @@ pub fn link_message(alloc: Global, broken: &Broken, place: &Place) -> Result<Str
 }
 
 /// The message about a target without locations: what is wrong with it, and what is suggested.
+#[tactic(auto, unfolding(crate::specs::Messages::target_message))]
 pub fn target_message(alloc: Global, broken: &Broken) -> Result<String, NoMemory>
     ensures { IfOk result (λ text. string_bytes text ≡ target_message broken.now) }
 {
