@@ -1,11 +1,11 @@
 -- Test suites of a report as JUnit XML.
-use Rattle.check_report.proofs.Prelude.{Bor, common_steps, ◌≡◌, ℕ, ◌+◌, ◌<◌, ◌≤◌, Bool, true, false, List, [], ◌∷◌, ◌++◌, drop, length, map, take, zero, suc, refl, sym, ap, ◌∙◌, arith, append_assoc, IsUtf8, chars-nil, chars_past_char, cond-false, cond-true, cases_Bool, flat_map, flat_map-map, inl, inr, length-prefix_len, prefix_len, slice_index, string_bytes, take-map}
+use Rattle.check_report.proofs.Prelude.{Bor, common_steps, ◌≡◌, ℕ, ◌+◌, ◌<◌, ◌≤◌, Bool, true, false, List, [], ◌∷◌, ◌++◌, drop, length, map, take, zero, suc, refl, sym, ap, ◌∙◌, arith, append_assoc, IsUtf8, chars-nil, chars_past_char, cond-false, cond-true, cases_Bool, flat_map, flat_map-map, inl, inr, length-prefix_len, prefix_len, slice_index, Global, String, string_bytes, take-map}
 use Rattle.std.proofs.lemmas.List.{drop-map, length-map}
 use Rattle.std.proofs.lemmas.List.Sums.{prefix_len-le-length}
 use Rattle.std.proofs.lemmas.Slice.Eq.{bytes_eq-Decides}
 use Rattle.std.specs.Char.{encode_utf8}
 use Rattle.std.specs.List.{take_while}
-use Rattle.check_report.specs.Junit.{bare_case, bare_suite, first_suite, good_suite, is_in, link_case, no_file, suite_end, suite_len, suite_start, suites, suites_from, xml, xml_char}
+use Rattle.check_report.specs.Junit.{bare_case, bare_suite, first_suite, good_suite, is_in, link_case, no_file, suite_end, suite_len, suite_start, suites, suites_from, unlisted_suite, xml, xml_char}
 use Rattle.check_report.specs.Order.{bare_targets, link_of, links_by_file}
 use Rattle.check_report.specs.declared.ordered.Link.{Link}
 use Rattle.check_report.specs.declared.value.Broken.{Broken}
@@ -22,15 +22,22 @@ xml_none (b ∷ bs) none = absurd (omega arith)
 
 -- ---- the suites
 
-pub suites_none : (folder : List ℕ) (targets : List (Bor Broken)) → length targets ≡ 0 → suites folder (map (λ (t : Bor Broken). t.now) targets) ≡ good_suite
-suites_none folder [] none = refl
-suites_none folder (target ∷ targets) none = absurd (omega arith)
+pub suites_none : (folder : List ℕ) (targets : List (Bor Broken)) (documents : List (String Global)) → length targets ≡ 0 → length documents ≡ 0
+    → suites folder (map (λ (t : Bor Broken). t.now) targets) documents ≡ good_suite
+suites_none folder [] [] none no_more = refl
+suites_none folder [] (document ∷ documents) none no_more = absurd (omega arith)
+suites_none folder (target ∷ targets) documents none no_more = absurd (omega arith)
 
-pub suites_some : (folder : List ℕ) (targets : List (Bor Broken)) → 0 < length targets
-    → suites folder (map (λ (t : Bor Broken). t.now) targets)
-    ≡ suites_from folder 0 (links_by_file true (map (λ (t : Bor Broken). t.now) targets)) ++ bare_suite (bare_targets (map (λ (t : Bor Broken). t.now) targets))
-suites_some folder [] some = absurd (omega arith)
-suites_some folder (target ∷ targets) some = refl
+-- the suites if there are findings
+abbrev pub bad_suites : List ℕ → List (Bor Broken) → List (String Global) → List ℕ
+bad_suites folder targets documents =
+    suites_from folder 0 (links_by_file true (map (λ (t : Bor Broken). t.now) targets)) ++ bare_suite (bare_targets (map (λ (t : Bor Broken). t.now) targets)) ++ unlisted_suite documents
+
+pub suites_some : (folder : List ℕ) (targets : List (Bor Broken)) (documents : List (String Global)) → (length targets ≡ 0 → 0 < length documents)
+    → suites folder (map (λ (t : Bor Broken). t.now) targets) documents ≡ bad_suites folder targets documents
+suites_some folder [] [] some = let more = some refl in absurd (omega (arith, more))
+suites_some folder [] (document ∷ documents) some = refl
+suites_some folder (target ∷ targets) documents some = refl
 
 -- ---- the targets without locations
 

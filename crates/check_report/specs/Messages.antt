@@ -1,6 +1,6 @@
--- The message about a broken link in JUnit XML and SARIF.
-use Rattle.std.specs.Prelude.{List, [], ◌++◌, ℕ, bytes_eq, codes, string_bytes, if◌then◌else◌, Option, None, Some, option_map}
-use Rattle.check_report.specs.Names.{page_name, target_name}
+-- The messages about findings in JUnit XML and SARIF.
+use Rattle.std.specs.Prelude.{List, [], ◌++◌, ℕ, codes, string_bytes, if◌then◌else◌, Option, None, Some, option_map}
+use Rattle.check_report.specs.Names.{ends_with_link, page_name, target_name}
 use Rattle.check_report.specs.Text.{message}
 use Rattle.check_report.specs.declared.value.Broken.{Broken}
 use Rattle.check_report.specs.declared.value.Kind.{Kind}
@@ -17,14 +17,22 @@ rule_id LocalFile = codes "local-file"
 rule_id Leaves = codes "leaves-the-folder"
 rule_id OutsideBase = codes "outside-base"
 
+-- the name of the finding of a document that no sitemap lists
+abbrev pub not_in_sitemap : List ℕ
+not_in_sitemap = codes "not-in-sitemap"
+
+-- the message about such a document
+unfoldable pub unlisted_message : List ℕ → List ℕ
+unlisted_message document = page_name document ++ codes ": not in a sitemap"
+
 -- a word with the opening parenthesis, a text, and the closing parenthesis
 abbrev pub bracketed : List ℕ → List ℕ → List ℕ
 bracketed word text = word ++ text ++ codes ")"
 
--- the link as it is written, if that is not the name of its target
+-- the link as it is written, unless the name of its target ends with it
 abbrev pub written_part : Broken → Option (List ℕ) → List ℕ
 written_part b None = []
-written_part b (Some link) = if bytes_eq link (target_name b) then [] else bracketed (codes " (written as ") link
+written_part b (Some link) = if ends_with_link b link then [] else bracketed (codes " (written as ") link
 
 abbrev pub same_name_part : Option (List ℕ) → List ℕ
 same_name_part None = []
