@@ -1,5 +1,5 @@
 -- Texts in which escapes are decoded.
-use Rattle.check_report.proofs.Prelude.{common_steps, ◌≡◌, ℕ, ◌+◌, ◌-◌, ◌*◌, ◌<◌, ◌≤◌, true, false, List, [], ◌∷◌, ◌++◌, chars, drop, length, slice_get, zero, suc, refl, sym, ap, ◌∙◌, arith, append_assoc, IsUtf8, Option, None, Some, chars-nil, chars_past_char, encodes-chars, if◌then◌else◌, cond-false, cond-true, cases_Bool, inl, inr}
+use Rattle.check_report.proofs.Prelude.{◌≡◌, ℕ, ◌-◌, ◌*◌, ◌<◌, ◌≤◌, false, List, [], ◌∷◌, ◌++◌, chars, drop, length, slice_get, zero, suc, refl, sym, ap, ◌∙◌, arith, append_assoc, IsUtf8, Option, None, Some, chars-nil, chars_past_char, encodes-chars, if◌then◌else◌, cond-false, cond-true, cases_Bool, inl, inr}
 use Rattle.std.proofs.lemmas.Str.{IsUtf8-from_is_utf8, is_utf8-from_IsUtf8}
 use Rattle.std.specs.Char.{encode_utf8}
 use Rattle.std.specs.Str.{encode_utf8_all, is_utf8}

@@ -1,7 +1,7 @@
 -- The results of a report as SARIF.
 use Rattle.check_report.proofs.Prelude.{Bor, Global, String, string_bytes, ◌≡◌, List, [], ◌∷◌, ◌++◌, map, refl, sym, ap, ◌∙◌, append_assoc, flat_map, flat_map-append, flat_map-map}
 use Rattle.json.specs.Json.{Json, array}
-use Rattle.json.specs.Token.{Token, begin_array, end_array}
+use Rattle.json.specs.Token.{begin_array, end_array}
 use Rattle.json.specs.Tree.{items_tokens, json_tokens}
 use Rattle.check_report.specs.Order.{link_of}
 use Rattle.check_report.specs.Sarif.{bare_result, items_of, link_result, unlisted_result}

@@ -1,9 +1,8 @@
 -- A report as JUnit XML: a test suite for each file with broken links, and a failed test case for each link and for each document that
 -- no sitemap lists.
-use Rattle.std.specs.Prelude.{ℕ, zero, suc, ◌==◌, Bool, true, ◌||◌, List, [], ◌∷◌, ◌++◌, bytes_eq, chars, codes, decimal, flat_map, length, nat_lt, ◌+◌, String, string_bytes, if◌then◌else◌}
+use Rattle.std.specs.Prelude.{ℕ, zero, suc, ◌==◌, Bool, true, ◌||◌, List, [], ◌∷◌, ◌++◌, bytes_eq, chars, codes, decimal, flat_map, length, nat_lt, String, string_bytes, if◌then◌else◌}
 use Rattle.std.specs.List.{take_while}
 use Rattle.std.specs.declared.alloc.Global.{Global}
-use Rattle.shown_text.specs.Shown.{escape_of}
 use Rattle.check_report.specs.Escape.{html_char}
 use Rattle.check_report.specs.Messages.{link_message, not_in_sitemap, rule_id, target_message, unlisted_message}
 use Rattle.check_report.specs.Names.{page_name, target_name}
@@ -11,14 +10,13 @@ use Rattle.check_report.specs.Paths.{path_in}
 use Rattle.check_report.specs.Order.{bare_targets, links_by_file}
 use Rattle.check_report.specs.Text.{counted}
 use Rattle.check_report.specs.declared.value.Broken.{Broken}
-use Rattle.check_report.specs.declared.value.Kind.{Kind}
 use Rattle.check_report.specs.declared.value.Place.{Place}
 
 -- ---- texts
 
 -- XML 1.0 allows neither U+FFFE nor U+FFFF, and no control characters, which are escaped in HTML too
 abbrev pub xml_char : ℕ → List ℕ
-xml_char c = if (c == 65534) || (c == 65535) then escape_of c else html_char c
+xml_char c = if c == 65534 then codes "\\u{fffe}" else (if c == 65535 then codes "\\u{ffff}" else html_char c)
 
 unfoldable pub xml : List ℕ → List ℕ
 xml text = flat_map xml_char (chars text)

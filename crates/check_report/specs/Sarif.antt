@@ -1,5 +1,5 @@
 -- A report as SARIF 2.1.0: a result for each broken link and for each document that no sitemap lists.
-use Rattle.std.specs.Prelude.{ℕ, ◌==◌, true, List, [], ◌∷◌, ◌++◌, codes, decimal, length, map, slice_get, String, string_bytes, if◌then◌else◌}
+use Rattle.std.specs.Prelude.{ℕ, ◌==◌, true, List, [], ◌∷◌, ◌++◌, codes, decimal, length, map, String, string_bytes, if◌then◌else◌}
 use Rattle.std.specs.declared.alloc.Global.{Global}
 use Rattle.json.specs.Json.{Json, Items, Members, array, item, member, no_items, no_members, number, object, string}
 use Rattle.json.specs.Print.{print}

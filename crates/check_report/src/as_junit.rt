@@ -1,5 +1,5 @@
 //! Prints a report as JUnit XML.
-ghost use Rattle.std.specs.Prelude.{◌≡◌, ◌<◌, ◌++◌, IfOk, OnOk, decimal, flat_map, length, map, take_while, string_bytes, true};
+ghost use Rattle.std.specs.Prelude.{◌≡◌, ◌<◌, ◌≤◌, ◌++◌, IfOk, OnOk, decimal, drop, flat_map, length, map, take_while, string_bytes, true};
 ghost use Rattle.check_report.specs.Junit.{bare_case, bare_suite, case_name, case_start, failure, first_suite, is_in, link_case, suite_len, suite_start, suites, suites_from, unlisted_case, unlisted_cases, unlisted_suite};
 ghost use Rattle.check_report.specs.Order.{bare_targets, link_of, links_by_file};
 ghost use Rattle.check_report.specs.Printing.{printed_junit};
@@ -76,26 +76,44 @@ fn put_file_suites(out: &mut Vec<u8>, folder: &str, targets: &[&Broken]) -> Resu
 }
 
 /// Appends the suites of these links.
-#[tactic(auto, using(crate::proofs::Suites::suites_put, crate::proofs::Suites::suite_some, crate::proofs::Suites::suite_fits, crate::proofs::Suites::no_suites))]
+#[tactic(auto, using(crate::proofs::Suites::all_suites))]
 fn put_links(out: &mut Vec<u8>, folder: &str, links: &[Link<'_>]) -> Result<(), NoMemory>
     ensures { OnOk result (out.new.items ≡ out.old.items ++ suites_from folder.now 0 (map link_of links.now)) }
 {
-    let mut rest = links;
-    'suites: while !rest.is_empty() {
-        let count = suite_len(rest);
-        put_file_suite(out, folder, &rest[..count])?;
-        rest = &rest[count..];
+    let mut next = 0;
+    'suites: while next < links.len() {
+        next = put_suite_at(out, folder, links, next)?;
     }
     Ok(())
 }
 
+/// Appends the suite of the links from this one up to the first one in another file, and returns the index of that one.
+#[tactic(auto, using(crate::proofs::Suites::suite_some, crate::proofs::Suites::suite_fits))]
+fn put_suite_at(
+    out: &mut Vec<u8>,
+    folder: &str,
+    links: &[Link<'_>],
+    start: usize,
+) -> Result<usize, NoMemory>
+    requires { start < length links.now }
+    ensures suites { IfOk result (λ next. out.new.items ++ suites_from folder.now 0 (map link_of (drop next links.now)) ≡ out.old.items ++ suites_from folder.now 0 (map link_of (drop start links.now))) }
+    ensures later { IfOk result (λ next. start < next) }
+    ensures within { IfOk result (λ next. next ≤ length links.now) }
+{
+    let (_, rest) = links.split_at(start);
+    let count = suite_len(rest);
+    let (suite, _) = rest.split_at(count);
+    put_file_suite(out, folder, suite)?;
+    Ok(start + count)
+}
+
 /// The number of links up to the first one in another file than the first.
-#[tactic(auto, using(crate::proofs::Suites::more_in_file))]
 fn suite_len(links: &[Link<'_>]) -> usize
     requires { 0 < length links.now }
     ensures { result ≡ suite_len (map link_of links.now) }
 {
-    links_in(links[0].place, links)
+    let place = links[0].place;
+    links_in(place, links)
 }
 
 /// The number of links up to the first one that is in another file than this location.
@@ -213,11 +231,19 @@ fn put_bare_suite(out: &mut Vec<u8>, targets: &[&Broken]) -> Result<(), NoMemory
     ensures { OnOk result (out.new.items ≡ out.old.items ++ bare_suite (bare_targets (map (λ target. target.now) targets.now))) }
 {
     let bare = bare_targets(*out.allocator(), targets)?;
+    put_bare(out, bare.as_slice())
+}
+
+/// Appends the suite of these targets, if there are any.
+#[tactic(auto, using(crate::proofs::Suites::no_bare_suite))]
+fn put_bare(out: &mut Vec<u8>, bare: &[&Broken]) -> Result<(), NoMemory>
+    ensures { OnOk result (out.new.items ≡ out.old.items ++ bare_suite (map (λ target. target.now) bare.now)) }
+{
     if bare.is_empty() {
         return Ok(());
     }
     put_suite_start(out, NO_FILE, bare.len() as u64)?;
-    put_bare_cases(out, bare.as_slice())?;
+    put_bare_cases(out, bare)?;
     put(out, "</testsuite>\n")
 }
 

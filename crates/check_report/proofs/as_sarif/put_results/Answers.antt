@@ -1,7 +1,7 @@
-use Rattle.check_report.proofs.Prelude.{Bor, Global, List, String, ap, flat_map, map, string_bytes, [], ◌∷◌, ◌++◌, ◌∙◌}
+use Rattle.check_report.proofs.Prelude.{Bor, Global, List, String, ap, flat_map, string_bytes, [], ◌∷◌, ◌++◌, ◌∙◌}
 use Rattle.json.specs.Token.{begin_array, end_array}
 use Rattle.json.specs.Tree.{json_tokens}
-use Rattle.check_report.specs.Order.{link_of, links_by_file}
+use Rattle.check_report.specs.Order.{link_of}
 use Rattle.check_report.specs.Sarif.{bare_result, link_result, unlisted_result}
 use Rattle.check_report.specs.declared.ordered.Link.{Link}
 use Rattle.check_report.specs.declared.value.Broken.{Broken}
