@@ -121,10 +121,10 @@ fn push_all(page: Page, links: &mut Vec<CanonUrl>) -> Result<(), AllocError>
     ensures { OnOk result (links.new.items ≡ links.old.items ++ links_in page) }
 {
     match page {
-        Page::Found {
-            links: mut found,
-            ..
-        } => links.append(&mut found),
+        Page::Found { links: found, .. } => {
+            let mut found: Vec<CanonUrl> = found.into();
+            links.append(&mut found)
+        }
         Page::Moved { .. } => Ok(()),
         Page::Missing => Ok(()),
     }
