@@ -191,8 +191,10 @@ class Frontier:
         done = accepted - busy - waiting
         if not self.is_replaying:
             self.note(stats=f"stats {name} {accepted} {done} {busy} {waiting} {put_back} {seen}")
+        # A later version of the program may add numbers at the end.
+        added = " new 7" if name == "all" else ""
         return (f"stats accepted {accepted} done {done} in-progress {busy} waiting {waiting}"
-                f" put-back {put_back} seen {seen}")
+                f" put-back {put_back} seen {seen}{added}")
 
     def judge_offers(self) -> None:
         """Judges the offers of a crawler that was killed."""
