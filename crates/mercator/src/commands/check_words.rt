@@ -19,7 +19,8 @@ const LOCAL: &str =
 
 const CHECK_HELP: &str = "\
 Reports links to pages or anchors that do not exist, and invalid links, with the file, line and
-column of each. The exit status is 4 if anything is reported as broken or invalid.
+column of each. The exit status is 4 if anything is reported as broken or invalid, or if
+--sitemap reports a document.
 Example: mercator check examples/site";
 
 /// `check`: finds the broken links of a folder.
@@ -135,6 +136,10 @@ const REPORT_FLAGS: &[Flag] = &[
         help: "Also list the files that cannot be reached by following links",
     },
     Flag {
+        name: "sitemap",
+        help: "Also report each document that no sitemap of the folder lists",
+    },
+    Flag {
         name: "external",
         help: "Also list links to other sites, which are not checked",
     },
@@ -215,7 +220,7 @@ fn lists_of(given: &Given<'_, '_>) -> Lists {
     Lists {
         all: given.flag("all-sources"),
         unreached: given.flag("unreached"),
-        unlisted: false,
+        unlisted: given.flag("sitemap"),
         by_target: given.flag("by-target"),
     }
 }

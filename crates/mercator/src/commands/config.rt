@@ -24,6 +24,7 @@ const KNOWN: Known = Known {
         "by-target",
         "all-sources",
         "unreached",
+        "sitemap",
         "external",
         "reachable",
         "no-anchors",

@@ -19,6 +19,9 @@ use std::io::Write;
 use std::sync::Wait;
 use std::thread::Threads;
 
+/// The note of a check that reports the documents that no sitemap lists, if no sitemap was read.
+const NO_SITEMAP: &[u8] = b"mercator: no sitemap was read\n";
+
 /// Prints the saved web of a folder, and the notes on `err`.
 ///
 /// # Errors
@@ -65,6 +68,9 @@ pub fn run_check<R: Files<File: Send, Dir: Send> + Threads + Wait + Sync, O: Wri
     let report = report_of_folder(rt, alloc, options, urls, list.as_slice(), &mut notes);
     print_notes(alloc, err, &notes)?;
     let report = report?;
+    if report.lacks_sitemap {
+        begin(err, NO_SITEMAP);
+    }
     end(out, report.text.as_slice())?;
     Ok(report.is_broken)
 }
