@@ -15,7 +15,7 @@ use crate::fault::SiteFault;
 use crate::options::ReportOptions;
 use crate::own::own_results;
 use crate::print::print_check;
-use crate::start::{check_starts, documents, starts};
+use crate::start::{check_starts, start_urls, starts};
 use check_report::{Contents, External};
 use crawl_keys::CanonUrl;
 use crawl_pages::PageResult;
@@ -155,7 +155,7 @@ fn crawl_site<R: Threads + Wait + Sync>(
 {
     let mut seeds = starts(alloc, pages, top, settings.seeds, settings.reachable)?;
     let reached = crawl_reached(rt, alloc, pages, top, seeds.as_slice(), settings)?;
-    let mut more = documents(alloc, top, files, settings.reachable)?;
+    let mut more = start_urls(alloc, top, files, settings.reachable)?;
     seeds.append(&mut more)?;
     let whole = crawl_source(rt, alloc, pages, top, seeds.as_slice(), settings.workers)?;
     Ok(SiteCrawls { reached, whole })
