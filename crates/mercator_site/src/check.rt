@@ -67,7 +67,7 @@ pub struct CheckReport {
     pub text: Vec<u8>,
     /// Whether something is broken, or a document is reported that no sitemap lists.
     pub is_broken: bool,
-    /// Whether documents that no sitemap lists are reported, and no sitemap lists anything.
+    /// Whether documents that no sitemap lists are reported, but no sitemap was read.
     pub lacks_sitemap: bool,
 }
 
@@ -132,7 +132,7 @@ pub fn report_of_pages<R: Threads + Wait + Sync, B: FileBytes + Sync>(
     let others = others_listed(alloc, settings.report.external, files, results)?;
     let input = input_of(&site, &crawls, settings);
     let checked = check_site(rt, alloc, results, files, bytes, input)?;
-    let lacks_sitemap = settings.report.lists.unlisted && site.listed.is_empty();
+    let lacks_sitemap = settings.report.lists.unlisted && !site.has_sitemap;
     let report = report_of(alloc, &checked, &others, lacks_sitemap, settings)?;
     // Not freed: the process exits soon, and the system frees everything faster.
     forget(site);

@@ -19,7 +19,7 @@ const LOCAL: &str =
 
 const CHECK_HELP: &str = "\
 Reports links to pages or anchors that do not exist, and invalid links, with the file, line and
-column of each. The exit status is 4 if anything is reported as broken or invalid, or if
+column of each. The exit status is 4 if a link is broken or invalid, or leaves the site, or if
 --sitemap reports a document.
 Example: mercator check examples/site";
 

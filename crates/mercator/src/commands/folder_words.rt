@@ -85,7 +85,7 @@ fn fallback<'a>(alloc: Global) -> Result<Arg<'a>, AllocError> {
         alloc,
         "fallback",
         "SUFFIX",
-        "Look up a path that has no page again with .SUFFIX added; SUFFIX is html",
+        "If a path has no page, look it up again with .SUFFIX added; SUFFIX is html",
     )
     .help_heading(FILES)
     .value_parser(ValueParser::Names(SUFFIXES))
@@ -96,7 +96,7 @@ fn fallback<'a>(alloc: Global) -> Result<Arg<'a>, AllocError> {
 const FOLDER_FLAGS: &[Flag] = &[
     Flag {
         name: "exact",
-        help: "Accept only the exact spelling of a page's URL",
+        help: "Accept only the exact URL of a page, not other spellings such as a//b or a?q",
     },
     Flag {
         name: "queries",
