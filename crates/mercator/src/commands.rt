@@ -58,7 +58,7 @@ use words::plan_with_config;
 pub use writing::fault_line;
 use writing::{begin, end, end_by_chunks, tell_ended, tell_fault};
 
-/// The exit status of a check that found something broken.
+/// The exit status of a check that found something broken, or reports a document that no sitemap lists.
 const BROKEN: u8 = 4;
 
 /// Runs the program on the arguments after its name, and returns its exit status: 0 success, 1 an error, 2 an incomplete crawl,
