@@ -28,9 +28,15 @@ pub fn check_command<'a>(alloc: Global) -> Result<Command<'a>, AllocError> {
     let mut args = Vec::new(alloc);
     push_check_args(alloc, &mut args)?;
     let about = "Find broken links in a folder of HTML pages";
-    let command = command_with(alloc, "check", about, CHECK_HELP, args)?;
-    let forms = short_forms(alloc)?;
-    command.group(forms)
+    with_short_forms(
+        alloc,
+        command_with(alloc, "check", about, CHECK_HELP, args)?,
+    )
+}
+
+/// The command, which accepts at most one short form of `--format`.
+fn with_short_forms<'a>(alloc: Global, command: Command<'a>) -> Result<Command<'a>, AllocError> {
+    command.group(short_forms(alloc)?)
 }
 
 /// The short forms of `--format`, of which at most one may be values.
@@ -43,13 +49,22 @@ fn short_forms<'a>(alloc: Global) -> Result<ArgGroup<'a>, AllocError> {
 
 /// Appends the options and arguments of `check`, for which BASE is optional.
 fn push_check_args<'a>(alloc: Global, args: &mut Vec<Arg<'a>>) -> Result<(), AllocError> {
-    let help = "Number of workers, 1 to 512";
-    push(args, workers(alloc, "1", help))?;
-    push(args, config(alloc))?;
-    push(args, no_config(alloc)?)?;
+    push_run_args(alloc, args)?;
     push_report_args(alloc, args)?;
     push_scope_args(alloc, args)?;
     push_folder_options(alloc, args)?;
+    push_places(alloc, args)
+}
+
+/// Appends the options for the number of workers and for the configuration file.
+fn push_run_args<'a>(alloc: Global, args: &mut Vec<Arg<'a>>) -> Result<(), AllocError> {
+    push(args, workers(alloc, "1", "Number of workers, 1 to 512"))?;
+    push(args, config(alloc))?;
+    push(args, no_config(alloc)?)
+}
+
+/// Appends the arguments FOLDER and BASE.
+fn push_places<'a>(alloc: Global, args: &mut Vec<Arg<'a>>) -> Result<(), AllocError> {
     push(args, folder(alloc, "Folder to check"))?;
     let help =
         "URL of the folder, http or https; without it / is the folder, and the report shows paths";

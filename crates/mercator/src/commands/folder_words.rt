@@ -4,7 +4,7 @@ ghost use Rattle.std.specs.Option.{option_map_or};
 ghost use Rattle.mercator.specs.Hosts.{adds_html, is_exact};
 
 use crate::commands::arguments::{Flag, command_with, flag_of, option, push, push_flags, word};
-use crate::commands::option_values::OptionValues;
+use crate::commands::option_values::{OptionValues, RIVALS};
 use clap::builder::ValueParser;
 use clap::{Arg, ArgAction, Command};
 use mercator_site::SiteOptions;
@@ -49,7 +49,7 @@ pub const HOSTS: &[&str] = &["nginx", "github", "netlify", "plain"];
 
 /// The option for the rules of a host, which the options for single rules would change.
 fn host<'a>(alloc: Global) -> Result<Arg<'a>, AllocError> {
-    option(
+    let host = option(
         alloc,
         "host",
         "HOST",
@@ -57,11 +57,8 @@ fn host<'a>(alloc: Global) -> Result<Arg<'a>, AllocError> {
     )
     .help_heading(FILES)
     .value_parser(ValueParser::Names(HOSTS))
-    .hide_possible_values(true)
-    .conflicts_with("index-file")?
-    .conflicts_with("fallback")?
-    .conflicts_with("exact")?
-    .conflicts_with("index")
+    .hide_possible_values(true);
+    with_rivals(host, "host")
 }
 
 /// The option for the names of index files.
@@ -81,7 +78,7 @@ pub const SUFFIXES: &[&str] = &["html"];
 
 /// The option to look up a path again.
 fn fallback<'a>(alloc: Global) -> Result<Arg<'a>, AllocError> {
-    option(
+    let fallback = option(
         alloc,
         "fallback",
         "SUFFIX",
@@ -89,8 +86,8 @@ fn fallback<'a>(alloc: Global) -> Result<Arg<'a>, AllocError> {
     )
     .help_heading(FILES)
     .value_parser(ValueParser::Names(SUFFIXES))
-    .hide_possible_values(true)
-    .conflicts_with("exact")
+    .hide_possible_values(true);
+    with_rivals(fallback, "fallback")
 }
 
 const FOLDER_FLAGS: &[Flag] = &[
@@ -115,16 +112,22 @@ fn index<'a>(alloc: Global) -> Result<Arg<'a>, AllocError> {
         "index",
         "FILE",
         "Read the URLs of the files in FOLDER from the site list FILE",
-    );
-    index
-        .help_heading(FILES)
-        .value_parser(ValueParser::NonEmptyString)
-        .requires_arg("base")?
-        .conflicts_with("index-file")?
-        .conflicts_with("fallback")?
-        .conflicts_with("exact")?
-        .conflicts_with("queries")?
-        .conflicts_with("follow")
+    )
+    .help_heading(FILES)
+    .value_parser(ValueParser::NonEmptyString)
+    .requires_arg("base")?;
+    with_rivals(index, "index")
+}
+
+/// The option with this name, which cannot be used together with its rivals.
+fn with_rivals<'a>(option: Arg<'a>, name: &str) -> Result<Arg<'a>, AllocError> {
+    let mut option = option;
+    for pair in RIVALS {
+        if pair.0 == name {
+            option = option.conflicts_with(pair.1)?;
+        }
+    }
+    Ok(option)
 }
 
 /// The option to ignore styles.

@@ -15,7 +15,7 @@ pub struct OptionValues<'a, 'm> {
     pub file: Option<&'a OptionFile>,
 }
 
-/// The pairs of options that cannot be used together.
+/// The pairs of options that cannot be used together. On the command line, `--format` can be used with the short form of the same format.
 pub const RIVALS: &[(&str, &str)] = &[
     ("format", "json"),
     ("format", "html"),
