@@ -200,6 +200,7 @@ fn input_of<'a>(
         found: crawls.whole.result.pages(),
         rooted: settings.rooted,
         reached: reached_in(crawls, settings.report.lists.unreached),
+        listed: None,
     }
 }
 
