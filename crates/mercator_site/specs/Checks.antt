@@ -1,5 +1,5 @@
 -- The report of a check of a folder's links.
-use Rattle.std.specs.Prelude.{◌≡◌, ◌==◌, ℕ, Bool, true, false, not, ◌&&◌, List, [], ◌∷◌, ◌++◌, length, map, string_bytes, Ok, Option, Some, None, ⊤, All, option_map}
+use Rattle.std.specs.Prelude.{◌≡◌, ◌==◌, ℕ, Bool, true, false, not, ◌&&◌, ◌||◌, List, [], ◌∷◌, ◌++◌, length, map, string_bytes, Ok, Option, Some, None, ⊤, All, option_map}
 use Rattle.std.specs.Str.Lines.{lines}
 use Rattle.check_report.specs.Printing.{printed_text, printed_json, printed_annotations, printed_page, printed_junit, printed_sarif}
 use Rattle.check_report.specs.Text.{is_broken}
@@ -92,8 +92,9 @@ pub record IsReport (checked : Checked) (others : Option (List Row)) (name : Lis
   pub totals : found.totals ≡ checked.totals
   pub rows : found.broken.now ≡ checked.broken.items
   pub ways : found.redirects.now ≡ checked.redirects.items
+  pub unlisted : found.unlisted.now ≡ checked.unlisted.items
   pub unused : found.unused_ignores.now ≡ checked.unused_ignores.items
-  pub is_broken : broken ≡ is_broken checked.totals
+  pub is_broken : broken ≡ is_broken checked.totals || (asks.report.lists.unlisted && not (length checked.unlisted.items == 0))
   pub contents : Contents
   pub lists : contents.lists ≡ asks.report.lists
   pub folder : contents.folder.now ≡ asks.folder
@@ -105,7 +106,8 @@ pub record IsReport (checked : Checked) (others : Option (List Row)) (name : Lis
 -- to it, the invalid links, if they are reported, the missing pages on the site's host that are not below the top, and the entries
 -- that match nothing. Its totals count the pages at the own URLs of files, those of some documents apart, their links, the pages at
 -- these aliases, and the rows.
--- Something is broken if there is a row of a missing page or anchor, of an invalid link, or of a link that leads out of the site
+-- Something is broken if there is a row of a missing page or anchor, of an invalid link, or of a link that leads out of the site; or
+-- a document that no sitemap lists, if these are reported
 pub record IsCheck (top web : List ℕ) (aliases : List Alias) (asks : Asks) (broken : Bool) (text : List ℕ) : Type 0 where
   pub pages : List PageResult
   pub crawled : IsTopCrawl top web asks.reachable asks.seeds pages
@@ -127,7 +129,7 @@ pub record IsCheck (top web : List ℕ) (aliases : List Alias) (asks : Asks) (br
   pub invalid : AreInvalid asks.entries (texts_if asks.invalid places own) (invalid_rows_in found.broken.now)
   pub leaving : leaving_in found.broken.now ≡ leaving_of asks.entries asks.rooted site own pages
   pub unused : AreUnused asks.front asks.entries own (texts_if asks.invalid places own) (outside_texts asks.rooted site pages) (anchors_in found.broken.now) (map string_bytes found.unused_ignores.now)
-  pub is_broken : broken ≡ not (length found.broken.now == 0)
+  pub is_broken : broken ≡ not (length found.broken.now == 0) || (asks.report.lists.unlisted && not (length found.unlisted.now == 0))
   pub contents : Contents
   pub lists : contents.lists ≡ asks.report.lists
   pub folder : contents.folder.now ≡ asks.folder

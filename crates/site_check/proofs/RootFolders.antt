@@ -74,13 +74,14 @@ root_lacks (b ∷ written) lacks =
 pub count_put : (old new : Counts) (folder : Bor (List ℕ)) (count : ℕ) → tree.Updates (λ x y. slice_cmp nat_cmp x.now y.now) old new folder (Some count) → count ≡ count_at old folder.now + 1 →
     (other : List ℕ) → count_at new other ≡ one_if (bytes_eq folder.now other) + count_at old other
 count_put old new folder count updates is other =
-    ap (λ o. unwrap_or o 0) (btree_map_updates_str folder.now old new (Some count) updates other)
+    let at : Option ℕ → ℕ = λ o. unwrap_or o 0 in
+    ap at (btree_map_updates_str folder.now old new (Some count) updates other)
     ∙ elim (cases_Bool (bytes_eq folder.now other)) [
       | inl same ↦
-          ap (λ o. unwrap_or o 0) (cond-true (bytes_eq folder.now other) (Some count) _ same)
-          ∙ (omega (arith, is, ap (count_at old) ((bytes_eq-Decides folder.now other).0 same)) : count ≡ 1 + count_at old other)
-          ∙ sym (ap (λ b. one_if b + count_at old other) same)
-      | inr differ ↦ ap (λ o. unwrap_or o 0) (cond-false (bytes_eq folder.now other) (Some count) _ differ) ∙ sym (ap (λ b. one_if b + count_at old other) differ)
+          let own : count_at old folder.now ≡ count_at old other = ap (count_at old) ((bytes_eq-Decides folder.now other).0 same) in
+          let one : count ≡ 1 + count_at old other = omega (arith, is, own) in
+          ap at (cond-true (bytes_eq folder.now other) (Some count) _ same) ∙ one ∙ sym (ap (λ b. one_if b + count_at old other) same)
+      | inr differ ↦ ap at (cond-false (bytes_eq folder.now other) (Some count) _ differ) ∙ sym (ap (λ b. one_if b + count_at old other) differ)
     ]
 
 -- what is counted so far and what is left are all

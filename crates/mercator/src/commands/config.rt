@@ -4,8 +4,8 @@ ghost use Rattle.mercator.specs.Plans.{IsShown};
 
 use crate::commands::check_words::FORMATS;
 use crate::commands::folder_words::{HOSTS, SUFFIXES};
-use crate::commands::given::RIVALS;
 use crate::commands::input::Unread;
+use crate::commands::option_values::RIVALS;
 use crate::commands::plan_error::{PlanError, bad_words};
 use crate::commands::source::read_named;
 use clap::ArgMatches;
@@ -24,6 +24,7 @@ const KNOWN: Known = Known {
         "by-target",
         "all-sources",
         "unreached",
+        "sitemap",
         "external",
         "reachable",
         "no-anchors",

@@ -4,7 +4,7 @@ ghost use Rattle.std.specs.Option.{option_map_or};
 ghost use Rattle.mercator.specs.Hosts.{adds_html, is_exact};
 
 use crate::commands::arguments::{Flag, command_with, flag_of, option, push, push_flags, word};
-use crate::commands::given::Given;
+use crate::commands::option_values::OptionValues;
 use clap::builder::ValueParser;
 use clap::{Arg, ArgAction, Command};
 use mercator_site::SiteOptions;
@@ -85,7 +85,7 @@ fn fallback<'a>(alloc: Global) -> Result<Arg<'a>, AllocError> {
         alloc,
         "fallback",
         "SUFFIX",
-        "Look up a path that has no page again with .SUFFIX added; SUFFIX is html",
+        "If a path has no page, look it up again with .SUFFIX added; SUFFIX is html",
     )
     .help_heading(FILES)
     .value_parser(ValueParser::Names(SUFFIXES))
@@ -96,7 +96,7 @@ fn fallback<'a>(alloc: Global) -> Result<Arg<'a>, AllocError> {
 const FOLDER_FLAGS: &[Flag] = &[
     Flag {
         name: "exact",
-        help: "Accept only the exact spelling of a page's URL",
+        help: "Accept only the exact URL of a page, not other spellings such as a//b or a?q",
     },
     Flag {
         name: "queries",
@@ -151,31 +151,31 @@ pub fn base<'a>(alloc: Global, help: &'a str) -> Arg<'a> {
 /// The settings of `site`, or those of a check that are the same, with this BASE.
 pub fn site_options(
     alloc: Global,
-    given: Given<'_, '_>,
+    values: OptionValues<'_, '_>,
     base: &str,
 ) -> Result<SiteOptions, AllocError> {
-    let host = given.text("host");
+    let host = values.text("host");
     Ok(SiteOptions {
-        folder: String::from_str(alloc, given.line.get_str("folder").unwrap_or("."))?,
+        folder: String::from_str(alloc, values.line.get_str("folder").unwrap_or("."))?,
         base: String::from_str(alloc, base)?,
-        index: given.string(alloc, "index")?,
-        index_files: index_files(alloc, given, host)?,
-        html_fallback: given.text("fallback").is_some() || adds_html(host),
-        exact: given.flag("exact") || is_exact(host),
-        queries: given.flag("queries"),
-        follow: given.flag("follow"),
-        styles: !given.flag("no-styles"),
+        index: values.string(alloc, "index")?,
+        index_files: index_files(alloc, values, host)?,
+        html_fallback: values.text("fallback").is_some() || adds_html(host),
+        exact: values.flag("exact") || is_exact(host),
+        queries: values.flag("queries"),
+        follow: values.flag("follow"),
+        styles: !values.flag("no-styles"),
     })
 }
 
-/// The names of index files: `index.html` for a host, otherwise those that are given.
+/// The names of index files: `index.html` for a host, otherwise those that are values.
 fn index_files(
     alloc: Global,
-    given: Given<'_, '_>,
+    values: OptionValues<'_, '_>,
     host: Option<&str>,
 ) -> Result<Vec<String>, AllocError> {
     if host.is_none() {
-        return given.strings(alloc, "index-file");
+        return values.strings(alloc, "index-file");
     }
     let mut names = Vec::new(alloc);
     names.push(String::from_str(alloc, "index.html")?)?;

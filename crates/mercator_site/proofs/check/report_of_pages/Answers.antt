@@ -1,4 +1,4 @@
-use Rattle.mercator_site.proofs.Prelude.{List, map, Ok, refl, sym, ap, subst, ◌∙◌, ◌≡◌, ◌==◌, not, length, string_bytes, err_from_is_err_and, canonical, PageResult, AreOthersListed, IsTopCrawl, host_root, own_of}
+use Rattle.mercator_site.proofs.Prelude.{List, map, Ok, refl, sym, ap, subst, ◌∙◌, ◌≡◌, ◌==◌, ◌&&◌, ◌||◌, not, length, string_bytes, err_from_is_err_and, canonical, PageResult, AreOthersListed, IsTopCrawl, host_root, own_of}
 use Rattle.std.proofs.Common.{true≢false}
 use Rattle.site_check.specs.Broken.{broken_of, redirects_of}
 use Rattle.site_check.specs.Hints.{hints_in, hints_of}
@@ -43,6 +43,7 @@ returns-clause-named g c = λ web source.
     let same_aliases = c.input_of-input.ensures.aliases in
     let documents = c.args.site.documents.items in
     let same_documents = c.input_of-input.ensures.documents in
+    let asks_unlisted = c.args.settings.report.lists.unlisted in
     record {
       check = record {
         pages = all;
@@ -80,7 +81,10 @@ returns-clause-named g c = λ web source.
             (subst (λ f. AreUnused f (map string_bytes input.ignores.now) pages links outs (anchors_in checked.broken.items) (map string_bytes checked.unused_ignores.items)) same_front
             (subst (λ os. AreUnused input.front.now (map string_bytes input.ignores.now) pages links os (anchors_in checked.broken.items) (map string_bytes checked.unused_ignores.items)) same_outs
             (subst (λ ls. AreUnused input.front.now (map string_bytes input.ignores.now) pages ls (outside_texts input.rooted files input.found.now) (anchors_in checked.broken.items) (map string_bytes checked.unused_ignores.items)) same_links c.in_ok-checked.ensures.ignores)))));
-        is_broken = report.is_broken ∙ c.in_ok-checked.ensures.verdict ∙ ap (λ bs. not (length bs == 0)) (sym report.rows);
+        is_broken =
+            report.is_broken ∙ ap (λ is. is || (asks_unlisted && not (length checked.unlisted.items == 0))) c.in_ok-checked.ensures.verdict
+            ∙ ap (λ bs. not (length bs == 0) || (asks_unlisted && not (length checked.unlisted.items == 0))) (sym report.rows)
+            ∙ ap (λ us. not (length report.found.broken.now == 0) || (asks_unlisted && not (length us == 0))) (sym report.unlisted);
         contents = report.contents;
         lists = report.lists;
         folder = report.folder;
