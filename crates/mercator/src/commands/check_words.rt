@@ -230,6 +230,7 @@ fn lists_of(values: &OptionValues<'_, '_>) -> Lists {
     Lists {
         all: values.flag("all-sources"),
         unreached: values.flag("unreached"),
+        unlisted: false,
         by_target: values.flag("by-target"),
     }
 }
