@@ -132,7 +132,7 @@ pub fn report_of_pages<R: Threads + Wait + Sync, B: FileBytes + Sync>(
     let others = others_listed(alloc, settings.report.external, files, results)?;
     let input = input_of(&site, &crawls, settings);
     let checked = check_site(rt, alloc, results, files, bytes, input)?;
-    let lacks_sitemap = settings.report.lists.unlisted && !site.has_sitemap;
+    let lacks_sitemap = lacks_sitemap(&site, settings.report.lists.unlisted);
     let report = report_of(alloc, &checked, &others, lacks_sitemap, settings)?;
     // Not freed: the process exits soon, and the system frees everything faster.
     forget(site);
@@ -206,6 +206,11 @@ fn input_of<'a>(
         reached: reached_in(crawls, settings.report.lists.unreached),
         listed: listed_in(site, settings.report.lists.unlisted),
     }
+}
+
+/// Whether documents that no sitemap lists are reported, but no sitemap was read.
+fn lacks_sitemap(site: &LinkedSite, is_requested: bool) -> bool {
+    is_requested && !site.has_sitemap
 }
 
 /// The URLs that sitemaps list, if the documents that none lists are reported.
