@@ -292,7 +292,7 @@ def form_fault(program: str, settings: Settings, folder: str, rows: List[Row]) -
     with tempfile.TemporaryDirectory() as scratch:
         for name, (form, fault_of) in FORMS.items():
             done = run(program, arguments(settings, folder, scratch, form))
-            allowed = "\n\t" if name == "page" else "\n"
+            allowed = "\n\t" if name.startswith("page") else "\n"
             fault = forms.control_fault(done.stdout, allowed) or forms.control_fault(done.stderr) or fault_of(done.stdout.decode(), rows, folder)
             if fault:
                 return f"{name}: {fault}"

@@ -124,7 +124,7 @@ pub struct Place {
 /// A folder with which many links to missing pages begin, and which is not in the site.
 #[derive(Drop)]
 pub struct BaseHint {
-    /// The name of the folder, without slashes.
+    /// The start of the paths: a slash, the name of the folder, and a slash.
     pub folder: String,
     /// The number of locations of links to missing pages whose path begins with the folder.
     pub paths: u64,
