@@ -1,5 +1,5 @@
 -- The first folder of a path, and how many paths have it.
-use Rattle.site_check.proofs.Prelude.{common_steps, ◌≡◌, ◌∙◌, ℕ, zero, suc, ◌+◌, ◌<◌, ◌^◌, ◌≤◌, ◌&&◌, Bool, true, false, not, ◌||◌, cond, List, [], ◌∷◌, ◌++◌, Option, Some, None, length, length-map, map, filter, drop, get_or, slice_get, refl, subst, sym, ap, inl, inr, arith, cases_Bool, cond-true, cond-false, bytes_eq, bytes_eq-Decides, count_by, count_by-le-length, list_any, option_map, Bor, pointed, Counts, count_at, ends_path, first_in, is_often, is_slash, named_folder, one_if, path_count, root_folder, to_slash}
+use Rattle.site_check.proofs.Prelude.{common_steps, ◌≡◌, ◌∙◌, ℕ, zero, suc, ◌+◌, ◌<◌, ◌^◌, ◌≤◌, ◌&&◌, Bool, true, false, not, ◌||◌, cond, List, [], ◌∷◌, ◌++◌, Option, Some, None, length, length-map, filter, drop, get_or, slice_get, refl, subst, sym, ap, inl, inr, arith, cases_Bool, cond-true, cond-false, bytes_eq, bytes_eq-Decides, count_by-le-length, list_any, option_map, Bor, pointed, Counts, count_at, ends_path, first_in, is_often, is_slash, named_folder, one_if, path_count, root_folder, to_slash}
 use Rattle.std.proofs.Common.{◌==◌, add-one, codes, drop-cons, eqb-true}
 use Rattle.std.proofs.lemmas.List.{drop_all}
 use Rattle.std.specs.Option.{unwrap_or}
