@@ -1,5 +1,5 @@
 -- The rows of a check are those of all results.
-use Rattle.site_check.proofs.Prelude.{◌≡◌, ◌∙◌, ℕ, Bool, List, ap, filter, flat_map, map, subst, sym, AreTexts, PageResult, SiteFiles, anchor_text, is_unfound, linked, linked_at, outside_at, outside_linked, outside_texts, result_at, rows_with, shown_at, text_at, text_of, texts_if}
+use Rattle.site_check.proofs.Prelude.{◌≡◌, ◌∙◌, ℕ, Bool, List, ap, filter, flat_map, map, subst, AreTexts, PageResult, SiteFiles, anchor_text, is_unfound, linked, linked_at, outside_at, outside_linked, outside_texts, result_at, rows_with, shown_at, text_at, text_of, texts_if}
 use Rattle.check_report.specs.declared.value.Broken.{Broken}
 use Rattle.document_links.specs.declared.positions.LinkPlaces.{LinkPlaces}
 use Rattle.site_check.proofs.AllRows.{hints_of_all, leaving_of_all, outside_texts_of_all, rows_of_all, texts_of_all}

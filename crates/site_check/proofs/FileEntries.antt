@@ -1,5 +1,5 @@
 -- Entries that name a file: an entry is cut at its first mark.
-use Rattle.site_check.proofs.Prelude.{common_steps, ◌≡◌, ◌∙◌, ℕ, zero, suc, ◌+◌, ◌<◌, ◌≤◌, Bool, true, false, ◌||◌, cond, List, [], ◌∷◌, ◌++◌, length, drop, take, refl, sym, ap, arith, cond-true, cond-false, begins, any_end, names_file, file_in, file_mark, target_in}
+use Rattle.site_check.proofs.Prelude.{◌≡◌, ◌∙◌, ℕ, zero, suc, ◌<◌, ◌≤◌, true, false, ◌||◌, List, [], ◌∷◌, ◌++◌, length, drop, take, refl, sym, ap, arith, cond-true, cond-false, begins, names_file, file_in, file_mark, target_in}
 use Rattle.std.proofs.Common.{◌≢◌}
 use Rattle.site_check.proofs.Patterns.{any_none, begins_not, begins_with}
 

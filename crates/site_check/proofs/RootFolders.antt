@@ -1,6 +1,7 @@
 -- The first folder of a path, and how many paths have it.
-use Rattle.site_check.proofs.Prelude.{common_steps, ◌≡◌, ◌∙◌, ℕ, zero, suc, ◌+◌, ◌<◌, ◌^◌, ◌≤◌, ◌&&◌, Bool, true, false, not, ◌||◌, cond, List, [], ◌∷◌, ◌++◌, Option, Some, None, length, length-map, map, filter, drop, slice_get, refl, subst, sym, ap, inl, inr, arith, cases_Bool, cond-true, cond-false, bytes_eq, bytes_eq-Decides, count_by, count_by-le-length, list_any, option_map, Bor, pointed, Counts, count_at, ends_path, is_slash, named_folder, one_if, path_count, root_folder, to_slash}
-use Rattle.std.proofs.Common.{◌==◌, codes, eqb-true}
+use Rattle.site_check.proofs.Prelude.{common_steps, ◌≡◌, ◌∙◌, ℕ, zero, suc, ◌+◌, ◌<◌, ◌^◌, ◌≤◌, ◌&&◌, Bool, true, false, not, ◌||◌, cond, List, [], ◌∷◌, ◌++◌, Option, Some, None, length, length-map, filter, drop, get_or, slice_get, refl, subst, sym, ap, inl, inr, arith, cases_Bool, cond-true, cond-false, bytes_eq, bytes_eq-Decides, count_by-le-length, list_any, option_map, Bor, pointed, Counts, count_at, ends_path, first_in, is_often, is_slash, named_folder, one_if, path_count, root_folder, to_slash}
+use Rattle.std.proofs.Common.{◌==◌, add-one, codes, drop-cons, eqb-true}
+use Rattle.std.proofs.lemmas.List.{drop_all}
 use Rattle.std.specs.Option.{unwrap_or}
 use Rattle.std.proofs.lemmas.Map.Text.{btree_map_updates_str}
 use Rattle.std.specs.BTreeMap as tree
@@ -98,16 +99,48 @@ count_fits counts folder more folders small are =
     let same : length (pointed folders) ≡ length folders = length-map (λ (x : Bor (List ℕ)). x.now) folders in
     omega (arith, small, all, one, most, same)
 
-pub counts_more : (old new : Counts) (folder : Bor (List ℕ)) (rest more folders : List (Bor (List ℕ))) → rest ≡ folder ∷ more → length folders < 2 ^ 64 → AreCounts old rest folders →
-    (count_at old folder.now + 1 < 2 ^ 64 → (other : List ℕ) → count_at new other ≡ one_if (bytes_eq folder.now other) + count_at old other) → AreCounts new more folders
-counts_more old new folder rest more folders is small are counted =
-    let here = subst (λ l. AreCounts old l folders) is are in
+-- what is left from an index on
+cut_here : (folders : List (Bor (List ℕ))) (i : ℕ) (folder : Bor (List ℕ)) → i < length folders → folder ≡ get_or folders i folder → drop i folders ≡ folder ∷ drop (i + 1) folders
+cut_here folders i folder below is =
+    drop-cons folders i folder below ∙ ap (λ x. x ∷ drop (suc i) folders) (sym is) ∙ ap (λ n. folder ∷ drop n folders) (sym (add-one i))
+
+pub counts_more : (old new : Counts) (folders : List (Bor (List ℕ))) (i : ℕ) (folder : Bor (List ℕ)) → i < length folders → folder ≡ get_or folders i folder → length folders < 2 ^ 64 →
+    AreCounts old (drop i folders) folders → (count_at old folder.now + 1 < 2 ^ 64 → (other : List ℕ) → count_at new other ≡ one_if (bytes_eq folder.now other) + count_at old other) →
+    AreCounts new (drop (i + 1) folders) folders
+counts_more old new folders i folder below is small are counted =
+    let more = drop (i + 1) folders in
+    let here = subst (λ l. AreCounts old l folders) (cut_here folders i folder below is) are in
     record {
       each = λ other.
           let all : count_at old other + (cond (bytes_eq folder.now other) 1 0 + path_count (pointed more) other) ≡ path_count (pointed folders) other = here.each other in
           let next : count_at new other ≡ cond (bytes_eq folder.now other) 1 0 + count_at old other = counted (count_fits old folder more folders small here) other in
           omega (arith, all, next);
     }
+
+pub counts_end : (counts : Counts) (folders : List (Bor (List ℕ))) (i : ℕ) → length folders ≤ i → AreCounts counts (drop i folders) folders → (folder : List ℕ) → count_at counts folder ≡ path_count (pointed folders) folder
+counts_end counts folders i past are folder =
+    let none : path_count (pointed (drop i folders)) folder ≡ 0 = ap (λ l. path_count (pointed l) folder) (drop_all folders i past) in
+    omega (arith, none, are.each folder)
+
+-- ---- the first that is often there
+
+abbrev pub first_often : ℕ → (List ℕ → ℕ) → List (Bor (List ℕ)) → Option (List ℕ)
+first_often of count_of folders = first_in (filter (λ folder. is_often of (count_of folder)) (pointed folders))
+
+pub often_here : (of : ℕ) (count_of : List ℕ → ℕ) (folders : List (Bor (List ℕ))) (i : ℕ) (folder : Bor (List ℕ)) (all : Option (List ℕ)) → i < length folders → folder ≡ get_or folders i folder →
+    is_often of (count_of folder.now) ≡ true → first_often of count_of (drop i folders) ≡ all → Some folder.now ≡ all
+often_here of count_of folders i folder all below is often first =
+    let more = filter (λ folder. is_often of (count_of folder)) (pointed (drop (i + 1) folders)) in
+    sym (ap (first_often of count_of) (cut_here folders i folder below is) ∙ ap first_in (cond-true (is_often of (count_of folder.now)) (folder.now ∷ more) more often)) ∙ first
+
+pub often_skip : (of : ℕ) (count_of : List ℕ → ℕ) (folders : List (Bor (List ℕ))) (i : ℕ) (folder : Bor (List ℕ)) (all : Option (List ℕ)) → i < length folders → folder ≡ get_or folders i folder →
+    is_often of (count_of folder.now) ≡ false → first_often of count_of (drop i folders) ≡ all → first_often of count_of (drop (i + 1) folders) ≡ all
+often_skip of count_of folders i folder all below is seldom first =
+    let more = filter (λ folder. is_often of (count_of folder)) (pointed (drop (i + 1) folders)) in
+    sym (ap (first_often of count_of) (cut_here folders i folder below is) ∙ ap first_in (cond-false (is_often of (count_of folder.now)) (folder.now ∷ more) more seldom)) ∙ first
+
+pub often_none : (of : ℕ) (count_of : List ℕ → ℕ) (folders : List (Bor (List ℕ))) (i : ℕ) (all : Option (List ℕ)) → length folders ≤ i → first_often of count_of (drop i folders) ≡ all → None ≡ all
+often_none of count_of folders i all past first = sym (ap (first_often of count_of) (drop_all folders i past)) ∙ first
 
 -- ---- the names of a site
 

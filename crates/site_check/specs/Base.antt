@@ -49,7 +49,7 @@ row_folders b = if is_page b.kind then flat_map place_folder b.places.items else
 
 -- ---- the hint
 
--- so many of the paths begin with the folder
+-- the number of paths that begin with the folder
 abbrev pub path_count : List (List ℕ) → List ℕ → ℕ
 path_count folders folder = count_by (λ other. bytes_eq other folder) folders
 
@@ -80,7 +80,7 @@ abbrev pub first_in : List (List ℕ) → Option (List ℕ)
 first_in [] = None
 first_in (folder ∷ more) = Some folder
 
--- the first of these with which so many begin, by these counts
+-- the first that is often there, by these counts
 abbrev pub often_first : (List ℕ → ℕ) → List (List ℕ) → Option (List ℕ)
 often_first count_of folders = first_in (filter (λ folder. is_often (length folders) (count_of folder)) folders)
 

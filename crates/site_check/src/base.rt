@@ -1,5 +1,5 @@
 //! The hint at a missing BASE.
-ghost use Rattle.std.specs.Prelude.{◌≡◌, ◌==◌, ◌<◌, ◌+◌, ◌^◌, ◌&&◌, ◌∷◌, ◌++◌, ℕ, List, [], IfOk, MatchOption, OnOk, bytes_eq, length, map, not, option_map, string_bytes};
+ghost use Rattle.std.specs.Prelude.{◌≡◌, ◌==◌, ◌<◌, ◌+◌, ◌^◌, ◌&&◌, ◌∷◌, ◌++◌, ℕ, List, [], IfOk, OnOk, bytes_eq, length, map, not, option_map, string_bytes};
 ghost use Rattle.std.specs.List.{flat_map, list_any};
 ghost use Rattle.crawl_sources.specs.Tallies.{pointed};
 ghost use Rattle.site_check.specs.Base.{base_hint_of, count_at, ends_path, has_folder, hint_among, hint_at, hint_with, is_often, named_folder, names_in, often_first, one_if, path_count, place_folder, root_folder, row_folders, to_slash, written_folder};
@@ -141,26 +141,15 @@ fn hint_among(
 }
 
 /// Counts how many of the paths have each folder.
+#[tactic(auto, using(crate::proofs::RootFolders::counts_more, crate::proofs::RootFolders::counts_end))]
 fn path_counts<'a>(alloc: Global, folders: &[&'a str]) -> Result<PathCounts<'a>, NoMemory>
     ensures { IfOk result (λ counts. (folder : List ℕ) → count_at counts folder ≡ path_count (pointed folders.now) folder) }
 {
     let mut counts = BTreeMap::new(alloc);
-    let mut rest = folders;
-    'folders: while let Some((folder, more)) = split_folder(rest) {
-        count_path(folder, &mut counts)?;
-        rest = more;
+    for folder in folders {
+        count_path(*folder, &mut counts)?;
     }
     Ok(counts)
-}
-
-/// Splits the first folder from the others. `None` if there are no folders.
-fn split_folder<'a, 's>(folders: &'s [&'a str]) -> Option<(&'a str, &'s [&'a str])>
-    ensures { MatchOption result (folders.now ≡ []) (λ x. folders.now ≡ x.0 ∷ x.1.now) }
-{
-    match folders.split_first() {
-        Some((folder, more)) => Some((*folder, more)),
-        None => None,
-    }
 }
 
 /// Counts a path with this first folder.
@@ -180,16 +169,15 @@ fn count_at<'a>(counts: &PathCounts<'a>, folder: &'a str) -> u64
 }
 
 /// The first folder that at least half and at least two of the paths have.
+#[tactic(auto, using(crate::proofs::RootFolders::often_here, crate::proofs::RootFolders::often_skip, crate::proofs::RootFolders::often_none))]
 fn often_first<'a>(counts: &PathCounts<'a>, folders: &[&'a str]) -> Option<&'a str>
     ensures { option_map (λ folder. folder.now) result ≡ often_first (count_at counts.now) (pointed folders.now) }
 {
     let of = folders.len() as u64;
-    let mut rest = folders;
-    'folders: while let Some((folder, more)) = split_folder(rest) {
-        if is_often(of, count_at(counts, folder)) {
-            return Some(folder);
+    for folder in folders {
+        if is_often(of, count_at(counts, *folder)) {
+            return Some(*folder);
         }
-        rest = more;
     }
     None
 }

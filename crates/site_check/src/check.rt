@@ -249,9 +249,11 @@ fn told(
         unused_ignores,
     } = rows_of(alloc, input, site, linked, others, places)?;
     let redirects = redirect_rows(alloc, input.front, linked)?;
-    let unreached = unreached_files(alloc, input, site)?;
-    let unlisted = unlisted(alloc, input)?;
-    let base_hint = base_hint(alloc, input.rooted, site.files, broken.as_slice())?;
+    let Lists {
+        unreached,
+        unlisted,
+        base_hint,
+    } = lists_of(alloc, input, site, broken.as_slice())?;
     let totals = totals_of(
         alloc,
         input.aliases,
@@ -297,6 +299,34 @@ fn rows_of(
     Ok(Rows {
         broken,
         unused_ignores,
+    })
+}
+
+/// What is listed next to the rows.
+#[derive(Drop)]
+struct Lists {
+    unreached: Vec<String>,
+    unlisted: Vec<String>,
+    base_hint: Option<BaseHint>,
+}
+
+/// The unreached files, the documents that no sitemap lists, and the hint of BASE for these rows.
+fn lists_of(
+    alloc: Global,
+    input: CheckInput<'_>,
+    site: Site<'_, '_>,
+    broken: &[Broken],
+) -> Result<Lists, NoMemory>
+    ensures unlisted { IfOk result (λ lists. map string_bytes lists.unlisted.items ≡ unlisted_in input.entry.front.now input.entry.aliases.now input.entry.documents.now input.entry.listed) }
+    ensures base_hint { IfOk result (λ lists. option_map hint_at lists.base_hint ≡ base_hint_of input.entry.rooted site.entry.files.now broken.now) }
+{
+    let unreached = unreached_files(alloc, input, site)?;
+    let unlisted = unlisted(alloc, input)?;
+    let base_hint = base_hint(alloc, input.rooted, site.files, broken)?;
+    Ok(Lists {
+        unreached,
+        unlisted,
+        base_hint,
     })
 }
 

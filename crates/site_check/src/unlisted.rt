@@ -97,5 +97,5 @@ fn is_missed<'a>(listed: &UrlSet<'a>, owns: &UrlSet<'a>, own: &'a CanonUrl) -> b
 fn is_not_found_page(url: &str) -> bool
     ensures { result ≡ is_not_found_page url.now }
 {
-    last_part(url) == b"404.html"
+    last_part(url) == "404.html".as_bytes()
 }

@@ -1,5 +1,4 @@
 use Rattle.site_check.proofs.Prelude.{◌≡◌, ◌∷◌, ◌++◌, [], drop, length, list_any, begins, has_folder, names_in}
-use Rattle.std.proofs.Common.{◌-◌}
 use Rattle.site_check.proofs.base.has_folder.Given as goal
 
 abbrev pub invariant-names : goal.invariant-names

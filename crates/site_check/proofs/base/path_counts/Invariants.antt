@@ -1,9 +1,6 @@
-use Rattle.site_check.proofs.Prelude.{length}
+use Rattle.site_check.proofs.Prelude.{drop}
 use Rattle.site_check.proofs.RootFolders.{AreCounts}
 use Rattle.site_check.proofs.base.path_counts.Given as goal
 
-abbrev pub invariant-folders : goal.invariant-folders
-invariant-folders l = AreCounts l.counts l.rest l.fn.folders
-
-abbrev pub decreases-folders : goal.decreases-folders
-decreases-folders l = length l.rest
+abbrev pub invariant-loop-folder : goal.invariant-loop-folder
+invariant-loop-folder l = AreCounts l.counts (drop l.folder-index l.folders) l.folders

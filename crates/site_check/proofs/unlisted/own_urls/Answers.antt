@@ -1,6 +1,5 @@
 use Rattle.site_check.proofs.Prelude.{◌||◌, [], ◌∷◌, ◌++◌, take, sym, ap, ◌∙◌, list_any, take_more, is_in, is_other_of}
 use Rattle.crawl_sources.proofs.Counts.{any_push}
-use Rattle.site_files.specs.declared.alias.Alias.{Alias}
 use Rattle.site_check.proofs.unlisted.own_urls.Goals as goal
 
 pub loop-alias-preserved : goal.loop-alias-preserved
