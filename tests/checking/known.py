@@ -668,13 +668,14 @@ KNOWN = [
         ),
     ),
     Known(
-        "targets that are ignored in all files that link to them, and one that only a redirect leads to",
-        {"index.html": "<a href=a><a href=b#x>", "b": "<html>", "d/index.html": "<a href=../a><a href=../c>", "d/e.html": ""},
+        "targets that are ignored in all files that link to them",
+        {"index.html": "<a href=a><a href=b#x><a href=e>", "b": "<html>", "d/index.html": "<a href=../a><a href=../c>"},
         ["c d/index.html:1:22"],
         (
-            {"kind": "total", "broken": 1, "missing_pages": 1, "missing_anchors": 0}, {"kind": "unused", "name": "index.html: c"},
+            {"kind": "total", "broken": 1, "missing_pages": 1, "missing_anchors": 0},
+            {"kind": "unused", "name": "index.html: c"}, {"kind": "unused", "name": "index.html: e"},
         ),
-        settings=(*NO_BASE, ("ignores", ("index.html: a", "d/index.html: a", "i*l: b#*", "index.html: c"))),
+        settings=(*NO_BASE, ("ignores", ("index.html: a", "d/index.html: a", "i*l: b#*", "index.html: c", "e", "index.html: e"))),
     ),
     Known(
         "what the rules of a host would find",

@@ -252,9 +252,19 @@ def matches_in(entry: str, file: str, target: str) -> bool:
     return mark != "" and fits(name, file) and matches(rest, target)
 
 
+def is_everywhere(entry: str) -> bool:
+    """Whether an entry of the ignore list is for all files."""
+    return ": " not in entry
+
+
+def matches_any(entries: Iterable[str], target: str) -> bool:
+    """Whether an entry for all files matches a target."""
+    return any(matches(entry, target) for entry in entries if is_everywhere(entry))
+
+
 def is_used(entry: str, target: str, places: Located) -> bool:
     """Whether an entry of the ignore list matches a target, or its links in the file that the entry names."""
-    return any(matches_in(entry, place.file, target) for place in places) if ": " in entry else matches(entry, target)
+    return matches(entry, target) if is_everywhere(entry) else any(matches_in(entry, place.file, target) for place in places)
 
 
 def links_in(rows: List[Row]) -> int:
@@ -667,7 +677,7 @@ class Model:
 
     def left(self, target: str, places: Located) -> Optional[Located]:
         """The locations of a target that the ignore list leaves, or None if it leaves nothing of the target."""
-        if any(matches(entry, target) for entry in self.settings.ignores if ": " not in entry):
+        if matches_any(self.settings.ignores, target):
             return None
         left = {place: text for place, text in places.items() if not any(matches_in(entry, place.file, target) for entry in self.settings.ignores)}
         return left if left or not places else None
@@ -751,10 +761,11 @@ class Model:
         return [{"kind": "external", "url": url, "links": count} for url, count in sorted(urls.items(), key=lambda row: row[0].encode())]
 
     def unused(self) -> Iterator[Row]:
-        """The rows of ignore entries that match nothing."""
+        """The rows of ignore entries that match nothing. Those for some files match nothing that one for all files matches."""
         broken = list(self.targets())
+        left = [one for one in broken if not matches_any(self.settings.ignores, one[0])]
         for entry in self.settings.ignores:
-            if not any(is_used(entry, target, places) for target, places in broken):
+            if not any(is_used(entry, target, places) for target, places in (broken if is_everywhere(entry) else left)):
                 yield {"kind": "unused", "name": entry}
 
     def targets(self) -> Iterator[Tuple[str, Located]]:
