@@ -648,6 +648,36 @@ KNOWN = [
     ),
     Known("all that is ignored", {"index.html": "<a href=a><a href=../b><a href=http:>"}, [], settings=(*NO_BASE, ("ignores", ("*",)))),
     Known(
+        "targets that are ignored in some files",
+        {
+            "index.html": "<a href=a.png><a href=htp:x><a href=../up><a href=d/b.html#x><a href=gone>", "d/b.html": "<a href=../a.png><a href=../gone><a href=../../up#y>",
+            "d/c: e.html": "<a href=../a.png><a href='htp: f'><a href='htp: g'>",
+        },
+        ["../up index.html:1:37", "a.png d/c: e.html:1:9", "a.png index.html:1:9", "gone index.html:1:70", "htp: g d/c: e.html:1:44"],
+        (
+            {"kind": "total", "pages": 3, "broken": 3, "missing_pages": 2, "missing_anchors": 0, "invalid": 1, "leaving": 1},
+            {"kind": "broken", "target": "a.png", "pages": 3}, {"kind": "broken", "target": "gone", "pages": 2}, {"kind": "leaving", "target": "../up", "pages": 2},
+            {"kind": "worst", "file": "index.html", "links": 3}, {"kind": "worst", "file": "d/c: e.html", "links": 2},
+            {"kind": "unused", "name": "d: a.png"}, {"kind": "unused", "name": "d/c: e.html: a"}, {"kind": "unused", "name": "*.html: b*"}, {"kind": "unused", "name": "htp: g"},
+        ),
+        settings=(
+            *NO_BASE,
+            ("ignores", (
+                "d/b.html: a.p", "d: a.png", "index.html: htp:", "d/*: go*", "*: d/b.html#x", "d/b*: ../up", "d/c: e.html: a", "*.html: b*", "d/c*: htp: f", "htp: g",
+            )),
+        ),
+    ),
+    Known(
+        "targets that are ignored in all files that link to them",
+        {"index.html": "<a href=a><a href=b#x><a href=e>", "b": "<html>", "d/index.html": "<a href=../a><a href=../c>"},
+        ["c d/index.html:1:22"],
+        (
+            {"kind": "total", "broken": 1, "missing_pages": 1, "missing_anchors": 0},
+            {"kind": "unused", "name": "index.html: c"}, {"kind": "unused", "name": "index.html: e"},
+        ),
+        settings=(*NO_BASE, ("ignores", ("index.html: a", "d/index.html: a", "i*l: b#*", "index.html: c", "e", "index.html: e"))),
+    ),
+    Known(
         "what the rules of a host would find",
         {
             "index.html": "<a href=a><a href=d/b?x#y><a href=e/><a href=./x/../e><a href=f/><a href=g/><a href=%C3%BC><a href=c><a href=h/>",

@@ -236,11 +236,35 @@ def in_order(places: Located) -> Iterator[Row]:
         yield {**place._asdict(), "written": places[place]}
 
 
+def fits(pattern: str, text: str) -> bool:
+    """Whether a pattern matches a whole text. Each `*` matches any text."""
+    return re.fullmatch(".*".join(map(re.escape, pattern.split("*"))), text, re.DOTALL) is not None
+
+
 def matches(entry: str, target: str) -> bool:
-    """Whether an entry of the ignore list names a target: it begins with the entry, or the entry is a pattern for it."""
-    if "*" not in entry:
-        return target.startswith(entry)
-    return re.fullmatch(".*".join(map(re.escape, entry.split("*"))), target, re.DOTALL) is not None
+    """Whether an entry of the ignore list, without its file, names a target: it begins with the entry, or the entry is a pattern for it."""
+    return fits(entry, target) if "*" in entry else target.startswith(entry)
+
+
+def matches_in(entry: str, file: str, target: str) -> bool:
+    """Whether an entry of the form `FILE: TARGET` matches the links of a file to a target."""
+    name, mark, rest = entry.partition(": ")
+    return mark != "" and fits(name, file) and matches(rest, target)
+
+
+def is_everywhere(entry: str) -> bool:
+    """Whether an entry of the ignore list is for all files."""
+    return ": " not in entry
+
+
+def matches_any(entries: Iterable[str], target: str) -> bool:
+    """Whether an entry for all files matches a target."""
+    return any(matches(entry, target) for entry in entries if is_everywhere(entry))
+
+
+def is_used(entry: str, target: str, places: Located) -> bool:
+    """Whether an entry of the ignore list matches a target, or its links in the file that the entry names."""
+    return matches(entry, target) if is_everywhere(entry) else any(matches_in(entry, place.file, target) for place in places)
 
 
 def links_in(rows: List[Row]) -> int:
@@ -618,10 +642,11 @@ class Model:
         places = self.places(())
         for url in self.leaving_urls(linking):
             target = self.shown_outside(url)
-            if not self.is_ignored(target):
+            left = self.left(target, places.get(url, {}))
+            if left is not None:
                 shown = {"target": target, "reason": "above_folder" if self.settings.is_rooted() else "outside_base"}
                 yield {"kind": "leaving", **shown, "pages": len(linking[url])}
-                yield from self.place_rows({"kind": "leaving_place", **shown}, places.get(url, {}))
+                yield from self.place_rows({"kind": "leaving_place", **shown}, left)
 
     def shown_outside(self, url: str) -> str:
         """A URL that is not below the top as the report prints it: without BASE, as a path from the top."""
@@ -650,39 +675,45 @@ class Model:
         """A URL as the report prints it."""
         return (url[len(self.settings.front):] or "./") if url.startswith(self.settings.front) else url
 
-    def is_ignored(self, target: str) -> bool:
-        """Whether a target is on the ignore list."""
-        return any(matches(entry, target) for entry in self.settings.ignores)
+    def left(self, target: str, places: Located) -> Optional[Located]:
+        """The locations of a target that the ignore list leaves, or None if it leaves nothing of the target."""
+        if matches_any(self.settings.ignores, target):
+            return None
+        left = {place: text for place, text in places.items() if not any(matches_in(entry, place.file, target) for entry in self.settings.ignores)}
+        return left if left or not places else None
 
     def missing_pages(self, linking: Dict[str, Set[str]]) -> Iterator[Row]:
         """The rows of missing pages, with the locations of links to them and to redirects to them."""
         names, places = self.names(), self.places(self.responses)
         for url in sorted(url for url, response in self.responses.items() if response is None):
-            if not self.is_ignored(self.shown(url)):
-                pages, found = linking.get(url, ()), places.get(url, {})
+            pages, found = linking.get(url, ()), places.get(url, {})
+            left = self.left(self.shown(url), found)
+            if left is not None:
                 same, file = names.get(last_of(url), (None, None))
                 is_inside = file in {place.file for place in found}
                 same_name = None if is_inside or same is None else self.shown(same)
                 shown = {"target": self.shown(url), "missing": "page"}
                 yield {"kind": "broken", **shown, "pages": len(pages), "same_name": same_name, "hint": self.site.hint(url)}
-                yield from self.place_rows({"kind": "place", **shown}, found)
+                yield from self.place_rows({"kind": "place", **shown}, left)
 
     def invalid_links(self) -> Iterator[Row]:
         """The rows of invalid links and of their locations."""
         for (text, reason), (pages, places) in sorted(self.invalid.items(), key=in_bytes):
-            if not self.is_ignored(text):
+            left = self.left(text, places)
+            if left is not None:
                 shown = {"target": text, "reason": reason}
                 yield {"kind": "invalid", **shown, "pages": len(pages)}
-                yield from self.place_rows({"kind": "invalid_place", **shown}, places)
+                yield from self.place_rows({"kind": "invalid_place", **shown}, left)
 
     def missing_anchors(self) -> Iterator[Row]:
         """The rows of missing anchors in existing pages."""
         for (url, fragment), (pages, places) in sorted(self.anchors_missing().items(), key=in_bytes):
             target = f"{self.shown(url)}#{fragment}"
-            if not self.is_ignored(target):
+            left = self.left(target, places)
+            if left is not None:
                 shown = {"target": target, "missing": "anchor"}
                 yield {"kind": "broken", **shown, "pages": len(pages), "same_name": None, "hint": None}
-                yield from self.place_rows({"kind": "place", **shown}, places)
+                yield from self.place_rows({"kind": "place", **shown}, left)
 
     def anchors_missing(self) -> Dict[Tuple[str, str], Tuple[Set[str], Located]]:
         """The missing anchors by URL and fragment, each with the pages that link to it and the locations.
@@ -730,13 +761,19 @@ class Model:
         return [{"kind": "external", "url": url, "links": count} for url, count in sorted(urls.items(), key=lambda row: row[0].encode())]
 
     def unused(self) -> Iterator[Row]:
-        """The rows of ignore entries that match nothing."""
-        texts = [self.shown(url) for url, response in self.responses.items() if response is None]
-        texts += [self.shown_outside(url) for url in self.leaving_urls(self.linking())]
-        if self.settings.invalid:
-            texts += [text for text, _ in self.invalid]
-        if self.settings.anchors:
-            texts += [f"{self.shown(url)}#{fragment}" for url, fragment in self.anchors_missing()]
+        """The rows of ignore entries that match nothing. Those for some files match nothing that one for all files matches."""
+        broken = list(self.targets())
+        left = [one for one in broken if not matches_any(self.settings.ignores, one[0])]
         for entry in self.settings.ignores:
-            if not any(matches(entry, text) for text in texts):
+            if not any(is_used(entry, target, places) for target, places in (broken if is_everywhere(entry) else left)):
                 yield {"kind": "unused", "name": entry}
+
+    def targets(self) -> Iterator[Tuple[str, Located]]:
+        """What is broken, invalid or leaves the site, with its locations, as if there was no ignore list."""
+        pages, leaving = self.places(self.responses), self.places(())
+        yield from ((self.shown(url), pages.get(url, {})) for url, response in self.responses.items() if response is None)
+        yield from ((self.shown_outside(url), leaving.get(url, {})) for url in self.leaving_urls(self.linking()))
+        if self.settings.invalid:
+            yield from ((text, places) for (text, _), (_, places) in self.invalid.items())
+        if self.settings.anchors:
+            yield from ((f"{self.shown(url)}#{fragment}", places) for (url, fragment), (_, places) in self.anchors_missing().items())
