@@ -46,7 +46,7 @@ SECONDS = 60  # the time limit of a run
 SHOWN, LONGEST = 5, 4000  # the number of differences that a series prints, and the most letters of one
 EVERY = 8  # one of this number of random folders has its other forms compared
 # What 1,000 random folders must have at least LEAST times
-KINDS = "brokenpage brokenanchor placepage placeanchor worst redirect unreached external unused with_aliases error in_sheets in_xml in_feeds".split()
+KINDS = "brokenpage brokenanchor placepage placeanchor hint worst redirect unreached external unused with_aliases error in_sheets in_xml in_feeds".split()
 KINDS += "written hint_fallback hint_index_file".split()
 KINDS += [kind + reason for kind in ("invalid", "invalid_place") for reason in ("not_url", "unknown_scheme", "local_file")]
 KINDS += [kind + reason for kind in ("leaving", "leaving_place") for reason in ("above_folder", "outside_base")]
@@ -179,6 +179,9 @@ def known_fault(known: Known, rows: List[Row]) -> Optional[str]:
     for members in known.rows:
         if not any(members.items() <= row.items() for row in rows):
             return f"no row has {members}; the first one is {rows[0]}"
+    for kind in known.without:
+        if any(row["kind"] == kind for row in rows):
+            return f"a row has the kind {kind}"
     return None
 
 

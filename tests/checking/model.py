@@ -19,6 +19,7 @@ from checking.documents import TOOL, Document, document_of, form_of, is_page, kn
 Row = Dict[str, Any]
 FRAGMENT = "\"<>`"  # percent-encoded in a fragment, in addition to controls, spaces and everything beyond ASCII
 MOST_FILES = 10  # the number of files in the list of files with the most broken links
+ROOT_FOLDER = re.compile("/([^/?#]+)/")  # the first folder of a path from the root
 LINE_LIMIT = 4096  # the most bytes in a line of a saved web
 FILE_LIMIT = 1 << 30  # the most bytes of a file that is read
 
@@ -594,7 +595,16 @@ class Model:
         }
         worst = [{"kind": "worst", "file": file, "links": count} for file, count in files[:MOST_FILES]]
         names = [{"kind": "unreached", "name": name} for name in unreached]
-        return [total, *broken, *invalid, *leaving, *worst, *redirects, *names, *external, *self.unused()]
+        return [total, *self.base_hint(broken), *broken, *invalid, *leaving, *worst, *redirects, *names, *external, *self.unused()]
+
+    def base_hint(self, broken: List[Row]) -> Iterator[Row]:
+        """The hint that BASE is missing: most links to missing pages that are paths from the root begin with the same folder, which does not exist."""
+        paths = [row["written"] for row in broken if row["kind"] == "place" and row["missing"] == "page" and row["written"]]
+        found = [path[1] for path in map(ROOT_FOLDER.match, paths) if path]
+        most = [(name, count) for name, count in Counter(found).items() if 2 * count >= len(found) and count >= 2]
+        for name, count in most[:1] if self.settings.is_rooted() else ():
+            if not any(file.startswith(name.encode("utf-8", "replace") + b"/") for file in self.site.own):
+                yield {"kind": "hint", "base": f"/{name}/", "paths": count, "of": len(found)}
 
     def linking(self) -> Dict[str, Set[str]]:
         """The pages that link to each URL. A redirect or an alias counts as a link to its target."""

@@ -159,9 +159,15 @@ HEADINGS = {
 }
 
 
+def base_hint(row: Row) -> str:
+    """The line of a hint at a missing BASE."""
+    folder = row["base"]
+    return f"hint: {row['paths']} of {row['of']} paths from the root begin with {folder}, which is not in the folder: pass BASE, such as https://HOST{folder}"
+
+
 def as_text(rows: List[Row], options: Options) -> str:
     """The report as text."""
-    lines = list(totals(rows[0]))
+    lines = list(totals(rows[0])) + [base_hint(row) for row in rows if row["kind"] == "hint"]
     broken = list(broken_lines(rows, options))
     lines += [""] * bool(broken) + broken
     for kind, heading in HEADINGS.items():
