@@ -100,8 +100,7 @@ def printed_rows(program: str, settings: Settings, folder: str, more: Sequence[s
     status = status_of(rows)
     if done.returncode != status or not rows:
         return [{"kind": "status", "actual": done.returncode, "expected": status, "message": done.stderr.decode(errors="replace")}]
-    for row in rows:
-        row.pop("base", None)
+    rows[0].pop("base", None)
     return rows
 
 
