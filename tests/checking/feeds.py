@@ -50,6 +50,11 @@ def is_start(name: str) -> bool:
     return any(fnmatchcase(lower(name), pattern) for pattern in STARTS)
 
 
+def is_sitemap(name: str) -> bool:
+    """Whether a sitemap or a list of URLs is known by its last name."""
+    return lower(name).startswith("sitemap")
+
+
 def is_list(name: str) -> bool:
     """Whether a file with this name has one URL per line."""
     return fnmatchcase(lower(name), LIST)

@@ -68,25 +68,26 @@ def junit_faults(node: ElementTree.Element) -> Iterator[str]:
 
 
 class Link(NamedTuple):
-    """A broken link: its target, and its location if it has one."""
+    """A broken link: its target, and its location if it has one. Or a document that no sitemap lists."""
 
     row: Row
     place: Optional[Row]
 
     def text(self) -> str:
-        """What is wrong with the link."""
+        """What is wrong."""
         return f"{named(self.row)}: {message(self.row)}{as_written(self.row, self.place) if self.place else ''}{advice(self.row)}"
 
     def rule(self) -> str:
-        """The rule that the link breaks."""
-        return message(self.row).replace("no such ", "missing ").replace(" ", "-").lower()
+        """The rule that is broken."""
+        return message(self.row).replace("no such ", "missing ").replace("in a ", "in ").replace(" ", "-").lower()
 
 
 def links_of(rows: List[Row]) -> List[Link]:
-    """The broken links by file, line and column, and then the targets without a location."""
+    """The broken links by file, line and column, then the targets without a location, and the documents that no sitemap lists."""
     found = in_order(targets(rows))
     placed = [(Link(row, place), place_order(place)) for row, places in found for place in places]
-    return [link for link, _ in sorted(placed, key=lambda one: one[1])] + [Link(row, None) for row, places in found if not places]
+    others = [row for row, places in found if not places] + [{**row, "target": row["name"]} for row in rows if row["kind"] == "unlisted"]
+    return [link for link, _ in sorted(placed, key=lambda one: one[1])] + [Link(row, None) for row in others]
 
 
 def path_in(folder: str, file: str) -> str:
