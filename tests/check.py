@@ -46,7 +46,7 @@ SECONDS = 60  # the time limit of a run
 SHOWN, LONGEST = 5, 4000  # the number of differences that a series prints, and the most letters of one
 EVERY = 8  # one of this number of random folders has its other forms compared
 # What 1,000 random folders must have at least LEAST times
-KINDS = "brokenpage brokenanchor placepage placeanchor hint worst redirect unreached external unused with_aliases error in_sheets in_xml in_feeds".split()
+KINDS = "brokenpage brokenanchor placepage placeanchor hint worst redirect unreached unlisted external unused with_aliases error in_sheets in_xml in_feeds".split()
 KINDS += "written hint_fallback hint_index_file".split()
 KINDS += [kind + reason for kind in ("invalid", "invalid_place") for reason in ("not_url", "unknown_scheme", "local_file")]
 KINDS += [kind + reason for kind in ("leaving", "leaving_place") for reason in ("above_folder", "outside_base")]
@@ -91,7 +91,7 @@ def run(program: str, words: List[str]) -> "subprocess.CompletedProcess[bytes]":
 
 
 def printed_rows(program: str, settings: Settings, folder: str, more: Sequence[str] = ()) -> List[Row]:
-    """The rows that the program prints, or its error. Its exit status must be 4 if a link is broken or invalid or leaves, and 0 if not."""
+    """The rows that the program prints, or its error. Its exit status must be 4 if a link is broken or invalid or leaves or a document is not listed, and 0 if not."""
     with tempfile.TemporaryDirectory() as scratch:
         done = run(program, [*arguments(settings, folder, scratch), *more])
     if done.returncode == 1 and not done.stdout:
@@ -106,7 +106,7 @@ def printed_rows(program: str, settings: Settings, folder: str, more: Sequence[s
 
 def status_of(rows: List[Row]) -> int:
     """The exit status of a check with these rows."""
-    return 4 if any(row["kind"] in ("broken", "invalid", "leaving") for row in rows) else 0
+    return 4 if any(row["kind"] in ("broken", "invalid", "leaving", "unlisted") for row in rows) else 0
 
 
 def difference(actual: List[Row], expected: List[Row]) -> Optional[str]:
@@ -241,6 +241,7 @@ def random_settings(draw: Random) -> Settings:
     flags: Dict[str, Any] = {flag.setting: flag.value(draw.random() < flag.share) for flag in FLAGS}
     host = drawing.random_host(draw)
     flags.update(host=host.name, exact=host.exact, fallback=host.fallback, indices=host.index_files or INDEX_FILES)
+    flags["sitemap"] = flags["sitemap"] and base != NOWHERE
     return Settings(base, front, ignores, seeds=seeds, workers=draw.choice((1, 1, 2, 4, 64)))._replace(**flags)
 
 

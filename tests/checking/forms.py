@@ -108,7 +108,7 @@ def list_fields(row: Row) -> Tuple[str, List[str]]:
         return "redirects", [decoded(row["page"]), f"to {decoded(row['to'] or '-')}", f"linked from {pages_text(row['pages'])}"]
     if kind == "external":
         return kind, [row["url"], str(row["links"])]
-    return kind, [decoded(row["name"]) if kind == "unreached" else row["name"]]
+    return kind, [row["name"] if kind == "unused" else decoded(row["name"])]
 
 
 def page_texts(rows: List[Row]) -> Dict[str, str]:

@@ -42,6 +42,11 @@ def unreached(*names: str) -> Tuple[Dict[str, Any], ...]:
     return tuple({"kind": "unreached", "name": name} for name in names)
 
 
+def unlisted(*names: str) -> Tuple[Dict[str, Any], ...]:
+    """The rows of documents that no sitemap lists."""
+    return tuple({"kind": "unlisted", "name": name} for name in names)
+
+
 def error(text: str) -> Tuple[Dict[str, Any]]:
     """The error of a check that does not start."""
     return ({"kind": "error", "message": f"mercator: {text}"},)
@@ -672,6 +677,27 @@ KNOWN = [
         "the first of two folders", {"index.html": "<a href=/q/a><a href=/p/b><a href=/p/c><a href=/q/d#x>"},
         ["p/b index.html:1:22", "p/c index.html:1:35", "q/a index.html:1:9", "q/d index.html:1:48"],
         ({"kind": "hint", "base": "/p/", "paths": 2, "of": 4},), settings=NO_BASE,
+    ),
+    Known(
+        "documents that no sitemap lists",
+        {
+            "index.html": "<a href=gone><a href=f>", "a.html": "", "b.html": "", "c.html": "", "404.html": "", "d/index.html": "<a href=e.html?x>", "d/404.html": "", "d/e.html": "", "f": "<html>",
+            "sitemap-1.XML": "<urlset><loc>http://docs.test/</loc><loc>http://docs.test/index.html#x</loc><loc>http://docs.test/b.html?x</loc><loc>http://docs.test/d</loc><loc>more.xml</loc>"
+            "<loc>https://docs.test/c.html</loc><loc>feed.xml</loc></urlset>",
+            "more.xml": "<urlset><loc>http://docs.test/d/e.html</loc><loc>other.txt</loc></urlset>", "feed.xml": "<rss><link>http://docs.test/c.html</link></rss>",
+            "other.txt": "http://docs.test/c.html", "x.xml": "<urlset><loc>http://docs.test/a.html</loc></urlset>",
+        },
+        ["gone index.html:1:9"],
+        (*unlisted("a.html", "c.html", "d/", "f"), {"kind": "total", "unlisted": 4, "pages": 9}),
+        settings=(("sitemap", True), ("front", "http://docs.test/")),
+    ),
+    Known(
+        "documents that a list of URLs names", {"index.html": "", "a.html": "", "sitemap.txt": "http://docs.test/\n", "feed.rss": "<rss><link>a.html</link></rss>"},
+        [], (*unlisted("a.html"), {"kind": "total", "unlisted": 1, "broken": 0}), settings=(("sitemap", True), ("front", "http://docs.test/")),
+    ),
+    Known(
+        "a sitemap that is not reached", {"index.html": "", "a.html": "", "sitemap.txt": "http://docs.test/\n"}, [], (*unlisted("./"), {"kind": "total", "unlisted": 1}),
+        settings=(("sitemap", True), ("reachable", True), ("front", "http://docs.test/")),
     ),
     Known(
         "patterns that are ignored",
