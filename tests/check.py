@@ -6,9 +6,9 @@ small folders with known results, the shipped site, each FOLDER, and random fold
 elements, encodings, redirects, and symbolic links. Without a FOLDER it takes the documentation folders that are installed
 (DOCUMENTATION in tests/checking/loading.py). The saved webs of random folders are compared with those of the converter,
 tests/checking/converter.py, with the model's tokenizer. Of each random folder, a random list of its pages is checked, too, with
---index. In every eighth random folder, the other forms of the report are compared. With --model, only the model is tested: with
-the known results, the pages that the converter finds, the answers of Python's static server, and the definitions of a server and of
-feeds that the proofs cite (tests/checking/twins.py, feed_twins.py).
+--index. In every eighth random folder, the other forms of the report are compared, and in others a check whose options are in a
+configuration file. With --model, only the model is tested: with the known results, the pages that the converter finds, the answers of
+Python's static server, and the definitions of a server and of feeds that the proofs cite (tests/checking/twins.py, feed_twins.py).
 
 A random folder depends only on the seed and its number. The first folders that differ are kept, and their paths are printed.
 With at least 1,000 random folders, each kind of row must occur at least 5 times; otherwise the test fails. The environment
@@ -42,6 +42,7 @@ from checking.tags import document_tags
 from checking.webs import Converter, first_difference, model_fault
 
 BASE = "http://docs.test/"
+LINE_ONLY = ("json", "follow", "workers")  # options that a configuration file cannot have
 SECONDS = 60  # the time limit of a run
 SHOWN, LONGEST = 5, 4000  # the number of differences that a series prints, and the most letters of one
 EVERY = 8  # one of this number of random folders has its other forms compared
@@ -78,8 +79,27 @@ def arguments(settings: Settings, folder: str, scratch: str, form: Sequence[str]
     if settings.ignores:
         entries = Path(scratch, "ignores")
         entries.write_text("# known\n\n" + "\n".join(settings.ignores) + "\n", "utf-8")
-        words += ["--ignore", str(entries)]
+        words.append(f"--ignore={entries}")
     return [*words, folder, *([] if settings.is_rooted() else [settings.base])]
+
+
+def with_file(words: List[str], has_base: bool, scratch: str) -> List[str]:
+    """The same arguments, with a configuration file that has BASE and the options that it may have."""
+    line, lines = words[:1], []
+    values: Dict[str, List[str]] = {}
+    for word in words[1:]:
+        name, mark, value = word[2:].partition("=")
+        if not word.startswith("--") or name in LINE_ONLY:
+            line.append(word)
+        elif mark:
+            values.setdefault(name, []).append(value)
+        else:
+            lines.append(f"{name} = true")
+    values.update({"base": [line.pop()]} if has_base else {})
+    lines += [f"{name} = {json.dumps(some if len(some) > 1 else some[0], ensure_ascii=False)}" for name, some in values.items()]
+    file = Path(scratch, "check.toml")
+    file.write_text("\n".join(lines) + "\n", "utf-8")
+    return [*line, f"--config={file}"]
 
 
 def run(program: str, words: List[str]) -> "subprocess.CompletedProcess[bytes]":
@@ -90,10 +110,11 @@ def run(program: str, words: List[str]) -> "subprocess.CompletedProcess[bytes]":
         return subprocess.CompletedProcess(words, -1, b"", f"it did not end within {SECONDS} s".encode())
 
 
-def printed_rows(program: str, settings: Settings, folder: str, more: Sequence[str] = ()) -> List[Row]:
+def printed_rows(program: str, settings: Settings, folder: str, more: Sequence[str] = (), in_file: bool = False) -> List[Row]:
     """The rows that the program prints, or its error. Its exit status must be 4 if a link is broken or invalid or leaves or a document is not listed, and 0 if not."""
     with tempfile.TemporaryDirectory() as scratch:
-        done = run(program, [*arguments(settings, folder, scratch), *more])
+        words = [*arguments(settings, folder, scratch), *more]
+        done = run(program, with_file(words, not settings.is_rooted(), scratch) if in_file else words)
     if done.returncode == 1 and not done.stdout:
         return [{"kind": "error", "message": done.stderr.decode(errors="replace").splitlines()[-1]}]
     rows = [json.loads(line) for line in done.stdout.splitlines()]
@@ -293,7 +314,7 @@ def form_fault(program: str, settings: Settings, folder: str, rows: List[Row]) -
     with tempfile.TemporaryDirectory() as scratch:
         for name, (form, fault_of) in FORMS.items():
             done = run(program, arguments(settings, folder, scratch, form))
-            allowed = "\n\t" if name == "page" else "\n"
+            allowed = "\n\t" if name.startswith("page") else "\n"
             fault = forms.control_fault(done.stdout, allowed) or forms.control_fault(done.stderr) or fault_of(done.stdout.decode(), rows, folder)
             if fault:
                 return f"{name}: {fault}"
@@ -370,6 +391,8 @@ def compare_number(program: str, seed: int, number: int) -> Outcome:
         faults.append((f"check {settings}", difference(printed_rows(program, settings, folder), rows)))
         if number % EVERY == 0 and rows[0]["kind"] == "total":
             faults.append((f"forms {settings}", form_fault(program, settings, folder, rows)))
+        if number % EVERY == 1:
+            faults.append((f"check --config {settings}", difference(printed_rows(program, settings, folder, in_file=True), rows)))
         kinds = Counter(map(kind_of, rows))
         kinds["with_aliases"] += rows[0].get("aliases", 0) > 0
         kinds.update(kind for row in rows for kind in details(row))

@@ -1,14 +1,15 @@
 #!/usr/bin/env python3
 """Tests a page of `mercator check --html` in headless Chromium (Debian's chromium): check_page.py [PAGE.html | FOLDER] [--shots FOLDER].
 
-PAGE is a report. For a FOLDER, by default the shipped site, the program makes the report with --unreached and --external. The
-environment variable PROGRAM names the program; the default is the one built in crates/mercator_cli.
+PAGE is a report. For a FOLDER, by default the shipped site, the program makes the report with --unreached, --external and
+--source-url. The environment variable PROGRAM names the program; the default is the one built in crates/mercator_cli.
 
 The script searches the page, changes its views and narrows the window, and prints the time of each step. With --shots it saves
 screenshots. The exit status is 1 if
 - the console is not empty, or the page's script does not run,
 - Chromium reads other text in the plain lists than Python's html.parser,
 - a search shows other rows than the lists have, or the bars do not match the list of external hosts,
+- the locations in the table are not the links to the sources that the list of broken links has,
 - the page has an unexpected element, or a link that is neither http nor a fragment,
 - the page is wider than a narrow screen.
 """
@@ -48,6 +49,7 @@ FOREIGN = (
     "[...document.querySelectorAll('body *')].filter((e) => !e.closest('form, header, footer, table')"
     " && !/^(A|MAIN|SECTION|H2|PRE|B|BUTTON)$/.test(e.tagName)).length"
 )
+SOURCES = "[...document.querySelectorAll('#broken tbody td a')].map((link) => link.getAttribute('href'))"
 LINKS = "[...document.querySelectorAll('[href]')].every((e) => /^(https?:|#)/.test(e.getAttribute('href')))"
 CHANGE = (
     "(() => {{ const begin = performance.now(), field = document.getElementById('{0}'); field.value = {1};"
@@ -164,7 +166,7 @@ def targets_of(text: str) -> List[str]:
     return [target.lower() for target in targets]
 
 
-def look_at_lists(browser: Browser, page: str, faults: Faults) -> Dict[str, str]:
+def look_at_lists(browser: Browser, page: str, faults: Faults) -> Lines:
     """Compares the plain lists with the text that Python reads in the page, and the bars with the list of external links."""
     read = Lines()
     read.feed(Path(page).read_text("utf-8"))
@@ -173,12 +175,12 @@ def look_at_lists(browser: Browser, page: str, faults: Faults) -> Dict[str, str]
     faults.want("hosts", browser.ask(HOSTS), hosts)
     widths = [f"{100 * links / max(hosts.values()):.2f}" for links in sorted(hosts.values(), reverse=True)]
     faults.want("bars", [f"{float(width[:-1]):.2f}" for width in browser.ask(WIDTHS)], widths)
-    return read.texts
+    return read
 
 
-def search(browser: Browser, text: str, faults: Faults) -> None:
+def search(browser: Browser, read: Lines, faults: Faults) -> None:
     """Searches the list of broken links, and shows it in each view and order."""
-    targets = targets_of(text)
+    targets = targets_of(read.texts["broken"])
     counted = f"{len(targets)} target{'' if len(targets) == 1 else 's'}"
     print("by target:", browser.ask(DRAWN))
     for words in ["html", targets[0].split("\n")[0], "no such anchor", "\u2400nowhere"]:
@@ -189,6 +191,9 @@ def search(browser: Browser, text: str, faults: Faults) -> None:
     for field, value in [("q", ""), ("by", "file"), ("order", "most"), ("by", "target")]:
         took = browser.change(field, value)
         print(f"{field}={value}: {browser.ask(DRAWN)}; {took:.0f} ms")
+        shown = browser.ask(SOURCES)
+        faults.want("links to sources", bool(shown), bool(read.links))
+        faults.want("links to other sources than in the list", Counter(shown) - Counter(read.links), Counter())
     faults.want("all targets again", browser.ask(FOUND), f"{len(targets)} of {counted}")
 
 
@@ -203,10 +208,10 @@ def look(page: str, shots: Optional[str]) -> int:
 
     print(f"loaded after {browser.open(page):.2f} s; {browser.ask('document.title')!r}")
     faults.want("the script ran", browser.ask("document.documentElement.className"), "js")
-    texts = look_at_lists(browser, page, faults)
+    read = look_at_lists(browser, page, faults)
     shot("light")
-    if "broken" in texts:
-        search(browser, texts["broken"], faults)
+    if "broken" in read.texts:
+        search(browser, read, faults)
     browser.call("Emulation.setEmulatedMedia", features=[{"name": "prefers-color-scheme", "value": "dark"}])
     shot("dark")
     browser.size(360, 700, True)
@@ -222,7 +227,7 @@ def look(page: str, shots: Optional[str]) -> int:
 def made_of(folder: str, page: str) -> None:
     """Makes the report of a folder."""
     call = os.environ.get("PROGRAM", str(BUILT))
-    words = [call, "check", "--html", "--unreached", "--external", folder, "http://docs.test/"]
+    words = [call, "check", "--html", "--unreached", "--external", "--source-url", "https://code.test/", folder, "http://docs.test/"]
     with open(page, "wb") as file:
         status = subprocess.run(words, stdout=file, stderr=subprocess.DEVNULL, check=False).returncode
     if status not in (0, 4):

@@ -982,7 +982,7 @@ COMMANDS: dict[str, tuple[str, ...]] = {
 # The values of each option that has one
 VALUES = {
     "workers": "2", "max-pending": "9", "within": "a.test", "seeds": LIST, "ignore": LIST, "index": LIST,
-    "seed": "./ ..", "index-file": "index.html x", "fallback": "html", "log": "log .", "compact": "new",
+    "config": f"/dev/null {LIST} none", "seed": "./ ..", "index-file": "index.html x", "fallback": "html", "log": "log .", "compact": "new",
     "format": "text json html github junit sarif pdf", "source-url": "http://b.test/", "host": "nginx github netlify plain apache",
     "part": "0/2 2/2", "wait": "1", "list": "pending in-progress done stats all",
 }
