@@ -9,7 +9,8 @@ are compared. A package is downloaded by `apt-get download` and unpacked into th
 Of each site, all rows of `mercator check --json` are compared with the model's, finding by finding. The documentation of a
 package is checked without BASE. Then `mercator site` makes the site's saved web, and the report of `mercator crawl --sources` with
 1 and with 4 workers is compared with that of the model's search.
-The findings of a generated site must be the broken links that its sources have.
+The findings of a generated site must be the links of its sources that are broken or leave the site. It is also checked without
+options, and with the only one that it needs, if it needs one: BASE or --fallback. If that is missing, the report must name it.
 
 With --sample, random findings of each site are printed in a form that a person can judge: the text of the link, and notes such as
 whether Python's static server has the target, and which files have a similar name. How many findings have each note is printed,
@@ -107,8 +108,8 @@ def rows_of(program: str, site: Site) -> List[Row]:
     """The rows that the program prints for a site."""
     done = run([program, *arguments(settings_of(site), site.folder, "")])
     rows = [json.loads(line) for line in done.stdout.splitlines()]
-    for row in rows:
-        row.pop("base", None)
+    for row in rows[:1]:
+        row.pop("base", None)  # the folder, which the model does not know
     status = status_of(rows)
     return rows if done.returncode == status else [{"kind": "status", "actual": done.returncode, "expected": status}, *rows]
 
@@ -172,12 +173,45 @@ def finding_of(row: Row, base: str) -> Finding:
 
 
 def planted_fault(site: Site, findings: List[Finding]) -> List[str]:
-    """How the findings of a generated site differ from the broken links in its sources."""
+    """How the findings of a generated site differ from the links of its sources that are broken or leave the site."""
     if site.broken is None:
         return []
-    targets = {finding.target for finding in findings if finding.missing}
-    extra, lacking = sorted(targets - site.broken), sorted(site.broken - targets)
+    targets = {finding.target for finding in findings}
+    known = site.broken | site.leaving
+    extra, lacking = sorted(targets - known), sorted(known - targets)
     return [f"not in the sources: {target}" for target in extra] + [f"not found: {target}" for target in lacking]
+
+
+def option_of(site: Site) -> str:
+    """The option without which the findings of a generated site are not right, or no text if there is none."""
+    if site.fallback:
+        return "--fallback html"
+    return "" if site.base == generators.BASE else "BASE"
+
+
+def is_named(option: str, site: Site, rows: List[Row]) -> bool:
+    """Whether the report of a check names an option that the site needs."""
+    if option == "BASE":
+        return any(row["kind"] == "hint" and row["base"] == "/" + site.base[len(generators.BASE):] for row in rows)
+    return any(option in (row.get("hint") or "") for row in rows)
+
+
+def option_differences(program: str, site: Site) -> List[str]:
+    """How checks of a generated site without options, and with only the option that it needs, differ from what they should report."""
+    if site.broken is None:
+        return []
+    plain, option = site._replace(base=NOWHERE, leaving=frozenset(), fallback=False), option_of(site)
+    rows = rows_of(program, plain)
+    found = differences(rows, Model(site.folder, settings_of(plain)).rows())
+    if not option:
+        found += planted_fault(plain, findings_of(rows, NOWHERE))
+    elif is_named(option, site, rows) != site.is_hinted:
+        found.append(f"{option} is {'not named' if site.is_hinted else 'named'}")
+    found = [f"without options: {one}" for one in found]
+    if site.fallback:
+        only = plain._replace(fallback=True)
+        found += [f"with {option} only: {one}" for one in planted_fault(only, findings_of(rows_of(program, only), NOWHERE))]
+    return found
 
 
 def sampled(site: Site, findings: List[Finding], options: Options) -> List[str]:
@@ -197,7 +231,8 @@ def compare(options: Options, site: Site) -> Outcome:
     """Compares a site."""
     rows, expected = rows_of(options.program, site), Model(site.folder, settings_of(site)).rows()
     findings = findings_of(rows, site.base)
-    faults = differences(rows, expected) + planted_fault(site, findings) + crawl_differences(options.program, site)
+    faults = differences(rows, expected) + planted_fault(site, findings) + option_differences(options.program, site)
+    faults += crawl_differences(options.program, site)
     total: Dict[str, int] = rows[0]
     counts = ", ".join(f"{total.get(name)} {name}" for name in ("pages", "links", "missing_pages", "missing_anchors", "invalid", "leaving"))
     text = [f"{site.name}: {counts}, {len(findings)} findings, {len(faults)} differences"]

@@ -22,11 +22,13 @@ class Style(NamedTuple):
     broken: FrozenSet[str]
     path: str = ""  # the path of the site on its host
     fallback: bool = False  # whether links omit the suffix .html
+    leaving: FrozenSet[str] = frozenset()  # the targets, on the host of the site, that are not below its path
+    is_hinted: bool = True  # whether a check without the option that the site needs names the option
 
 
-def style(name: str, broken: str, path: str = "", fallback: bool = False, **settings: str) -> Style:
-    """A style with these settings and broken links."""
-    return Style(name, settings, frozenset(broken.split()), path, fallback)
+def style(name: str, broken: str, path: str = "", leaving: str = "", **settings: str) -> Style:
+    """A style with these settings, broken links, and links that leave the path of the site."""
+    return Style(name, settings, frozenset(broken.split()), path, leaving=frozenset(leaving.split()))
 
 
 def write(top: Path, files: Dict[str, str]) -> None:
@@ -124,8 +126,10 @@ HUGO_STYLES = [
     style("folders", "about/#missing about/#nowhere about/gone.gif gone/ nothing/"),
     style("files", "about.html#missing about.html#nowhere gone.gif gone/ first nothing/", uglyURLs="true"),
     style("relative", "about/#missing about/#nowhere about/gone.gif gone/ nothing/", relativeURLs="true"),
-    style("path", "about/#missing about/#nowhere about/gone.gif gone/", "blog/"),
-    style("canonical", "about/#missing about/#nowhere about/gone.gif gone/ nothing/", "blog/", canonifyURLs="true"),
+    # `relURL` does not add the path of the site to a path that begins with a slash
+    style("path", "about/#missing about/#nowhere about/gone.gif gone/", "blog/", "/ /img/dot.gif /nothing/"),
+    # All links are URLs with a host, so without BASE they lead to another site
+    style("canonical", "about/#missing about/#nowhere about/gone.gif gone/ nothing/", "blog/", canonifyURLs="true")._replace(is_hinted=False),
 ]
 
 
@@ -154,7 +158,7 @@ JEKYLL_STYLES = [
     style("files", "about.html#missing about.html#nowhere gone.gif gone.html", permalink="none", suffix=".html"),
     style("folders", "about/#missing about/#nowhere about/gone.gif gone.html", permalink="pretty", suffix="/"),
     style("path", "about/#missing about/#nowhere about/gone.gif gone.html", "proj/", permalink="pretty", suffix="/"),
-    style("without-suffix", "about.html#missing about.html#nowhere gone.gif gone.html", fallback=True, permalink="none", suffix=""),
+    style("without-suffix", "about.html#missing about.html#nowhere gone.gif gone.html", permalink="none", suffix="")._replace(fallback=True),
 ]
 
 
@@ -208,6 +212,12 @@ GENERATORS: Dict[str, Tuple[str, Callable[[Path, Style], Path], List[Style]]] = 
 }
 
 
+def site_of(name: str, folder: Path, kind: Style) -> Site:
+    """The site of this style in a folder."""
+    leaving = frozenset(BASE[:-1] + path for path in kind.leaving)
+    return Site(name, str(folder), BASE + kind.path, (), kind.broken, leaving, kind.fallback, kind.is_hinted)
+
+
 def sites(scratch: Path, names: List[str]) -> Iterator[Site]:
     """The sites of the generators that are installed and do not fail, in folders below `scratch`."""
     for name, (command, make, styles) in GENERATORS.items():
@@ -220,6 +230,6 @@ def sites(scratch: Path, names: List[str]) -> Iterator[Site]:
             top = scratch / name / kind.name
             top.mkdir(parents=True)
             try:
-                yield Site(f"{name} {kind.name}", str(make(top, kind)), BASE + kind.path, (), kind.broken, kind.fallback)
+                yield site_of(f"{name} {kind.name}", make(top, kind), kind)
             except NotMade as fault:
                 print(f"{name} {kind.name}: skipped, {fault}", flush=True)

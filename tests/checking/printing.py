@@ -104,9 +104,9 @@ def advice(row: Row, is_plain: bool = False) -> str:
 
 
 def as_written(row: Row, place: Row) -> str:
-    """The text of a link, in brackets, if it is not the target."""
+    """The text of a link, in brackets, unless the target ends with it."""
     text = place["written"]
-    return f" (written as {text})" if text is not None and text != named(row) else ""
+    return f" (written as {text})" if text is not None and not named(row).endswith(text) else ""
 
 
 def line_of(row: Row, place: Row) -> str:

@@ -1,5 +1,5 @@
 -- Bytes that are printed one joined the other.
-use Rattle.check_report.proofs.Prelude.{common_steps, ◌≡◌, ℕ, ◌+◌, ◌<◌, ◌≤◌, List, [], ◌∷◌, ◌++◌, length, map, take, get_or, Result, IfOk, OnOk, Vec, Global, append-nil, sym, ap, subst, ◌∙◌, arith, Bor, Bool, true, false, Option, append_assoc, flat_map-map, map-map, map_more, take-map, take_more, take_all, flat_map-append, flat_map, Adds, Line, bare_lines, begin, edge, file_lines, finish, in_part, link_line, place, place_lines, rest_lines, target_lines}
+use Rattle.check_report.proofs.Prelude.{common_steps, ◌≡◌, ℕ, ◌+◌, ◌<◌, ◌≤◌, List, [], ◌∷◌, ◌++◌, length, map, take, get_or, Result, IfOk, OnOk, Vec, Global, append-nil, sym, ap, subst, ◌∙◌, arith, Bor, Bool, Option, append_assoc, flat_map-map, map-map, map_more, take_more, take_all, flat_map-append, flat_map, Adds, Line, bare_lines, begin, edge, file_lines, finish, in_part, link_line, place, place_lines, rest_lines, target_lines}
 use Rattle.check_report.specs.Json.{count_if_at, count_tokens}
 use Rattle.check_report.specs.Order.{link_of, links_by_file, shown_places}
 use Rattle.check_report.specs.declared.form.Form.{Form}
@@ -85,7 +85,13 @@ adds_files how answer out linked bare all targets links same first second third 
     (adds_same how linked bare _ _ (sym (flat_map-map bare_lines of targets)) second))
     (then_same how answer bare _ _ (sym (flat_map-map (rest_lines all) of targets)) third)
 
--- Tokens of an object's members
+-- what is put for one element more
+pub flat_more : {X T : Type 0} (f : X → List T) (old mid new : List T) (xs : List X) (k : ℕ) (x : X) → k < length xs → x ≡ get_or xs k x → mid ≡ old ++ flat_map f (take k xs) → new ≡ mid ++ f x → new ≡ old ++ flat_map f (take (k + 1) xs)
+flat_more f old mid new xs k x below at so_far more =
+    joined old mid new (flat_map f (take k xs)) (f x) so_far more
+    ∙ ap (λ t. old ++ t) (ap (λ t. flat_map f (take k xs) ++ t) (sym (append-nil (f x))) ∙ sym (flat_map-append f (take k xs) (x ∷ [])) ∙ ap (flat_map f) ((λ i. take k xs ++ at i ∷ []) ∙ sym (take_more xs k x below)))
+
+-- ---- tokens of an object's members
 
 -- a count comes before the other members, if there is one
 pub count_first : (name : List ℕ) (count : Option ℕ) (rest : Members) → count_tokens name count ++ members_tokens rest ≡ members_tokens (count_if_at name count rest)

@@ -2,7 +2,6 @@
 use Rattle.check_report.proofs.Prelude.{◌≡◌, ℕ, ◌+◌, ◌/◌, ◌%◌, ◌==◌, true, false, ◌&&◌, not, List, [], ◌∷◌, ◌++◌, codes, nat_lt, chars, IsUtf8, refl, arith, and_parts, both_ways, cond_both, eqb-true, false_from_ne_true, leb-true, ltb-true, ne_eqb, flat_map, list_all, escape_of, is_hidden, is_printed, is_visible, shown_char, data_char, escaped, escaped_char, has_no_c1, is_c1, Escape}
 use Rattle.std.specs.Char.{encode_utf8}
 use Rattle.shown_text.proofs.Visible.{Passes, ascii_from, char_visible, each_passes, escape_passes, is_low, low_passes, passes_ascii, passes_text, shown_char_printed}
-use Rattle.check_report.specs.declared.escape.Escape.TheVariants as escape
 
 -- ---- what holds of each escape, and of what is shown of a character, holds of an escaped character
 

@@ -1,5 +1,5 @@
 -- Texts in which escapes are decoded.
-use Rattle.check_report.proofs.Prelude.{common_steps, ◌≡◌, ℕ, ◌+◌, ◌-◌, ◌*◌, ◌<◌, ◌≤◌, true, false, List, [], ◌∷◌, ◌++◌, chars, drop, length, slice_get, zero, suc, refl, sym, ap, ◌∙◌, arith, append_assoc, IsUtf8, Option, None, Some, chars-nil, chars_past_char, encodes-chars, if◌then◌else◌, cond-false, cond-true, cases_Bool, inl, inr}
+use Rattle.check_report.proofs.Prelude.{◌≡◌, ℕ, ◌-◌, ◌*◌, ◌<◌, ◌≤◌, false, List, [], ◌∷◌, ◌++◌, chars, drop, length, slice_get, zero, suc, refl, sym, ap, ◌∙◌, arith, append_assoc, IsUtf8, Option, None, Some, chars-nil, chars_past_char, encodes-chars, if◌then◌else◌, cond-false, cond-true, cases_Bool, inl, inr}
 use Rattle.std.proofs.lemmas.Str.{IsUtf8-from_is_utf8, is_utf8-from_IsUtf8}
 use Rattle.std.specs.Char.{encode_utf8}
 use Rattle.std.specs.Str.{encode_utf8_all, is_utf8}
@@ -11,10 +11,12 @@ not_utf8 bytes other = elim (cases_Bool (is_utf8 bytes)) [ inl is ↦ absurd (ot
 -- ---- what is decoded
 
 pub decoded_text : (text bytes : List ℕ) → bytes ≡ unescaped text → IsUtf8 bytes → decoded text ≡ bytes
+unfolding decoded
 decoded_text text bytes same utf8 =
     cond-true (is_utf8 (unescaped text)) _ _ (sym (ap is_utf8 same) ∙ is_utf8-from_IsUtf8 bytes utf8) ∙ sym same
 
 pub decoded_other : (text bytes : List ℕ) → bytes ≡ unescaped text → ¬ (IsUtf8 bytes) → decoded text ≡ text
+unfolding decoded
 decoded_other text bytes same other = cond-false (is_utf8 (unescaped text)) _ _ (sym (ap is_utf8 same) ∙ not_utf8 bytes other)
 
 pub readable_text : (bytes : List ℕ) → IsUtf8 bytes → readable_in bytes ≡ readable_only (chars bytes)

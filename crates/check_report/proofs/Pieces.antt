@@ -4,7 +4,6 @@ use Rattle.std.proofs.lemmas.List.Sums.{prefix_len-le-length, prefix_len_stops}
 use Rattle.std.specs.Char.{encode_utf8}
 use Rattle.std.specs.Str.{encode_utf8_all}
 use Rattle.shown_text.proofs.Pieces.{front_passes}
-use Rattle.check_report.specs.declared.escape.Escape.TheVariants as escape
 
 -- ---- a character with ordinary bytes
 

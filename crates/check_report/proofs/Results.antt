@@ -1,10 +1,10 @@
 -- The results of a report as SARIF.
-use Rattle.check_report.proofs.Prelude.{Bor, ◌≡◌, List, [], ◌∷◌, ◌++◌, map, refl, sym, ap, ◌∙◌, append_assoc, flat_map, flat_map-append, flat_map-map}
+use Rattle.check_report.proofs.Prelude.{Bor, Global, String, string_bytes, ◌≡◌, List, [], ◌∷◌, ◌++◌, map, refl, sym, ap, ◌∙◌, append_assoc, flat_map, flat_map-append, flat_map-map}
 use Rattle.json.specs.Json.{Json, array}
-use Rattle.json.specs.Token.{Token, begin_array, end_array}
+use Rattle.json.specs.Token.{begin_array, end_array}
 use Rattle.json.specs.Tree.{items_tokens, json_tokens}
 use Rattle.check_report.specs.Order.{link_of}
-use Rattle.check_report.specs.Sarif.{bare_result, items_of, link_result}
+use Rattle.check_report.specs.Sarif.{bare_result, items_of, link_result, unlisted_result}
 use Rattle.check_report.specs.declared.ordered.Link.{Link}
 use Rattle.check_report.specs.declared.value.Broken.{Broken}
 use Rattle.check_report.specs.declared.value.Contents.{Contents}
@@ -15,16 +15,20 @@ items_written [] = refl
 items_written (json ∷ jsons) = ap (λ ts. json_tokens json ++ ts) (items_written jsons) ∙ sym (append_assoc (json_tokens json) (flat_map json_tokens jsons) (end_array ∷ []))
 
 -- what the program writes of links and targets by reference is the array
-pub results_written : (contents : Contents) (links : List Link) (bare : List (Bor Broken)) (all : List (Broken × Place)) (targets : List Broken) → map link_of links ≡ all → map (λ (t : Bor Broken). t.now) bare ≡ targets
-    → (begin_array ∷ [] ++ flat_map (λ (l : Link). json_tokens (link_result contents (link_of l))) links ++ flat_map (λ (t : Bor Broken). json_tokens (bare_result t.now)) bare) ++ end_array ∷ []
-    ≡ json_tokens (array (items_of (map (link_result contents) all ++ map bare_result targets)))
-results_written contents links bare all targets same others =
+pub results_written : (contents : Contents) (links : List Link) (bare : List (Bor Broken)) (documents : List (String Global)) (all : List (Broken × Place)) (targets : List Broken) → map link_of links ≡ all → map (λ (t : Bor Broken). t.now) bare ≡ targets
+    → (begin_array ∷ [] ++ flat_map (λ (l : Link). json_tokens (link_result contents (link_of l))) links ++ flat_map (λ (t : Bor Broken). json_tokens (bare_result t.now)) bare
+    ++ flat_map (λ (t : String Global). json_tokens (unlisted_result (string_bytes t))) documents) ++ end_array ∷ []
+    ≡ json_tokens (array (items_of (map (link_result contents) all ++ map bare_result targets ++ map (λ (t : String Global). unlisted_result (string_bytes t)) documents)))
+results_written contents links bare documents all targets same others =
     let of = λ (t : Bor Broken). t.now in
+    let of_document = λ (t : String Global). unlisted_result (string_bytes t) in
     let one : flat_map (λ (l : Link). json_tokens (link_result contents (link_of l))) links ≡ flat_map json_tokens (map (link_result contents) all) =
     sym (flat_map-map (λ (l : Broken × Place). json_tokens (link_result contents l)) link_of links) ∙ ap (flat_map (λ (l : Broken × Place). json_tokens (link_result contents l))) same
     ∙ sym (flat_map-map json_tokens (link_result contents) all) in
     let other : flat_map (λ (t : Bor Broken). json_tokens (bare_result t.now)) bare ≡ flat_map json_tokens (map bare_result targets) =
     sym (flat_map-map (λ (b : Broken). json_tokens (bare_result b)) of bare) ∙ ap (flat_map (λ (b : Broken). json_tokens (bare_result b))) others ∙ sym (flat_map-map json_tokens bare_result targets) in
     ap (λ ts. begin_array ∷ (ts ++ end_array ∷ []))
-    ((λ i. one i ++ other i) ∙ sym (flat_map-append json_tokens (map (link_result contents) all) (map bare_result targets)))
-    ∙ ap (λ ts. begin_array ∷ ts) (sym (items_written (map (link_result contents) all ++ map bare_result targets)))
+    ((λ i. one i ++ other i ++ sym (flat_map-map json_tokens of_document documents) i)
+    ∙ ap (λ ts. ts ++ flat_map json_tokens (map of_document documents)) (sym (flat_map-append json_tokens (map (link_result contents) all) (map bare_result targets)))
+    ∙ sym (flat_map-append json_tokens (map (link_result contents) all ++ map bare_result targets) (map of_document documents)))
+    ∙ ap (λ ts. begin_array ∷ ts) (sym (items_written (map (link_result contents) all ++ map bare_result targets ++ map of_document documents)))

@@ -1,5 +1,5 @@
 -- Texts by their runs: the comparison of the program is that of the definition.
-use Rattle.check_report.proofs.Prelude.{common_steps, ◌≡◌, ℕ, ◌+◌, ◌-◌, ◌*◌, ◌<◌, ◌≤◌, ◌==◌, Bool, true, false, ◌&&◌, ◌||◌, List, [], ◌∷◌, ◌++◌, drop, length, nat_le, nat_lt, take, max, slice_index, zero, suc, refl, sym, ap, ◌∙◌, subst, arith, inl, inr, Option, None, Some, and_parts, both_ways, cond-false, cond-true, cases_Bool, cases_lt, cases_order, eqb-true, eqb-false, leb-true, ltb-true, nat_tests, list_all, length-drop, length-prefix_len, prefix_len}
+use Rattle.check_report.proofs.Prelude.{◌≡◌, ℕ, ◌+◌, ◌-◌, ◌*◌, ◌<◌, ◌≤◌, Bool, true, false, ◌&&◌, List, [], ◌∷◌, drop, length, take, max, slice_index, suc, refl, sym, ap, ◌∙◌, arith, inl, inr, Some, and_parts, cond-false, cond-true, cases_Bool, cases_lt, cases_order, eqb-true, eqb-false, nat_tests, list_all, length-drop, length-prefix_len, prefix_len}
 use Rattle.shown_text.proofs.Pieces.{front_passes}
 use Rattle.std.specs.List.{take_while}
 use Rattle.std.specs.Ordering.{nat_cmp, ordering_then}

@@ -1,11 +1,11 @@
 -- Broken links in order: what a sort of the program makes is the definition's list.
-use Rattle.check_report.proofs.Prelude.{common_steps, ◌≡◌, ℕ, true, Bool, List, [], ◌∷◌, map, refl, sym, ap, ◌∙◌, subst, arith, inl, inr, string_bytes, take, ◌+◌, ◌++◌, ◌<◌, ◌≤◌, false, get_or, if◌then◌else◌, length, map-map, take-map, take_all, take_more, cond-false, cond-true, cases_Bool}
+use Rattle.check_report.proofs.Prelude.{◌≡◌, ℕ, true, Bool, List, [], ◌∷◌, map, refl, sym, ap, ◌∙◌, string_bytes, take, ◌+◌, ◌++◌, ◌<◌, ◌≤◌, false, get_or, if◌then◌else◌, length, map-map, take-map, take_all, take_more}
 use Rattle.std.specs.Borrow.{Bor}
 use Rattle.std.specs.Cmp.{IsStrictWeakOrder, IsTotalOrder}
 use Rattle.std.specs.Cmp.Lexicographic.{slice_cmp}
 use Rattle.std.specs.List.{All}
-use Rattle.std.specs.List.Sorted.{IsPermutation, IsSortedBy, IsStableBy}
-use Rattle.std.specs.Ordering.{is_eq, is_lt, nat_cmp, ordering_then, then_cmp}
+use Rattle.std.specs.List.Sorted.{IsSortedBy, IsStableBy}
+use Rattle.std.specs.Ordering.{is_eq, is_lt, nat_cmp, ordering_then}
 use Rattle.std.specs.declared.cmp.Ordering.{Ordering}
 use Rattle.std.specs.declared.cmp.Ordering.TheVariants.{Less, Equal, Greater}
 use Rattle.std.proofs.lemmas.Cmp.{nat_cmp_total, nat_list_cmp_total, on_total, then_total}

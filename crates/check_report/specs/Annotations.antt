@@ -7,6 +7,8 @@ use Rattle.check_report.specs.Rows as line
 use Rattle.check_report.specs.Rows.{Line}
 use Rattle.check_report.specs.Text.{counted, wrong_of}
 use Rattle.check_report.specs.declared.escape.Escape.TheVariants as escape
+use Rattle.check_report.specs.declared.row.Part.{Part}
+use Rattle.check_report.specs.declared.row.Part.TheVariants as part
 use Rattle.check_report.specs.declared.value.Broken.{Broken}
 use Rattle.check_report.specs.declared.value.Place.{Place}
 
@@ -39,8 +41,23 @@ place_annotation folder b p = at_place folder p ++ codes "::" ++ message_line b
 abbrev pub broken_annotation : Broken → List ℕ
 broken_annotation b = if nat_lt 0 (length b.places.items) then [] else codes "::error::" ++ message_line b
 
+-- a document that no sitemap lists
+abbrev pub unlisted_annotation : List ℕ → List ℕ
+unlisted_annotation document = codes "::error::" ++ escaped escape.Data document ++ codes ": not in a sitemap\n"
+
+-- the same for a name in its section; other sections have none
+abbrev pub name_annotation : Part → List ℕ → List ℕ
+name_annotation part.Broken text = []
+name_annotation part.Worst text = []
+name_annotation part.Redirects text = []
+name_annotation part.Unreached text = []
+name_annotation part.Unlisted text = unlisted_annotation text
+name_annotation part.External text = []
+name_annotation part.Unused text = []
+
 abbrev pub annotation_line : List ℕ → Line → List ℕ
 annotation_line folder (line.total base totals counts) = []
+annotation_line folder (line.hint h) = []
 annotation_line folder (line.begin of_part) = []
 annotation_line folder (line.finish of_part) = []
 annotation_line folder (line.broken b) = broken_annotation b
@@ -50,5 +67,5 @@ annotation_line folder (line.rest b count) = []
 annotation_line folder (line.worst c) = []
 annotation_line folder (line.redirect r) = []
 annotation_line folder (line.external e) = []
-annotation_line folder (line.name of_part text) = []
+annotation_line folder (line.name of_part text) = name_annotation of_part text
 annotation_line folder line.last = []

@@ -116,6 +116,7 @@ row_kind part.Broken = codes "broken"
 row_kind part.Worst = codes "worst"
 row_kind part.Redirects = codes "redirect"
 row_kind part.Unreached = codes "unreached"
+row_kind part.Unlisted = codes "unlisted"
 row_kind part.External = codes "external"
 row_kind part.Unused = codes "unused"
 
@@ -127,7 +128,7 @@ broken_counts t =
 
 -- the optional counts, and then the counts of broken links, invalid links and links that lead out of the site
 abbrev pub optional_counts : Totals → Counts → Members
-optional_counts t c = count_if_at (codes "unreached") c.unreached (count_if_at (codes "external") c.external (broken_counts t))
+optional_counts t c = count_if_at (codes "unreached") c.unreached (count_if_at (codes "unlisted") c.unlisted (count_if_at (codes "external") c.external (broken_counts t)))
 
 -- the counts of the documents, the other files, the aliases, the links and the redirects
 abbrev pub site_counts : Totals → Members → Members
@@ -141,6 +142,8 @@ total_members base t c =
 
 abbrev pub members_of : Line → Members
 members_of (line.total base totals counts) = total_members base totals counts
+members_of (line.hint h) =
+    kind (codes "hint") (text_at (codes "base") (string_bytes h.folder) (count_at (codes "paths") h.paths (count_at (codes "of") h.of no_members)))
 members_of (line.begin of_part) = no_members
 members_of (line.finish of_part) = no_members
 members_of (line.broken b) =
@@ -159,6 +162,7 @@ members_of line.last = no_members
 -- whether the row has an object
 abbrev pub is_object : Line → Bool
 is_object (line.total base totals counts) = true
+is_object (line.hint h) = true
 is_object (line.begin of_part) = false
 is_object (line.finish of_part) = false
 is_object (line.broken b) = true

@@ -1,40 +1,40 @@
--- A report as JUnit XML: a test suite for each file with broken links, and a failed test case for each link.
-use Rattle.std.specs.Prelude.{ℕ, zero, suc, ◌==◌, Bool, true, ◌||◌, List, [], ◌∷◌, ◌++◌, bytes_eq, chars, codes, decimal, flat_map, length, nat_lt, ◌+◌, string_bytes, if◌then◌else◌}
+-- A report as JUnit XML: a test suite for each file with broken links, and a failed test case for each link and for each document that
+-- no sitemap lists.
+use Rattle.std.specs.Prelude.{ℕ, zero, suc, ◌==◌, Bool, true, ◌||◌, List, [], ◌∷◌, ◌++◌, bytes_eq, chars, codes, decimal, flat_map, length, nat_lt, String, string_bytes, if◌then◌else◌}
 use Rattle.std.specs.List.{take_while}
-use Rattle.shown_text.specs.Shown.{escape_of}
+use Rattle.std.specs.declared.alloc.Global.{Global}
 use Rattle.check_report.specs.Escape.{html_char}
-use Rattle.check_report.specs.Messages.{link_message, rule_id, target_message}
-use Rattle.check_report.specs.Names.{target_name}
+use Rattle.check_report.specs.Messages.{link_message, not_in_sitemap, rule_id, target_message, unlisted_message}
+use Rattle.check_report.specs.Names.{page_name, target_name}
 use Rattle.check_report.specs.Paths.{path_in}
 use Rattle.check_report.specs.Order.{bare_targets, links_by_file}
 use Rattle.check_report.specs.Text.{counted}
 use Rattle.check_report.specs.declared.value.Broken.{Broken}
-use Rattle.check_report.specs.declared.value.Kind.{Kind}
 use Rattle.check_report.specs.declared.value.Place.{Place}
 
 -- ---- texts
 
 -- XML 1.0 allows neither U+FFFE nor U+FFFF, and no control characters, which are escaped in HTML too
 abbrev pub xml_char : ℕ → List ℕ
-xml_char c = if (c == 65534) || (c == 65535) then escape_of c else html_char c
+xml_char c = if c == 65534 then codes "\\u{fffe}" else (if c == 65535 then codes "\\u{ffff}" else html_char c)
 
-abbrev pub xml : List ℕ → List ℕ
+unfoldable pub xml : List ℕ → List ℕ
 xml text = flat_map xml_char (chars text)
 
 -- an attribute, with the space before it
-abbrev pub attribute : List ℕ → List ℕ → List ℕ
+unfoldable pub attribute : List ℕ → List ℕ → List ℕ
 attribute name text = codes " " ++ name ++ codes "=\"" ++ xml text ++ codes "\""
 
 -- ---- test cases
 
 -- the start of a test case: its name and its class
-abbrev pub case_start : List ℕ → List ℕ → List ℕ
+unfoldable pub case_start : List ℕ → List ℕ → List ℕ
 case_start name class = codes "<testcase" ++ attribute (codes "name") name ++ attribute (codes "classname") class
 
 -- what failed, and the end of the test case
-abbrev pub failure : Kind → List ℕ → List ℕ
-failure kind message =
-    codes "><failure" ++ attribute (codes "type") (rule_id kind) ++ attribute (codes "message") message ++ codes ">" ++ xml message ++ codes "</failure></testcase>\n"
+unfoldable pub failure : List ℕ → List ℕ → List ℕ
+failure rule message =
+    codes "><failure" ++ attribute (codes "type") rule ++ attribute (codes "message") message ++ codes ">" ++ xml message ++ codes "</failure></testcase>\n"
 
 -- the name of a link's test case
 abbrev pub case_name : Broken → Place → List ℕ
@@ -44,18 +44,25 @@ case_name b p = decimal p.line ++ codes ":" ++ decimal p.column ++ codes ": " ++
 abbrev pub link_case : List ℕ → Broken × Place → List ℕ
 link_case folder link =
     case_start (case_name link.0 link.1) (string_bytes link.1.file) ++ attribute (codes "file") (path_in folder (string_bytes link.1.file))
-    ++ failure link.0.kind (link_message link.0 link.1)
+    ++ failure (rule_id link.0.kind) (link_message link.0 link.1)
 
 -- the class of targets without locations
 abbrev pub no_file : List ℕ
 no_file = codes "no file"
 
 abbrev pub bare_case : Broken → List ℕ
-bare_case b = case_start (target_name b) no_file ++ failure b.kind (target_message b)
+bare_case b = case_start (target_name b) no_file ++ failure (rule_id b.kind) (target_message b)
+
+-- the class of documents that no sitemap lists
+abbrev pub sitemap : List ℕ
+sitemap = codes "sitemap"
+
+abbrev pub unlisted_case : List ℕ → List ℕ
+unlisted_case document = case_start (page_name document) sitemap ++ failure not_in_sitemap (unlisted_message document)
 
 -- ---- test suites
 
-abbrev pub suite_start : List ℕ → ℕ → List ℕ
+unfoldable pub suite_start : List ℕ → ℕ → List ℕ
 suite_start name count =
     codes "<testsuite" ++ attribute (codes "name") name ++ counted (codes " tests=\"") count ++ counted (codes "\" failures=\"") count ++ codes "\" errors=\"0\">\n"
 
@@ -89,12 +96,23 @@ suites_from folder zero (link ∷ links) =
 abbrev pub bare_suite : List Broken → List ℕ
 bare_suite targets = if nat_lt 0 (length targets) then suite_start no_file (length targets) ++ flat_map bare_case targets ++ suite_end else []
 
+-- the test cases of these documents
+abbrev pub unlisted_cases : List (String Global) → List ℕ
+unlisted_cases documents = flat_map (λ document. unlisted_case (string_bytes document)) documents
+
+abbrev pub unlisted_suite : List (String Global) → List ℕ
+unlisted_suite documents = if nat_lt 0 (length documents) then suite_start sitemap (length documents) ++ unlisted_cases documents ++ suite_end else []
+
 -- one suite with a test case that passed, so that a good report is not an empty one
 abbrev pub good_suite : List ℕ
 good_suite = codes "<testsuite name=\"links\" tests=\"1\" failures=\"0\" errors=\"0\">\n<testcase name=\"no broken links\" classname=\"links\"/>\n</testsuite>\n"
 
-abbrev pub suites : List ℕ → List Broken → List ℕ
-suites folder targets = if nat_lt 0 (length targets) then suites_from folder 0 (links_by_file true targets) ++ bare_suite (bare_targets targets) else good_suite
+abbrev pub suites : List ℕ → List Broken → List (String Global) → List ℕ
+suites folder targets documents =
+    if nat_lt 0 (length targets) || nat_lt 0 (length documents)
+    then suites_from folder 0 (links_by_file true targets) ++ bare_suite (bare_targets targets) ++ unlisted_suite documents
+    else good_suite
 
-abbrev pub junit : List ℕ → List Broken → List ℕ
-junit folder targets = codes "<?xml version=\"1.0\" encoding=\"UTF-8\"?>\n<testsuites name=\"mercator check\">\n" ++ suites folder targets ++ codes "</testsuites>\n"
+abbrev pub junit : List ℕ → List Broken → List (String Global) → List ℕ
+junit folder targets documents =
+    codes "<?xml version=\"1.0\" encoding=\"UTF-8\"?>\n<testsuites name=\"mercator check\">\n" ++ suites folder targets documents ++ codes "</testsuites>\n"

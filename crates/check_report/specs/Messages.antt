@@ -1,6 +1,6 @@
--- The message about a broken link in JUnit XML and SARIF.
-use Rattle.std.specs.Prelude.{List, [], ◌++◌, ℕ, bytes_eq, codes, string_bytes, if◌then◌else◌, Option, None, Some, option_map}
-use Rattle.check_report.specs.Names.{page_name, target_name}
+-- The messages about findings in JUnit XML and SARIF.
+use Rattle.std.specs.Prelude.{List, [], ◌++◌, ℕ, codes, string_bytes, if◌then◌else◌, Option, None, Some, option_map}
+use Rattle.check_report.specs.Names.{ends_with_link, page_name, target_name}
 use Rattle.check_report.specs.Text.{message}
 use Rattle.check_report.specs.declared.value.Broken.{Broken}
 use Rattle.check_report.specs.declared.value.Kind.{Kind}
@@ -17,14 +17,22 @@ rule_id LocalFile = codes "local-file"
 rule_id Leaves = codes "leaves-the-folder"
 rule_id OutsideBase = codes "outside-base"
 
+-- the name of the finding of a document that no sitemap lists
+abbrev pub not_in_sitemap : List ℕ
+not_in_sitemap = codes "not-in-sitemap"
+
+-- the message about such a document
+unfoldable pub unlisted_message : List ℕ → List ℕ
+unlisted_message document = page_name document ++ codes ": not in a sitemap"
+
 -- a word with the opening parenthesis, a text, and the closing parenthesis
 abbrev pub bracketed : List ℕ → List ℕ → List ℕ
 bracketed word text = word ++ text ++ codes ")"
 
--- the link as it is written, if that is not the name of its target
+-- the link as it is written, unless the name of its target ends with it
 abbrev pub written_part : Broken → Option (List ℕ) → List ℕ
 written_part b None = []
-written_part b (Some link) = if bytes_eq link (target_name b) then [] else bracketed (codes " (written as ") link
+written_part b (Some link) = if ends_with_link b link then [] else bracketed (codes " (written as ") link
 
 abbrev pub same_name_part : Option (List ℕ) → List ℕ
 same_name_part None = []
@@ -43,9 +51,9 @@ abbrev pub message_start : Broken → List ℕ
 message_start b = target_name b ++ codes ": " ++ message b.kind
 
 -- the message about a target without locations
-abbrev pub target_message : Broken → List ℕ
+unfoldable pub target_message : Broken → List ℕ
 target_message b = message_start b ++ advice_part b
 
 -- the message about a link
-abbrev pub link_message : Broken → Place → List ℕ
+unfoldable pub link_message : Broken → Place → List ℕ
 link_message b p = message_start b ++ written_part b (option_map string_bytes p.written) ++ advice_part b

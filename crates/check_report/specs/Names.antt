@@ -1,7 +1,7 @@
 -- How the names of pages are shown to people: with the characters that their escapes encode.
-use Rattle.std.specs.Prelude.{ℕ, ◌+◌, ◌-◌, ◌*◌, zero, suc, ◌==◌, Bool, true, false, ◌&&◌, ◌||◌, not, List, [], ◌∷◌, ◌++◌, chars, codes, nat_eq, nat_le, string_bytes, take, if◌then◌else◌, Option, None, Some, option_map}
+use Rattle.std.specs.Prelude.{ℕ, ◌-◌, ◌*◌, zero, suc, ◌==◌, Bool, true, false, ◌&&◌, ◌||◌, not, List, [], ◌∷◌, ◌++◌, chars, codes, nat_eq, nat_le, string_bytes, take, if◌then◌else◌, Option, None, Some, option_map}
 use Rattle.std.specs.Char.{encode_utf8}
-use Rattle.std.specs.List.{starts_with}
+use Rattle.std.specs.List.{ends_with, starts_with}
 use Rattle.std.specs.Option.{option_or}
 use Rattle.std.specs.Str.{is_utf8}
 use Rattle.percent_encoding.specs.Percent.{percent_decode}
@@ -60,7 +60,7 @@ abbrev pub unescaped : List ℕ → List ℕ
 unescaped text = unescaped_from 0 text
 
 -- the same, or the text itself if that is not UTF-8
-abbrev pub decoded : List ℕ → List ℕ
+unfoldable pub decoded : List ℕ → List ℕ
 decoded text = if is_utf8 (unescaped text) then unescaped text else text
 
 -- ---- names
@@ -85,6 +85,10 @@ is_text OutsideBase = false
 
 abbrev pub target_name : Broken → List ℕ
 target_name b = if is_text b.kind then string_bytes b.target else page_name (string_bytes b.target)
+
+-- whether the name of the target ends with this link: then the link as it is written says nothing more
+abbrev pub ends_with_link : Broken → List ℕ → Bool
+ends_with_link b link = ends_with nat_eq (target_name b) link
 
 -- whether the position is in a GitHub command, in which names stay as they are
 abbrev pub is_command : Escape → Bool

@@ -1,16 +1,17 @@
 -- A row of the HTML page. Untrusted texts are only in elements, and escaped.
-use Rattle.std.specs.Prelude.{ℕ, ◌==◌, Bool, ◌&&◌, ◌||◌, List, [], ◌++◌, bytes_eq, codes, decimal, length, nat_lt, string_bytes, if◌then◌else◌, Option, None, Some, option_map}
+use Rattle.std.specs.Prelude.{ℕ, ◌==◌, Bool, ◌&&◌, ◌||◌, List, [], ◌++◌, codes, decimal, length, nat_lt, string_bytes, if◌then◌else◌, Option, None, Some, option_map}
 use Rattle.check_report.specs.Escape.{escaped}
-use Rattle.check_report.specs.Names.{page_in, target_in, target_name}
+use Rattle.check_report.specs.Names.{ends_with_link, page_in, target_in}
 use Rattle.check_report.specs.Rows as line
 use Rattle.check_report.specs.Rows.{Line}
 use Rattle.check_report.specs.Paths.{base_url, path_uri}
-use Rattle.check_report.specs.Text.{bracketed, counted, is_broken, linked_from, name_in, redirect_target, wrong_of}
+use Rattle.check_report.specs.Text.{base_hint, bracketed, counted, is_broken, linked_from, name_in, redirect_target, wrong_of}
 use Rattle.check_report.specs.declared.as_page.parts.TheConstants.{HEAD, SCRIPT, STYLE, TAIL, TOOLS}
 use Rattle.check_report.specs.declared.escape.Escape.TheVariants as escape
 use Rattle.check_report.specs.declared.row.Counts.{Counts}
 use Rattle.check_report.specs.declared.row.Part.{Part}
 use Rattle.check_report.specs.declared.row.Part.TheVariants as part
+use Rattle.check_report.specs.declared.value.BaseHint.{BaseHint}
 use Rattle.check_report.specs.declared.value.Broken.{Broken}
 use Rattle.check_report.specs.declared.value.External.{External}
 use Rattle.check_report.specs.declared.value.FileCount.{FileCount}
@@ -102,7 +103,8 @@ item_if word None = []
 item_if word (Some n) = total_item word n
 
 abbrev pub optional_items : Counts → List ℕ
-optional_items c = item_if (codes "<li>unreached files <b>") c.unreached ++ item_if (codes "<li>external URLs <b>") c.external
+optional_items c =
+    item_if (codes "<li>unreached files <b>") c.unreached ++ item_if (codes "<li>documents that no sitemap lists <b>") c.unlisted ++ item_if (codes "<li>external URLs <b>") c.external
 
 abbrev pub count_items : Totals → Counts → List ℕ
 count_items t c = site_items t ++ broken_items t ++ optional_items c
@@ -112,11 +114,15 @@ page_total base t c = page_start base t ++ page_heading base t ++ count_items t 
 
 -- ---- sections
 
+abbrev pub hint_paragraph : BaseHint → List ℕ
+hint_paragraph h = codes "<p>" ++ base_hint escape.Html h ++ codes "</p>\n"
+
 abbrev pub section_start : Part → List ℕ
 section_start part.Broken = codes "<section id=broken aria-labelledby=h-broken>\n<h2 id=h-broken>Broken links</h2>\n<pre class=plain>\n"
 section_start part.Worst = codes "<section id=worst aria-labelledby=h-worst>\n<h2 id=h-worst>Files with the most broken links</h2>\n<pre>\n"
 section_start part.Redirects = codes "<section id=redirects aria-labelledby=h-redirects>\n<h2 id=h-redirects>Links to redirects</h2>\n<pre>\n"
 section_start part.Unreached = codes "<section id=unreached aria-labelledby=h-unreached>\n<h2 id=h-unreached>Unreached files</h2>\n<pre>\n"
+section_start part.Unlisted = codes "<section id=unlisted aria-labelledby=h-unlisted>\n<h2 id=h-unlisted>Documents that no sitemap lists</h2>\n<pre>\n"
 section_start part.External = codes "<section id=external aria-labelledby=h-external>\n<h2 id=h-external>External links (not checked)</h2>\n<pre>\n"
 section_start part.Unused = codes "<section id=unused aria-labelledby=h-unused>\n<h2 id=h-unused>Unused --ignore entries</h2>\n<pre>\n"
 
@@ -139,10 +145,10 @@ link_end source_url = if length source_url == 0 then [] else codes "</a>"
 abbrev pub place_name : Place → List ℕ
 place_name p = html (string_bytes p.file) ++ counted (codes ":") p.line ++ counted (codes ":") p.column
 
--- a tab and the link as it is written, if that is not the name of its target
+-- a tab and the link as it is written, unless the name of its target ends with it
 abbrev pub written_cell : Broken → Option (List ℕ) → List ℕ
 written_cell b None = []
-written_cell b (Some link) = if bytes_eq link (target_name b) then [] else codes "\t" ++ bracketed escape.Html (codes "(written as ") link
+written_cell b (Some link) = if ends_with_link b link then [] else codes "\t" ++ bracketed escape.Html (codes "(written as ") link
 
 -- a location as a link, if there is one
 abbrev pub place_cell : List ℕ → Place → List ℕ
@@ -166,6 +172,7 @@ external_row e = html (string_bytes e.url) ++ counted (codes "\t") e.links ++ co
 
 abbrev pub page_line : List ℕ → Line → List ℕ
 page_line source_url (line.total base totals counts) = page_total base totals counts
+page_line source_url (line.hint h) = hint_paragraph h
 page_line source_url (line.begin of_part) = section_start of_part
 page_line source_url (line.finish of_part) = codes "</pre>\n</section>\n"
 page_line source_url (line.broken b) = broken_row b

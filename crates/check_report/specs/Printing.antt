@@ -5,7 +5,7 @@ use Rattle.check_report.specs.Json.{json_line}
 use Rattle.check_report.specs.Junit.{junit}
 use Rattle.check_report.specs.Order.{ordered_targets}
 use Rattle.check_report.specs.Page.{page_line}
-use Rattle.check_report.specs.Rows.{Line, rows_of}
+use Rattle.check_report.specs.Rows.{Line, if_listed, rows_of}
 use Rattle.check_report.specs.Sarif.{sarif}
 use Rattle.check_report.specs.Text.{text_line}
 use Rattle.check_report.specs.declared.form.Form.{Form}
@@ -49,11 +49,11 @@ printed_annotations contents f = printed (form.Annotations contents.folder) (rec
 
 -- as JUnit XML, by file, with all locations
 abbrev pub printed_junit : Contents → Findings → List ℕ
-printed_junit contents f = junit contents.folder.now (ordered_targets order.File f.broken.now)
+printed_junit contents f = junit contents.folder.now (ordered_targets order.File f.broken.now) (if_listed contents.lists.unlisted f.unlisted).now
 
 -- as SARIF, by file, with all locations
 abbrev pub printed_sarif : Contents → Findings → List ℕ
-printed_sarif contents f = sarif contents (ordered_targets order.File f.broken.now)
+printed_sarif contents f = sarif contents (ordered_targets order.File f.broken.now) (if_listed contents.lists.unlisted f.unlisted).now
 
 -- as an HTML page, by target, with all locations
 abbrev pub printed_page : Contents → Findings → List ℕ

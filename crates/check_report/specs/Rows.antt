@@ -3,6 +3,7 @@ use Rattle.std.specs.Prelude.{ℕ, ◌-◌, Bool, true, false, List, [], ◌∷�
 use Rattle.std.specs.Borrow.{Bor}
 use Rattle.std.specs.declared.alloc.Global.{Global}
 use Rattle.check_report.specs.Order.{links_by_file, ordered_places, ordered_targets, places_limit, shown_places}
+use Rattle.check_report.specs.declared.value.BaseHint.{BaseHint}
 use Rattle.check_report.specs.declared.value.Broken.{Broken}
 use Rattle.check_report.specs.declared.value.External.{External}
 use Rattle.check_report.specs.declared.value.FileCount.{FileCount}
@@ -25,6 +26,8 @@ use Rattle.check_report.specs.declared.view.View.{View}
 pub data Line : Type 0 where
   -- the site and the counts
   total : List ℕ → Totals → Counts → Line
+  -- a hint at a missing BASE
+  hint : BaseHint → Line
   -- the start and the end of a section that has rows
   begin : Part → Line
   finish : Part → Line
@@ -45,6 +48,7 @@ pub data Line : Type 0 where
 -- the row of a value of the program
 abbrev pub line_of : Row → Line
 line_of (row.Total base totals counts) = total base.now totals counts
+line_of (row.Hint at) = hint at.now
 line_of (row.Begin of_part) = begin of_part
 line_of (row.Finish of_part) = finish of_part
 line_of (row.Broken target) = broken target.now
@@ -139,7 +143,9 @@ listed lists f = record {
   worst = f.worst;
   redirects = f.redirects;
   unreached = if_listed lists.unreached f.unreached;
+  unlisted = if_listed lists.unlisted f.unlisted;
   unused_ignores = f.unused_ignores;
+  base_hint = f.base_hint;
 }
 
 abbrev pub count_if : Bool → ℕ → Option ℕ
@@ -148,7 +154,11 @@ count_if false count = None
 
 -- the optional counts: those of the lists that the report has
 abbrev pub counts_of : Contents → Findings → Counts
-counts_of contents f = record { unreached = count_if contents.lists.unreached (length f.unreached.now); external = option_map (λ urls. length urls.now) contents.external }
+counts_of contents f = record {
+  unreached = count_if contents.lists.unreached (length f.unreached.now);
+  unlisted = count_if contents.lists.unlisted (length f.unlisted.now);
+  external = option_map (λ urls. length urls.now) contents.external;
+}
 
 abbrev pub or_none : Option (List External) → List External
 or_none None = []
@@ -157,11 +167,16 @@ or_none (Some urls) = urls
 abbrev pub external_of : Contents → List External
 external_of contents = or_none (option_map (λ urls. urls.now) contents.external)
 
--- the sections of these findings and external links
+-- the hint, if there is one
+abbrev pub hint_lines : Option (Bor BaseHint) → List Line
+hint_lines None = []
+hint_lines (Some at) = hint at.now ∷ []
+
+-- the hint, and the sections of these findings and external links
 abbrev pub sections_of : View → List External → Findings → List Line
 sections_of view urls f =
-    broken_part view f.broken.now ++ worst_part f.worst.now ++ redirect_part f.redirects.now ++ name_part part.Unreached f.unreached.now
-    ++ external_part urls ++ name_part part.Unused f.unused_ignores.now ++ last ∷ []
+    hint_lines f.base_hint ++ broken_part view f.broken.now ++ worst_part f.worst.now ++ redirect_part f.redirects.now ++ name_part part.Unreached f.unreached.now
+    ++ name_part part.Unlisted f.unlisted.now ++ external_part urls ++ name_part part.Unused f.unused_ignores.now ++ last ∷ []
 
 abbrev pub rows_of : View → Contents → Findings → List Line
 rows_of view contents f = total f.base.now f.totals (counts_of contents f) ∷ sections_of view (external_of contents) (listed contents.lists f)

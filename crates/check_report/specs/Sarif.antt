@@ -1,17 +1,17 @@
--- A report as SARIF 2.1.0: a result for each broken link.
-use Rattle.std.specs.Prelude.{ℕ, ◌==◌, true, List, [], ◌∷◌, ◌++◌, codes, decimal, length, map, slice_get, string_bytes, if◌then◌else◌}
+-- A report as SARIF 2.1.0: a result for each broken link and for each document that no sitemap lists.
+use Rattle.std.specs.Prelude.{ℕ, ◌==◌, true, List, [], ◌∷◌, ◌++◌, codes, decimal, length, map, String, string_bytes, if◌then◌else◌}
+use Rattle.std.specs.declared.alloc.Global.{Global}
 use Rattle.json.specs.Json.{Json, Items, Members, array, item, member, no_items, no_members, number, object, string}
 use Rattle.json.specs.Print.{print}
 use Rattle.json.specs.Token.{Token}
 use Rattle.json.specs.Tree.{json_tokens}
 use Rattle.shown_text.specs.Shown.{shown}
-use Rattle.check_report.specs.Messages.{link_message, rule_id, target_message}
+use Rattle.check_report.specs.Messages.{link_message, not_in_sitemap, rule_id, target_message, unlisted_message}
 use Rattle.check_report.specs.Order.{bare_targets, links_by_file}
 use Rattle.check_report.specs.Paths.{base_url, path_in, path_uri}
 use Rattle.check_report.specs.declared.as_sarif.TheConstants.{HEAD}
 use Rattle.check_report.specs.declared.value.Broken.{Broken}
 use Rattle.check_report.specs.declared.value.Contents.{Contents}
-use Rattle.check_report.specs.declared.value.Kind.{Kind}
 use Rattle.check_report.specs.declared.value.Place.{Place}
 
 -- the document up to the names of base URLs and to the results, with the tool and a rule for each kind of finding
@@ -49,29 +49,34 @@ location contents p = object (member (codes "physicalLocation") (physical conten
 -- ---- results
 
 -- the tokens of the start of a result: its rule, its level and its message
-abbrev pub start_tokens : Kind → List ℕ → List Token
-start_tokens kind text =
-    Token.begin_object ∷ Token.key (codes "ruleId") ∷ Token.string (rule_id kind) ∷ Token.key (codes "level") ∷ Token.string (codes "error") ∷ Token.key (codes "message")
+abbrev pub start_tokens : List ℕ → List ℕ → List Token
+start_tokens rule text =
+    Token.begin_object ∷ Token.key (codes "ruleId") ∷ Token.string rule ∷ Token.key (codes "level") ∷ Token.string (codes "error") ∷ Token.key (codes "message")
     ∷ json_tokens (text_object (codes "text") text)
 
-abbrev pub result_start : Kind → List ℕ → Members → Members
-result_start kind text rest =
-    member (codes "ruleId") (string (rule_id kind)) (member (codes "level") (string (codes "error")) (member (codes "message") (text_object (codes "text") text) rest))
+abbrev pub result_start : List ℕ → List ℕ → Members → Members
+result_start rule text rest =
+    member (codes "ruleId") (string rule) (member (codes "level") (string (codes "error")) (member (codes "message") (text_object (codes "text") text) rest))
 
 abbrev pub link_result : Contents → Broken × Place → Json
 link_result contents link =
-    object (result_start link.0.kind (shown (link_message link.0 link.1)) (member (codes "locations") (array (item (location contents link.1) no_items)) no_members))
+    object (result_start (rule_id link.0.kind) (shown (link_message link.0 link.1)) (member (codes "locations") (array (item (location contents link.1) no_items)) no_members))
 
 -- a target without locations
 abbrev pub bare_result : Broken → Json
-bare_result b = object (result_start b.kind (shown (target_message b)) no_members)
+bare_result b = object (result_start (rule_id b.kind) (shown (target_message b)) no_members)
+
+-- a document that no sitemap lists
+abbrev pub unlisted_result : List ℕ → Json
+unlisted_result document = object (result_start not_in_sitemap (shown (unlisted_message document)) no_members)
 
 abbrev pub items_of : List Json → Items
 items_of [] = no_items
 items_of (json ∷ jsons) = item json (items_of jsons)
 
-abbrev pub results : Contents → List Broken → Json
-results contents targets = array (items_of (map (link_result contents) (links_by_file true targets) ++ map bare_result (bare_targets targets)))
+abbrev pub results : Contents → List Broken → List (String Global) → Json
+results contents targets documents =
+    array (items_of (map (link_result contents) (links_by_file true targets) ++ map bare_result (bare_targets targets) ++ map (λ document. unlisted_result (string_bytes document)) documents))
 
 -- ---- the document
 
@@ -83,6 +88,6 @@ bases url =
     if length url == 0 then []
     else codes "\"originalUriBaseIds\":" ++ print (json_tokens (base_object url)) ++ codes ","
 
-abbrev pub sarif : Contents → List Broken → List ℕ
-sarif contents targets =
-    sarif_head ++ bases contents.source_url.now ++ codes "\"results\":" ++ print (json_tokens (results contents targets)) ++ codes "}]}\n"
+abbrev pub sarif : Contents → List Broken → List (String Global) → List ℕ
+sarif contents targets documents =
+    sarif_head ++ bases contents.source_url.now ++ codes "\"results\":" ++ print (json_tokens (results contents targets documents)) ++ codes "}]}\n"

@@ -1,8 +1,8 @@
 -- A row of the text report.
-use Rattle.std.specs.Prelude.{ℕ, ◌==◌, Bool, true, false, ◌||◌, List, [], ◌∷◌, ◌++◌, bytes_eq, codes, length, nat_lt, decimal, string_bytes, if◌then◌else◌, Option, None, Some, option_map}
+use Rattle.std.specs.Prelude.{ℕ, ◌==◌, Bool, true, false, ◌||◌, List, [], ◌∷◌, ◌++◌, codes, length, nat_lt, decimal, string_bytes, if◌then◌else◌, Option, None, Some, option_map}
 use Rattle.shown_text.specs.Shown.{shown}
 use Rattle.check_report.specs.Escape.{escaped}
-use Rattle.check_report.specs.Names.{page_in, target_in, target_name}
+use Rattle.check_report.specs.Names.{ends_with_link, page_in, target_in}
 use Rattle.check_report.specs.Rows as line
 use Rattle.check_report.specs.Rows.{Line}
 use Rattle.check_report.specs.declared.escape.Escape.{Escape}
@@ -10,6 +10,7 @@ use Rattle.check_report.specs.declared.escape.Escape.TheVariants as escape
 use Rattle.check_report.specs.declared.row.Counts.{Counts}
 use Rattle.check_report.specs.declared.row.Part.{Part}
 use Rattle.check_report.specs.declared.row.Part.TheVariants as part
+use Rattle.check_report.specs.declared.value.BaseHint.{BaseHint}
 use Rattle.check_report.specs.declared.value.Broken.{Broken}
 use Rattle.check_report.specs.declared.value.External.{External}
 use Rattle.check_report.specs.declared.value.FileCount.{FileCount}
@@ -65,10 +66,10 @@ hint_text how (Some hint) = bracketed how (codes " (") hint
 abbrev pub advice : Escape → Broken → List ℕ
 advice how b = same_name_text how (option_map string_bytes b.same_name) ++ hint_text how (option_map string_bytes b.hint)
 
--- the link as it is written, if that is not the name of its target
+-- the link as it is written, unless the name of its target ends with it
 abbrev pub written_text : Escape → Broken → Option (List ℕ) → List ℕ
 written_text how b None = []
-written_text how b (Some link) = if bytes_eq link (target_name b) then [] else bracketed how (codes " (written as ") link
+written_text how b (Some link) = if ends_with_link b link then [] else bracketed how (codes " (written as ") link
 
 abbrev pub redirect_target : Escape → Option (List ℕ) → List ℕ
 redirect_target how None = codes "-"
@@ -135,11 +136,16 @@ broken_total colour t =
     ++ counted (codes ", missing pages ") t.broken_urls ++ counted (codes ", missing anchors ") t.broken_anchors
     ++ counted_some (codes ", invalid links ") t.invalid_links ++ counted_some (codes ", leaving links ") t.leaving_links
 
+-- the optional counts in the first line of the totals
+abbrev pub optional_total : Counts → List ℕ
+optional_total c =
+    counted_if (codes ", unreached files ") c.unreached ++ counted_if (codes ", documents that no sitemap lists ") c.unlisted ++ counted_if (codes ", external URLs ") c.external
+
 -- the first line of the totals
 abbrev pub site_total : Totals → Counts → List ℕ
 site_total t c =
     counted (codes "pages ") t.pages ++ counted (codes ", files ") t.files ++ counted (codes ", links ") t.links ++ counted (codes ", redirects ") t.moved
-    ++ counted (codes ", aliases ") t.aliases ++ counted_if (codes ", unreached files ") c.unreached ++ counted_if (codes ", external URLs ") c.external
+    ++ counted (codes ", aliases ") t.aliases ++ optional_total c
 
 unfoldable pub total_text : Bool → Totals → Counts → List ℕ
 total_text colour t c = site_total t c ++ codes "\n" ++ broken_total colour t ++ codes "\n"
@@ -149,8 +155,18 @@ title part.Broken = []
 title part.Worst = codes "files with the most broken links:\n"
 title part.Redirects = codes "links to redirects:\n"
 title part.Unreached = codes "unreached files:\n"
+title part.Unlisted = codes "documents that no sitemap lists:\n"
 title part.External = codes "external links (not checked):\n"
 title part.Unused = codes "unused --ignore entries:\n"
+
+-- a folder that is not in the site, with which many paths begin
+abbrev pub base_hint : Escape → BaseHint → List ℕ
+base_hint how h =
+    counted (codes "hint: ") h.paths ++ counted (codes " of ") h.of ++ codes " paths from the root begin with " ++ escaped how (string_bytes h.folder)
+    ++ codes ", which is not in the folder: pass BASE, such as https://HOST" ++ escaped how (string_bytes h.folder)
+
+abbrev pub base_hint_line : BaseHint → List ℕ
+base_hint_line h = base_hint escape.Shown h ++ codes "\n"
 
 -- an empty line and the title
 abbrev pub begin_text : Bool → Part → List ℕ
@@ -190,6 +206,7 @@ name_in how part.Broken text = escaped how text
 name_in how part.Worst text = escaped how text
 name_in how part.Redirects text = escaped how text
 name_in how part.Unreached text = page_in how text
+name_in how part.Unlisted text = page_in how text
 name_in how part.External text = escaped how text
 name_in how part.Unused text = escaped how text
 
@@ -198,6 +215,7 @@ name_text of_part text = codes "  " ++ name_in escape.Shown of_part text ++ code
 
 abbrev pub text_line : Bool → Line → List ℕ
 text_line colour (line.total base totals counts) = total_text colour totals counts
+text_line colour (line.hint h) = base_hint_line h
 text_line colour (line.begin of_part) = begin_text colour of_part
 text_line colour (line.finish of_part) = []
 text_line colour (line.broken b) = broken_text colour b

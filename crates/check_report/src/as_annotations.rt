@@ -1,23 +1,25 @@
 //! Prints a row as a GitHub annotation.
 ghost use Rattle.std.specs.Prelude.{◌≡◌, ◌-◌, ◌++◌, OnOk, length, slice_get};
-ghost use Rattle.check_report.specs.Annotations.{annotation_line, at_place, without_here, broken_annotation, front_of, message_line, place_annotation, slash_after};
+ghost use Rattle.check_report.specs.Annotations.{annotation_line, at_place, without_here, broken_annotation, front_of, message_line, name_annotation, place_annotation, slash_after, unlisted_annotation};
 ghost use Rattle.check_report.specs.Rows.{line_of};
 
 use crate::as_text::put_wrong_of;
 use crate::escape::{Escape, put_escaped};
 use crate::names::put_target_name;
 use crate::put::{NoMemory, put, put_counted};
-use crate::row::Row;
+use crate::row::{Part, Row};
 use crate::value::{Broken, Place};
 
-/// Appends the annotation of a row; the path of its file starts with the folder.
+/// Appends the annotation of a row, if it has one; the path of its file starts with the folder.
 pub fn put_annotation(out: &mut Vec<u8>, folder: &str, row: Row<'_>) -> Result<(), NoMemory>
     ensures { OnOk result (out.new.items ≡ out.old.items ++ annotation_line folder.now (line_of row.entry)) }
 {
     match row {
         Row::Broken(broken) => put_broken(out, broken),
         Row::Place(broken, place) => put_place(out, folder, broken, place),
+        Row::Name(part, text) => put_name(out, part, text),
         Row::Total { .. }
+        | Row::Hint(_)
         | Row::Begin(_)
         | Row::Finish(_)
         | Row::More(_)
@@ -25,7 +27,6 @@ pub fn put_annotation(out: &mut Vec<u8>, folder: &str, row: Row<'_>) -> Result<(
         | Row::Worst(_)
         | Row::Redirect(_)
         | Row::External(_)
-        | Row::Name(_, _)
         | Row::Last => Ok(()),
     }
 }
@@ -92,6 +93,30 @@ pub fn slash_after(folder: &str) -> &str
         None | Some(b'/') => "",
         Some(_) => "/",
     }
+}
+
+/// Appends an `::error` command without a location for a document that no sitemap lists; nothing for other names.
+fn put_name(out: &mut Vec<u8>, part: Part, text: &str) -> Result<(), NoMemory>
+    ensures { OnOk result (out.new.items ≡ out.old.items ++ name_annotation part text.now) }
+{
+    match part {
+        Part::Unlisted => put_unlisted(out, text),
+        Part::Broken
+        | Part::Worst
+        | Part::Redirects
+        | Part::Unreached
+        | Part::External
+        | Part::Unused => Ok(()),
+    }
+}
+
+/// Appends an `::error` command for a document that no sitemap lists.
+fn put_unlisted(out: &mut Vec<u8>, document: &str) -> Result<(), NoMemory>
+    ensures { OnOk result (out.new.items ≡ out.old.items ++ unlisted_annotation document.now) }
+{
+    put(out, "::error::")?;
+    put_escaped(out, Escape::Data, document)?;
+    put(out, ": not in a sitemap\n")
 }
 
 /// Appends the target, what is wrong with it, and what is suggested, and ends the line.

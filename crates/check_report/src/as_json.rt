@@ -9,7 +9,7 @@ ghost use Rattle.check_report.specs.Rows.{line_of};
 
 use crate::put::NoMemory;
 use crate::row::{Counts, Part, Row};
-use crate::value::{Broken, External, FileCount, Kind, Place, Redirect, Totals};
+use crate::value::{BaseHint, Broken, External, FileCount, Kind, Place, Redirect, Totals};
 use json::Writer;
 
 /// Appends the row as an object without spaces and LF, if the row has an object.
@@ -31,6 +31,7 @@ fn is_object(row: Row<'_>) -> bool
     match row {
         Row::Begin(_) | Row::Finish(_) | Row::Rest(_, _) | Row::Last => false,
         Row::Total { .. }
+        | Row::Hint(_)
         | Row::Broken(_)
         | Row::Place(_, _)
         | Row::More(_)
@@ -66,6 +67,7 @@ fn put_row(out: &mut Writer, row: Row<'_>) -> Result<(), NoMemory>
             totals,
             counts,
         } => put_total(out, base, totals, counts),
+        Row::Hint(hint) => put_base_hint(out, hint),
         Row::Broken(broken) => put_broken(out, broken),
         Row::Place(broken, place) => put_place(out, broken, place),
         Row::More(places) => put_more(out, places as u64),
@@ -107,6 +109,7 @@ fn put_optional_counts(out: &mut Writer, totals: Totals, counts: Counts) -> Resu
     ensures before { out.new.before ≡ out.old.before }
 {
     put_count_if(out, "unreached", counts.unreached)?;
+    put_count_if(out, "unlisted", counts.unlisted)?;
     put_count_if(out, "external", counts.external)?;
     put_broken_counts(out, totals)
 }
@@ -121,6 +124,18 @@ fn put_broken_counts(out: &mut Writer, totals: Totals) -> Result<(), NoMemory>
     put_count(out, "missing_anchors", totals.broken_anchors)?;
     put_count(out, "invalid", totals.invalid_links)?;
     put_count(out, "leaving", totals.leaving_links)
+}
+
+/// Writes the members for the hint at a missing BASE: the folder, and the numbers of paths that begin with it and of all.
+fn put_base_hint(out: &mut Writer, hint: &BaseHint) -> Result<(), NoMemory>
+    requires { out.old.tokens ≡ begin_object ∷ [] }
+    ensures tokens { OnOk result (out.new.tokens ++ end_object ∷ [] ≡ json_tokens (object (members_of (line.hint hint.now)))) }
+    ensures before { out.new.before ≡ out.old.before }
+{
+    put_text(out, "kind", "hint")?;
+    put_text(out, "base", hint.folder.as_str())?;
+    put_count(out, "paths", hint.paths)?;
+    put_count(out, "of", hint.of)
 }
 
 /// Writes the members for a missing page or anchor, or for a link that is invalid or leads out of the site.
@@ -225,7 +240,7 @@ fn put_external(out: &mut Writer, url: &External) -> Result<(), NoMemory>
     put_count(out, "links", url.links)
 }
 
-/// Writes the members for an unreached file or an unused entry of the ignore list.
+/// Writes the members for an unreached file, a document that no sitemap lists, or an unused entry of the ignore list.
 fn put_name(out: &mut Writer, part: Part, text: &str) -> Result<(), NoMemory>
     requires { out.old.tokens ≡ begin_object ∷ [] }
     ensures tokens { OnOk result (out.new.tokens ++ end_object ∷ [] ≡ json_tokens (object (members_of (line.name part text.now)))) }
@@ -244,6 +259,7 @@ fn row_kind(part: Part) -> &'static str
         Part::Worst => "worst",
         Part::Redirects => "redirect",
         Part::Unreached => "unreached",
+        Part::Unlisted => "unlisted",
         Part::External => "external",
         Part::Unused => "unused",
     }

@@ -1,15 +1,16 @@
 //! Prints a report as JUnit XML.
-ghost use Rattle.std.specs.Prelude.{◌≡◌, ◌<◌, ◌++◌, IfOk, OnOk, decimal, flat_map, length, map, take_while, string_bytes, true};
-ghost use Rattle.check_report.specs.Junit.{bare_case, bare_suite, case_name, case_start, failure, first_suite, is_in, link_case, suite_len, suite_start, suites, suites_from};
+ghost use Rattle.std.specs.Prelude.{◌≡◌, ◌<◌, ◌≤◌, ◌++◌, IfOk, OnOk, decimal, drop, flat_map, length, map, take_while, string_bytes, true};
+ghost use Rattle.check_report.specs.Junit.{bare_case, bare_suite, case_name, case_start, failure, first_suite, is_in, link_case, suite_len, suite_start, suites, suites_from, unlisted_case, unlisted_cases, unlisted_suite};
 ghost use Rattle.check_report.specs.Order.{bare_targets, link_of, links_by_file};
 ghost use Rattle.check_report.specs.Printing.{printed_junit};
 
-use crate::messages::{link_message, rule_id, target_message};
-use crate::names::target_name;
+use crate::messages::{NOT_IN_SITEMAP, link_message, rule_id, target_message, unlisted_message};
+use crate::names::{page_name, target_name};
 use crate::ordered::{Link, bare_targets, links_by_file, ordered_targets};
 use crate::paths::path_in;
+use crate::printing::if_listed;
 use crate::put::{NoMemory, put, put_counted};
-use crate::value::{Broken, Contents, Findings, Kind, Place};
+use crate::value::{Broken, Contents, Findings, Place};
 use crate::view::Order;
 use crate::xml::{put_attribute, put_xml};
 use itoa::Buffer;
@@ -18,8 +19,11 @@ use std::alloc::Global;
 /// The name of the suite, and the class, of targets without locations.
 const NO_FILE: &str = "no file";
 
-/// Prints a report as JUnit XML: a test suite for each file with broken links, and a failed test case for each link. A report without
-/// findings has one test case, which passed.
+/// The name of the suite, and the class, of documents that no sitemap lists.
+const SITEMAP: &str = "sitemap";
+
+/// Prints a report as JUnit XML: a test suite for each file with broken links, and a failed test case for each link. The
+/// documents that no sitemap lists have a suite of their own. A report without findings has one test case, which passed.
 ///
 /// # Errors
 /// Out of memory.
@@ -36,23 +40,31 @@ pub fn print_junit(
         &mut out,
         "<?xml version=\"1.0\" encoding=\"UTF-8\"?>\n<testsuites name=\"mercator check\">\n",
     )?;
-    put_suites(&mut out, contents.folder, targets.as_slice())?;
+    let unlisted = if_listed(contents.lists.unlisted, findings.unlisted);
+    put_suites(&mut out, contents.folder, targets.as_slice(), unlisted)?;
     put(&mut out, "</testsuites>\n")?;
     Ok(out)
 }
 
-/// Appends the suites: those of the files, and that of the targets without locations, or one without findings.
-fn put_suites(out: &mut Vec<u8>, folder: &str, targets: &[&Broken]) -> Result<(), NoMemory>
-    ensures { OnOk result (out.new.items ≡ out.old.items ++ suites folder.now (map (λ target. target.now) targets.now)) }
+/// Appends the suites: those of the files, that of the targets without locations and that of the documents that no sitemap lists, or
+/// one without findings.
+fn put_suites(
+    out: &mut Vec<u8>,
+    folder: &str,
+    targets: &[&Broken],
+    unlisted: &[String],
+) -> Result<(), NoMemory>
+    ensures { OnOk result (out.new.items ≡ out.old.items ++ suites folder.now (map (λ target. target.now) targets.now) unlisted.now) }
 {
-    if targets.is_empty() {
+    if targets.is_empty() && unlisted.is_empty() {
         return put(
             out,
             "<testsuite name=\"links\" tests=\"1\" failures=\"0\" errors=\"0\">\n<testcase name=\"no broken links\" classname=\"links\"/>\n</testsuite>\n",
         );
     }
     put_file_suites(out, folder, targets)?;
-    put_bare_suite(out, targets)
+    put_bare_suite(out, targets)?;
+    put_unlisted_suite(out, unlisted)
 }
 
 /// Appends the suites of the files with links to these targets.
@@ -64,26 +76,44 @@ fn put_file_suites(out: &mut Vec<u8>, folder: &str, targets: &[&Broken]) -> Resu
 }
 
 /// Appends the suites of these links.
-#[tactic(auto, using(crate::proofs::Suites::suites_put, crate::proofs::Suites::suite_some, crate::proofs::Suites::suite_fits, crate::proofs::Suites::no_suites))]
+#[tactic(auto, using(crate::proofs::Suites::all_suites))]
 fn put_links(out: &mut Vec<u8>, folder: &str, links: &[Link<'_>]) -> Result<(), NoMemory>
     ensures { OnOk result (out.new.items ≡ out.old.items ++ suites_from folder.now 0 (map link_of links.now)) }
 {
-    let mut rest = links;
-    'suites: while !rest.is_empty() {
-        let count = suite_len(rest);
-        put_file_suite(out, folder, &rest[..count])?;
-        rest = &rest[count..];
+    let mut next = 0;
+    'suites: while next < links.len() {
+        next = put_suite_at(out, folder, links, next)?;
     }
     Ok(())
 }
 
+/// Appends the suite of the links from this one up to the first one in another file, and returns the index of that one.
+#[tactic(auto, using(crate::proofs::Suites::suite_some, crate::proofs::Suites::suite_fits))]
+fn put_suite_at(
+    out: &mut Vec<u8>,
+    folder: &str,
+    links: &[Link<'_>],
+    start: usize,
+) -> Result<usize, NoMemory>
+    requires { start < length links.now }
+    ensures suites { IfOk result (λ next. out.new.items ++ suites_from folder.now 0 (map link_of (drop next links.now)) ≡ out.old.items ++ suites_from folder.now 0 (map link_of (drop start links.now))) }
+    ensures later { IfOk result (λ next. start < next) }
+    ensures within { IfOk result (λ next. next ≤ length links.now) }
+{
+    let (_, rest) = links.split_at(start);
+    let count = suite_len(rest);
+    let (suite, _) = rest.split_at(count);
+    put_file_suite(out, folder, suite)?;
+    Ok(start + count)
+}
+
 /// The number of links up to the first one in another file than the first.
-#[tactic(auto, using(crate::proofs::Suites::more_in_file))]
 fn suite_len(links: &[Link<'_>]) -> usize
     requires { 0 < length links.now }
     ensures { result ≡ suite_len (map link_of links.now) }
 {
-    links_in(links[0].place, links)
+    let place = links[0].place;
+    links_in(place, links)
 }
 
 /// The number of links up to the first one that is in another file than this location.
@@ -112,6 +142,7 @@ fn put_file_suite(out: &mut Vec<u8>, folder: &str, links: &[Link<'_>]) -> Result
 }
 
 /// Appends the start of a suite with this name and number of test cases.
+#[tactic(auto, unfolding(crate::specs::Junit::suite_start))]
 fn put_suite_start(out: &mut Vec<u8>, name: &str, count: u64) -> Result<(), NoMemory>
     ensures { OnOk result (out.new.items ≡ out.old.items ++ suite_start name.now count) }
 {
@@ -147,7 +178,7 @@ fn put_link_case(
     let message = link_message(alloc, target, place)?;
     put_case_start(out, name.as_str(), place.file.as_str())?;
     put_attribute(out, "file", path.as_str())?;
-    put_failure(out, target.kind, message.as_str())
+    put_failure(out, rule_id(target.kind), message.as_str())
 }
 
 /// The name of a link's test case: its line, its column and its target.
@@ -173,6 +204,7 @@ fn push_count(text: &mut String, count: u64) -> Result<(), NoMemory>
 }
 
 /// Appends the start of a test case: its name and its class.
+#[tactic(auto, unfolding(crate::specs::Junit::case_start))]
 fn put_case_start(out: &mut Vec<u8>, name: &str, class: &str) -> Result<(), NoMemory>
     ensures { OnOk result (out.new.items ≡ out.old.items ++ case_start name.now class.now) }
 {
@@ -182,11 +214,12 @@ fn put_case_start(out: &mut Vec<u8>, name: &str, class: &str) -> Result<(), NoMe
 }
 
 /// Appends what failed, and the end of the test case.
-fn put_failure(out: &mut Vec<u8>, kind: Kind, message: &str) -> Result<(), NoMemory>
-    ensures { OnOk result (out.new.items ≡ out.old.items ++ failure kind message.now) }
+#[tactic(auto, unfolding(crate::specs::Junit::failure))]
+fn put_failure(out: &mut Vec<u8>, rule: &str, message: &str) -> Result<(), NoMemory>
+    ensures { OnOk result (out.new.items ≡ out.old.items ++ failure rule.now message.now) }
 {
     put(out, "><failure")?;
-    put_attribute(out, "type", rule_id(kind))?;
+    put_attribute(out, "type", rule)?;
     put_attribute(out, "message", message)?;
     put(out, ">")?;
     put_xml(out, message)?;
@@ -198,11 +231,19 @@ fn put_bare_suite(out: &mut Vec<u8>, targets: &[&Broken]) -> Result<(), NoMemory
     ensures { OnOk result (out.new.items ≡ out.old.items ++ bare_suite (bare_targets (map (λ target. target.now) targets.now))) }
 {
     let bare = bare_targets(*out.allocator(), targets)?;
+    put_bare(out, bare.as_slice())
+}
+
+/// Appends the suite of these targets, if there are any.
+#[tactic(auto, using(crate::proofs::Suites::no_bare_suite))]
+fn put_bare(out: &mut Vec<u8>, bare: &[&Broken]) -> Result<(), NoMemory>
+    ensures { OnOk result (out.new.items ≡ out.old.items ++ bare_suite (map (λ target. target.now) bare.now)) }
+{
     if bare.is_empty() {
         return Ok(());
     }
     put_suite_start(out, NO_FILE, bare.len() as u64)?;
-    put_bare_cases(out, bare.as_slice())?;
+    put_bare_cases(out, bare)?;
     put(out, "</testsuite>\n")
 }
 
@@ -224,5 +265,38 @@ fn put_bare_case(out: &mut Vec<u8>, target: &Broken) -> Result<(), NoMemory>
     let name = target_name(alloc, target)?;
     let message = target_message(alloc, target)?;
     put_case_start(out, name.as_str(), NO_FILE)?;
-    put_failure(out, target.kind, message.as_str())
+    put_failure(out, rule_id(target.kind), message.as_str())
+}
+
+/// Appends the suite of the documents that no sitemap lists, if there are any.
+fn put_unlisted_suite(out: &mut Vec<u8>, unlisted: &[String]) -> Result<(), NoMemory>
+    ensures { OnOk result (out.new.items ≡ out.old.items ++ unlisted_suite unlisted.now) }
+{
+    if unlisted.is_empty() {
+        return Ok(());
+    }
+    put_suite_start(out, SITEMAP, unlisted.len() as u64)?;
+    put_unlisted_cases(out, unlisted)?;
+    put(out, "</testsuite>\n")
+}
+
+/// Appends the test cases of these documents.
+fn put_unlisted_cases(out: &mut Vec<u8>, unlisted: &[String]) -> Result<(), NoMemory>
+    ensures { OnOk result (out.new.items ≡ out.old.items ++ unlisted_cases unlisted.now) }
+{
+    for document in unlisted {
+        put_unlisted_case(out, document.as_str())?;
+    }
+    Ok(())
+}
+
+/// Appends the test case of a document that no sitemap lists.
+fn put_unlisted_case(out: &mut Vec<u8>, document: &str) -> Result<(), NoMemory>
+    ensures { OnOk result (out.new.items ≡ out.old.items ++ unlisted_case document.now) }
+{
+    let alloc = *out.allocator();
+    let name = page_name(alloc, document)?;
+    let message = unlisted_message(alloc, document)?;
+    put_case_start(out, name.as_str(), SITEMAP)?;
+    put_failure(out, NOT_IN_SITEMAP, message.as_str())
 }

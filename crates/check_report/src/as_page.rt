@@ -1,6 +1,6 @@
 //! Prints a row in the HTML page.
 ghost use Rattle.std.specs.Prelude.{◌≡◌, ◌++◌, OnOk, Some, codes, option_map, string_bytes};
-ghost use Rattle.check_report.specs.Page.{broken_items, broken_row, count_items, external_row, head_part, html, item_if, item_some, counts_links, invalid_noun, leaving_noun, links_noun, other_count, other_noun, missing_noun, more_row, page_heading, page_line, page_start, page_total, link_end, link_start, place_cell, place_name, place_row, source_link, written_cell, redirect_row, script_part, section_start, site_items, style_part, tail_part, title_count, title_noun, optional_items, tools_part, total_item, verdict_start, worst_row};
+ghost use Rattle.check_report.specs.Page.{broken_items, broken_row, count_items, external_row, head_part, hint_paragraph, html, item_if, item_some, counts_links, invalid_noun, leaving_noun, links_noun, other_count, other_noun, missing_noun, more_row, page_heading, page_line, page_start, page_total, link_end, link_start, place_cell, place_name, place_row, source_link, written_cell, redirect_row, script_part, section_start, site_items, style_part, tail_part, title_count, title_noun, optional_items, tools_part, total_item, verdict_start, worst_row};
 ghost use Rattle.check_report.specs.Rows.{line_of};
 ghost use Rattle.check_report.specs.Text.{name_in};
 ghost use Rattle.check_report.specs.declared.escape.Escape.TheVariants as escape;
@@ -8,15 +8,15 @@ ghost use Rattle.check_report.specs.declared.escape.Escape.TheVariants as escape
 mod parts;
 
 use crate::as_text::{
-    is_broken, is_name, put_bracketed, put_linked_from, put_name_in, put_redirect_target,
+    is_broken, put_base_hint, put_bracketed, put_linked_from, put_name_in, put_redirect_target,
     put_wrong_of,
 };
 use crate::escape::{Escape, put_escaped};
-use crate::names::{put_page_name, put_target_name};
+use crate::names::{ends_with_link, put_page_name, put_target_name};
 use crate::paths::{base_url, path_uri};
 use crate::put::{NoMemory, put, put_count, put_counted};
 use crate::row::{Counts, Part, Row};
-use crate::value::{Broken, External, FileCount, Place, Redirect, Totals};
+use crate::value::{BaseHint, Broken, External, FileCount, Place, Redirect, Totals};
 use parts::{HEAD, SCRIPT, STYLE, TAIL, TOOLS};
 
 /// Appends the HTML of a row. The row of the totals starts the page, and the last row ends it. Locations are links to the sources at
@@ -30,6 +30,7 @@ pub fn put_page(out: &mut Vec<u8>, source_url: &str, row: Row<'_>) -> Result<(),
             totals,
             counts,
         } => put_total(out, base, totals, counts),
+        Row::Hint(hint) => put_hint(out, hint),
         Row::Begin(part) => put(out, section_start(part)),
         Row::Finish(_) => put(out, "</pre>\n</section>\n"),
         Row::Broken(broken) => put_broken(out, broken),
@@ -99,6 +100,8 @@ fn section_start(part: Part) -> &'static str
             "<section id=redirects aria-labelledby=h-redirects>\n<h2 id=h-redirects>Links to redirects</h2>\n<pre>\n",
         Part::Unreached =>
             "<section id=unreached aria-labelledby=h-unreached>\n<h2 id=h-unreached>Unreached files</h2>\n<pre>\n",
+        Part::Unlisted =>
+            "<section id=unlisted aria-labelledby=h-unlisted>\n<h2 id=h-unlisted>Documents that no sitemap lists</h2>\n<pre>\n",
         Part::External =>
             "<section id=external aria-labelledby=h-external>\n<h2 id=h-external>External links (not checked)</h2>\n<pre>\n",
         Part::Unused =>
@@ -286,11 +289,17 @@ fn put_broken_items(out: &mut Vec<u8>, totals: Totals) -> Result<(), NoMemory>
     put_item_some(out, "<li>leaving links <b>", totals.leaving_links)
 }
 
-/// Appends the numbers of unreached files and of external URLs, each as an item if the report has it.
+/// Appends the numbers of unreached files, of documents that no sitemap lists and of external URLs, each as an item if the report
+/// has it.
 fn put_optional_items(out: &mut Vec<u8>, counts: Counts) -> Result<(), NoMemory>
     ensures { OnOk result (out.new.items ≡ out.old.items ++ optional_items counts) }
 {
     put_item_if(out, "<li>unreached files <b>", counts.unreached)?;
+    put_item_if(
+        out,
+        "<li>documents that no sitemap lists <b>",
+        counts.unlisted,
+    )?;
     put_item_if(out, "<li>external URLs <b>", counts.external)
 }
 
@@ -324,6 +333,15 @@ fn put_item(out: &mut Vec<u8>, word: &str, count: u64) -> Result<(), NoMemory>
 }
 
 // ---- rows
+
+/// Appends the hint at a missing BASE, as a paragraph.
+fn put_hint(out: &mut Vec<u8>, hint: &BaseHint) -> Result<(), NoMemory>
+    ensures { OnOk result (out.new.items ≡ out.old.items ++ hint_paragraph hint.now) }
+{
+    put(out, "<p>")?;
+    put_base_hint(out, Escape::Html, hint)?;
+    put(out, "</p>\n")
+}
 
 /// Appends a text, escaped for an HTML element.
 fn put_html(out: &mut Vec<u8>, text: &str) -> Result<(), NoMemory>
@@ -407,7 +425,7 @@ fn put_place_name(out: &mut Vec<u8>, place: &Place) -> Result<(), NoMemory>
     put_counted(out, ":", place.column)
 }
 
-/// Appends a tab and the link as it is written; nothing if that is not known, or is the name of the target.
+/// Appends a tab and the link as it is written; nothing if that is not known, or if the name of the target ends with it.
 fn put_written_cell(
     out: &mut Vec<u8>,
     broken: &Broken,
@@ -421,11 +439,11 @@ fn put_written_cell(
     }
 }
 
-/// Appends a tab and the link as it is written, unless it is the name of the target.
+/// Appends a tab and the link as it is written, unless the name of the target ends with it.
 fn put_link_cell(out: &mut Vec<u8>, broken: &Broken, link: &str) -> Result<(), NoMemory>
     ensures { OnOk result (out.new.items ≡ out.old.items ++ written_cell broken.now (Some link.now)) }
 {
-    if is_name(*out.allocator(), broken, link)? {
+    if ends_with_link(*out.allocator(), broken, link)? {
         return Ok(());
     }
     put(out, "\t")?;
@@ -470,7 +488,7 @@ fn put_external(out: &mut Vec<u8>, url: &External) -> Result<(), NoMemory>
     put(out, "\n")
 }
 
-/// Appends the line of an unreached file or of an unused entry of the ignore list.
+/// Appends the line of an unreached file, of a document that no sitemap lists, or of an unused entry of the ignore list.
 fn put_name(out: &mut Vec<u8>, part: Part, text: &str) -> Result<(), NoMemory>
     ensures { OnOk result (out.new.items ≡ out.old.items ++ name_in escape.Html part text.now ++ codes "\n") }
 {

@@ -5,14 +5,15 @@ ghost use Rattle.json.specs.Print.{print};
 ghost use Rattle.json.specs.Tree.{json_tokens};
 ghost use Rattle.check_report.specs.Order.{link_of};
 ghost use Rattle.check_report.specs.Printing.{printed_sarif};
-ghost use Rattle.check_report.specs.Sarif.{artifact, bare_result, base_object, bases, folder_file, link_result, location, physical, region, results, sarif_head, source_file, start_tokens, text_object};
+ghost use Rattle.check_report.specs.Sarif.{artifact, bare_result, base_object, bases, folder_file, link_result, location, physical, region, results, sarif_head, source_file, start_tokens, text_object, unlisted_result};
 
 use crate::as_json::{put_count, put_text};
-use crate::messages::{link_message, rule_id, target_message};
+use crate::messages::{NOT_IN_SITEMAP, link_message, rule_id, target_message, unlisted_message};
 use crate::ordered::{Link, bare_targets, links_by_file, ordered_targets};
 use crate::paths::{base_url, path_in, path_uri};
+use crate::printing::if_listed;
 use crate::put::{NoMemory, put};
-use crate::value::{Broken, Contents, Findings, Kind, Place};
+use crate::value::{Broken, Contents, Findings, Place};
 use crate::view::Order;
 use json::Writer;
 use shown_text::shown;
@@ -20,9 +21,9 @@ use std::alloc::Global;
 
 /// The document up to the names of base URLs and to the results, with the tool and a rule for each kind of finding.
 pub static HEAD: &str =
-    r#"{"$schema":"https://json.schemastore.org/sarif-2.1.0.json","version":"2.1.0","runs":[{"tool":{"driver":{"name":"mercator","rules":[{"id":"missing-page","shortDescription":{"text":"A link to a page that does not exist"}},{"id":"missing-anchor","shortDescription":{"text":"A link to an anchor that its page does not have"}},{"id":"not-a-url","shortDescription":{"text":"A link that is not a URL"}},{"id":"unknown-scheme","shortDescription":{"text":"A link with an unknown scheme"}},{"id":"local-file","shortDescription":{"text":"A link to a file of the reader's computer"}},{"id":"leaves-the-folder","shortDescription":{"text":"A link that leads above the folder"}},{"id":"outside-base","shortDescription":{"text":"A link to the host of BASE that does not lead below BASE"}}]}},"columnKind":"unicodeCodePoints","#;
+    r#"{"$schema":"https://json.schemastore.org/sarif-2.1.0.json","version":"2.1.0","runs":[{"tool":{"driver":{"name":"mercator","rules":[{"id":"missing-page","shortDescription":{"text":"A link to a page that does not exist"}},{"id":"missing-anchor","shortDescription":{"text":"A link to an anchor that its page does not have"}},{"id":"not-a-url","shortDescription":{"text":"A link that is not a URL"}},{"id":"unknown-scheme","shortDescription":{"text":"A link with an unknown scheme"}},{"id":"local-file","shortDescription":{"text":"A link to a file of the reader's computer"}},{"id":"leaves-the-folder","shortDescription":{"text":"A link that leads above the folder"}},{"id":"outside-base","shortDescription":{"text":"A link to the host of BASE that does not lead below BASE"}},{"id":"not-in-sitemap","shortDescription":{"text":"A document that no sitemap lists"}}]}},"columnKind":"unicodeCodePoints","#;
 
-/// Prints a report as SARIF: a result for each broken link. The path of a file starts with the folder, unless the URL of the sources
+/// Prints a report as SARIF: a result for each broken link and for each document that no sitemap lists. The path of a file starts with the folder, unless the URL of the sources
 /// is given.
 ///
 /// # Errors
@@ -36,7 +37,8 @@ pub fn print_sarif(
 {
     let targets = ordered_targets(alloc, findings.broken, Order::File)?;
     let begun = with_head(alloc, contents.source_url)?;
-    let mut all = with_results(begun, contents, targets.as_slice())?;
+    let unlisted = if_listed(contents.lists.unlisted, findings.unlisted);
+    let mut all = with_results(begun, contents, targets.as_slice(), unlisted)?;
     put(&mut all, "}]}\n")?;
     Ok(all)
 }
@@ -102,12 +104,13 @@ fn with_results(
     out: Vec<u8>,
     contents: Contents<'_>,
     targets: &[&Broken],
+    unlisted: &[String],
 ) -> Result<Vec<u8>, NoMemory>
-    ensures { IfOk result (λ more. more.items ≡ out.items ++ print (json_tokens (results contents.entry (map (λ target. target.now) targets.now)))) }
+    ensures { IfOk result (λ more. more.items ≡ out.items ++ print (json_tokens (results contents.entry (map (λ target. target.now) targets.now) unlisted.now))) }
 {
     let alloc = *out.allocator();
     let mut writer = Writer::new(out);
-    put_results(alloc, &mut writer, contents, targets)?;
+    put_results(alloc, &mut writer, contents, targets, unlisted)?;
     Ok(writer.into_inner())
 }
 
@@ -117,8 +120,9 @@ fn put_results(
     out: &mut Writer,
     contents: Contents<'_>,
     targets: &[&Broken],
+    unlisted: &[String],
 ) -> Result<(), NoMemory>
-    ensures tokens { OnOk result (out.new.tokens ≡ out.old.tokens ++ json_tokens (results contents.entry (map (λ target. target.now) targets.now))) }
+    ensures tokens { OnOk result (out.new.tokens ≡ out.old.tokens ++ json_tokens (results contents.entry (map (λ target. target.now) targets.now) unlisted.now)) }
     ensures before { out.new.before ≡ out.old.before }
 {
     let links = links_by_file(alloc, targets, true)?;
@@ -126,6 +130,7 @@ fn put_results(
     out.begin_array()?;
     put_links(alloc, out, contents, links.as_slice())?;
     put_bare(alloc, out, bare.as_slice())?;
+    put_unlisted(alloc, out, unlisted)?;
     out.end_array()
 }
 
@@ -158,18 +163,18 @@ fn put_link(
 {
     let message = link_message(alloc, target, place)?;
     let text = shown(alloc, message.as_str())?;
-    put_result_start(out, target.kind, text.as_str())?;
+    put_result_start(out, rule_id(target.kind), text.as_str())?;
     put_locations(alloc, out, contents, place)?;
     out.end_object()
 }
 
 /// Writes the start of a result: its rule, its level and its message.
-fn put_result_start(out: &mut Writer, kind: Kind, text: &str) -> Result<(), NoMemory>
-    ensures tokens { OnOk result (out.new.tokens ≡ out.old.tokens ++ start_tokens kind text.now) }
+fn put_result_start(out: &mut Writer, rule: &str, text: &str) -> Result<(), NoMemory>
+    ensures tokens { OnOk result (out.new.tokens ≡ out.old.tokens ++ start_tokens rule.now text.now) }
     ensures before { out.new.before ≡ out.old.before }
 {
     out.begin_object()?;
-    put_text(out, "ruleId", rule_id(kind))?;
+    put_text(out, "ruleId", rule)?;
     put_text(out, "level", "error")?;
     out.key("message")?;
     put_text_object(out, "text", text)
@@ -298,6 +303,28 @@ fn put_bare_target(alloc: Global, out: &mut Writer, target: &Broken) -> Result<(
 {
     let message = target_message(alloc, target)?;
     let text = shown(alloc, message.as_str())?;
-    put_result_start(out, target.kind, text.as_str())?;
+    put_result_start(out, rule_id(target.kind), text.as_str())?;
+    out.end_object()
+}
+
+/// Writes a result for each of these documents, which no sitemap lists.
+fn put_unlisted(alloc: Global, out: &mut Writer, unlisted: &[String]) -> Result<(), NoMemory>
+    ensures tokens { OnOk result (out.new.tokens ≡ out.old.tokens ++ flat_map (λ document. json_tokens (unlisted_result (string_bytes document))) unlisted.now) }
+    ensures before { out.new.before ≡ out.old.before }
+{
+    for document in unlisted {
+        put_unlisted_document(alloc, out, document.as_str())?;
+    }
+    Ok(())
+}
+
+/// Writes the result of a document that no sitemap lists.
+fn put_unlisted_document(alloc: Global, out: &mut Writer, document: &str) -> Result<(), NoMemory>
+    ensures tokens { OnOk result (out.new.tokens ≡ out.old.tokens ++ json_tokens (unlisted_result document.now)) }
+    ensures before { out.new.before ≡ out.old.before }
+{
+    let message = unlisted_message(alloc, document)?;
+    let text = shown(alloc, message.as_str())?;
+    put_result_start(out, NOT_IN_SITEMAP, text.as_str())?;
     out.end_object()
 }

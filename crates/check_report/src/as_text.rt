@@ -1,16 +1,14 @@
 //! Prints a row as text.
-ghost use Rattle.std.specs.Prelude.{◌≡◌, ◌++◌, IfOk, OnOk, Some, bytes_eq, option_map, string_bytes};
-ghost use Rattle.check_report.specs.Names.{target_name};
+ghost use Rattle.std.specs.Prelude.{◌≡◌, ◌++◌, OnOk, Some, option_map, string_bytes};
 ghost use Rattle.check_report.specs.Rows.{line_of};
-ghost use Rattle.check_report.specs.Text.{advice, begin_text, bracketed, broken_text, broken_total, external_text, hint_text, is_broken, link_text, linked_from, message, more_text, moves_text, name_in, name_text, pages_noun, place_head, place_start, place_text, redirect_target, redirect_text, rest_text, same_name_text, site_total, target_start, target_text, text_line, title, total_text, verdict, worst_text, written_text, wrong_of, wrong_text};
+ghost use Rattle.check_report.specs.Text.{advice, base_hint, base_hint_line, begin_text, bracketed, broken_text, broken_total, external_text, hint_text, is_broken, link_text, linked_from, message, more_text, moves_text, name_in, name_text, optional_total, pages_noun, place_head, place_start, place_text, redirect_target, redirect_text, rest_text, same_name_text, site_total, target_start, target_text, text_line, title, total_text, verdict, worst_text, written_text, wrong_of, wrong_text};
 
 use crate::escape::{Escape, put_escaped};
-use crate::names::{put_page_name, put_target_name, target_name};
+use crate::names::{ends_with_link, put_page_name, put_target_name};
 use crate::put::{NoMemory, put, put_code, put_counted, put_counted_if, put_counted_some};
 use crate::row::{Counts, Part, Row};
-use crate::value::{Broken, External, FileCount, Kind, Place, Redirect, Totals};
+use crate::value::{BaseHint, Broken, External, FileCount, Kind, Place, Redirect, Totals};
 use shown_text::put_shown;
-use std::alloc::Global;
 
 const BOLD: &str = "\x1b[1m";
 
@@ -26,6 +24,7 @@ pub fn put_text(out: &mut Vec<u8>, row: Row<'_>, colour: bool) -> Result<(), NoM
 {
     match row {
         Row::Total { totals, counts, .. } => put_total(out, totals, counts, colour),
+        Row::Hint(hint) => put_hint_line(out, hint),
         Row::Begin(part) => put_begin(out, part, colour),
         Row::Broken(broken) => put_broken(out, broken, colour),
         Row::Place(broken, place) => put_place(out, broken, place, colour),
@@ -63,7 +62,15 @@ fn put_site_total(out: &mut Vec<u8>, totals: Totals, counts: Counts) -> Result<(
     put_counted(out, ", links ", totals.links)?;
     put_counted(out, ", redirects ", totals.moved)?;
     put_counted(out, ", aliases ", totals.aliases)?;
+    put_optional_total(out, counts)
+}
+
+/// Appends the optional counts of the first line of the totals: those of the lists that the report has.
+fn put_optional_total(out: &mut Vec<u8>, counts: Counts) -> Result<(), NoMemory>
+    ensures { OnOk result (out.new.items ≡ out.old.items ++ optional_total counts) }
+{
     put_counted_if(out, ", unreached files ", counts.unreached)?;
+    put_counted_if(out, ", documents that no sitemap lists ", counts.unlisted)?;
     put_counted_if(out, ", external URLs ", counts.external)
 }
 
@@ -100,6 +107,29 @@ pub fn is_broken(totals: Totals) -> bool
         || totals.leaving_links > 0
 }
 
+/// Appends the line of the hint at a missing BASE.
+fn put_hint_line(out: &mut Vec<u8>, hint: &BaseHint) -> Result<(), NoMemory>
+    ensures { OnOk result (out.new.items ≡ out.old.items ++ base_hint_line hint.now) }
+{
+    put_base_hint(out, Escape::Shown, hint)?;
+    put(out, "\n")
+}
+
+/// Appends the hint at a missing BASE: the folder, and how many paths begin with it.
+pub fn put_base_hint(out: &mut Vec<u8>, how: Escape, hint: &BaseHint) -> Result<(), NoMemory>
+    ensures { OnOk result (out.new.items ≡ out.old.items ++ base_hint how hint.now) }
+{
+    put_counted(out, "hint: ", hint.paths)?;
+    put_counted(out, " of ", hint.of)?;
+    put(out, " paths from the root begin with ")?;
+    put_escaped(out, how, hint.folder.as_str())?;
+    put(
+        out,
+        ", which is not in the folder: pass BASE, such as https://HOST",
+    )?;
+    put_escaped(out, how, hint.folder.as_str())
+}
+
 /// Appends an empty line and the title of the section, which is bold if the report has colour.
 fn put_begin(out: &mut Vec<u8>, part: Part, colour: bool) -> Result<(), NoMemory>
     ensures { OnOk result (out.new.items ≡ out.old.items ++ begin_text colour part) }
@@ -119,6 +149,7 @@ fn title(part: Part) -> &'static str
         Part::Worst => "files with the most broken links:\n",
         Part::Redirects => "links to redirects:\n",
         Part::Unreached => "unreached files:\n",
+        Part::Unlisted => "documents that no sitemap lists:\n",
         Part::External => "external links (not checked):\n",
         Part::Unused => "unused --ignore entries:\n",
     }
@@ -259,7 +290,7 @@ fn put_hint(out: &mut Vec<u8>, how: Escape, hint: &Option<String>) -> Result<(),
     }
 }
 
-/// Appends the link as it is written, in parentheses; nothing if that is not known, or is the name of the target.
+/// Appends the link as it is written, in parentheses; nothing if that is not known, or if the name of the target ends with it.
 pub fn put_written(
     out: &mut Vec<u8>,
     how: Escape,
@@ -274,7 +305,7 @@ pub fn put_written(
     }
 }
 
-/// Appends the link as it is written, in parentheses, unless it is the name of the target.
+/// Appends the link as it is written, in parentheses, unless the name of the target ends with it.
 fn put_link_written(
     out: &mut Vec<u8>,
     how: Escape,
@@ -283,19 +314,11 @@ fn put_link_written(
 ) -> Result<(), NoMemory>
     ensures { OnOk result (out.new.items ≡ out.old.items ++ written_text how broken.now (Some link.now)) }
 {
-    if is_name(*out.allocator(), broken, link)? {
+    if ends_with_link(*out.allocator(), broken, link)? {
         Ok(())
     } else {
         put_bracketed(out, " (written as ", how, link)
     }
-}
-
-/// Whether the text is the name of the target.
-pub fn is_name(alloc: Global, broken: &Broken, text: &str) -> Result<bool, NoMemory>
-    ensures { IfOk result (λ is. is ≡ bytes_eq text.now (target_name broken.now)) }
-{
-    let name = target_name(alloc, broken)?;
-    Ok(text == name.as_str())
 }
 
 /// Appends a word with the opening parenthesis, a text, and the closing parenthesis.
@@ -394,7 +417,7 @@ fn put_external(out: &mut Vec<u8>, url: &External) -> Result<(), NoMemory>
     put(out, "\n")
 }
 
-/// Appends the line of an unreached file or of an unused entry of the ignore list.
+/// Appends the line of an unreached file, of a document that no sitemap lists, or of an unused entry of the ignore list.
 fn put_name(out: &mut Vec<u8>, part: Part, text: &str) -> Result<(), NoMemory>
     ensures { OnOk result (out.new.items ≡ out.old.items ++ name_text part text.now) }
 {
@@ -408,7 +431,7 @@ pub fn put_name_in(out: &mut Vec<u8>, how: Escape, part: Part, text: &str) -> Re
     ensures { OnOk result (out.new.items ≡ out.old.items ++ name_in how part text.now) }
 {
     match part {
-        Part::Unreached => put_page_name(out, how, text),
+        Part::Unreached | Part::Unlisted => put_page_name(out, how, text),
         Part::Broken | Part::Worst | Part::Redirects | Part::External | Part::Unused => put_escaped(
             out, how, text,
         ),

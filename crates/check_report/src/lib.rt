@@ -29,5 +29,5 @@ pub use as_text::is_broken;
 pub use printing::{print_annotations, print_json, print_page, print_text};
 pub use put::NoMemory;
 pub use value::{
-    Broken, Contents, External, FileCount, Findings, Kind, Lists, Place, Redirect, Totals,
+    BaseHint, Broken, Contents, External, FileCount, Findings, Kind, Lists, Place, Redirect, Totals,
 };

@@ -1,9 +1,9 @@
-//! The messages about broken links in JUnit XML and SARIF.
+//! The messages about findings in JUnit XML and SARIF.
 ghost use Rattle.std.specs.Prelude.{◌≡◌, ◌++◌, IfOk, OnOk, Some, option_map, string_bytes};
-ghost use Rattle.check_report.specs.Messages.{advice_part, bracketed, hint_part, link_message, message_start, rule_id, same_name_part, target_message, written_part};
+ghost use Rattle.check_report.specs.Messages.{advice_part, bracketed, hint_part, link_message, message_start, rule_id, same_name_part, target_message, unlisted_message, written_part};
 
 use crate::as_text::message;
-use crate::names::{page_name, target_name};
+use crate::names::{ends_with_link, page_name, target_name};
 use crate::put::NoMemory;
 use crate::value::{Broken, Kind, Place};
 use std::alloc::Global;
@@ -23,7 +23,21 @@ pub fn rule_id(kind: Kind) -> &'static str
     }
 }
 
+/// The name of the finding of a document that no sitemap lists.
+pub const NOT_IN_SITEMAP: &str = "not-in-sitemap";
+
+/// The message about a document that no sitemap lists.
+#[tactic(auto, unfolding(crate::specs::Messages::unlisted_message))]
+pub fn unlisted_message(alloc: Global, document: &str) -> Result<String, NoMemory>
+    ensures { IfOk result (λ text. string_bytes text ≡ unlisted_message document.now) }
+{
+    let mut text = page_name(alloc, document)?;
+    text.push_str(": not in a sitemap")?;
+    Ok(text)
+}
+
 /// The message about a link: its target, what is wrong with it, the link as it is written, and what is suggested.
+#[tactic(auto, unfolding(crate::specs::Messages::link_message))]
 pub fn link_message(alloc: Global, broken: &Broken, place: &Place) -> Result<String, NoMemory>
     ensures { IfOk result (λ text. string_bytes text ≡ link_message broken.now place.now) }
 {
@@ -34,6 +48,7 @@ pub fn link_message(alloc: Global, broken: &Broken, place: &Place) -> Result<Str
 }
 
 /// The message about a target without locations: what is wrong with it, and what is suggested.
+#[tactic(auto, unfolding(crate::specs::Messages::target_message))]
 pub fn target_message(alloc: Global, broken: &Broken) -> Result<String, NoMemory>
     ensures { IfOk result (λ text. string_bytes text ≡ target_message broken.now) }
 {
@@ -52,7 +67,7 @@ fn message_start(alloc: Global, broken: &Broken) -> Result<String, NoMemory>
     Ok(text)
 }
 
-/// Appends the link as it is written, in parentheses; nothing if that is not known, or is the name of the target.
+/// Appends the link as it is written, in parentheses; nothing if that is not known, or if the name of the target ends with it.
 fn push_written(
     alloc: Global,
     text: &mut String,
@@ -67,12 +82,11 @@ fn push_written(
     }
 }
 
-/// Appends the link as it is written, in parentheses, unless it is the name of the target.
+/// Appends the link as it is written, in parentheses, unless the name of the target ends with it.
 fn push_link(alloc: Global, text: &mut String, broken: &Broken, link: &str) -> Result<(), NoMemory>
     ensures { OnOk result (string_bytes text.new ≡ string_bytes text.old ++ written_part broken.now (Some link.now)) }
 {
-    let name = target_name(alloc, broken)?;
-    if link == name.as_str() {
+    if ends_with_link(alloc, broken, link)? {
         Ok(())
     } else {
         push_bracketed(text, " (written as ", link)

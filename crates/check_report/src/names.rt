@@ -2,7 +2,7 @@
 ghost use Rattle.std.specs.Prelude.{◌≡◌, ◌-◌, ◌*◌, ◌≤◌, ◌++◌, IfOk, IfSome, OnOk, Some, None, chars, if◌then◌else◌, drop, length, string_bytes, take};
 ghost use Rattle.std.specs.Char.{encode_utf8};
 ghost use Rattle.percent_encoding.specs.Percent.{percent_decode};
-ghost use Rattle.check_report.specs.Names.{at_percent, decoded, escapes_of, has_host, is_command, is_readable, is_text, page_in, page_name, readable_at, readable_in, readable_only, target_in, target_name, unescaped};
+ghost use Rattle.check_report.specs.Names.{at_percent, decoded, ends_with_link, escapes_of, has_host, is_command, is_readable, is_text, page_in, page_name, readable_at, readable_in, readable_only, target_in, target_name, unescaped};
 ghost use Rattle.shown_text.specs.Shown.{is_hidden};
 
 use crate::escape::{Escape, put_escaped};
@@ -53,6 +53,14 @@ pub fn target_name(alloc: Global, broken: &Broken) -> Result<String, NoMemory>
     } else {
         page_name(alloc, target)
     }
+}
+
+/// Whether the name of the target ends with this link: then the link as it is written says nothing more.
+pub fn ends_with_link(alloc: Global, broken: &Broken, link: &str) -> Result<bool, NoMemory>
+    ensures { IfOk result (λ ends. ends ≡ ends_with_link broken.now link.now) }
+{
+    let name = target_name(alloc, broken)?;
+    Ok(name.as_bytes().ends_with(link.as_bytes()))
 }
 
 /// Whether the target is the text of a link, as it is written.

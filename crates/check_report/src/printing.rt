@@ -3,7 +3,7 @@ ghost use Rattle.std.specs.Prelude.{◌≡◌, ℕ, [], ◌∷◌, IfOk, flat_ma
 ghost use Rattle.check_report.specs.Printing.{Adds, printed, printed_annotations, printed_json, printed_page, printed_text, text_order};
 ghost use Rattle.check_report.specs.Order.{link_of, ordered_places, shown_places};
 ghost use Rattle.check_report.specs.Rows as line;
-ghost use Rattle.check_report.specs.Rows.{line_of, bare_lines, broken_lines, broken_part, counts_of, edge, external_of, external_part, file_lines, if_listed, left_out, lines_in, link_line, listed, name_part, place_lines, redirect_part, rest_lines, target_lines, worst_part};
+ghost use Rattle.check_report.specs.Rows.{line_of, bare_lines, broken_lines, broken_part, counts_of, edge, external_of, external_part, file_lines, hint_lines, if_listed, left_out, lines_in, link_line, listed, name_part, place_lines, redirect_part, rest_lines, target_lines, worst_part};
 
 use crate::as_annotations::put_annotation;
 use crate::as_json::with_json;
@@ -15,7 +15,9 @@ use crate::ordered::{
 };
 use crate::put::NoMemory;
 use crate::row::{Counts, Part, Row};
-use crate::value::{Broken, Contents, External, FileCount, Findings, Lists, Place, Redirect};
+use crate::value::{
+    BaseHint, Broken, Contents, External, FileCount, Findings, Lists, Place, Redirect,
+};
 use crate::view::{Order, View};
 use std::alloc::Global;
 
@@ -117,7 +119,8 @@ pub fn print_page(
     )
 }
 
-/// Prints the report in this form: the totals, and then each section that has rows. The view says how broken links are listed.
+/// Prints the report in this form: the totals, the hint at BASE, and then each section that has rows. The view says how broken links
+/// are listed.
 fn print(
     alloc: Global,
     findings: &Findings<'_>,
@@ -129,11 +132,13 @@ fn print(
 {
     let shown = listed(findings, contents.lists);
     let begun = with(Vec::new(alloc), form, total_of(findings, contents))?;
-    let broken = with_broken(begun, form, shown.broken, view)?;
+    let hinted = with_hint(begun, form, findings.base_hint)?;
+    let broken = with_broken(hinted, form, shown.broken, view)?;
     let worst = with_worst(broken, form, shown.worst)?;
     let redirects = with_redirects(worst, form, shown.redirects)?;
     let unreached = with_names(redirects, form, Part::Unreached, shown.unreached)?;
-    let external = with_external(unreached, form, external_of(contents))?;
+    let unlisted = with_names(unreached, form, Part::Unlisted, shown.unlisted)?;
+    let external = with_external(unlisted, form, external_of(contents))?;
     let unused = with_names(external, form, Part::Unused, shown.unused_ignores)?;
     let all = with(unused, form, Row::Last)?;
     Ok(all)
@@ -160,6 +165,11 @@ fn counts_of(findings: &Findings<'_>, contents: Contents<'_>) -> Counts
         } else {
             None
         },
+        unlisted: if contents.lists.unlisted {
+            Some(findings.unlisted.len())
+        } else {
+            None
+        },
         external: match contents.external {
             Some(urls) => Some(urls.len()),
             None => None,
@@ -173,16 +183,18 @@ fn listed<'r>(findings: &Findings<'r>, lists: Lists) -> Findings<'r>
     ensures worst { result.worst.now ≡ (listed lists findings.now).worst.now }
     ensures redirects { result.redirects.now ≡ (listed lists findings.now).redirects.now }
     ensures unreached { result.unreached.now ≡ (listed lists findings.now).unreached.now }
+    ensures unlisted { result.unlisted.now ≡ (listed lists findings.now).unlisted.now }
     ensures unused { result.unused_ignores.now ≡ (listed lists findings.now).unused_ignores.now }
 {
     Findings {
         unreached: if_listed(lists.unreached, findings.unreached),
+        unlisted: if_listed(lists.unlisted, findings.unlisted),
         ..*findings
     }
 }
 
 /// The rows if they are listed, otherwise none.
-fn if_listed<T>(listed: bool, rows: &[T]) -> &[T]
+pub fn if_listed<T>(listed: bool, rows: &[T]) -> &[T]
     ensures { result.now ≡ (if_listed listed rows.entry).now }
 {
     if listed { rows } else { &[] }
@@ -227,6 +239,17 @@ fn with_edge(out: Vec<u8>, form: Form<'_>, row: Row<'_>, rows: usize) -> Result<
         with(out, form, row)
     } else {
         Ok(out)
+    }
+}
+
+/// Appends the hint at a missing BASE, if there is one.
+#[tactic(auto, using(crate::proofs::Adding::adds_none))]
+fn with_hint(out: Vec<u8>, form: Form<'_>, hint: Option<&BaseHint>) -> Result<Vec<u8>, NoMemory>
+    ensures { IfOk result (λ more. Adds form.entry out.items more.items (hint_lines hint.entry)) }
+{
+    match hint {
+        Some(hint) => with(out, form, Row::Hint(hint)),
+        None => Ok(out),
     }
 }
 
@@ -500,7 +523,8 @@ fn with_urls(mut out: Vec<u8>, form: Form<'_>, urls: &[External]) -> Result<Vec<
     Ok(out)
 }
 
-/// Appends a section of names, if there are any: the unreached files, or the unused entries of the ignore list.
+/// Appends a section of names, if there are any: the unreached files, the documents that no sitemap lists, or the unused entries of
+/// the ignore list.
 #[tactic(auto, using(crate::proofs::Adding::part_more))]
 fn with_names(
     out: Vec<u8>,

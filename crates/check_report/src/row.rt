@@ -1,6 +1,6 @@
 //! The rows of a report, independent of its form.
 
-use crate::value::{Broken, External, FileCount, Place, Redirect, Totals};
+use crate::value::{BaseHint, Broken, External, FileCount, Place, Redirect, Totals};
 
 /// A section of a report. It is printed if it has rows.
 #[derive(Clone, Copy)]
@@ -9,6 +9,7 @@ pub enum Part {
     Worst,
     Redirects,
     Unreached,
+    Unlisted,
     External,
     Unused,
 }
@@ -17,6 +18,7 @@ pub enum Part {
 #[derive(Clone, Copy)]
 pub struct Counts {
     pub unreached: Option<usize>,
+    pub unlisted: Option<usize>,
     pub external: Option<usize>,
 }
 
@@ -29,6 +31,7 @@ pub enum Row<'r> {
         totals: Totals,
         counts: Counts,
     },
+    Hint(&'r BaseHint),
     Begin(Part),
     Finish(Part),
     Broken(&'r Broken),

@@ -14,8 +14,12 @@ pub struct Findings<'a> {
     pub redirects: &'a [Redirect],
     /// The unreached files.
     pub unreached: &'a [String],
+    /// The documents that no sitemap lists.
+    pub unlisted: &'a [String],
     /// The entries of the ignore list that match nothing.
     pub unused_ignores: &'a [String],
+    /// A hint at a missing BASE.
+    pub base_hint: Option<&'a BaseHint>,
 }
 
 /// What a report lists.
@@ -25,6 +29,8 @@ pub struct Lists {
     pub all: bool,
     /// Whether the report counts and lists unreached files.
     pub unreached: bool,
+    /// Whether the report counts and lists the documents that no sitemap lists.
+    pub unlisted: bool,
     /// Whether a report as text lists the broken links by target, not by file.
     pub by_target: bool,
 }
@@ -113,6 +119,17 @@ pub struct Place {
     pub column: u64,
     /// The link as it is written in the file, if it differs from the target.
     pub written: Option<String>,
+}
+
+/// A folder with which many links to missing pages begin, and which is not in the site.
+#[derive(Drop)]
+pub struct BaseHint {
+    /// The start of the paths: a slash, the name of the folder, and a slash.
+    pub folder: String,
+    /// The number of locations of links to missing pages whose path begins with the folder.
+    pub paths: u64,
+    /// The number of locations of links to missing pages that are a path from the root.
+    pub of: u64,
 }
 
 /// A redirect.

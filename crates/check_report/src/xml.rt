@@ -6,6 +6,7 @@ use crate::escape::put_html_char;
 use crate::put::{NoMemory, put};
 
 /// Appends an attribute, with the space before it.
+#[tactic(auto, unfolding(crate::specs::Junit::attribute))]
 pub fn put_attribute(out: &mut Vec<u8>, name: &str, text: &str) -> Result<(), NoMemory>
     ensures { OnOk result (out.new.items ≡ out.old.items ++ attribute name.now text.now) }
 {
@@ -17,6 +18,7 @@ pub fn put_attribute(out: &mut Vec<u8>, name: &str, text: &str) -> Result<(), No
 }
 
 /// Appends a text, escaped for XML. Characters that XML does not allow, and hidden ones, are shown as escapes such as `\u{1b}`.
+#[tactic(auto, using(crate::proofs::Suites::xml_done))]
 pub fn put_xml(out: &mut Vec<u8>, text: &str) -> Result<(), NoMemory>
     ensures { OnOk result (out.new.items ≡ out.old.items ++ xml text.now) }
 {

@@ -41,6 +41,8 @@ pub struct LinkedSite {
     /// The positions of the links in its documents and their invalid links, in the order of the documents' URLs, if the rules ask for
     /// them.
     pub places: Vec<LinkPlaces>,
+    /// The URLs that the sitemaps of the site list, in order. A sitemap is known by its name, or another one names it.
+    pub listed: Vec<CanonUrl>,
 }
 
 /// Makes the saved web of a site from the bytes of its files. `seeds` are links on the top at which a crawl starts. Like links in
@@ -100,6 +102,7 @@ pub fn site_pages<R: Threads + Sync, B: FileBytes + Sync>(
         documents,
         anchors,
         places,
+        listed: Vec::new(alloc),
     })
 }
 

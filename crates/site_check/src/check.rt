@@ -67,7 +67,9 @@ impl Checked {
             worst: self.worst.as_slice(),
             redirects: self.redirects.as_slice(),
             unreached: self.unreached.as_slice(),
+            unlisted: &[],
             unused_ignores: self.unused_ignores.as_slice(),
+            base_hint: None,
         }
     }
 

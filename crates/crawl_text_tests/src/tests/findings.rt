@@ -1,7 +1,8 @@
 //! The forms of a report. The expected bytes are written by hand.
 use check_report::{
-    Broken, Contents, External, FileCount, Findings, Kind, Lists, NoMemory, Place, Redirect,
-    Totals, print_annotations, print_json, print_junit, print_page, print_sarif, print_text,
+    BaseHint, Broken, Contents, External, FileCount, Findings, Kind, Lists, NoMemory, Place,
+    Redirect, Totals, print_annotations, print_json, print_junit, print_page, print_sarif,
+    print_text,
 };
 use std::alloc::Global;
 
@@ -65,8 +66,9 @@ const TOTALS: Totals = Totals {
 
 /// The text with three locations of each target, by file, without colour.
 const TEXT: &str =
-    "pages 4, files 1, links 20, redirects 2, aliases 3, unreached files 1, external URLs 2
+    "pages 4, files 1, links 20, redirects 2, aliases 3, unreached files 1, documents that no sitemap lists 1, external URLs 2
 broken links 5, missing pages 2, missing anchors 1, invalid links 4, leaving links 3
+hint: 3 of 4 paths from the root begin with /d&/, which is not in the folder: pass BASE, such as https://HOST/d&/
 
 a.html:7:9: C:\\x: local file
 a.html:8:9: http://[<b>: not a URL
@@ -92,6 +94,9 @@ links to redirects:
 
 unreached files:
   x\\u{9}.html
+
+documents that no sitemap lists:
+  p q.html
 
 external links (not checked):
   3 http://o.test/?a&b
@@ -120,7 +125,8 @@ c.html:1:1: http://s.test/<b>: outside BASE
 ";
 
 const JSON: &str =
-    "{\"kind\":\"total\",\"base\":\"http://s.test\",\"pages\":4,\"files\":1,\"aliases\":3,\"links\":20,\"redirects\":2,\"unreached\":1,\"external\":2,\"broken\":5,\"missing_pages\":2,\"missing_anchors\":1,\"invalid\":4,\"leaving\":3}
+    "{\"kind\":\"total\",\"base\":\"http://s.test\",\"pages\":4,\"files\":1,\"aliases\":3,\"links\":20,\"redirects\":2,\"unreached\":1,\"unlisted\":1,\"external\":2,\"broken\":5,\"missing_pages\":2,\"missing_anchors\":1,\"invalid\":4,\"leaving\":3}
+{\"kind\":\"hint\",\"base\":\"/d&/\",\"paths\":3,\"of\":4}
 {\"kind\":\"broken\",\"target\":\"down.html\",\"missing\":\"page\",\"pages\":3,\"same_name\":\"lib/down.html\",\"hint\":null}
 {\"kind\":\"place\",\"target\":\"down.html\",\"missing\":\"page\",\"file\":\"a.html\",\"line\":41,\"column\":12,\"written\":null}
 {\"kind\":\"place\",\"target\":\"down.html\",\"missing\":\"page\",\"file\":\"b.html\",\"line\":3,\"column\":1,\"written\":null}
@@ -146,6 +152,7 @@ const JSON: &str =
 {\"kind\":\"redirect\",\"page\":\"guide\",\"to\":\"guide/\",\"pages\":7}
 {\"kind\":\"redirect\",\"page\":\"old.html\",\"to\":null,\"pages\":1}
 {\"kind\":\"unreached\",\"name\":\"x\\t.html\"}
+{\"kind\":\"unlisted\",\"name\":\"p%20q.html\"}
 {\"kind\":\"external\",\"url\":\"http://o.test/?a&b\",\"links\":3}
 {\"kind\":\"external\",\"url\":\"https://p.test/\",\"links\":1}
 {\"kind\":\"unused\",\"name\":\"http://a.test/\"}
@@ -166,6 +173,7 @@ const ANNOTATIONS: &str =
 ::error file=s%3Ate/b.html,line=7,col=2::http://s.test/<b>: outside BASE
 ::error file=s%3Ate/c.html,line=1,col=1::http://s.test/<b>: outside BASE
 ::error::../: leaves the folder
+::error::p%2520q.html: not in a sitemap
 ";
 
 /// The JUnit XML.
@@ -195,16 +203,20 @@ const JUNIT: &str = "<?xml version=\"1.0\" encoding=\"UTF-8\"?>
 <testcase name=\"start.html\" classname=\"no file\"><failure type=\"missing-page\" message=\"start.html: no such page\">start.html: no such page</failure></testcase>
 <testcase name=\"../\" classname=\"no file\"><failure type=\"leaves-the-folder\" message=\"../: leaves the folder\">../: leaves the folder</failure></testcase>
 </testsuite>
+<testsuite name=\"sitemap\" tests=\"1\" failures=\"1\" errors=\"0\">
+<testcase name=\"p q.html\" classname=\"sitemap\"><failure type=\"not-in-sitemap\" message=\"p q.html: not in a sitemap\">p q.html: not in a sitemap</failure></testcase>
+</testsuite>
 </testsuites>
 ";
 
 /// The results of the SARIF log from the last file on.
 const SARIF: &str =
-    ",{\"ruleId\":\"missing-anchor\",\"level\":\"error\",\"message\":{\"text\":\"a<b>&\\\"'.html#x\\\\u{a}: no such anchor\"},\"locations\":[{\"physicalLocation\":{\"artifactLocation\":{\"uri\":\"s%3Ate/d%2Ce%3Af%25%0D.html\"},\"region\":{\"startLine\":1,\"startColumn\":2}}}]},{\"ruleId\":\"missing-page\",\"level\":\"error\",\"message\":{\"text\":\"start.html: no such page\"}},{\"ruleId\":\"leaves-the-folder\",\"level\":\"error\",\"message\":{\"text\":\"../: leaves the folder\"}}]}]}
+    ",{\"ruleId\":\"missing-anchor\",\"level\":\"error\",\"message\":{\"text\":\"a<b>&\\\"'.html#x\\\\u{a}: no such anchor\"},\"locations\":[{\"physicalLocation\":{\"artifactLocation\":{\"uri\":\"s%3Ate/d%2Ce%3Af%25%0D.html\"},\"region\":{\"startLine\":1,\"startColumn\":2}}}]},{\"ruleId\":\"missing-page\",\"level\":\"error\",\"message\":{\"text\":\"start.html: no such page\"}},{\"ruleId\":\"leaves-the-folder\",\"level\":\"error\",\"message\":{\"text\":\"../: leaves the folder\"}},{\"ruleId\":\"not-in-sitemap\",\"level\":\"error\",\"message\":{\"text\":\"p q.html: not in a sitemap\"}}]}]}
 ";
 
 /// The HTML page after the fixed texts.
 const PAGE: &str = "</form>
+<p>hint: 3 of 4 paths from the root begin with /d&amp;/, which is not in the folder: pass BASE, such as https://HOST/d&amp;/</p>
 <section id=broken aria-labelledby=h-broken>
 <h2 id=h-broken>Broken links</h2>
 <pre class=plain>
@@ -248,6 +260,12 @@ old.html\tto -\tlinked from 1 page
 <h2 id=h-unreached>Unreached files</h2>
 <pre>
 x\\u{9}.html
+</pre>
+</section>
+<section id=unlisted aria-labelledby=h-unlisted>
+<h2 id=h-unlisted>Documents that no sitemap lists</h2>
+<pre>
+p q.html
 </pre>
 </section>
 <section id=external aria-labelledby=h-external>
@@ -331,7 +349,7 @@ const HEADINGS: &[Heading] = &[
 const AFTER_NAME: &[u8] =
     b"\n</pre>\n</section>\n</main>\n<footer id=end></footer>\n</body>\n</html>\n";
 
-/// The files of links to one page, in natural order, and how the links are written; empty if as the name of the page.
+/// The files of links to one page, in natural order, and how the links are written; empty if as the end of the page's name.
 const NAMES: &[(&str, &str)] = &[
     ("", ""),
     ("-1", ""),
@@ -358,6 +376,9 @@ const NAMES: &[(&str, &str)] = &[
 const NAMED_URL: &str = "%D7%A9/p%20q%2F%ff%C2%85.html";
 
 const NAMED: &str = "\u{5e9}/p q%2F%ff%C2%85.html";
+
+/// The end of the name.
+const ENDING: &str = "p q%2F%ff%C2%85.html";
 
 /// The end of the line of each link to the page.
 const ADVICE: &str = " (did you mean \u{e4}%0A.html?) (about.html exists: --fallback html)\n";
@@ -501,7 +522,13 @@ fn printed(alloc: Global) -> Option<[bool; 7]> {
         redirect(alloc, "old.html", "", 1)?,
     ];
     let unreached = [text(alloc, "x\t.html")?];
+    let unlisted = [text(alloc, "p%20q.html")?];
     let unused = [text(alloc, "http://a.test/")?];
+    let hint = BaseHint {
+        folder: text(alloc, "/d&/")?,
+        paths: 3,
+        of: 4,
+    };
     let others = [
         external(alloc, "http://o.test/?a&b", 3)?,
         external(alloc, "https://p.test/", 1)?,
@@ -513,11 +540,14 @@ fn printed(alloc: Global) -> Option<[bool; 7]> {
         worst: &worst,
         redirects: &redirects,
         unreached: &unreached,
+        unlisted: &unlisted,
         unused_ignores: &unused,
+        base_hint: Some(&hint),
     };
     let contents = Contents {
         lists: Lists {
             unreached: true,
+            unlisted: true,
             ..Lists::default()
         },
         external: Some(&others),
@@ -537,7 +567,9 @@ fn nothing(alloc: Global) -> Option<bool> {
         worst: &[],
         redirects: &[],
         unreached: &unreached,
+        unlisted: &unreached,
         unused_ignores: &[],
+        base_hint: None,
     };
     let contents = Contents {
         lists: Lists::default(),
@@ -558,7 +590,9 @@ fn annotated(alloc: Global, folder: &str) -> Option<Vec<u8>> {
         worst: &[],
         redirects: &[],
         unreached: &[],
+        unlisted: &[],
         unused_ignores: &[],
+        base_hint: None,
     };
     let contents = Contents {
         lists: Lists::default(),
@@ -596,7 +630,9 @@ fn seen(alloc: Global, row: &Seen) -> Option<[bool; 3]> {
         worst: &[],
         redirects: &[],
         unreached: &[],
+        unlisted: &[],
         unused_ignores: &unused,
+        base_hint: None,
     };
     let contents = Contents {
         lists: Lists::default(),
@@ -639,7 +675,9 @@ fn is_headed(alloc: Global, row: &Heading) -> Option<bool> {
         worst: &[],
         redirects: &[],
         unreached: &[],
+        unlisted: &[],
         unused_ignores: &[],
+        base_hint: None,
     };
     let contents = Contents {
         lists: Lists::default(),
@@ -660,7 +698,7 @@ fn is_headed(alloc: Global, row: &Heading) -> Option<bool> {
 fn named_target(alloc: Global) -> Option<Broken> {
     let mut places = Vec::new(alloc);
     for (file, written) in NAMES.iter().rev() {
-        let written = if written.is_empty() { NAMED } else { *written };
+        let written = if written.is_empty() { ENDING } else { *written };
         let file = text(alloc, file)?;
         let written = Some(text(alloc, written)?);
         places
@@ -713,7 +751,9 @@ fn is_by_file(alloc: Global) -> Option<bool> {
         worst: &[],
         redirects: &[],
         unreached: &[],
+        unlisted: &[],
         unused_ignores: &[],
+        base_hint: None,
     };
     let contents = Contents {
         lists: Lists {
@@ -754,7 +794,9 @@ fn has_sources(alloc: Global) -> Option<[bool; 2]> {
         worst: &[],
         redirects: &[],
         unreached: &[],
+        unlisted: &[],
         unused_ignores: &[],
+        base_hint: None,
     };
     let contents = Contents {
         lists: Lists::default(),

@@ -215,6 +215,7 @@ fn lists_of(given: &Given<'_, '_>) -> Lists {
     Lists {
         all: given.flag("all-sources"),
         unreached: given.flag("unreached"),
+        unlisted: false,
         by_target: given.flag("by-target"),
     }
 }

@@ -1,7 +1,7 @@
 use Rattle.check_report.proofs.Prelude.{ap, [], ◌∷◌, ◌++◌, ◌∙◌}
 use Rattle.json.specs.Token.{end_object}
 use Rattle.shown_text.specs.Shown.{shown}
-use Rattle.check_report.specs.Messages.{target_message}
+use Rattle.check_report.specs.Messages.{rule_id, target_message}
 use Rattle.check_report.specs.Sarif.{start_tokens}
 use Rattle.check_report.proofs.Adding.{last_joined}
 use Rattle.check_report.proofs.as_sarif.put_bare_target.Goals as goal
@@ -10,8 +10,8 @@ pub returns-clause-tokens : goal.returns-clause-tokens
 returns-clause-tokens c =
     let old = c.args.out.now.tokens in
     let target = c.args.target.now in
-    let start = start_tokens target.kind (shown (target_message target)) in
+    let start = start_tokens (rule_id target.kind) (shown (target_message target)) in
     let begun = c.put_result_start.new.out.tokens in
     let text = c.as_str-2.ensures.value ∙ c.in_ok-text.ensures ∙ ap shown (c.as_str.ensures.value ∙ c.in_ok-message.ensures) in
     last_joined c.end_object.result old begun c.end_object.new.self.tokens start (end_object ∷ [])
-    (c.in_ok-put_result_start.ensures.tokens ∙ ap (λ t. old ++ start_tokens target.kind t) text) c.end_object.ensures.ok
+    (c.in_ok-put_result_start.ensures.tokens ∙ ap (λ r. old ++ start_tokens r c.as_str-2.result.now) c.rule_id.ensures ∙ ap (λ t. old ++ start_tokens (rule_id target.kind) t) text) c.end_object.ensures.ok

@@ -7,6 +7,6 @@ use Rattle.check_report.proofs.as_sarif.put_links.Given as goal
 
 abbrev pub invariant-loop-link : goal.invariant-loop-link
 invariant-loop-link l = record {
-  tokens : l.out.tokens ≡ l.fn.out.tokens ++ flat_map (λ (k : Link). json_tokens (link_result l.contents (link_of k))) (take l.link-index l.links);
+  tokens : l.out.tokens ≡ l.fn.out.tokens ++ flat_map (λ (k : Link). json_tokens (link_result l.fn.contents (link_of k))) (take l.link-index l.links);
   before : l.out.before ≡ l.fn.out.before;
 }

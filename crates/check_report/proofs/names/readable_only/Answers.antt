@@ -1,4 +1,4 @@
-use Rattle.check_report.proofs.Prelude.{ap, arith, length, nat_tests, sym, ◌++◌, ◌≡◌, ◌∙◌}
+use Rattle.check_report.proofs.Prelude.{arith, length, nat_tests, ◌++◌, ◌≡◌}
 use Rattle.std.specs.Char.{encode_utf8}
 use Rattle.std.specs.Str.Iter.{chars_rest}
 use Rattle.check_report.proofs.Decoding.{readable_one}

@@ -1,4 +1,4 @@
-use Rattle.check_report.proofs.Prelude.{◌≡◌, map, string_bytes, take}
+use Rattle.check_report.proofs.Prelude.{◌≡◌, map, take}
 use Rattle.std.specs.List.{All}
 use Rattle.check_report.specs.declared.ordered.Named.{Named}
 use Rattle.check_report.proofs.Sorting.{IsNamed}

@@ -1,0 +1,17 @@
+use Rattle.check_report.proofs.Prelude.{ap, [], ◌∷◌, ◌++◌, ◌∙◌}
+use Rattle.json.specs.Token.{end_object}
+use Rattle.shown_text.specs.Shown.{shown}
+use Rattle.check_report.specs.Messages.{not_in_sitemap, unlisted_message}
+use Rattle.check_report.specs.Sarif.{start_tokens}
+use Rattle.check_report.proofs.Adding.{last_joined}
+use Rattle.check_report.proofs.as_sarif.put_unlisted_document.Goals as goal
+
+pub returns-clause-tokens : goal.returns-clause-tokens
+returns-clause-tokens c =
+    let old = c.args.out.now.tokens in
+    let document = c.args.document.now in
+    let start = start_tokens not_in_sitemap (shown (unlisted_message document)) in
+    let begun = c.put_result_start.new.out.tokens in
+    let text = c.as_str-2.ensures.value ∙ c.in_ok-text.ensures ∙ ap shown (c.as_str.ensures.value ∙ c.in_ok-message.ensures) in
+    last_joined c.end_object.result old begun c.end_object.new.self.tokens start (end_object ∷ [])
+    (c.in_ok-put_result_start.ensures.tokens ∙ ap (λ t. old ++ start_tokens not_in_sitemap t) text) c.end_object.ensures.ok
