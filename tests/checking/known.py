@@ -29,6 +29,7 @@ class Known(NamedTuple):
     broken: List[str]
     rows: Tuple[Dict[str, Any], ...] = ()  # some members of some rows
     settings: Tuple[Tuple[str, Any], ...] = ()  # some settings of the check
+    without: Tuple[str, ...] = ()  # the kinds of rows that there are not
 
 
 def total(pages: int, links: int, redirects: int, aliases: int, files: int = 0) -> Tuple[Dict[str, Any]]:
@@ -39,6 +40,11 @@ def total(pages: int, links: int, redirects: int, aliases: int, files: int = 0) 
 def unreached(*names: str) -> Tuple[Dict[str, Any], ...]:
     """The rows of unreached files."""
     return tuple({"kind": "unreached", "name": name} for name in names)
+
+
+def unlisted(*names: str) -> Tuple[Dict[str, Any], ...]:
+    """The rows of documents that no sitemap lists."""
+    return tuple({"kind": "unlisted", "name": name} for name in names)
 
 
 def error(text: str) -> Tuple[Dict[str, Any]]:
@@ -638,6 +644,60 @@ KNOWN = [
         [],
         (*total(pages=1, links=0, redirects=0, aliases=0), *unreached("d/atom.xml", "sitemap.xml")),
         settings=(("reachable", True), ("unreached", True)),
+    ),
+    Known(
+        "a folder of BASE that is not in the folder",
+        {"index.html": "<a href=/p/a.html><a href='/p/\u00fc/#x'><a href=/q/c><a href=d><a href=/p><a href=/p?/><a href='\n/p/\ta.html'>", "p": "", "d/e.html": "<img src=/p/f>", "pp/p/x": ""},
+        [
+            "d/ index.html:1:58", "p/a.html index.html:1:9", "p/a.html index.html:1:93", "p/f d/e.html:1:10", "p/%C3%BC/ index.html:1:28", "q/c index.html:1:45",
+        ],
+        ({"kind": "hint", "base": "/p/", "paths": 4, "of": 5},),
+        settings=NO_BASE,
+    ),
+    Known(
+        "paths of two folders that are not in the folder", {"index.html": "<a href=/q/a><a href=/p/b><a href=/p/c><a href=/q/d#x><a href=/Q/e>"},
+        ["Q/e index.html:1:63", "p/b index.html:1:22", "p/c index.html:1:35", "q/a index.html:1:9", "q/d index.html:1:48"],
+        settings=NO_BASE, without=("hint",),
+    ),
+    Known(
+        "one path, and paths of a folder that exists", {"index.html": "<a href=/p/a><a href=/p/b>", "p/c": "", "d/index.html": ""}, ["p/a index.html:1:9", "p/b index.html:1:22"],
+        settings=NO_BASE, without=("hint",),
+    ),
+    Known(
+        "one path from the root", {"index.html": "<a href=/p/a><a href=//p/b><a href=/p><a href='\\\\p\\b'>"}, ["p index.html:1:36", "p/a index.html:1:9"],
+        settings=NO_BASE, without=("hint",),
+    ),
+    Known(
+        "paths from the root with BASE", {"index.html": "<a href=/p/a><a href=/p/b>"}, ["p/a index.html:1:9", "p/b index.html:1:22"], settings=(("front", "http://docs.test/"),), without=("hint",),
+    ),
+    Known(
+        "paths from the root that are ignored", {"index.html": "<a href=/p/a><a href=/p/b><a href=/q/c>"}, ["q/c index.html:1:35"], settings=(*NO_BASE, ("ignores", ("p/",))), without=("hint",),
+    ),
+    Known(
+        "the first of two folders", {"index.html": "<a href=/q/a><a href=/p/b><a href=/p/c><a href=/q/d#x>"},
+        ["p/b index.html:1:22", "p/c index.html:1:35", "q/a index.html:1:9", "q/d index.html:1:48"],
+        ({"kind": "hint", "base": "/p/", "paths": 2, "of": 4},), settings=NO_BASE,
+    ),
+    Known(
+        "documents that no sitemap lists",
+        {
+            "index.html": "<a href=gone><a href=f>", "a.html": "", "b.html": "", "c.html": "", "404.html": "", "d/index.html": "<a href=e.html?x>", "d/404.html": "", "d/e.html": "", "f": "<html>",
+            "sitemap-1.XML": "<urlset><loc>http://docs.test/</loc><loc>http://docs.test/index.html#x</loc><loc>http://docs.test/b.html?x</loc><loc>http://docs.test/d</loc><loc>more.xml</loc>"
+            "<loc>https://docs.test/c.html</loc><loc>feed.xml</loc></urlset>",
+            "more.xml": "<urlset><loc>http://docs.test/d/e.html</loc><loc>other.txt</loc></urlset>", "feed.xml": "<rss><link>http://docs.test/c.html</link></rss>",
+            "other.txt": "http://docs.test/c.html", "x.xml": "<urlset><loc>http://docs.test/a.html</loc></urlset>",
+        },
+        ["gone index.html:1:9"],
+        (*unlisted("a.html", "c.html", "d/", "f"), {"kind": "total", "unlisted": 4, "pages": 9}),
+        settings=(("sitemap", True), ("front", "http://docs.test/")),
+    ),
+    Known(
+        "documents that a list of URLs names", {"index.html": "", "a.html": "", "sitemap.txt": "http://docs.test/\n", "feed.rss": "<rss><link>a.html</link></rss>"},
+        [], (*unlisted("a.html"), {"kind": "total", "unlisted": 1, "broken": 0}), settings=(("sitemap", True), ("front", "http://docs.test/")),
+    ),
+    Known(
+        "a sitemap that is not reached", {"index.html": "", "a.html": "", "sitemap.txt": "http://docs.test/\n"}, [], (*unlisted("./"), {"kind": "total", "unlisted": 1}),
+        settings=(("sitemap", True), ("reachable", True), ("front", "http://docs.test/")),
     ),
     Known(
         "patterns that are ignored",

@@ -19,6 +19,8 @@ from checking.documents import TOOL, Document, document_of, form_of, is_page, kn
 Row = Dict[str, Any]
 FRAGMENT = "\"<>`"  # percent-encoded in a fragment, in addition to controls, spaces and everything beyond ASCII
 MOST_FILES = 10  # the number of files in the list of files with the most broken links
+ERROR_PAGE = "404.html"  # the last name of the URL of a page that no sitemap has to list
+ROOT_FOLDER = re.compile("/([^/?#]+)/")  # the first folder of a path from the root
 LINE_LIMIT = 4096  # the most bytes in a line of a saved web
 FILE_LIMIT = 1 << 30  # the most bytes of a file that is read
 
@@ -97,6 +99,7 @@ class Settings(NamedTuple):
     ignores: Tuple[str, ...] = ()
     anchors: bool = True
     unreached: bool = False
+    sitemap: bool = False  # whether the documents are listed that no sitemap lists
     exact: bool = False
     external: bool = False
     follow: bool = False
@@ -130,6 +133,7 @@ class Flag(NamedTuple):
 FLAGS = (
     Flag("anchors", "--no-anchors", 0.2),
     Flag("unreached", "--unreached", 0.5),
+    Flag("sitemap", "--sitemap", 0.3),
     Flag("exact", "--exact", 0.2),
     Flag("external", "--external", 0.5),
     Flag("follow", "--follow", 0.3),
@@ -371,7 +375,11 @@ class Site:
 
     def own_starts(self) -> List[str]:
         """The own URLs of the files at which a check starts: HTML documents, sitemaps and feeds by their names."""
-        return [url for name, url in self.own.items() if is_page(self.path(name)) or self.form(name) in ("feed", "list") and feeds.is_start(last_of(url))]
+        return [url for name, url in self.own.items() if is_page(self.path(name)) or self.is_feed(name) and feeds.is_start(last_of(url))]
+
+    def sitemaps(self) -> List[str]:
+        """The own URLs of the sitemaps that are known by their names."""
+        return [url for name, url in self.own.items() if self.is_feed(name) and feeds.is_sitemap(last_of(url))]
 
     def path(self, name: bytes) -> bytes:
         """The path that a file's name is, without its query."""
@@ -380,6 +388,10 @@ class Site:
     def form(self, name: bytes) -> Optional[str]:
         """The form of a file."""
         return form_of(self.path(name), self.settings.styles)
+
+    def is_feed(self, name: bytes) -> bool:
+        """Whether a file is a sitemap or a feed by its name."""
+        return self.form(name) in ("feed", "list")
 
     def is_document(self, name: bytes) -> bool:
         """Whether a file is an HTML document: by its name, or by its first bytes if its name does not say what it is."""
@@ -603,8 +615,10 @@ class Model:
         ]
         files = sorted(Counter(row["file"] for row in places).items(), key=lambda row: (-row[1], row[0].encode()))
         unreached = list(self.unreached()) if self.settings.unreached else []
+        unlisted = list(self.unlisted()) if self.settings.sitemap else []
         external = self.external() if self.settings.external else []
         counts = {"unreached": len(unreached)} if self.settings.unreached else {}
+        counts.update({"unlisted": len(unlisted)} if self.settings.sitemap else {})
         counts.update({"external": len(external)} if self.settings.external else {})
         found = [response.name for response in map(self.responses.get, self.links) if isinstance(response, Found)]
         pages = sum(map(self.site.is_document, found))
@@ -617,8 +631,17 @@ class Model:
             "missing_anchors": sum(row["kind"] == "broken" and row["missing"] == "anchor" for row in broken),
         }
         worst = [{"kind": "worst", "file": file, "links": count} for file, count in files[:MOST_FILES]]
-        names = [{"kind": "unreached", "name": name} for name in unreached]
-        return [total, *broken, *invalid, *leaving, *worst, *redirects, *names, *external, *self.unused()]
+        names = [{"kind": "unreached", "name": name} for name in unreached] + [{"kind": "unlisted", "name": name} for name in unlisted]
+        return [total, *self.base_hint(broken), *broken, *invalid, *leaving, *worst, *redirects, *names, *external, *self.unused()]
+
+    def base_hint(self, broken: List[Row]) -> Iterator[Row]:
+        """The hint that BASE is missing: most links to missing pages that are paths from the root begin with the same folder, which does not exist."""
+        paths = [row["written"] for row in broken if row["kind"] == "place" and row["missing"] == "page" and row["written"]]
+        found = [path[1] for path in map(ROOT_FOLDER.match, paths) if path]
+        most = [(name, count) for name, count in Counter(found).items() if 2 * count >= len(found) and count >= 2]
+        for name, count in most[:1] if self.settings.is_rooted() else ():
+            if not any(file.startswith(name.encode("utf-8", "replace") + b"/") for file in self.site.own):
+                yield {"kind": "hint", "base": f"/{name}/", "paths": count, "of": len(found)}
 
     def linking(self) -> Dict[str, Set[str]]:
         """The pages that link to each URL. A redirect or an alias counts as a link to its target."""
@@ -751,6 +774,26 @@ class Model:
             if name not in reached:
                 reached.add(name)
                 yield self.shown(url)
+
+    def unlisted(self) -> Iterator[str]:
+        """The documents that no sitemap lists, without pages of errors."""
+        listed = self.listed()
+        listed |= {response.own for url, response in self.responses.items() if url in listed and isinstance(response, Alias)}
+        for url in sorted(self.links, key=str.encode):
+            response = self.responses[url]
+            if isinstance(response, Found) and self.site.is_document(response.name) and url not in listed and last_of(url) != ERROR_PAGE:
+                yield self.shown(url)
+
+    def listed(self) -> Set[str]:
+        """The URLs that sitemaps list: those that are known by their names, and sitemaps that these list."""
+        listed = {link.url for url in self.site.sitemaps() for link in self.links.get(url, ())}
+        others = [url for url in listed if self.is_other_sitemap(url)]
+        return listed | {link.url for url in others for link in self.links.get(url, ())}
+
+    def is_other_sitemap(self, url: str) -> bool:
+        """Whether a file is a sitemap if another one lists it: its name is neither that of a sitemap nor a usual one of a feed."""
+        response = self.responses.get(url)
+        return isinstance(response, Found) and self.site.is_feed(response.name) and not feeds.is_start(last_of(url))
 
     def external(self) -> List[Row]:
         """The rows of links, and of redirects, to other sites."""
