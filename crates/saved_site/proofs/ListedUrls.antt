@@ -1,4 +1,5 @@
 -- The URLs that sitemaps list, page by page.
+use Rattle.std.specs.Prelude.{suc}
 use Rattle.saved_site.proofs.Prelude.{◌≡◌, ℕ, ◌+◌, ◌++◌, arith, ap}
 use Rattle.std.specs.Option.{option_to_list}
 use Rattle.saved_site.specs.Sitemaps.{named_below}

@@ -1,5 +1,5 @@
 -- The URLs that the sitemaps of a site list.
-use Rattle.std.specs.Prelude.{ℕ, List, [], ◌++◌, filter, flat_map, length}
+use Rattle.std.specs.Prelude.{ℕ, zero, suc, List, [], ◌++◌, filter, flat_map, length}
 use Rattle.std.specs.List.Sorted.{IsPermutation, IsSortedBy}
 use Rattle.std.specs.Option.{option_to_list}
 use Rattle.crawl_pages.specs.declared.page.Page.{Page}

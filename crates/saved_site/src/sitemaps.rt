@@ -1,5 +1,5 @@
 //! The URLs that the sitemaps of a site list.
-ghost use Rattle.std.specs.Prelude.{◌≡◌, ◌++◌, filter, IfOk, OnOk};
+ghost use Rattle.std.specs.Prelude.{◌≡◌, ◌==◌, ◌++◌, filter, IfOk, length, not, OnOk};
 ghost use Rattle.std.specs.Option.{option_to_list};
 ghost use Rattle.saved_site.specs.Linked.{page_at};
 ghost use Rattle.saved_site.specs.Sitemaps.{AreListed, links_at, links_in, listed_with, named_sitemaps};
@@ -11,11 +11,36 @@ use crawl_pages::{Fetch, Page};
 use site_files::SiteFiles;
 use std::alloc::{AllocError, Global};
 
+/// What the sitemaps of a site list.
+#[derive(Drop)]
+pub(crate) struct ListedUrls {
+    /// Whether a sitemap is known by its name.
+    pub(crate) has_sitemap: bool,
+    pub(crate) urls: Vec<CanonUrl>,
+}
+
+impl ListedUrls {
+    /// The URLs that the sitemaps of a site with these pages list.
+    pub(crate) fn new(
+        alloc: Global,
+        files: &SiteFiles<'_>,
+        pages: &LinkedPages,
+    ) -> Result<ListedUrls, AllocError>
+        ensures urls { IfOk result (λ listed. AreListed files.now pages.now listed.urls.items) }
+        ensures named { IfOk result (λ listed. listed.has_sitemap ≡ not (length (named_sitemaps files.now) == 0)) }
+    {
+        let named = named_sitemaps(alloc, files)?;
+        let urls = listed_urls(alloc, files, pages, named.as_slice())?;
+        Ok(ListedUrls {
+            has_sitemap: !named.is_empty(),
+            urls,
+        })
+    }
+}
+
 /// Returns the URLs of the sitemaps of a site that are known by their names.
-pub(crate) fn named_sitemaps(
-    alloc: Global,
-    files: &SiteFiles<'_>,
-) -> Result<Vec<CanonUrl>, AllocError>
+#[tactic(auto, using(crate::proofs::ListedUrls::named_more))]
+fn named_sitemaps(alloc: Global, files: &SiteFiles<'_>) -> Result<Vec<CanonUrl>, AllocError>
     ensures { IfOk result (λ urls. urls.items ≡ named_sitemaps files.now) }
 {
     let mut urls = Vec::new(alloc);
@@ -40,7 +65,7 @@ fn push_sitemap(
 }
 
 /// Returns the URLs that these sitemaps of a site list, and those that the sitemaps among them list, in order.
-pub(crate) fn listed_urls(
+fn listed_urls(
     alloc: Global,
     files: &SiteFiles<'_>,
     pages: &LinkedPages,

@@ -7,17 +7,17 @@ ghost use Rattle.saved_site.specs.Meaning.{IsOfWeb, IsSiteWeb};
 ghost use Rattle.saved_site.specs.Sitemaps.{AreListed, named_sitemaps};
 
 use crate::aliases::aliases_among;
-use crate::linked::LinkedPages;
+use crate::linked::{LinkedPages, Linker};
 use crate::page::PageSink;
 use crate::rounds::make_all;
 use crate::site_data::SiteData;
-use crate::sitemaps::{listed_urls, named_sitemaps};
+use crate::sitemaps::ListedUrls;
 use crate::tasks::TaskQueue;
 use crate::web_text::WebText;
 use crawl_keys::CanonUrl;
 use document_links::{LinkPlaces, PageAnchors};
 use site_files::{Alias, FileBytes, Note, SiteError, SiteFiles};
-use std::alloc::Global;
+use std::alloc::{AllocError, Global};
 use std::thread::Threads;
 
 /// The saved web of a site.
@@ -91,6 +91,20 @@ pub fn site_pages<R: Threads + Sync, B: FileBytes + Sync>(
 {
     let mut data = data_of(rt, alloc, files, seeds, bytes)?;
     data.sort()?;
+    Ok(linked_site(alloc, files, data)?)
+}
+
+/// The site with these pages.
+fn linked_site(
+    alloc: Global,
+    files: &SiteFiles<'_>,
+    data: SiteData<Linker>,
+) -> Result<LinkedSite, AllocError>
+    ensures source { IfOk result (λ site. IsSiteSource (string_bytes files.now.site.top) site.pages) }
+    ensures aliases { IfOk result (λ site. AreAliases site.pages site.aliases.items) }
+    ensures listed { IfOk result (λ site. AreListed files.now site.pages site.listed.items) }
+    ensures sitemaps { IfOk result (λ site. site.has_sitemap ≡ not (length (named_sitemaps files.now) == 0)) }
+{
     let SiteData {
         parts,
         notes,
@@ -102,8 +116,7 @@ pub fn site_pages<R: Threads + Sync, B: FileBytes + Sync>(
     } = data;
     let pages = LinkedPages::new(alloc, files.top(), parts)?;
     let aliases = aliases_among(alloc, &pages, aliases)?;
-    let sitemaps = named_sitemaps(alloc, files)?;
-    let listed = listed_urls(alloc, files, &pages, sitemaps.as_slice())?;
+    let listed = ListedUrls::new(alloc, files, &pages)?;
     Ok(LinkedSite {
         pages,
         notes,
@@ -111,8 +124,8 @@ pub fn site_pages<R: Threads + Sync, B: FileBytes + Sync>(
         documents,
         anchors,
         places,
-        listed,
-        has_sitemap: !sitemaps.is_empty(),
+        listed: listed.urls,
+        has_sitemap: listed.has_sitemap,
     })
 }
 
