@@ -343,6 +343,11 @@ class Site:
         """The pages in order: each file, and each folder with an index file."""
         return sorted((self.url(key), name) for key, name in self.files.items())
 
+    def urls(self) -> Iterator[str]:
+        """The URLs of the pages, and those of folders without their last slashes, which redirect."""
+        yield from (url for url, _ in self.pages())
+        yield from (self.url(Key(name[:-1], None)) for name in self.names if name.endswith(b"/"))
+
     def start_of(self, seed: str) -> str:
         """The URL of a link on the top."""
         text = TOOL.cleaned(seed)
@@ -616,7 +621,7 @@ class Model:
         found = [path[1] for path in map(ROOT_FOLDER.match, paths) if path]
         most = [(name, count) for name, count in Counter(found).items() if 2 * count >= len(found) and count >= 2]
         for name, count in most[:1] if self.settings.is_rooted() else ():
-            if not any(file.startswith(name.encode("utf-8", "replace") + b"/") for file in self.site.own):
+            if not any(url.startswith(f"{self.site.base}{name}/") for url in self.site.urls()):
                 yield {"kind": "hint", "base": f"/{name}/", "paths": count, "of": len(found)}
 
     def linking(self) -> Dict[str, Set[str]]:
