@@ -689,15 +689,15 @@ KNOWN = [
         },
         ["gone index.html:1:9"],
         (*unlisted("a.html", "c.html", "d/", "f"), {"kind": "total", "unlisted": 4, "pages": 9}),
-        settings=(("sitemap", True), ("front", "http://docs.test/")),
+        settings=(("sitemap", True),),
     ),
     Known(
         "documents that a list of URLs names", {"index.html": "", "a.html": "", "sitemap.txt": "http://docs.test/\n", "feed.rss": "<rss><link>a.html</link></rss>"},
-        [], (*unlisted("a.html"), {"kind": "total", "unlisted": 1, "broken": 0}), settings=(("sitemap", True), ("front", "http://docs.test/")),
+        [], (*unlisted("a.html"), {"kind": "total", "unlisted": 1, "broken": 0}), settings=(("sitemap", True),),
     ),
     Known(
         "a sitemap that is not reached", {"index.html": "", "a.html": "", "sitemap.txt": "http://docs.test/\n"}, [], (*unlisted("./"), {"kind": "total", "unlisted": 1}),
-        settings=(("sitemap", True), ("reachable", True), ("front", "http://docs.test/")),
+        settings=(("sitemap", True), ("reachable", True)),
     ),
     Known(
         "patterns that are ignored",
