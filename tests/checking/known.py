@@ -668,7 +668,7 @@ KNOWN = [
         settings=NO_BASE, without=("hint",),
     ),
     Known(
-        "paths from the root with BASE", {"index.html": "<a href=/p/a><a href=/p/b>"}, ["p/a index.html:1:9", "p/b index.html:1:22"], settings=(("front", "http://docs.test/"),), without=("hint",),
+        "paths from the root with BASE", {"index.html": "<a href=/p/a><a href=/p/b>"}, ["p/a index.html:1:9", "p/b index.html:1:22"], without=("hint",),
     ),
     Known(
         "paths from the root that are ignored", {"index.html": "<a href=/p/a><a href=/p/b><a href=/q/c>"}, ["q/c index.html:1:35"], settings=(*NO_BASE, ("ignores", ("p/",))), without=("hint",),
