@@ -747,8 +747,7 @@ class Model:
         responses = [self.site.response(url) for url in listed]
         listed |= {response.own for response in responses if isinstance(response, Alias)}
         for url, name in sorted(self.site.own_pages(), key=lambda page: page[0].encode()):
-            is_found = isinstance(self.site.response(url), Found)
-            if is_found and self.site.is_document(name) and url not in listed and last_of(url) != ERROR_PAGE:
+            if self.site.is_document(name) and url not in listed and last_of(url) != ERROR_PAGE:
                 yield self.shown(url)
 
     def listed(self) -> Set[str]:
