@@ -696,7 +696,8 @@ KNOWN = [
         [], (*unlisted("a.html"), {"kind": "total", "unlisted": 1, "broken": 0}), settings=(("sitemap", True),),
     ),
     Known(
-        "a sitemap that is not reached", {"index.html": "", "a.html": "", "sitemap.txt": "http://docs.test/\n"}, [], (*unlisted("./"), {"kind": "total", "unlisted": 1}),
+        "a sitemap and documents that are not reached", {"index.html": "", "a.html": "", "b": "<html>", "sitemap.txt": "http://docs.test/a.html\n"}, [],
+        (*unlisted("./", "b"), {"kind": "total", "pages": 1, "files": 0, "unlisted": 2}),
         settings=(("sitemap", True), ("reachable", True)),
     ),
     Known(

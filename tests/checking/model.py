@@ -358,6 +358,10 @@ class Site:
         """The own URLs of the files at which a check starts: HTML documents, sitemaps and feeds by their names."""
         return [url for name, url in self.own.items() if is_page(self.path(name)) or self.is_feed(name) and feeds.is_start(last_of(url))]
 
+    def own_pages(self) -> List[Tuple[str, bytes]]:
+        """The own URL of each file."""
+        return [(url, name) for name, url in self.own.items()]
+
     def sitemaps(self) -> List[str]:
         """The own URLs of the sitemaps that are known by their names."""
         return [url for name, url in self.own.items() if self.is_feed(name) and feeds.is_sitemap(last_of(url))]
@@ -559,7 +563,7 @@ class Model:
                     pages, places = self.invalid.setdefault((line, reason), (set(), {}))
                     pages.add(url)
                     places.setdefault(Place(name, *document.lines.place(link.at)), TOOL.cleaned(link.text))
-            elif is_short("link", target if base.is_given else text.partition("#")[0]):
+            elif is_short("link", target if base.is_given or self.is_in_folder(text, base) else text.partition("#")[0]):
                 fragment = None if document.ids is None else fragment_of(link.text)
                 yield Link(target, fragment, Place(name, *document.lines.place(link.at)), TOOL.cleaned(link.text))
 
@@ -574,11 +578,14 @@ class Model:
             scheme = TOOL.scheme_of(text)
             return page if scheme in ("data", "javascript") else page._replace(front=f"{scheme}:")
 
+    def is_in_folder(self, text: str, base: "Base") -> bool:
+        """Whether a text is a path from the root that is a path in the folder, because no BASE is given."""
+        return self.settings.is_rooted() and begins_path(text) and not base.front and origin_of(base.url) == origin_of(self.site.base)
+
     def target_of(self, text: str, base: "Base") -> Optional[str]:
         """The URL to which a text leads, or None if it is not http or https."""
-        top = self.site.base
-        if self.settings.is_rooted() and begins_path(text) and not base.front and origin_of(base.url) == origin_of(top):
-            return in_folder(text, top)
+        if self.is_in_folder(text, base):
+            return in_folder(text, self.site.base)
         return url_of(text if TOOL.scheme_of(text) else base.front + text, base.url)
 
     def rows(self) -> List[Row]:
@@ -750,23 +757,24 @@ class Model:
                 yield self.shown(url)
 
     def unlisted(self) -> Iterator[str]:
-        """The documents that no sitemap lists, without pages of errors."""
+        """The documents that no sitemap lists, without pages of errors. A search that does not reach them does not matter."""
         listed = self.listed()
-        listed |= {response.own for url, response in self.responses.items() if url in listed and isinstance(response, Alias)}
-        for url in sorted(self.links, key=str.encode):
-            response = self.responses[url]
-            if isinstance(response, Found) and self.site.is_document(response.name) and url not in listed and last_of(url) != ERROR_PAGE:
+        responses = [self.site.response(url) for url in listed]
+        listed |= {response.own for response in responses if isinstance(response, Alias)}
+        for url, name in sorted(self.site.own_pages(), key=lambda page: page[0].encode()):
+            if self.site.is_document(name) and url not in listed and last_of(url) != ERROR_PAGE:
                 yield self.shown(url)
 
     def listed(self) -> Set[str]:
         """The URLs that sitemaps list: those that are known by their names, and sitemaps that these list."""
-        listed = {link.url for url in self.site.sitemaps() for link in self.links.get(url, ())}
+        whole = Model(os.fsdecode(self.site.folder), self.settings._replace(reachable=False, seeds=()), self.site)
+        listed = {link.url for url in self.site.sitemaps() for link in whole.links.get(url, ())}
         others = [url for url in listed if self.is_other_sitemap(url)]
-        return listed | {link.url for url in others for link in self.links.get(url, ())}
+        return listed | {link.url for url in others for link in whole.links.get(url, ())}
 
     def is_other_sitemap(self, url: str) -> bool:
         """Whether a file is a sitemap if another one lists it: its name is neither that of a sitemap nor a usual one of a feed."""
-        response = self.responses.get(url)
+        response = self.site.response(url)
         return isinstance(response, Found) and self.site.is_feed(response.name) and not feeds.is_start(last_of(url))
 
     def external(self) -> List[Row]:
