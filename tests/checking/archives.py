@@ -111,6 +111,10 @@ class ListedSite(Site):
         """The URLs of the documents by their types, and of sitemaps and feeds. An SVG file is a picture, at which no check starts."""
         return [url for url, line in self.lines.items() if line.is_page() or self.is_feed(url.encode()) and feeds.is_start(last_of(url))]
 
+    def own_pages(self) -> List[Tuple[str, bytes]]:
+        """The URLs of files. Each names its own file."""
+        return self.pages()
+
     def sitemaps(self) -> List[str]:
         """The URLs of the sitemaps that are known by their names."""
         return [url for url in self.lines if self.is_feed(url.encode()) and feeds.is_sitemap(last_of(url))]

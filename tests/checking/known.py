@@ -668,7 +668,7 @@ KNOWN = [
         settings=NO_BASE, without=("hint",),
     ),
     Known(
-        "paths from the root with BASE", {"index.html": "<a href=/p/a><a href=/p/b>"}, ["p/a index.html:1:9", "p/b index.html:1:22"], settings=(("front", "http://docs.test/"),), without=("hint",),
+        "paths from the root with BASE", {"index.html": "<a href=/p/a><a href=/p/b>"}, ["p/a index.html:1:9", "p/b index.html:1:22"], without=("hint",),
     ),
     Known(
         "paths from the root that are ignored", {"index.html": "<a href=/p/a><a href=/p/b><a href=/q/c>"}, ["q/c index.html:1:35"], settings=(*NO_BASE, ("ignores", ("p/",))), without=("hint",),
@@ -689,15 +689,16 @@ KNOWN = [
         },
         ["gone index.html:1:9"],
         (*unlisted("a.html", "c.html", "d/", "f"), {"kind": "total", "unlisted": 4, "pages": 9}),
-        settings=(("sitemap", True), ("front", "http://docs.test/")),
+        settings=(("sitemap", True),),
     ),
     Known(
         "documents that a list of URLs names", {"index.html": "", "a.html": "", "sitemap.txt": "http://docs.test/\n", "feed.rss": "<rss><link>a.html</link></rss>"},
-        [], (*unlisted("a.html"), {"kind": "total", "unlisted": 1, "broken": 0}), settings=(("sitemap", True), ("front", "http://docs.test/")),
+        [], (*unlisted("a.html"), {"kind": "total", "unlisted": 1, "broken": 0}), settings=(("sitemap", True),),
     ),
     Known(
-        "a sitemap that is not reached", {"index.html": "", "a.html": "", "sitemap.txt": "http://docs.test/\n"}, [], (*unlisted("./"), {"kind": "total", "unlisted": 1}),
-        settings=(("sitemap", True), ("reachable", True), ("front", "http://docs.test/")),
+        "a sitemap and documents that are not reached", {"index.html": "", "a.html": "", "b": "<html>", "sitemap.txt": "http://docs.test/a.html\n"}, [],
+        (*unlisted("./", "b"), {"kind": "total", "pages": 1, "files": 0, "unlisted": 2}),
+        settings=(("sitemap", True), ("reachable", True)),
     ),
     Known(
         "patterns that are ignored",

@@ -367,6 +367,11 @@ class Site:
         """The pages in order: each file, and each folder with an index file."""
         return sorted((self.url(key), name) for key, name in self.files.items())
 
+    def urls(self) -> Iterator[str]:
+        """The URLs of the pages, and those of folders without their last slashes, which redirect."""
+        yield from (url for url, _ in self.pages())
+        yield from (self.url(Key(name[:-1], None)) for name in self.names if name.endswith(b"/"))
+
     def start_of(self, seed: str) -> str:
         """The URL of a link on the top."""
         text = TOOL.cleaned(seed)
@@ -376,6 +381,10 @@ class Site:
     def own_starts(self) -> List[str]:
         """The own URLs of the files at which a check starts: HTML documents, sitemaps and feeds by their names."""
         return [url for name, url in self.own.items() if is_page(self.path(name)) or self.is_feed(name) and feeds.is_start(last_of(url))]
+
+    def own_pages(self) -> List[Tuple[str, bytes]]:
+        """The own URL of each file."""
+        return [(url, name) for name, url in self.own.items()]
 
     def sitemaps(self) -> List[str]:
         """The own URLs of the sitemaps that are known by their names."""
@@ -643,7 +652,7 @@ class Model:
         found = [path[1] for path in map(ROOT_FOLDER.match, paths) if path]
         most = [(name, count) for name, count in Counter(found).items() if 2 * count >= len(found) and count >= 2]
         for name, count in most[:1] if self.settings.is_rooted() else ():
-            if not any(file.startswith(name.encode("utf-8", "replace") + b"/") for file in self.site.own):
+            if not any(url.startswith(f"{self.site.base}{name}/") for url in self.site.urls()):
                 yield {"kind": "hint", "base": f"/{name}/", "paths": count, "of": len(found)}
 
     def linking(self) -> Dict[str, Set[str]]:
@@ -779,23 +788,24 @@ class Model:
                 yield self.shown(url)
 
     def unlisted(self) -> Iterator[str]:
-        """The documents that no sitemap lists, without pages of errors."""
+        """The documents that no sitemap lists, without pages of errors. A search that does not reach them does not matter."""
         listed = self.listed()
-        listed |= {response.own for url, response in self.responses.items() if url in listed and isinstance(response, Alias)}
-        for url in sorted(self.links, key=str.encode):
-            response = self.responses[url]
-            if isinstance(response, Found) and self.site.is_document(response.name) and url not in listed and last_of(url) != ERROR_PAGE:
+        responses = [self.site.response(url) for url in listed]
+        listed |= {response.own for response in responses if isinstance(response, Alias)}
+        for url, name in sorted(self.site.own_pages(), key=lambda page: page[0].encode()):
+            if self.site.is_document(name) and url not in listed and last_of(url) != ERROR_PAGE:
                 yield self.shown(url)
 
     def listed(self) -> Set[str]:
         """The URLs that sitemaps list: those that are known by their names, and sitemaps that these list."""
-        listed = {link.url for url in self.site.sitemaps() for link in self.links.get(url, ())}
+        whole = Model(os.fsdecode(self.site.folder), self.settings._replace(reachable=False, seeds=()), self.site)
+        listed = {link.url for url in self.site.sitemaps() for link in whole.links.get(url, ())}
         others = [url for url in listed if self.is_other_sitemap(url)]
-        return listed | {link.url for url in others for link in self.links.get(url, ())}
+        return listed | {link.url for url in others for link in whole.links.get(url, ())}
 
     def is_other_sitemap(self, url: str) -> bool:
         """Whether a file is a sitemap if another one lists it: its name is neither that of a sitemap nor a usual one of a feed."""
-        response = self.responses.get(url)
+        response = self.site.response(url)
         return isinstance(response, Found) and self.site.is_feed(response.name) and not feeds.is_start(last_of(url))
 
     def external(self) -> List[Row]:
