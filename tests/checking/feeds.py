@@ -122,7 +122,7 @@ def links_of_list(text: str) -> Iterator[Text]:
     """The links of a list of URLs: its lines, without those that are empty."""
     at = 0
     for line in text.split("\n"):
-        link = line.strip(SPACE)
-        if link.strip(EDGE):
+        link = line.strip(EDGE)
+        if link:
             yield Text(link, at + line.index(link))
         at += len(line) + 1

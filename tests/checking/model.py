@@ -566,7 +566,7 @@ class Model:
                     pages, places = self.invalid.setdefault((line, reason), (set(), {}))
                     pages.add(url)
                     places.setdefault(Place(name, *document.lines.place(link.at)), TOOL.cleaned(link.text))
-            elif is_short("link", target if base.is_given else text.partition("#")[0]):
+            elif is_short("link", target if base.is_given or self.is_in_folder(text, base) else text.partition("#")[0]):
                 fragment = None if document.ids is None else fragment_of(link.text)
                 yield Link(target, fragment, Place(name, *document.lines.place(link.at)), TOOL.cleaned(link.text))
 
@@ -581,11 +581,14 @@ class Model:
             scheme = TOOL.scheme_of(text)
             return page if scheme in ("data", "javascript") else page._replace(front=f"{scheme}:")
 
+    def is_in_folder(self, text: str, base: "Base") -> bool:
+        """Whether a text is a path from the root that is a path in the folder, because no BASE is given."""
+        return self.settings.is_rooted() and begins_path(text) and not base.front and origin_of(base.url) == origin_of(self.site.base)
+
     def target_of(self, text: str, base: "Base") -> Optional[str]:
         """The URL to which a text leads, or None if it is not http or https."""
-        top = self.site.base
-        if self.settings.is_rooted() and begins_path(text) and not base.front and origin_of(base.url) == origin_of(top):
-            return in_folder(text, top)
+        if self.is_in_folder(text, base):
+            return in_folder(text, self.site.base)
         return url_of(text if TOOL.scheme_of(text) else base.front + text, base.url)
 
     def rows(self) -> List[Row]:
