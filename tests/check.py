@@ -254,7 +254,7 @@ def random_settings(draw: Random) -> Settings:
     shown = base[len(front):]
     ignores = draw.choice([
         (), (), (shown + "gone", "../"), (shown + "a", "x", shown + "sub/#", BASE + "gone"), (shown + "*x", "*//*", "*.html*", shown + "s*b/"), ("*gone*", "*#*x*"),
-        ("index.html: *", "sub/*: " + shown, "*: " + shown + "gone", "x: y"), ("*a*: *#*", "*.html: ../", "*" + "index.html: htp*", shown + "a", "*: *: *"),
+        ("index.html: *", "sub/*: " + shown + "*", "*: " + shown + "gone", "x: y"), ("*a*: *#*", "*.html: ../", "*" + "index.html: htp*", shown + "a", "*: *: *"),
     ])
     seeds = draw.choice([
         (), (), (), ("sub/",), ("#x", "a.html?b", "gone/../b.html"), ("?", "index.html", "%61.html?x", "a?y"), ("./", "s%75b"),
