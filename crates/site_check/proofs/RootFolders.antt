@@ -103,7 +103,7 @@ count_fits counts folder more folders small are =
     let all : count_at counts folder.now + path_count (pointed (folder ∷ more)) folder.now ≡ path_count (pointed folders) folder.now = are.each folder.now in
     let one : cond (bytes_eq folder.now folder.now) 1 0 ≡ 1 = cond-true (bytes_eq folder.now folder.now) 1 0 own in
     let most : path_count (pointed folders) folder.now ≤ length (pointed folders) = count_by-le-length (λ other. bytes_eq other folder.now) (pointed folders) in
-    let same : length (pointed folders) ≡ length folders = length-map (λ (x : Bor (List ℕ)). x.now) folders in
+    let same : length (pointed folders) ≡ length folders = length-map folders (λ (x : Bor (List ℕ)). x.now) in
     omega (arith, small, all, one, most, same, path_more folder more folder.now)
 
 -- what is left from an index on
@@ -131,17 +131,22 @@ counts_end counts folders i past are folder =
 
 -- ---- the first that is often there
 
-pub often_here : (of : ℕ) (count_of : List ℕ → ℕ) (folders : List (Bor (List ℕ))) (i : ℕ) (folder : Bor (List ℕ)) (all : Option (List ℕ)) → i < length folders → folder ≡ get_or folders i folder →
-    is_often of (count_of folder.now) ≡ true → often_first of count_of (pointed (drop i folders)) ≡ all → Some folder.now ≡ all
-often_here of count_of folders i folder all below is often first =
-    let more = filter (λ folder. is_often of (count_of folder)) (pointed (drop (i + 1) folders)) in
-    sym (ap (λ l. often_first of count_of (pointed l)) (cut_here folders i folder below is) ∙ ap first_in (cond-true (is_often of (count_of folder.now)) (folder.now ∷ more) more often)) ∙ first
+-- the folder at an index, which the test is about
+often_at : (of : ℕ) (count_of : List ℕ → ℕ) (folders : List (Bor (List ℕ))) (i : ℕ) (folder : Bor (List ℕ)) → i < length folders → folder ≡ get_or folders i folder →
+    often_first of count_of (pointed (drop i folders)) ≡ first_in (cond (is_often of (count_of folder.now)) (folder.now ∷ filter (λ f. is_often of (count_of f)) (pointed (drop (i + 1) folders))) (filter (λ f. is_often of (count_of f)) (pointed (drop (i + 1) folders))))
+often_at of count_of folders i folder below is = ap (λ l. often_first of count_of (pointed l)) (cut_here folders i folder below is)
 
-pub often_skip : (of : ℕ) (count_of : List ℕ → ℕ) (folders : List (Bor (List ℕ))) (i : ℕ) (folder : Bor (List ℕ)) (all : Option (List ℕ)) → i < length folders → folder ≡ get_or folders i folder →
-    is_often of (count_of folder.now) ≡ false → often_first of count_of (pointed (drop i folders)) ≡ all → often_first of count_of (pointed (drop (i + 1) folders)) ≡ all
-often_skip of count_of folders i folder all below is seldom first =
-    let more = filter (λ folder. is_often of (count_of folder)) (pointed (drop (i + 1) folders)) in
-    sym (ap (λ l. often_first of count_of (pointed l)) (cut_here folders i folder below is) ∙ ap first_in (cond-false (is_often of (count_of folder.now)) (folder.now ∷ more) more seldom)) ∙ first
+pub often_here : (of : ℕ) (count_of : List ℕ → ℕ) (folders : List (Bor (List ℕ))) (i : ℕ) (folder : Bor (List ℕ)) (test : Bool) (all : Option (List ℕ)) → i < length folders → folder ≡ get_or folders i folder →
+    test ≡ is_often of (count_of folder.now) → test ≡ true → often_first of count_of (pointed (drop i folders)) ≡ all → Some folder.now ≡ all
+often_here of count_of folders i folder test all below is tested often first =
+    let more = filter (λ f. is_often of (count_of f)) (pointed (drop (i + 1) folders)) in
+    sym (often_at of count_of folders i folder below is ∙ ap first_in (cond-true (is_often of (count_of folder.now)) (folder.now ∷ more) more (sym tested ∙ often))) ∙ first
+
+pub often_skip : (of : ℕ) (count_of : List ℕ → ℕ) (folders : List (Bor (List ℕ))) (i : ℕ) (folder : Bor (List ℕ)) (test : Bool) (all : Option (List ℕ)) → i < length folders → folder ≡ get_or folders i folder →
+    test ≡ is_often of (count_of folder.now) → test ≡ false → often_first of count_of (pointed (drop i folders)) ≡ all → often_first of count_of (pointed (drop (i + 1) folders)) ≡ all
+often_skip of count_of folders i folder test all below is tested seldom first =
+    let more = filter (λ f. is_often of (count_of f)) (pointed (drop (i + 1) folders)) in
+    sym (often_at of count_of folders i folder below is ∙ ap first_in (cond-false (is_often of (count_of folder.now)) (folder.now ∷ more) more (sym tested ∙ seldom))) ∙ first
 
 pub often_none : (of : ℕ) (count_of : List ℕ → ℕ) (folders : List (Bor (List ℕ))) (i : ℕ) (all : Option (List ℕ)) → length folders ≤ i → often_first of count_of (pointed (drop i folders)) ≡ all → None ≡ all
 often_none of count_of folders i all past first = sym (ap (λ l. often_first of count_of (pointed l)) (drop_all i folders past)) ∙ first

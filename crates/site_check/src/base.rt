@@ -139,6 +139,7 @@ fn ends_path(byte: u8) -> bool
 type PathCounts<'a> = BTreeMap<&'a [u8], u64>;
 
 /// The hint, if at least half and at least two of the paths have the same first folder, and the site does not have that.
+#[tactic(auto, using(crate::proofs::RootFolders::hint_lacks))]
 fn hint_among(
     alloc: Global,
     files: &SiteFiles<'_>,
@@ -191,11 +192,18 @@ fn often_first<'a>(of: u64, counts: &PathCounts<'a>, folders: &[&'a str]) -> Opt
     ensures { option_map (λ folder. folder.now) result ≡ often_first of (count_at counts.now) (pointed folders.now) }
 {
     for folder in folders {
-        if is_often(of, count_at(counts, *folder)) {
+        if is_often_first(of, counts, *folder) {
             return Some(*folder);
         }
     }
     None
+}
+
+/// Whether at least half and at least two of all paths have this first folder.
+fn is_often_first<'a>(of: u64, counts: &PathCounts<'a>, folder: &'a str) -> bool
+    ensures { result ≡ is_often of (count_at counts.now folder.now) }
+{
+    is_often(of, count_at(counts, folder))
 }
 
 /// Whether a count is at least two, and at least half of all.

@@ -1,6 +1,6 @@
 use Rattle.site_check.proofs.Prelude.{◌∙◌, IfOk-weaker, List, Option, ℕ, Bor, length, length-map, pointed, sym}
 use Rattle.check_report.specs.declared.value.BaseHint.{BaseHint}
-use Rattle.site_check.proofs.RootFolders.{hint_chosen, hint_lacks}
+use Rattle.site_check.proofs.RootFolders.{hint_chosen}
 use Rattle.site_check.proofs.base.hint_among.Goals as goal
 
 pub returns-in-Some : goal.returns-in-Some
@@ -9,11 +9,6 @@ returns-in-Some c =
     IfOk-weaker c.hint_with.result _ _
     (λ (hint : Option BaseHint) own.
     own
-    ∙ hint_chosen c.args.files.now c.in_ok-counts.counts (pointed folders) (length folders) c.count_at-paths.result c.in-Some.folder.now (sym (length-map (λ (x : Bor (List ℕ)). x.now) folders))
+    ∙ hint_chosen c.args.files.now c.in_ok-counts.counts (pointed folders) (length folders) c.count_at-paths.result c.in-Some.folder.now (sym (length-map folders (λ (x : Bor (List ℕ)). x.now)))
     c.in_ok-counts.ensures c.count_at-paths.ensures c.in-Some.ensures)
     c.hint_with.ensures
-
-pub returns-in-None : goal.returns-in-None
-returns-in-None c =
-    let folders = c.args.folders.now in
-    hint_lacks c.args.files.now c.in_ok-counts.counts (pointed folders) (length folders) (sym (length-map (λ (x : Bor (List ℕ)). x.now) folders)) c.in_ok-counts.ensures c.in-None.ensures
