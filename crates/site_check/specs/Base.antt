@@ -1,5 +1,5 @@
 -- The hint at a missing BASE: paths from the root that begin with a folder which the site does not have.
-use Rattle.std.specs.Prelude.{◌==◌, ◌-◌, ℕ, Bool, ◌&&◌, ◌||◌, if◌then◌else◌, List, [], ◌∷◌, ◌++◌, length, map, filter, count_by, nat_le, Option, None, Some, option_and_then, option_map, unwrap_or, string_bytes, bytes_eq}
+use Rattle.std.specs.Prelude.{◌==◌, ◌-◌, ℕ, Bool, ◌&&◌, ◌||◌, if◌then◌else◌, List, [], ◌∷◌, ◌++◌, length, filter, count_by, nat_le, Option, None, Some, option_and_then, option_map, unwrap_or, string_bytes, bytes_eq}
 use Rattle.std.specs.Borrow.{Bor}
 use Rattle.std.specs.BTreeMap.{BTreeMap, get_by}
 use Rattle.std.specs.Cmp.Lexicographic.{slice_cmp}
@@ -9,9 +9,10 @@ use Rattle.std.specs.Ordering.{nat_cmp}
 use Rattle.check_report.specs.declared.value.BaseHint.{BaseHint}
 use Rattle.check_report.specs.declared.value.Broken.{Broken}
 use Rattle.check_report.specs.declared.value.Place.{Place}
-use Rattle.site_check.specs.Broken.{begins}
+use Rattle.site_check.specs.Broken.{begins, shown}
 use Rattle.site_check.specs.Names.{is_slash}
 use Rattle.site_check.specs.Totals.{is_page}
+use Rattle.site_files.specs.Files.{PageFile, pages_of}
 use Rattle.site_files.specs.declared.files.SiteFiles.{SiteFiles}
 
 -- ---- the folders
@@ -57,9 +58,12 @@ path_count folders folder = count_by (λ other. bytes_eq other folder) folders
 abbrev pub is_often : ℕ → ℕ → Bool
 is_often of count = nat_le 2 count && nat_le (of - count) count
 
--- a file or an empty folder of the site is in the folder
-abbrev pub has_folder : List (List ℕ) → List ℕ → Bool
-has_folder names folder = list_any (begins (folder ++ 47 ∷ [])) names
+-- the page is in the folder: its URL begins with the top, the folder and a slash
+abbrev pub is_in_folder : SiteFiles → List ℕ → PageFile → Bool
+is_in_folder files folder page = begins (folder ++ 47 ∷ []) (shown (string_bytes files.site.top) page.url)
+
+abbrev pub has_folder : SiteFiles → List ℕ → Bool
+has_folder files folder = list_any (is_in_folder files folder) (pages_of files)
 
 pub record Hint : Type 0 where
   pub folder : List ℕ
@@ -70,29 +74,26 @@ abbrev pub hint_at : BaseHint → Hint
 hint_at hint = record { folder = string_bytes hint.folder; paths = hint.paths; of = hint.of }
 
 -- the folder between slashes, with its number of all paths, unless the site has it
-abbrev pub hint_with : List (List ℕ) → List ℕ → ℕ → ℕ → Option Hint
-hint_with names folder paths of = if has_folder names folder then None else Some (record { folder = 47 ∷ folder ++ 47 ∷ []; paths = paths; of = of })
+abbrev pub hint_with : SiteFiles → List ℕ → ℕ → ℕ → Option Hint
+hint_with files folder paths of = if has_folder files folder then None else Some (record { folder = 47 ∷ folder ++ 47 ∷ []; paths = paths; of = of })
 
-abbrev pub hint_for : List (List ℕ) → List (List ℕ) → List ℕ → Option Hint
-hint_for names folders folder = hint_with names folder (path_count folders folder) (length folders)
+abbrev pub hint_for : SiteFiles → List (List ℕ) → List ℕ → Option Hint
+hint_for files folders folder = hint_with files folder (path_count folders folder) (length folders)
 
 abbrev pub first_in : List (List ℕ) → Option (List ℕ)
 first_in [] = None
 first_in (folder ∷ more) = Some folder
 
--- the first that is often there, by these counts
-abbrev pub often_first : (List ℕ → ℕ) → List (List ℕ) → Option (List ℕ)
-often_first count_of folders = first_in (filter (λ folder. is_often (length folders) (count_of folder)) folders)
+-- the first that is often there, by these counts of all paths
+abbrev pub often_first : ℕ → (List ℕ → ℕ) → List (List ℕ) → Option (List ℕ)
+often_first of count_of folders = first_in (filter (λ folder. is_often of (count_of folder)) folders)
 
-abbrev pub hint_among : List (List ℕ) → List (List ℕ) → Option Hint
-hint_among names folders = option_and_then (hint_for names folders) (often_first (path_count folders) folders)
-
-abbrev pub names_in : SiteFiles → List (List ℕ)
-names_in files = map string_bytes files.names.now
+abbrev pub hint_among : SiteFiles → List (List ℕ) → Option Hint
+hint_among files folders = option_and_then (hint_for files folders) (often_first (length folders) (path_count folders) folders)
 
 -- only if the URL of the site is not known
 abbrev pub base_hint_of : Bool → SiteFiles → List Broken → Option Hint
-base_hint_of rooted files rows = if rooted then hint_among (names_in files) (flat_map row_folders rows) else None
+base_hint_of rooted files rows = if rooted then hint_among files (flat_map row_folders rows) else None
 
 -- ---- the counts
 

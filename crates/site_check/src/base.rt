@@ -1,10 +1,11 @@
 //! The hint at a missing BASE.
-ghost use Rattle.std.specs.Prelude.{◌≡◌, ◌==◌, ◌<◌, ◌+◌, ◌^◌, ◌&&◌, ◌∷◌, ◌++◌, ℕ, List, [], IfOk, OnOk, bytes_eq, length, map, not, option_map, string_bytes};
+ghost use Rattle.std.specs.Prelude.{◌≡◌, ◌==◌, ◌<◌, ◌+◌, ◌^◌, ◌&&◌, ◌∷◌, ◌++◌, ℕ, List, [], IfOk, OnOk, Some, bytes_eq, length, not, option_map, slice_get, string_bytes};
 ghost use Rattle.std.specs.List.{flat_map, list_any};
 ghost use Rattle.crawl_sources.specs.Tallies.{pointed};
-ghost use Rattle.site_check.specs.Base.{base_hint_of, count_at, ends_path, has_folder, hint_among, hint_at, hint_with, is_often, named_folder, names_in, often_first, one_if, path_count, place_folder, root_folder, row_folders, to_slash, written_folder};
+ghost use Rattle.site_files.specs.Files.{PageFile, pages_of};
+ghost use Rattle.site_check.specs.Base.{base_hint_of, count_at, ends_path, has_folder, hint_among, hint_at, hint_with, is_in_folder, is_often, named_folder, often_first, one_if, path_count, place_folder, root_folder, row_folders, to_slash, written_folder};
 
-use crate::shown::is_below;
+use crate::shown::{is_below, shown};
 use crate::totals::is_page;
 use check_report::{BaseHint, Broken, Place};
 use crawl_pages::NoMemory;
@@ -99,7 +100,7 @@ fn first_folder(path: &str) -> Option<&str>
     ensures { option_map (λ folder. folder.now) result ≡ named_folder (to_slash path.now) }
 {
     match path.split_once('/') {
-        Some((folder, _)) => if is_folder(folder) {
+        Some((folder, more)) => if is_folder(folder) {
             Some(folder)
         } else {
             None
@@ -112,29 +113,46 @@ fn first_folder(path: &str) -> Option<&str>
 fn is_folder(name: &str) -> bool
     ensures { result ≡ (not (length name.now == 0) && not (list_any ends_path name.now)) }
 {
-    !name.is_empty()
-        && !name
-            .as_bytes()
-            .iter()
-            .any(|byte| *byte == b'#' || *byte == b'?')
+    !name.is_empty() && !has_path_end(name.as_bytes())
+}
+
+/// Whether one of these bytes ends the path of a URL.
+fn has_path_end(name: &[u8]) -> bool
+    ensures { result ≡ list_any ends_path name.now }
+{
+    for byte in name {
+        if ends_path(*byte) {
+            return true;
+        }
+    }
+    false
+}
+
+/// Whether a byte ends the path of a URL.
+fn ends_path(byte: u8) -> bool
+    ensures { result ≡ ends_path byte }
+{
+    byte == b'#' || byte == b'?'
 }
 
 /// The numbers of paths by their first folders.
 type PathCounts<'a> = BTreeMap<&'a [u8], u64>;
 
 /// The hint, if at least half and at least two of the paths have the same first folder, and the site does not have that.
+#[tactic(auto, using(crate::proofs::RootFolders::hint_lacks))]
 fn hint_among(
     alloc: Global,
     files: &SiteFiles<'_>,
     folders: &[&str],
 ) -> Result<Option<BaseHint>, NoMemory>
-    ensures { IfOk result (λ hint. option_map hint_at hint ≡ hint_among (names_in files.now) (pointed folders.now)) }
+    ensures { IfOk result (λ hint. option_map hint_at hint ≡ hint_among files.now (pointed folders.now)) }
 {
     let counts = path_counts(alloc, folders)?;
-    match often_first(&counts, folders) {
+    let of = folders.len() as u64;
+    match often_first(of, &counts, folders) {
         Some(folder) => {
             let paths = count_at(&counts, folder);
-            hint_with(alloc, files, folder, paths, folders.len() as u64)
+            hint_with(alloc, files, folder, paths, of)
         }
         None => Ok(None),
     }
@@ -170,16 +188,22 @@ fn count_at<'a>(counts: &PathCounts<'a>, folder: &'a str) -> u64
 
 /// The first folder that at least half and at least two of the paths have.
 #[tactic(auto, using(crate::proofs::RootFolders::often_here, crate::proofs::RootFolders::often_skip, crate::proofs::RootFolders::often_none))]
-fn often_first<'a>(counts: &PathCounts<'a>, folders: &[&'a str]) -> Option<&'a str>
-    ensures { option_map (λ folder. folder.now) result ≡ often_first (count_at counts.now) (pointed folders.now) }
+fn often_first<'a>(of: u64, counts: &PathCounts<'a>, folders: &[&'a str]) -> Option<&'a str>
+    ensures { option_map (λ folder. folder.now) result ≡ often_first of (count_at counts.now) (pointed folders.now) }
 {
-    let of = folders.len() as u64;
     for folder in folders {
-        if is_often(of, count_at(counts, *folder)) {
+        if is_often_first(of, counts, *folder) {
             return Some(*folder);
         }
     }
     None
+}
+
+/// Whether at least half and at least two of all paths have this first folder.
+fn is_often_first<'a>(of: u64, counts: &PathCounts<'a>, folder: &'a str) -> bool
+    ensures { result ≡ is_often of (count_at counts.now folder.now) }
+{
+    is_often(of, count_at(counts, folder))
 }
 
 /// Whether a count is at least two, and at least half of all.
@@ -197,7 +221,7 @@ fn hint_with(
     paths: u64,
     of: u64,
 ) -> Result<Option<BaseHint>, NoMemory>
-    ensures { IfOk result (λ hint. option_map hint_at hint ≡ hint_with (names_in files.now) folder.now paths of) }
+    ensures { IfOk result (λ hint. option_map hint_at hint ≡ hint_with files.now folder.now paths of) }
 {
     if has_folder(files, folder) {
         return Ok(None);
@@ -216,16 +240,25 @@ fn between_slashes(alloc: Global, folder: &str) -> Result<String, NoMemory>
     Ok(text)
 }
 
-/// Whether a name of the site is in the folder.
+/// Whether a page of the site is in the folder.
+#[tactic(auto, using(crate::proofs::RootFolders::page_found, crate::proofs::RootFolders::page_passed, crate::proofs::RootFolders::pages_end))]
 fn has_folder(files: &SiteFiles<'_>, folder: &str) -> bool
-    ensures { result ≡ has_folder (names_in files.now) folder.now }
+    ensures { result ≡ has_folder files.now folder.now }
 {
-    let mut index: usize = 0;
-    'names: while let Some(name) = files.name(index) {
-        if is_below(folder, name) {
+    for number in 0..files.page_count() {
+        if is_in_folder(files, folder, number) {
             return true;
         }
-        index = index.saturating_add(1);
     }
     false
+}
+
+/// Whether the page with this number is in the folder.
+fn is_in_folder(files: &SiteFiles<'_>, folder: &str, number: usize) -> bool
+    ensures { (page : PageFile) → slice_get (pages_of files.now) number ≡ Some page → result ≡ is_in_folder files.now folder.now page }
+{
+    match files.page(number) {
+        Some((url, _)) => is_below(folder, shown(files.top(), url)),
+        None => false,
+    }
 }

@@ -60,8 +60,10 @@ fn own_urls<'a>(
 fn add_own<'a>(listed: &UrlSet<'a>, alias: &'a Alias, owns: &mut UrlSet<'a>) -> Result<(), NoMemory>
     ensures { OnOk result ((own : List ℕ) → is_in owns.new own ≡ (is_in owns.old own || is_other_of (is_in listed.now) own alias.now)) }
 {
-    if listed.contains(&alias.url.hashed()) {
-        owns.insert(alias.own.hashed())?;
+    let url = alias.url.hashed();
+    if listed.contains(&url) {
+        let own = alias.own.hashed();
+        owns.insert(own)?;
     }
     Ok(())
 }
