@@ -47,7 +47,7 @@ SECONDS = 60  # the time limit of a run
 SHOWN, LONGEST = 5, 4000  # the number of differences that a series prints, and the most letters of one
 EVERY = 8  # one of this number of random folders has its other forms compared
 # What 1,000 random folders must have at least LEAST times
-KINDS = "brokenpage brokenanchor placepage placeanchor worst redirect unreached external unused with_aliases error in_sheets in_xml in_feeds".split()
+KINDS = "brokenpage brokenanchor placepage placeanchor hint worst redirect unreached unlisted external unused with_aliases error in_sheets in_xml in_feeds".split()
 KINDS += "written hint_fallback hint_index_file".split()
 KINDS += [kind + reason for kind in ("invalid", "invalid_place") for reason in ("not_url", "unknown_scheme", "local_file")]
 KINDS += [kind + reason for kind in ("leaving", "leaving_place") for reason in ("above_folder", "outside_base")]
@@ -111,7 +111,7 @@ def run(program: str, words: List[str]) -> "subprocess.CompletedProcess[bytes]":
 
 
 def printed_rows(program: str, settings: Settings, folder: str, more: Sequence[str] = (), in_file: bool = False) -> List[Row]:
-    """The rows that the program prints, or its error. Its exit status must be 4 if a link is broken or invalid or leaves, and 0 if not."""
+    """The rows that the program prints, or its error. Its exit status must be 4 if a link is broken or invalid or leaves or a document is not listed, and 0 if not."""
     with tempfile.TemporaryDirectory() as scratch:
         words = [*arguments(settings, folder, scratch), *more]
         done = run(program, with_file(words, not settings.is_rooted(), scratch) if in_file else words)
@@ -121,14 +121,13 @@ def printed_rows(program: str, settings: Settings, folder: str, more: Sequence[s
     status = status_of(rows)
     if done.returncode != status or not rows:
         return [{"kind": "status", "actual": done.returncode, "expected": status, "message": done.stderr.decode(errors="replace")}]
-    for row in rows:
-        row.pop("base", None)
+    rows[0].pop("base", None)
     return rows
 
 
 def status_of(rows: List[Row]) -> int:
     """The exit status of a check with these rows."""
-    return 4 if any(row["kind"] in ("broken", "invalid", "leaving") for row in rows) else 0
+    return 4 if any(row["kind"] in ("broken", "invalid", "leaving", "unlisted") for row in rows) else 0
 
 
 def difference(actual: List[Row], expected: List[Row]) -> Optional[str]:
@@ -200,6 +199,9 @@ def known_fault(known: Known, rows: List[Row]) -> Optional[str]:
     for members in known.rows:
         if not any(members.items() <= row.items() for row in rows):
             return f"no row has {members}; the first one is {rows[0]}"
+    for kind in known.without:
+        if any(row["kind"] == kind for row in rows):
+            return f"a row has the kind {kind}"
     return None
 
 
@@ -252,6 +254,7 @@ def random_settings(draw: Random) -> Settings:
     shown = base[len(front):]
     ignores = draw.choice([
         (), (), (shown + "gone", "../"), (shown + "a", "x", shown + "sub/#", BASE + "gone"), (shown + "*x", "*//*", "*.html*", shown + "s*b/"), ("*gone*", "*#*x*"),
+        ("index.html: *", "sub/*: " + shown + "*", "*: " + shown + "gone", "x: y"), ("*a*: *#*", "*.html: ../", "*" + "index.html: htp*", shown + "a", "*: *: *"),
     ])
     seeds = draw.choice([
         (), (), (), ("sub/",), ("#x", "a.html?b", "gone/../b.html"), ("?", "index.html", "%61.html?x", "a?y"), ("./", "s%75b"),
@@ -260,6 +263,7 @@ def random_settings(draw: Random) -> Settings:
     flags: Dict[str, Any] = {flag.setting: flag.value(draw.random() < flag.share) for flag in FLAGS}
     host = drawing.random_host(draw)
     flags.update(host=host.name, exact=host.exact, fallback=host.fallback, indices=host.index_files or INDEX_FILES)
+    flags["sitemap"] = flags["sitemap"] and base != NOWHERE
     return Settings(base, front, ignores, seeds=seeds, workers=draw.choice((1, 1, 2, 4, 64)))._replace(**flags)
 
 
