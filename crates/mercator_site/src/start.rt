@@ -174,17 +174,11 @@ fn own_start_urls(
 {
     let mut urls = Vec::new(alloc);
     for number in 0..files.page_count() {
-        if let Some(url) = start_url(files, number) {
+        if let Some(url) = files.start(number) {
             push_own(top, url, &mut urls)?;
         }
     }
     Ok(urls)
-}
-
-/// The URL of the page with this number, if a check starts there. It has no clause, because with the clause of `start` the prover does
-/// not find the proof of the loop that calls it.
-fn start_url<'a>(files: &'a SiteFiles<'_>, number: usize) -> Option<&'a CanonUrl> {
-    files.start(number)
 }
 
 /// Adds a URL, if it is below the top.

@@ -89,8 +89,11 @@ count_put old new folder count updates is other =
           ap at (cond-false (bytes_eq folder.now other) (Some count) _ differ) ∙ none ∙ sym (ap (λ b. one_if b + count_at old other) differ)
     ]
 
-path_more : (folder : Bor (List ℕ)) (more : List (Bor (List ℕ))) (other : List ℕ) → path_count (pointed (folder ∷ more)) other ≡ cond (bytes_eq folder.now other) 1 0 + path_count (pointed more) other
-path_more folder more other = sum_by-cons (λ x. cond (bytes_eq x other) 1 0) folder.now (pointed more)
+one_for : (is : Bool) → is ≡ true → one_if is ≡ 1
+one_for is passed = ap one_if passed
+
+path_more : (folder : Bor (List ℕ)) (more : List (Bor (List ℕ))) (other : List ℕ) → path_count (pointed (folder ∷ more)) other ≡ one_if (bytes_eq folder.now other) + path_count (pointed more) other
+path_more folder more other = sum_by-cons (λ x. one_if (bytes_eq x other)) folder.now (pointed more)
 
 -- what is counted so far and what is left are all
 pub record AreCounts (counts : Counts) (rest folders : List (Bor (List ℕ))) : Type 0 where
@@ -101,7 +104,7 @@ pub count_fits : (counts : Counts) (folder : Bor (List ℕ)) (more folders : Lis
 count_fits counts folder more folders small are =
     let own : bytes_eq folder.now folder.now ≡ true = (bytes_eq-Decides folder.now folder.now).1 refl in
     let all : count_at counts folder.now + path_count (pointed (folder ∷ more)) folder.now ≡ path_count (pointed folders) folder.now = are.each folder.now in
-    let one : cond (bytes_eq folder.now folder.now) 1 0 ≡ 1 = cond-true (bytes_eq folder.now folder.now) 1 0 own in
+    let one : one_if (bytes_eq folder.now folder.now) ≡ 1 = one_for (bytes_eq folder.now folder.now) own in
     let most : path_count (pointed folders) folder.now ≤ length (pointed folders) = count_by-le-length (λ other. bytes_eq other folder.now) (pointed folders) in
     let same : length (pointed folders) ≡ length folders = length-map folders (λ (x : Bor (List ℕ)). x.now) in
     omega (arith, small, all, one, most, same, path_more folder more folder.now)
@@ -120,7 +123,7 @@ counts_more old new folders i folder below is small are counted =
     record {
       each = λ other.
           let all : count_at old other + path_count (pointed (folder ∷ more)) other ≡ path_count (pointed folders) other = here.each other in
-          let next : count_at new other ≡ cond (bytes_eq folder.now other) 1 0 + count_at old other = counted (count_fits old folder more folders small here) other in
+          let next : count_at new other ≡ one_if (bytes_eq folder.now other) + count_at old other = counted (count_fits old folder more folders small here) other in
           omega (arith, all, next, path_more folder more other);
     }
 
