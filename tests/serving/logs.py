@@ -192,9 +192,11 @@ def damaged_logs(trial: Trial) -> None:
     words, log = SETTINGS[0], trial.folder / "damaged.log"
     draw = trial.draw("damaged log")
     whole = logged(trial, words, log, draw)
-    first, last = whole.index(b"\n") + 1, whole.rindex(b"\n", 0, -1) + 9
+    # Without the LF before its `#`, or with another byte for the `#`, the last checksum would be a request.
+    first, mark = whole.index(b"\n") + 1, whole.rindex(b"\n#")
+    places = [*range(first, mark), *range(mark + 2, mark + 10)]
     for _ in range(DAMAGES):
-        at = draw.randrange(first, last)
+        at = draw.choice(places)
         body = whole[:at] + bytes([whole[at] ^ draw.randrange(1, 256)]) + whole[at + 1:]
         log.write_bytes(body)
         wrong = damage(body)
