@@ -6,9 +6,9 @@ small folders with known results, the shipped site, each FOLDER, and random fold
 elements, encodings, redirects, and symbolic links. Without a FOLDER it takes the documentation folders that are installed
 (DOCUMENTATION in tests/checking/loading.py). The saved webs of random folders are compared with those of the converter,
 tests/checking/converter.py, with the model's tokenizer. Of each random folder, a random list of its pages is checked, too, with
---index. In every eighth random folder, the other forms of the report are compared. With --model, only the model is tested: with
-the known results, the pages that the converter finds, the answers of Python's static server, and the definitions of a server and of
-feeds that the proofs cite (tests/checking/twins.py, feed_twins.py).
+--index. In every eighth random folder, the other forms of the report are compared, and in others a check whose options are in a
+configuration file. With --model, only the model is tested: with the known results, the pages that the converter finds, the answers of
+Python's static server, and the definitions of a server and of feeds that the proofs cite (tests/checking/twins.py, feed_twins.py).
 
 A random folder depends only on the seed and its number. The first folders that differ are kept, and their paths are printed.
 With at least 1,000 random folders, each kind of row must occur at least 5 times; otherwise the test fails. The environment
@@ -42,11 +42,12 @@ from checking.tags import document_tags
 from checking.webs import Converter, first_difference, model_fault
 
 BASE = "http://docs.test/"
+LINE_ONLY = ("json", "follow", "workers")  # options that a configuration file cannot have
 SECONDS = 60  # the time limit of a run
 SHOWN, LONGEST = 5, 4000  # the number of differences that a series prints, and the most letters of one
 EVERY = 8  # one of this number of random folders has its other forms compared
 # What 1,000 random folders must have at least LEAST times
-KINDS = "brokenpage brokenanchor placepage placeanchor worst redirect unreached external unused with_aliases error in_sheets in_xml in_feeds".split()
+KINDS = "brokenpage brokenanchor placepage placeanchor hint worst redirect unreached unlisted external unused with_aliases error in_sheets in_xml in_feeds".split()
 KINDS += "written hint_fallback hint_index_file".split()
 KINDS += [kind + reason for kind in ("invalid", "invalid_place") for reason in ("not_url", "unknown_scheme", "local_file")]
 KINDS += [kind + reason for kind in ("leaving", "leaving_place") for reason in ("above_folder", "outside_base")]
@@ -78,8 +79,27 @@ def arguments(settings: Settings, folder: str, scratch: str, form: Sequence[str]
     if settings.ignores:
         entries = Path(scratch, "ignores")
         entries.write_text("# known\n\n" + "\n".join(settings.ignores) + "\n", "utf-8")
-        words += ["--ignore", str(entries)]
+        words.append(f"--ignore={entries}")
     return [*words, folder, *([] if settings.is_rooted() else [settings.base])]
+
+
+def with_file(words: List[str], has_base: bool, scratch: str) -> List[str]:
+    """The same arguments, with a configuration file that has BASE and the options that it may have."""
+    line, lines = words[:1], []
+    values: Dict[str, List[str]] = {}
+    for word in words[1:]:
+        name, mark, value = word[2:].partition("=")
+        if not word.startswith("--") or name in LINE_ONLY:
+            line.append(word)
+        elif mark:
+            values.setdefault(name, []).append(value)
+        else:
+            lines.append(f"{name} = true")
+    values.update({"base": [line.pop()]} if has_base else {})
+    lines += [f"{name} = {json.dumps(some if len(some) > 1 else some[0], ensure_ascii=False)}" for name, some in values.items()]
+    file = Path(scratch, "check.toml")
+    file.write_text("\n".join(lines) + "\n", "utf-8")
+    return [*line, f"--config={file}"]
 
 
 def run(program: str, words: List[str]) -> "subprocess.CompletedProcess[bytes]":
@@ -90,24 +110,24 @@ def run(program: str, words: List[str]) -> "subprocess.CompletedProcess[bytes]":
         return subprocess.CompletedProcess(words, -1, b"", f"it did not end within {SECONDS} s".encode())
 
 
-def printed_rows(program: str, settings: Settings, folder: str, more: Sequence[str] = ()) -> List[Row]:
-    """The rows that the program prints, or its error. Its exit status must be 4 if a link is broken or invalid or leaves, and 0 if not."""
+def printed_rows(program: str, settings: Settings, folder: str, more: Sequence[str] = (), in_file: bool = False) -> List[Row]:
+    """The rows that the program prints, or its error. Its exit status must be 4 if a link is broken or invalid or leaves or a document is not listed, and 0 if not."""
     with tempfile.TemporaryDirectory() as scratch:
-        done = run(program, [*arguments(settings, folder, scratch), *more])
+        words = [*arguments(settings, folder, scratch), *more]
+        done = run(program, with_file(words, not settings.is_rooted(), scratch) if in_file else words)
     if done.returncode == 1 and not done.stdout:
         return [{"kind": "error", "message": done.stderr.decode(errors="replace").splitlines()[-1]}]
     rows = [json.loads(line) for line in done.stdout.splitlines()]
     status = status_of(rows)
     if done.returncode != status or not rows:
         return [{"kind": "status", "actual": done.returncode, "expected": status, "message": done.stderr.decode(errors="replace")}]
-    for row in rows:
-        row.pop("base", None)
+    rows[0].pop("base", None)
     return rows
 
 
 def status_of(rows: List[Row]) -> int:
     """The exit status of a check with these rows."""
-    return 4 if any(row["kind"] in ("broken", "invalid", "leaving") for row in rows) else 0
+    return 4 if any(row["kind"] in ("broken", "invalid", "leaving", "unlisted") for row in rows) else 0
 
 
 def difference(actual: List[Row], expected: List[Row]) -> Optional[str]:
@@ -179,6 +199,9 @@ def known_fault(known: Known, rows: List[Row]) -> Optional[str]:
     for members in known.rows:
         if not any(members.items() <= row.items() for row in rows):
             return f"no row has {members}; the first one is {rows[0]}"
+    for kind in known.without:
+        if any(row["kind"] == kind for row in rows):
+            return f"a row has the kind {kind}"
     return None
 
 
@@ -231,6 +254,7 @@ def random_settings(draw: Random) -> Settings:
     shown = base[len(front):]
     ignores = draw.choice([
         (), (), (shown + "gone", "../"), (shown + "a", "x", shown + "sub/#", BASE + "gone"), (shown + "*x", "*//*", "*.html*", shown + "s*b/"), ("*gone*", "*#*x*"),
+        ("index.html: *", "sub/*: " + shown + "*", "*: " + shown + "gone", "x: y"), ("*a*: *#*", "*.html: ../", "*" + "index.html: htp*", shown + "a", "*: *: *"),
     ])
     seeds = draw.choice([
         (), (), (), ("sub/",), ("#x", "a.html?b", "gone/../b.html"), ("?", "index.html", "%61.html?x", "a?y"), ("./", "s%75b"),
@@ -239,6 +263,7 @@ def random_settings(draw: Random) -> Settings:
     flags: Dict[str, Any] = {flag.setting: flag.value(draw.random() < flag.share) for flag in FLAGS}
     host = drawing.random_host(draw)
     flags.update(host=host.name, exact=host.exact, fallback=host.fallback, indices=host.index_files or INDEX_FILES)
+    flags["sitemap"] = flags["sitemap"] and base != NOWHERE
     return Settings(base, front, ignores, seeds=seeds, workers=draw.choice((1, 1, 2, 4, 64)))._replace(**flags)
 
 
@@ -369,6 +394,8 @@ def compare_number(program: str, seed: int, number: int) -> Outcome:
         faults.append((f"check {settings}", difference(printed_rows(program, settings, folder), rows)))
         if number % EVERY == 0 and rows[0]["kind"] == "total":
             faults.append((f"forms {settings}", form_fault(program, settings, folder, rows)))
+        if number % EVERY == 1:
+            faults.append((f"check --config {settings}", difference(printed_rows(program, settings, folder, in_file=True), rows)))
         kinds = Counter(map(kind_of, rows))
         kinds["with_aliases"] += rows[0].get("aliases", 0) > 0
         kinds.update(kind for row in rows for kind in details(row))

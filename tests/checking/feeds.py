@@ -17,7 +17,8 @@ KINDS: Dict[str, Tuple[Tuple[str, ...], Tuple[Tuple[str, str], ...]]] = {
     "feed": ((), (("link", "href"), ("content", "src"))),
 }
 # The last names of the URLs of sitemaps and feeds at which a check starts
-STARTS = ("sitemap*.*", "*.rss", "*.atom", "feed.xml", "rss.xml", "atom.xml", "index.xml")
+SITEMAP = "sitemap*.*"
+STARTS = (SITEMAP, "*.rss", "*.atom", "feed.xml", "rss.xml", "atom.xml", "index.xml")
 LIST = "sitemap*.txt"
 CDATA = "<![CDATA["
 # A comment, a section of text, an instruction, a declaration up to its end or its first bracket, or a tag. What does not end goes to
@@ -48,6 +49,11 @@ def lower(text: str) -> str:
 def is_start(name: str) -> bool:
     """Whether a check starts at a sitemap or a feed whose URL has this last name."""
     return any(fnmatchcase(lower(name), pattern) for pattern in STARTS)
+
+
+def is_sitemap(name: str) -> bool:
+    """Whether a sitemap or a list of URLs is known by its last name."""
+    return fnmatchcase(lower(name), SITEMAP)
 
 
 def is_list(name: str) -> bool:
@@ -122,7 +128,7 @@ def links_of_list(text: str) -> Iterator[Text]:
     """The links of a list of URLs: its lines, without those that are empty."""
     at = 0
     for line in text.split("\n"):
-        link = line.strip(SPACE)
-        if link.strip(EDGE):
+        link = line.strip(EDGE)
+        if link:
             yield Text(link, at + line.index(link))
         at += len(line) + 1

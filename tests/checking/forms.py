@@ -4,6 +4,7 @@ from __future__ import annotations
 
 import base64
 import hashlib
+import html
 import os
 import pty
 import re
@@ -13,10 +14,11 @@ from typing import Dict, List, Optional, Tuple
 from urllib.parse import quote
 
 from checking.model import Row
-from checking.printing import CONTROL, Target, advice, as_written, decoded, in_order, message, named, pages_text, shown, targets
+from checking.printing import CONTROL, Target, advice, as_written, base_hint, decoded, in_order, message, named, pages_text, shown, targets
 
 CODES = re.compile(rb"\x1b\[[0-9]+m")
 POLICY = re.compile(r"script-src 'sha256-([^']*)'")
+HINT = re.compile(r"^<p>(hint: .*)</p>$", re.M)
 SCRIPT = re.compile(r"<script>(.*?)</script>", re.S)
 
 
@@ -106,14 +108,14 @@ def list_fields(row: Row) -> Tuple[str, List[str]]:
         return "redirects", [decoded(row["page"]), f"to {decoded(row['to'] or '-')}", f"linked from {pages_text(row['pages'])}"]
     if kind == "external":
         return kind, [row["url"], str(row["links"])]
-    return kind, [decoded(row["name"]) if kind == "unreached" else row["name"]]
+    return kind, [row["name"] if kind == "unused" else decoded(row["name"])]
 
 
 def page_texts(rows: List[Row]) -> Dict[str, str]:
     """The text of each section of the page. Fields are separated by tabs."""
     lines = {"broken": [fields for target in in_order(targets(rows)) for fields in target_fields(target)]}
     for row in rows:
-        if row["kind"] != "total" and "target" not in row:
+        if row["kind"] not in ("total", "hint") and "target" not in row:
             part, fields = list_fields(row)
             lines.setdefault(part, []).append(fields)
     return {part: "".join("\t".join(map(shown, fields)) + "\n" for fields in [[""], *some]) for part, some in lines.items() if some}
@@ -142,6 +144,9 @@ def page_fault(text: str, rows: List[Row], _: str, sources: str = "") -> Optiona
         return "its policy does not allow its script"
     if heading(rows[0]) not in text:
         return f"its heading is not {heading(rows[0])}"
+    hints = [html.unescape(hint) for hint in HINT.findall(text)]
+    if hints != [shown(base_hint(row)) for row in rows if row["kind"] == "hint"]:
+        return f"its hints are {hints}"
     read = Lines()
     read.feed(text)
     expected = page_texts(rows)

@@ -29,6 +29,7 @@ class Known(NamedTuple):
     broken: List[str]
     rows: Tuple[Dict[str, Any], ...] = ()  # some members of some rows
     settings: Tuple[Tuple[str, Any], ...] = ()  # some settings of the check
+    without: Tuple[str, ...] = ()  # the kinds of rows that there are not
 
 
 def total(pages: int, links: int, redirects: int, aliases: int, files: int = 0) -> Tuple[Dict[str, Any]]:
@@ -39,6 +40,11 @@ def total(pages: int, links: int, redirects: int, aliases: int, files: int = 0) 
 def unreached(*names: str) -> Tuple[Dict[str, Any], ...]:
     """The rows of unreached files."""
     return tuple({"kind": "unreached", "name": name} for name in names)
+
+
+def unlisted(*names: str) -> Tuple[Dict[str, Any], ...]:
+    """The rows of documents that no sitemap lists."""
+    return tuple({"kind": "unlisted", "name": name} for name in names)
 
 
 def error(text: str) -> Tuple[Dict[str, Any]]:
@@ -640,6 +646,61 @@ KNOWN = [
         settings=(("reachable", True), ("unreached", True)),
     ),
     Known(
+        "a folder of BASE that is not in the folder",
+        {"index.html": "<a href=/p/a.html><a href='/p/\u00fc/#x'><a href=/q/c><a href=d><a href=/p><a href=/p?/><a href='\n/p/\ta.html'>", "p": "", "d/e.html": "<img src=/p/f>", "pp/p/x": ""},
+        [
+            "d/ index.html:1:58", "p/a.html index.html:1:9", "p/a.html index.html:1:93", "p/f d/e.html:1:10", "p/%C3%BC/ index.html:1:28", "q/c index.html:1:45",
+        ],
+        ({"kind": "hint", "base": "/p/", "paths": 4, "of": 5},),
+        settings=NO_BASE,
+    ),
+    Known(
+        "paths of two folders that are not in the folder", {"index.html": "<a href=/q/a><a href=/p/b><a href=/p/c><a href=/q/d#x><a href=/Q/e>"},
+        ["Q/e index.html:1:63", "p/b index.html:1:22", "p/c index.html:1:35", "q/a index.html:1:9", "q/d index.html:1:48"],
+        settings=NO_BASE, without=("hint",),
+    ),
+    Known(
+        "one path, and paths of a folder that exists", {"index.html": "<a href=/p/a><a href=/p/b>", "p/c": "", "d/index.html": ""}, ["p/a index.html:1:9", "p/b index.html:1:22"],
+        settings=NO_BASE, without=("hint",),
+    ),
+    Known(
+        "one path from the root", {"index.html": "<a href=/p/a><a href=//p/b><a href=/p><a href='\\\\p\\b'>"}, ["p index.html:1:36", "p/a index.html:1:9"],
+        settings=NO_BASE, without=("hint",),
+    ),
+    Known(
+        "paths from the root with BASE", {"index.html": "<a href=/p/a><a href=/p/b>"}, ["p/a index.html:1:9", "p/b index.html:1:22"], without=("hint",),
+    ),
+    Known(
+        "paths from the root that are ignored", {"index.html": "<a href=/p/a><a href=/p/b><a href=/q/c>"}, ["q/c index.html:1:35"], settings=(*NO_BASE, ("ignores", ("p/",))), without=("hint",),
+    ),
+    Known(
+        "the first of two folders", {"index.html": "<a href=/q/a><a href=/p/b><a href=/p/c><a href=/q/d#x>"},
+        ["p/b index.html:1:22", "p/c index.html:1:35", "q/a index.html:1:9", "q/d index.html:1:48"],
+        ({"kind": "hint", "base": "/p/", "paths": 2, "of": 4},), settings=NO_BASE,
+    ),
+    Known(
+        "documents that no sitemap lists",
+        {
+            "index.html": "<a href=gone><a href=f>", "a.html": "", "b.html": "", "c.html": "", "404.html": "", "d/index.html": "<a href=e.html?x>", "d/404.html": "", "d/e.html": "", "f": "<html>",
+            "sitemap-1.XML": "<urlset><loc>http://docs.test/</loc><loc>http://docs.test/index.html#x</loc><loc>http://docs.test/b.html?x</loc><loc>http://docs.test/d</loc><loc>more.xml</loc>"
+            "<loc>https://docs.test/c.html</loc><loc>feed.xml</loc></urlset>",
+            "more.xml": "<urlset><loc>http://docs.test/d/e.html</loc><loc>other.txt</loc></urlset>", "feed.xml": "<rss><link>http://docs.test/c.html</link></rss>",
+            "other.txt": "http://docs.test/c.html", "x.xml": "<urlset><loc>http://docs.test/a.html</loc></urlset>",
+        },
+        ["gone index.html:1:9"],
+        (*unlisted("a.html", "c.html", "d/", "f"), {"kind": "total", "unlisted": 4, "pages": 9}),
+        settings=(("sitemap", True),),
+    ),
+    Known(
+        "documents that a list of URLs names", {"index.html": "", "a.html": "", "sitemap.txt": "http://docs.test/\n", "feed.rss": "<rss><link>a.html</link></rss>"},
+        [], (*unlisted("a.html"), {"kind": "total", "unlisted": 1, "broken": 0}), settings=(("sitemap", True),),
+    ),
+    Known(
+        "a sitemap and documents that are not reached", {"index.html": "", "a.html": "", "b": "<html>", "sitemap.txt": "http://docs.test/a.html\n"}, [],
+        (*unlisted("./", "b"), {"kind": "total", "pages": 1, "files": 0, "unlisted": 2}),
+        settings=(("sitemap", True), ("reachable", True)),
+    ),
+    Known(
         "patterns that are ignored",
         {"index.html": "<a href=a.png><a href=d/b.png><a href=b.png?x><a href=d/c.html><a href=x#y><p id=z><a href=htp:a*b><a href=%2A.gif>"},
         ["%2A.gif index.html:1:108", "b.png?x index.html:1:39"],
@@ -647,6 +708,36 @@ KNOWN = [
         settings=(*NO_BASE, ("ignores", ("*.png", "d*c*l", "*:*", "x*", "b*.png", "*.gif*.gif"))),
     ),
     Known("all that is ignored", {"index.html": "<a href=a><a href=../b><a href=http:>"}, [], settings=(*NO_BASE, ("ignores", ("*",)))),
+    Known(
+        "targets that are ignored in some files",
+        {
+            "index.html": "<a href=a.png><a href=htp:x><a href=../up><a href=d/b.html#x><a href=gone>", "d/b.html": "<a href=../a.png><a href=../gone><a href=../../up#y>",
+            "d/c: e.html": "<a href=../a.png><a href='htp: f'><a href='htp: g'>",
+        },
+        ["../up index.html:1:37", "a.png d/c: e.html:1:9", "a.png index.html:1:9", "gone index.html:1:70", "htp: g d/c: e.html:1:44"],
+        (
+            {"kind": "total", "pages": 3, "broken": 3, "missing_pages": 2, "missing_anchors": 0, "invalid": 1, "leaving": 1},
+            {"kind": "broken", "target": "a.png", "pages": 3}, {"kind": "broken", "target": "gone", "pages": 2}, {"kind": "leaving", "target": "../up", "pages": 2},
+            {"kind": "worst", "file": "index.html", "links": 3}, {"kind": "worst", "file": "d/c: e.html", "links": 2},
+            {"kind": "unused", "name": "d: a.png"}, {"kind": "unused", "name": "d/c: e.html: a"}, {"kind": "unused", "name": "*.html: b*"}, {"kind": "unused", "name": "htp: g"},
+        ),
+        settings=(
+            *NO_BASE,
+            ("ignores", (
+                "d/b.html: a.p", "d: a.png", "index.html: htp:", "d/*: go*", "*: d/b.html#x", "d/b*: ../up", "d/c: e.html: a", "*.html: b*", "d/c*: htp: f", "htp: g",
+            )),
+        ),
+    ),
+    Known(
+        "targets that are ignored in all files that link to them",
+        {"index.html": "<a href=a><a href=b#x><a href=e>", "b": "<html>", "d/index.html": "<a href=../a><a href=../c>"},
+        ["c d/index.html:1:22"],
+        (
+            {"kind": "total", "broken": 1, "missing_pages": 1, "missing_anchors": 0},
+            {"kind": "unused", "name": "index.html: c"}, {"kind": "unused", "name": "index.html: e"},
+        ),
+        settings=(*NO_BASE, ("ignores", ("index.html: a", "d/index.html: a", "i*l: b#*", "index.html: c", "e", "index.html: e"))),
+    ),
     Known(
         "what the rules of a host would find",
         {

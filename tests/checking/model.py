@@ -19,6 +19,8 @@ from checking.documents import TOOL, Document, document_of, form_of, is_page, kn
 Row = Dict[str, Any]
 FRAGMENT = "\"<>`"  # percent-encoded in a fragment, in addition to controls, spaces and everything beyond ASCII
 MOST_FILES = 10  # the number of files in the list of files with the most broken links
+ERROR_PAGE = "404.html"  # the last name of the URL of a page that no sitemap has to list
+ROOT_FOLDER = re.compile("/([^/?#]+)/")  # the first folder of a path from the root
 LINE_LIMIT = 4096  # the most bytes in a line of a saved web
 FILE_LIMIT = 1 << 30  # the most bytes of a file that is read
 
@@ -97,6 +99,7 @@ class Settings(NamedTuple):
     ignores: Tuple[str, ...] = ()
     anchors: bool = True
     unreached: bool = False
+    sitemap: bool = False  # whether the documents are listed that no sitemap lists
     exact: bool = False
     external: bool = False
     follow: bool = False
@@ -130,6 +133,7 @@ class Flag(NamedTuple):
 FLAGS = (
     Flag("anchors", "--no-anchors", 0.2),
     Flag("unreached", "--unreached", 0.5),
+    Flag("sitemap", "--sitemap", 0.3),
     Flag("exact", "--exact", 0.2),
     Flag("external", "--external", 0.5),
     Flag("follow", "--follow", 0.3),
@@ -236,11 +240,35 @@ def in_order(places: Located) -> Iterator[Row]:
         yield {**place._asdict(), "written": places[place]}
 
 
+def fits(pattern: str, text: str) -> bool:
+    """Whether a pattern matches a whole text. Each `*` matches any text."""
+    return re.fullmatch(".*".join(map(re.escape, pattern.split("*"))), text, re.DOTALL) is not None
+
+
 def matches(entry: str, target: str) -> bool:
-    """Whether an entry of the ignore list names a target: it begins with the entry, or the entry is a pattern for it."""
-    if "*" not in entry:
-        return target.startswith(entry)
-    return re.fullmatch(".*".join(map(re.escape, entry.split("*"))), target, re.DOTALL) is not None
+    """Whether an entry of the ignore list, without its file, names a target: it begins with the entry, or the entry is a pattern for it."""
+    return fits(entry, target) if "*" in entry else target.startswith(entry)
+
+
+def matches_in(entry: str, file: str, target: str) -> bool:
+    """Whether an entry of the form `FILE: TARGET` matches the links of a file to a target."""
+    name, mark, rest = entry.partition(": ")
+    return mark != "" and fits(name, file) and matches(rest, target)
+
+
+def is_everywhere(entry: str) -> bool:
+    """Whether an entry of the ignore list is for all files."""
+    return ": " not in entry
+
+
+def matches_any(entries: Iterable[str], target: str) -> bool:
+    """Whether an entry for all files matches a target."""
+    return any(matches(entry, target) for entry in entries if is_everywhere(entry))
+
+
+def is_used(entry: str, target: str, places: Located) -> bool:
+    """Whether an entry of the ignore list matches a target, or its links in the file that the entry names."""
+    return matches(entry, target) if is_everywhere(entry) else any(matches_in(entry, place.file, target) for place in places)
 
 
 def links_in(rows: List[Row]) -> int:
@@ -339,6 +367,11 @@ class Site:
         """The pages in order: each file, and each folder with an index file."""
         return sorted((self.url(key), name) for key, name in self.files.items())
 
+    def urls(self) -> Iterator[str]:
+        """The URLs of the pages, and those of folders without their last slashes, which redirect."""
+        yield from (url for url, _ in self.pages())
+        yield from (self.url(Key(name[:-1], None)) for name in self.names if name.endswith(b"/"))
+
     def start_of(self, seed: str) -> str:
         """The URL of a link on the top."""
         text = TOOL.cleaned(seed)
@@ -347,7 +380,15 @@ class Site:
 
     def own_starts(self) -> List[str]:
         """The own URLs of the files at which a check starts: HTML documents, sitemaps and feeds by their names."""
-        return [url for name, url in self.own.items() if is_page(self.path(name)) or self.form(name) in ("feed", "list") and feeds.is_start(last_of(url))]
+        return [url for name, url in self.own.items() if is_page(self.path(name)) or self.is_feed(name) and feeds.is_start(last_of(url))]
+
+    def own_pages(self) -> List[Tuple[str, bytes]]:
+        """The own URL of each file."""
+        return [(url, name) for name, url in self.own.items()]
+
+    def sitemaps(self) -> List[str]:
+        """The own URLs of the sitemaps that are known by their names."""
+        return [url for name, url in self.own.items() if self.is_feed(name) and feeds.is_sitemap(last_of(url))]
 
     def path(self, name: bytes) -> bytes:
         """The path that a file's name is, without its query."""
@@ -356,6 +397,10 @@ class Site:
     def form(self, name: bytes) -> Optional[str]:
         """The form of a file."""
         return form_of(self.path(name), self.settings.styles)
+
+    def is_feed(self, name: bytes) -> bool:
+        """Whether a file is a sitemap or a feed by its name."""
+        return self.form(name) in ("feed", "list")
 
     def is_document(self, name: bytes) -> bool:
         """Whether a file is an HTML document: by its name, or by its first bytes if its name does not say what it is."""
@@ -542,7 +587,7 @@ class Model:
                     pages, places = self.invalid.setdefault((line, reason), (set(), {}))
                     pages.add(url)
                     places.setdefault(Place(name, *document.lines.place(link.at)), TOOL.cleaned(link.text))
-            elif is_short("link", target if base.is_given else text.partition("#")[0]):
+            elif is_short("link", target if base.is_given or self.is_in_folder(text, base) else text.partition("#")[0]):
                 fragment = None if document.ids is None else fragment_of(link.text)
                 yield Link(target, fragment, Place(name, *document.lines.place(link.at)), TOOL.cleaned(link.text))
 
@@ -557,11 +602,14 @@ class Model:
             scheme = TOOL.scheme_of(text)
             return page if scheme in ("data", "javascript") else page._replace(front=f"{scheme}:")
 
+    def is_in_folder(self, text: str, base: "Base") -> bool:
+        """Whether a text is a path from the root that is a path in the folder, because no BASE is given."""
+        return self.settings.is_rooted() and begins_path(text) and not base.front and origin_of(base.url) == origin_of(self.site.base)
+
     def target_of(self, text: str, base: "Base") -> Optional[str]:
         """The URL to which a text leads, or None if it is not http or https."""
-        top = self.site.base
-        if self.settings.is_rooted() and begins_path(text) and not base.front and origin_of(base.url) == origin_of(top):
-            return in_folder(text, top)
+        if self.is_in_folder(text, base):
+            return in_folder(text, self.site.base)
         return url_of(text if TOOL.scheme_of(text) else base.front + text, base.url)
 
     def rows(self) -> List[Row]:
@@ -579,8 +627,10 @@ class Model:
         ]
         files = sorted(Counter(row["file"] for row in places).items(), key=lambda row: (-row[1], row[0].encode()))
         unreached = list(self.unreached()) if self.settings.unreached else []
+        unlisted = list(self.unlisted()) if self.settings.sitemap else []
         external = self.external() if self.settings.external else []
         counts = {"unreached": len(unreached)} if self.settings.unreached else {}
+        counts.update({"unlisted": len(unlisted)} if self.settings.sitemap else {})
         counts.update({"external": len(external)} if self.settings.external else {})
         found = [response.name for response in map(self.responses.get, self.links) if isinstance(response, Found)]
         pages = sum(map(self.site.is_document, found))
@@ -593,8 +643,17 @@ class Model:
             "missing_anchors": sum(row["kind"] == "broken" and row["missing"] == "anchor" for row in broken),
         }
         worst = [{"kind": "worst", "file": file, "links": count} for file, count in files[:MOST_FILES]]
-        names = [{"kind": "unreached", "name": name} for name in unreached]
-        return [total, *broken, *invalid, *leaving, *worst, *redirects, *names, *external, *self.unused()]
+        names = [{"kind": "unreached", "name": name} for name in unreached] + [{"kind": "unlisted", "name": name} for name in unlisted]
+        return [total, *self.base_hint(broken), *broken, *invalid, *leaving, *worst, *redirects, *names, *external, *self.unused()]
+
+    def base_hint(self, broken: List[Row]) -> Iterator[Row]:
+        """The hint that BASE is missing: most links to missing pages that are paths from the root begin with the same folder, which does not exist."""
+        paths = [row["written"] for row in broken if row["kind"] == "place" and row["missing"] == "page" and row["written"]]
+        found = [path[1] for path in map(ROOT_FOLDER.match, paths) if path]
+        most = [(name, count) for name, count in Counter(found).items() if 2 * count >= len(found) and count >= 2]
+        for name, count in most[:1] if self.settings.is_rooted() else ():
+            if not any(url.startswith(f"{self.site.base}{name}/") for url in self.site.urls()):
+                yield {"kind": "hint", "base": f"/{name}/", "paths": count, "of": len(found)}
 
     def linking(self) -> Dict[str, Set[str]]:
         """The pages that link to each URL. A redirect or an alias counts as a link to its target."""
@@ -618,10 +677,11 @@ class Model:
         places = self.places(())
         for url in self.leaving_urls(linking):
             target = self.shown_outside(url)
-            if not self.is_ignored(target):
+            left = self.left(target, places.get(url, {}))
+            if left is not None:
                 shown = {"target": target, "reason": "above_folder" if self.settings.is_rooted() else "outside_base"}
                 yield {"kind": "leaving", **shown, "pages": len(linking[url])}
-                yield from self.place_rows({"kind": "leaving_place", **shown}, places.get(url, {}))
+                yield from self.place_rows({"kind": "leaving_place", **shown}, left)
 
     def shown_outside(self, url: str) -> str:
         """A URL that is not below the top as the report prints it: without BASE, as a path from the top."""
@@ -650,39 +710,45 @@ class Model:
         """A URL as the report prints it."""
         return (url[len(self.settings.front):] or "./") if url.startswith(self.settings.front) else url
 
-    def is_ignored(self, target: str) -> bool:
-        """Whether a target is on the ignore list."""
-        return any(matches(entry, target) for entry in self.settings.ignores)
+    def left(self, target: str, places: Located) -> Optional[Located]:
+        """The locations of a target that the ignore list leaves, or None if it leaves nothing of the target."""
+        if matches_any(self.settings.ignores, target):
+            return None
+        left = {place: text for place, text in places.items() if not any(matches_in(entry, place.file, target) for entry in self.settings.ignores)}
+        return left if left or not places else None
 
     def missing_pages(self, linking: Dict[str, Set[str]]) -> Iterator[Row]:
         """The rows of missing pages, with the locations of links to them and to redirects to them."""
         names, places = self.names(), self.places(self.responses)
         for url in sorted(url for url, response in self.responses.items() if response is None):
-            if not self.is_ignored(self.shown(url)):
-                pages, found = linking.get(url, ()), places.get(url, {})
+            pages, found = linking.get(url, ()), places.get(url, {})
+            left = self.left(self.shown(url), found)
+            if left is not None:
                 same, file = names.get(last_of(url), (None, None))
                 is_inside = file in {place.file for place in found}
                 same_name = None if is_inside or same is None else self.shown(same)
                 shown = {"target": self.shown(url), "missing": "page"}
                 yield {"kind": "broken", **shown, "pages": len(pages), "same_name": same_name, "hint": self.site.hint(url)}
-                yield from self.place_rows({"kind": "place", **shown}, found)
+                yield from self.place_rows({"kind": "place", **shown}, left)
 
     def invalid_links(self) -> Iterator[Row]:
         """The rows of invalid links and of their locations."""
         for (text, reason), (pages, places) in sorted(self.invalid.items(), key=in_bytes):
-            if not self.is_ignored(text):
+            left = self.left(text, places)
+            if left is not None:
                 shown = {"target": text, "reason": reason}
                 yield {"kind": "invalid", **shown, "pages": len(pages)}
-                yield from self.place_rows({"kind": "invalid_place", **shown}, places)
+                yield from self.place_rows({"kind": "invalid_place", **shown}, left)
 
     def missing_anchors(self) -> Iterator[Row]:
         """The rows of missing anchors in existing pages."""
         for (url, fragment), (pages, places) in sorted(self.anchors_missing().items(), key=in_bytes):
             target = f"{self.shown(url)}#{fragment}"
-            if not self.is_ignored(target):
+            left = self.left(target, places)
+            if left is not None:
                 shown = {"target": target, "missing": "anchor"}
                 yield {"kind": "broken", **shown, "pages": len(pages), "same_name": None, "hint": None}
-                yield from self.place_rows({"kind": "place", **shown}, places)
+                yield from self.place_rows({"kind": "place", **shown}, left)
 
     def anchors_missing(self) -> Dict[Tuple[str, str], Tuple[Set[str], Located]]:
         """The missing anchors by URL and fragment, each with the pages that link to it and the locations.
@@ -721,6 +787,27 @@ class Model:
                 reached.add(name)
                 yield self.shown(url)
 
+    def unlisted(self) -> Iterator[str]:
+        """The documents that no sitemap lists, without pages of errors. A search that does not reach them does not matter."""
+        listed = self.listed()
+        responses = [self.site.response(url) for url in listed]
+        listed |= {response.own for response in responses if isinstance(response, Alias)}
+        for url, name in sorted(self.site.own_pages(), key=lambda page: page[0].encode()):
+            if self.site.is_document(name) and url not in listed and last_of(url) != ERROR_PAGE:
+                yield self.shown(url)
+
+    def listed(self) -> Set[str]:
+        """The URLs that sitemaps list: those that are known by their names, and sitemaps that these list."""
+        whole = Model(os.fsdecode(self.site.folder), self.settings._replace(reachable=False, seeds=()), self.site)
+        listed = {link.url for url in self.site.sitemaps() for link in whole.links.get(url, ())}
+        others = [url for url in listed if self.is_other_sitemap(url)]
+        return listed | {link.url for url in others for link in whole.links.get(url, ())}
+
+    def is_other_sitemap(self, url: str) -> bool:
+        """Whether a file is a sitemap if another one lists it: its name is neither that of a sitemap nor a usual one of a feed."""
+        response = self.site.response(url)
+        return isinstance(response, Found) and self.site.is_feed(response.name) and not feeds.is_start(last_of(url))
+
     def external(self) -> List[Row]:
         """The rows of links, and of redirects, to other sites."""
         own = origin_of(self.site.base)
@@ -730,13 +817,19 @@ class Model:
         return [{"kind": "external", "url": url, "links": count} for url, count in sorted(urls.items(), key=lambda row: row[0].encode())]
 
     def unused(self) -> Iterator[Row]:
-        """The rows of ignore entries that match nothing."""
-        texts = [self.shown(url) for url, response in self.responses.items() if response is None]
-        texts += [self.shown_outside(url) for url in self.leaving_urls(self.linking())]
-        if self.settings.invalid:
-            texts += [text for text, _ in self.invalid]
-        if self.settings.anchors:
-            texts += [f"{self.shown(url)}#{fragment}" for url, fragment in self.anchors_missing()]
+        """The rows of ignore entries that match nothing. Those for some files match nothing that one for all files matches."""
+        broken = list(self.targets())
+        left = [one for one in broken if not matches_any(self.settings.ignores, one[0])]
         for entry in self.settings.ignores:
-            if not any(matches(entry, text) for text in texts):
+            if not any(is_used(entry, target, places) for target, places in (broken if is_everywhere(entry) else left)):
                 yield {"kind": "unused", "name": entry}
+
+    def targets(self) -> Iterator[Tuple[str, Located]]:
+        """What is broken, invalid or leaves the site, with its locations, as if there was no ignore list."""
+        pages, leaving = self.places(self.responses), self.places(())
+        yield from ((self.shown(url), pages.get(url, {})) for url, response in self.responses.items() if response is None)
+        yield from ((self.shown_outside(url), leaving.get(url, {})) for url in self.leaving_urls(self.linking()))
+        if self.settings.invalid:
+            yield from ((text, places) for (text, _), (_, places) in self.invalid.items())
+        if self.settings.anchors:
+            yield from ((f"{self.shown(url)}#{fragment}", places) for (url, fragment), (_, places) in self.anchors_missing().items())

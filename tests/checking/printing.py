@@ -16,6 +16,7 @@ REASONS = {
     "not_url": "not a URL", "unknown_scheme": "unknown scheme", "local_file": "local file",
     "above_folder": "leaves the folder", "outside_base": "outside BASE",
 }
+UNLISTED = "not in a sitemap"
 KINDS = ("broken", "invalid", "leaving")
 
 
@@ -89,7 +90,9 @@ def named(row: Row) -> str:
 
 
 def message(row: Row) -> str:
-    """What is wrong with a target."""
+    """What is wrong with a target, or with a document."""
+    if row["kind"] == "unlisted":
+        return UNLISTED
     return REASONS[row["reason"]] if "reason" in row else f"no such {row['missing']}"
 
 
@@ -101,9 +104,9 @@ def advice(row: Row, is_plain: bool = False) -> str:
 
 
 def as_written(row: Row, place: Row) -> str:
-    """The text of a link, in brackets, if it is not the target."""
+    """The text of a link, in brackets, unless the target ends with it."""
     text = place["written"]
-    return f" (written as {text})" if text is not None and text != named(row) else ""
+    return f" (written as {text})" if text is not None and not named(row).endswith(text) else ""
 
 
 def line_of(row: Row, place: Row) -> str:
@@ -128,10 +131,13 @@ def broken_lines(rows: List[Row], options: Options) -> Iterator[str]:
     yield from (f"{named(row)}: {message(row)}: {len(places) - limit} more" for row, places, limit in limited if len(places) > limit)
 
 
+COUNTS = {"unreached": "unreached files", "unlisted": "documents that no sitemap lists", "external": "external URLs"}
+
+
 def totals(total: Row) -> Iterator[str]:
     """The two lines of totals."""
     first = [f"{name} {total[name]}" for name in ("pages", "files", "links", "redirects", "aliases")]
-    first += [f"{text} {total[name]}" for name, text in (("unreached", "unreached files"), ("external", "external URLs")) if name in total]
+    first += [f"{text} {total[name]}" for name, text in COUNTS.items() if name in total]
     yield ", ".join(first)
     second = [f"broken links {total['broken']}", f"missing pages {total['missing_pages']}", f"missing anchors {total['missing_anchors']}"]
     yield ", ".join(second + [f"{name} links {total[name]}" for name in ("invalid", "leaving") if total[name]])
@@ -150,18 +156,24 @@ def list_line(row: Row) -> str:
         return f"{decoded(row['page'])} -> {decoded(row['to'] or '-')} (linked from {pages_text(row['pages'])})"
     if row["kind"] == "external":
         return f"{row['links']} {row['url']}"
-    return decoded(row["name"]) if row["kind"] == "unreached" else str(row["name"])
+    return str(row["name"]) if row["kind"] == "unused" else decoded(row["name"])
 
 
 HEADINGS = {
-    "worst": "files with the most broken links:", "redirect": "links to redirects:", "unreached": "unreached files:",
+    "worst": "files with the most broken links:", "redirect": "links to redirects:", "unreached": "unreached files:", "unlisted": "documents that no sitemap lists:",
     "external": "external links (not checked):", "unused": "unused --ignore entries:",
 }
 
 
+def base_hint(row: Row) -> str:
+    """The line of a hint at a missing BASE."""
+    folder = row["base"]
+    return f"hint: {row['paths']} of {row['of']} paths from the root begin with {folder}, which is not in the folder: pass BASE, such as https://HOST{folder}"
+
+
 def as_text(rows: List[Row], options: Options) -> str:
     """The report as text."""
-    lines = list(totals(rows[0]))
+    lines = list(totals(rows[0])) + [base_hint(row) for row in rows if row["kind"] == "hint"]
     broken = list(broken_lines(rows, options))
     lines += [""] * bool(broken) + broken
     for kind, heading in HEADINGS.items():
@@ -181,11 +193,12 @@ def escaped(text: str, is_property: bool) -> str:
 
 
 def as_annotations(rows: List[Row], folder: str) -> str:
-    """The report as annotations. The paths begin with the folder. A target without a location has an annotation of no file."""
+    """The report as annotations. The paths begin with the folder. What has no location has an annotation of no file."""
     front = "" if folder == "." else folder.rstrip("/") + "/"
     lines = []
     for row, places in targets(rows):
         text = escaped(row["target"] + ": " + message(row) + advice(row, True), False)
         files = [f" file={escaped(front + place['file'], True)},line={place['line']},col={place['column']}" for place in places]
         lines += [f"::error{file}::{text}\n" for file in files or [""]]
+    lines += [f"::error::{escaped(row['name'], False)}: {message(row)}\n" for row in rows if row["kind"] == "unlisted"]
     return "".join(lines)

@@ -68,25 +68,30 @@ def junit_faults(node: ElementTree.Element) -> Iterator[str]:
 
 
 class Link(NamedTuple):
-    """A broken link: its target, and its location if it has one."""
+    """A broken link: its target, and its location if it has one. Or a document that no sitemap lists."""
 
     row: Row
     place: Optional[Row]
 
     def text(self) -> str:
-        """What is wrong with the link."""
+        """What is wrong."""
         return f"{named(self.row)}: {message(self.row)}{as_written(self.row, self.place) if self.place else ''}{advice(self.row)}"
 
+    def suite(self) -> str:
+        """The name of the test suite that has the link."""
+        return in_xml(self.place["file"]) if self.place else "sitemap" if self.row["kind"] == "unlisted" else "no file"
+
     def rule(self) -> str:
-        """The rule that the link breaks."""
-        return message(self.row).replace("no such ", "missing ").replace(" ", "-").lower()
+        """The rule that is broken."""
+        return message(self.row).replace("no such ", "missing ").replace("in a ", "in ").replace(" ", "-").lower()
 
 
 def links_of(rows: List[Row]) -> List[Link]:
-    """The broken links by file, line and column, and then the targets without a location."""
+    """The broken links by file, line and column, then the targets without a location, and the documents that no sitemap lists."""
     found = in_order(targets(rows))
     placed = [(Link(row, place), place_order(place)) for row, places in found for place in places]
-    return [link for link, _ in sorted(placed, key=lambda one: one[1])] + [Link(row, None) for row, places in found if not places]
+    others = [row for row, places in found if not places] + [{**row, "target": row["name"]} for row in rows if row["kind"] == "unlisted"]
+    return [link for link, _ in sorted(placed, key=lambda one: one[1])] + [Link(row, None) for row in others]
 
 
 def path_in(folder: str, file: str) -> str:
@@ -103,17 +108,16 @@ Case = Tuple[Dict[str, str], Optional[Dict[str, str]], str]  # the attributes of
 
 
 def expected_suites(rows: List[Row], folder: str) -> Iterator[Tuple[str, List[Case]]]:
-    """The names of the test suites, and their cases: one suite for each file, and one for targets without a location."""
+    """The names of the test suites, and their cases: one suite for each file, one for targets without a location, and one for sitemaps."""
     links = links_of(rows)
     if not links:
         yield "links", [({"name": "no broken links", "classname": "links"}, None, "")]
-    for file, some in groupby(links, key=lambda link: link.place["file"] if link.place else None):
-        name = "no file" if file is None else in_xml(file)
+    for (_, name), some in groupby(links, key=lambda link: (link.place is None, link.suite())):
         cases: List[Case] = []
         for link in some:
             location = f"{link.place['line']}:{link.place['column']}: " if link.place else ""
             case = {"name": location + in_xml(named(link.row)), "classname": name}
-            case.update({"file": in_xml(path_in(folder, file))} if file is not None else {})
+            case.update({"file": in_xml(path_in(folder, link.place["file"]))} if link.place else {})
             cases.append((case, {"type": link.rule(), "message": in_xml(link.text())}, in_xml(link.text())))
         yield name, cases
 

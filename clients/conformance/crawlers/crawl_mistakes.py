@@ -129,6 +129,7 @@ class Client:
         for name, of_queue in ((str(queue), f" {queue}"), ("all", "")):
             answer = await self.ask(f"stats{'' if MISTAKE == 'stats_of_all' else of_queue}")
             numbers = answer.split(" ")[2::2]
+            numbers = numbers if MISTAKE == "added_stats" else numbers[:6]
             print("stats", name, *sorted(numbers) if MISTAKE == "wrong_stats" else numbers)
 
     async def later(self, queue: int) -> None:

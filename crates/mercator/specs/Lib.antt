@@ -2,11 +2,11 @@ pub mod Ending
 pub mod FaultText
 pub mod Faults
 pub mod Formats
-pub mod Given
 pub mod Hosts
 pub mod Input
 pub mod KeyLine
 pub mod Limits
+pub mod OptionValues
 pub mod Plans
 pub mod Told
 pub mod WebCrawl

@@ -20,8 +20,8 @@ mod fault;
 mod fault_text;
 mod folder;
 mod folder_words;
-mod given;
 mod input;
+mod option_values;
 mod plan_error;
 mod planned;
 mod platform;
@@ -58,14 +58,15 @@ use words::plan_with_config;
 pub use writing::fault_line;
 use writing::{begin, end, end_by_chunks, tell_ended, tell_fault};
 
-/// The exit status of a check that found something broken.
+/// The exit status of a check that found something broken, or reports a document that no sitemap lists.
 const BROKEN: u8 = 4;
 
 /// Runs the program on the arguments after its name, and returns its exit status: 0 success, 1 an error, 2 an incomplete crawl,
 /// 3 a bad command line, 4 a check that found something broken, 5 a log that another program uses.
 ///
-/// [`plan`] parses the arguments, and [`run_plan`] runs what they ask for. A check also has the options of its configuration file. Help
-/// is written to `out`, and an error in the arguments or in that file to `err`. Like [`run_plan`], this call is meant for a process that ends afterwards.
+/// The arguments are parsed as by [`plan`], but a check also has the options of its configuration file. [`run_plan`] runs what they ask
+/// for. Help is written to `out`, and an error in the arguments or in that file to `err`. Like [`run_plan`], this call is meant for a
+/// process that ends afterwards.
 ///
 /// The program `mercator` is this call on the platform of the process:
 ///

@@ -15,7 +15,7 @@ pub use Rattle.mercator_site.specs.Seeds.{seed_link}
 pub use Rattle.saved_site.specs.Linked.{IsSiteSource, PageFound, page_at}
 pub use Rattle.site_files.specs.Below.{IsTop, begins}
 pub use Rattle.site_files.specs.declared.alias.Alias.{Alias}
-pub use Rattle.std.proofs.Common.{Err, Global, IfOk, List, Ok, Result, Vec, [], ap, arith, drop, false, get_or, length, map, not, refl, rules, string_bytes, subst, suc, sym, take, true, ℕ, ◌++◌, ◌+◌, ◌==◌, ◌∙◌, ◌∷◌, ◌≡◌, ◌≤◌}
+pub use Rattle.std.proofs.Common.{Err, Global, IfOk, List, Ok, Result, Vec, [], ap, arith, drop, false, get_or, length, map, not, refl, rules, string_bytes, subst, suc, sym, take, true, ℕ, ◌&&◌, ◌||◌, ◌++◌, ◌+◌, ◌==◌, ◌∙◌, ◌∷◌, ◌≡◌, ◌≤◌}
 pub use Rattle.std.proofs.lemmas.Grind.{common_steps}
 pub use Rattle.std.proofs.lemmas.List.Elements.{All-append, All-cons, All-nil, recursion_from_All}
 pub use Rattle.std.proofs.lemmas.Result.{err_from_is_err_and}

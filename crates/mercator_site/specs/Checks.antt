@@ -1,5 +1,5 @@
 -- The report of a check of a folder's links.
-use Rattle.std.specs.Prelude.{◌≡◌, ◌==◌, ℕ, Bool, true, false, not, ◌&&◌, List, [], ◌∷◌, ◌++◌, length, map, string_bytes, Ok, Option, Some, None, ⊤, All, option_map}
+use Rattle.std.specs.Prelude.{◌≡◌, ◌==◌, ℕ, Bool, true, false, not, ◌&&◌, ◌||◌, List, [], ◌∷◌, ◌++◌, length, map, string_bytes, Ok, Option, Some, None, ⊤, All, option_map}
 use Rattle.std.specs.Str.Lines.{lines}
 use Rattle.check_report.specs.Printing.{printed_text, printed_json, printed_annotations, printed_page, printed_junit, printed_sarif}
 use Rattle.check_report.specs.Text.{is_broken}
@@ -24,15 +24,12 @@ use Rattle.saved_site.specs.Aliases.{alias_page}
 use Rattle.site_files.specs.Below.{IsTop}
 use Rattle.saved_site.specs.Below.{IsWebBelow}
 use Rattle.saved_site.specs.Meaning.{IsSiteWeb}
-use Rattle.site_check.specs.Broken.{broken_of, redirects_of}
+use Rattle.site_check.specs.Broken.{redirects_of}
 use Rattle.site_files.specs.declared.files.SiteFiles.{SiteFiles}
 use Rattle.site_files.specs.declared.alias.Alias.{Alias}
-use Rattle.site_check.specs.Hints.{hints_in, hints_of}
-use Rattle.site_check.specs.Ignored.{AreUnused, anchors_in}
-use Rattle.site_check.specs.Invalid.{AreInvalid, invalid_rows_in, texts_if}
-use Rattle.site_check.specs.Leaving.{leaving_in, leaving_of, outside_texts}
-use Rattle.site_check.specs.Names.{AreNamed}
-use Rattle.site_check.specs.Told.{rows_in, way_of}
+use Rattle.site_check.specs.Invalid.{texts_if}
+use Rattle.site_check.specs.Reported.{AreReported}
+use Rattle.site_check.specs.Told.{way_of}
 use Rattle.site_check.specs.Totals.{totals_of}
 use Rattle.site_check.specs.declared.check.Checked.{Checked}
 
@@ -92,8 +89,9 @@ pub record IsReport (checked : Checked) (others : Option (List Row)) (name : Lis
   pub totals : found.totals ≡ checked.totals
   pub rows : found.broken.now ≡ checked.broken.items
   pub ways : found.redirects.now ≡ checked.redirects.items
+  pub unlisted : found.unlisted.now ≡ checked.unlisted.items
   pub unused : found.unused_ignores.now ≡ checked.unused_ignores.items
-  pub is_broken : broken ≡ is_broken checked.totals
+  pub is_broken : broken ≡ is_broken checked.totals || (asks.report.lists.unlisted && not (length checked.unlisted.items == 0))
   pub contents : Contents
   pub lists : contents.lists ≡ asks.report.lists
   pub folder : contents.folder.now ≡ asks.folder
@@ -105,29 +103,25 @@ pub record IsReport (checked : Checked) (others : Option (List Row)) (name : Lis
 -- to it, the invalid links, if they are reported, the missing pages on the site's host that are not below the top, and the entries
 -- that match nothing. Its totals count the pages at the own URLs of files, those of some documents apart, their links, the pages at
 -- these aliases, and the rows.
--- Something is broken if there is a row of a missing page or anchor, of an invalid link, or of a link that leads out of the site
+-- Something is broken if there is a row of a missing page or anchor, of an invalid link, or of a link that leads out of the site; or
+-- a document that no sitemap lists, if these are reported
 pub record IsCheck (top web : List ℕ) (aliases : List Alias) (asks : Asks) (broken : Bool) (text : List ℕ) : Type 0 where
   pub pages : List PageResult
   pub crawled : IsTopCrawl top web asks.reachable asks.seeds pages
   pub own : List PageResult
   pub are_own : own ≡ own_of crawled.url pages
   pub found : Findings
-  pub rows : rows_in found.broken.now ≡ broken_of asks.front asks.entries own
   pub ways : map way_of found.redirects.now ≡ redirects_of asks.front own
   -- the own URLs of documents
   pub documents : List (List ℕ)
   pub totals : found.totals ≡ totals_of aliases documents own found.broken.now found.redirects.now
-  -- the suggested pages and the hints are those of a site with this top, and external links lead to other hosts than the site's
+  -- the rows are those of a site with this top, and external links lead to other hosts than the site's
   pub site : SiteFiles
   pub site_top : string_bytes site.site.top ≡ top
-  pub names : AreNamed asks.front site found.broken.now
-  pub hints : hints_in found.broken.now ≡ hints_of asks.front asks.entries site own
   -- what is known of the links of these pages
   pub places : List LinkPlaces
-  pub invalid : AreInvalid asks.entries (texts_if asks.invalid places own) (invalid_rows_in found.broken.now)
-  pub leaving : leaving_in found.broken.now ≡ leaving_of asks.entries asks.rooted site own pages
-  pub unused : AreUnused asks.front asks.entries own (texts_if asks.invalid places own) (outside_texts asks.rooted site pages) (anchors_in found.broken.now) (map string_bytes found.unused_ignores.now)
-  pub is_broken : broken ≡ not (length found.broken.now == 0)
+  pub rows : AreReported asks.front asks.entries (texts_if asks.invalid places own) asks.rooted site own pages found.broken.now (map string_bytes found.unused_ignores.now)
+  pub is_broken : broken ≡ not (length found.broken.now == 0) || (asks.report.lists.unlisted && not (length found.unlisted.now == 0))
   pub contents : Contents
   pub lists : contents.lists ≡ asks.report.lists
   pub folder : contents.folder.now ≡ asks.folder

@@ -1,5 +1,6 @@
 //! Checks a site: from its files to the report.
-ghost use Rattle.std.specs.Prelude.{◌≡◌, ℕ, List, IfErr, IfOk, map, Ok, string_bytes, true, option_map};
+ghost use Rattle.std.specs.Prelude.{◌≡◌, ◌==◌, ◌&&◌, ◌||◌, ℕ, List, not, length, IfErr, IfOk, map, Ok, string_bytes, true, option_map};
+ghost use Rattle.check_report.specs.Text.{is_broken};
 ghost use Rattle.crawl_keys.specs.CanonicalText.{canonical};
 ghost use Rattle.mercator_site.specs.Asks.{asks_in};
 ghost use Rattle.mercator_site.specs.Checks.{AreOthersListed, IsNamedCheck, IsNamedSiteCheck, IsReport, IsSiteCheckAt, IsTopCrawl};
@@ -14,7 +15,7 @@ use crate::fault::SiteFault;
 use crate::options::ReportOptions;
 use crate::own::own_results;
 use crate::print::print_check;
-use crate::start::{check_starts, documents, starts};
+use crate::start::{check_starts, start_urls, starts};
 use check_report::{Contents, External};
 use crawl_keys::CanonUrl;
 use crawl_pages::PageResult;
@@ -64,8 +65,10 @@ pub struct CheckSettings<'a> {
 #[derive(Drop)]
 pub struct CheckReport {
     pub text: Vec<u8>,
-    /// Whether something is broken.
+    /// Whether something is broken, or a document is reported that no sitemap lists.
     pub is_broken: bool,
+    /// Whether documents that no sitemap lists are reported, but no sitemap was read.
+    pub lacks_sitemap: bool,
 }
 
 /// The crawls of a check.
@@ -129,7 +132,8 @@ pub fn report_of_pages<R: Threads + Wait + Sync, B: FileBytes + Sync>(
     let others = others_listed(alloc, settings.report.external, files, results)?;
     let input = input_of(&site, &crawls, settings);
     let checked = check_site(rt, alloc, results, files, bytes, input)?;
-    let report = report_of(alloc, &checked, &others, settings)?;
+    let lacks_sitemap = lacks_sitemap(&site, settings.report.lists.unlisted);
+    let report = report_of(alloc, &checked, &others, lacks_sitemap, settings)?;
     // Not freed: the process exits soon, and the system frees everything faster.
     forget(site);
     forget(crawls);
@@ -151,7 +155,7 @@ fn crawl_site<R: Threads + Wait + Sync>(
 {
     let mut seeds = starts(alloc, pages, top, settings.seeds, settings.reachable)?;
     let reached = crawl_reached(rt, alloc, pages, top, seeds.as_slice(), settings)?;
-    let mut more = documents(alloc, top, files, settings.reachable)?;
+    let mut more = start_urls(alloc, top, files, settings.reachable)?;
     seeds.append(&mut more)?;
     let whole = crawl_source(rt, alloc, pages, top, seeds.as_slice(), settings.workers)?;
     Ok(SiteCrawls { reached, whole })
@@ -200,6 +204,21 @@ fn input_of<'a>(
         found: crawls.whole.result.pages(),
         rooted: settings.rooted,
         reached: reached_in(crawls, settings.report.lists.unreached),
+        listed: listed_in(site, settings.report.lists.unlisted),
+    }
+}
+
+/// Whether documents that no sitemap lists are reported, but no sitemap was read.
+fn lacks_sitemap(site: &LinkedSite, is_requested: bool) -> bool {
+    is_requested && !site.has_sitemap
+}
+
+/// The URLs that sitemaps list, if the documents that none lists are reported.
+fn listed_in(site: &LinkedSite, is_requested: bool) -> Option<&[CanonUrl]> {
+    if is_requested {
+        Some(site.listed.as_slice())
+    } else {
+        None
     }
 }
 
@@ -217,6 +236,7 @@ fn report_of(
     alloc: Global,
     checked: &Checked,
     others: &Option<Vec<External>>,
+    lacks_sitemap: bool,
     settings: CheckSettings<'_>,
 ) -> Result<CheckReport, AllocError>
     ensures { IfOk result (λ report. IsReport checked.now (option_map (λ urls. map row_of urls.items) others.now) settings.entry.name.now (asks_in settings.entry) report.is_broken report.text.items) }
@@ -232,8 +252,16 @@ fn report_of(
     let text = print_check(alloc, &findings, contents, options.form)?;
     Ok(CheckReport {
         text,
-        is_broken: checked.is_broken(),
+        is_broken: fails(checked, options.lists.unlisted),
+        lacks_sitemap,
     })
+}
+
+/// Whether a check fails: something is broken, or documents that no sitemap lists are reported, and there is one.
+fn fails(checked: &Checked, reports_unlisted: bool) -> bool
+    ensures { result ≡ is_broken checked.now.totals || (reports_unlisted && not (length checked.now.unlisted.items == 0)) }
+{
+    checked.is_broken() || reports_unlisted && !checked.unlisted.is_empty()
 }
 
 /// The external links of the pages, if they are listed.

@@ -147,8 +147,8 @@ fn seed_of(alloc: Global, top: &CanonUrl, link: &str) -> Result<CanonUrl, SiteFa
     }
 }
 
-/// The own URLs of the documents at which a check starts, or none if only what can be reached is checked.
-pub(crate) fn documents(
+/// The own URLs of the documents, sitemaps and feeds at which a check starts, or none if only what can be reached is checked.
+pub(crate) fn start_urls(
     alloc: Global,
     top: &CanonUrl,
     files: &SiteFiles<'_>,
@@ -160,12 +160,12 @@ pub(crate) fn documents(
     if reachable {
         return Ok(Vec::new(alloc));
     }
-    own_documents(alloc, top, files)
+    own_start_urls(alloc, top, files)
 }
 
 /// The own URLs of the HTML and XHTML documents, and of the sitemaps and feeds with a usual name. All are below the top, which is tested
 /// because the contract promises it of any site.
-fn own_documents(
+fn own_start_urls(
     alloc: Global,
     top: &CanonUrl,
     files: &SiteFiles<'_>,
@@ -174,17 +174,11 @@ fn own_documents(
 {
     let mut urls = Vec::new(alloc);
     for number in 0..files.page_count() {
-        if let Some(url) = start_url(files, number) {
+        if let Some(url) = files.start(number) {
             push_own(top, url, &mut urls)?;
         }
     }
     Ok(urls)
-}
-
-/// The URL of the page with this number, if a check starts there. It has no clause, because with the clause of `start` the prover does
-/// not find the proof of the loop that calls it.
-fn start_url<'a>(files: &'a SiteFiles<'_>, number: usize) -> Option<&'a CanonUrl> {
-    files.start(number)
 }
 
 /// Adds a URL, if it is below the top.

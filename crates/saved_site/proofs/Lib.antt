@@ -4,6 +4,7 @@ pub mod Found
 pub mod LedPages
 pub mod Lines
 pub mod LinkIndices
+pub mod ListedUrls
 pub mod Linkers
 pub mod Parts
 pub mod Says

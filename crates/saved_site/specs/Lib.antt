@@ -7,4 +7,5 @@ pub mod LinkedPages
 pub mod Meaning
 pub mod Pages
 pub mod SiteTexts
+pub mod Sitemaps
 pub mod WebTexts

@@ -12,6 +12,7 @@ mod page;
 mod page_maker;
 mod rounds;
 mod site_data;
+mod sitemaps;
 mod spellings;
 mod task;
 mod tasks;

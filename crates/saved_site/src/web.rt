@@ -1,21 +1,23 @@
 //! The pages of a site, as a saved web and as a source for a crawl, and what is known of them.
-ghost use Rattle.std.specs.Prelude.{IfErr, IfOk, string_bytes};
+ghost use Rattle.std.specs.Prelude.{◌≡◌, ◌==◌, IfErr, IfOk, length, not, string_bytes};
 ghost use Rattle.saved_site.specs.Aliases.{AreAliases};
 ghost use Rattle.saved_site.specs.Below.{IsWebBelow};
 ghost use Rattle.saved_site.specs.Linked.{IsSiteSource};
 ghost use Rattle.saved_site.specs.Meaning.{IsOfWeb, IsSiteWeb};
+ghost use Rattle.saved_site.specs.Sitemaps.{AreListed, named_sitemaps};
 
 use crate::aliases::aliases_among;
-use crate::linked::LinkedPages;
+use crate::linked::{LinkedPages, Linker};
 use crate::page::PageSink;
 use crate::rounds::make_all;
 use crate::site_data::SiteData;
+use crate::sitemaps::ListedUrls;
 use crate::tasks::TaskQueue;
 use crate::web_text::WebText;
 use crawl_keys::CanonUrl;
 use document_links::{LinkPlaces, PageAnchors};
 use site_files::{Alias, FileBytes, Note, SiteError, SiteFiles};
-use std::alloc::Global;
+use std::alloc::{AllocError, Global};
 use std::thread::Threads;
 
 /// The saved web of a site.
@@ -43,6 +45,8 @@ pub struct LinkedSite {
     pub places: Vec<LinkPlaces>,
     /// The URLs that the sitemaps of the site list, in order. A sitemap is known by its name, or another one names it.
     pub listed: Vec<CanonUrl>,
+    /// Whether the site has a sitemap that is known by its name.
+    pub has_sitemap: bool,
 }
 
 /// Makes the saved web of a site from the bytes of its files. `seeds` are links on the top at which a crawl starts. Like links in
@@ -80,10 +84,27 @@ pub fn site_pages<R: Threads + Sync, B: FileBytes + Sync>(
 ) -> Result<LinkedSite, SiteError>
     ensures source { IfOk result (λ site. IsSiteSource (string_bytes files.now.site.top) site.pages) }
     ensures aliases { IfOk result (λ site. AreAliases site.pages site.aliases.items) }
+    // The URLs that sitemaps list are the links of their pages.
+    ensures listed { IfOk result (λ site. AreListed files.now site.pages site.listed.items) }
+    ensures sitemaps { IfOk result (λ site. site.has_sitemap ≡ not (length (named_sitemaps files.now) == 0)) }
     ensures error { IfErr result IsOfWeb }
 {
     let mut data = data_of(rt, alloc, files, seeds, bytes)?;
     data.sort()?;
+    Ok(linked_site(alloc, files, data)?)
+}
+
+/// The site with these pages.
+fn linked_site(
+    alloc: Global,
+    files: &SiteFiles<'_>,
+    data: SiteData<Linker>,
+) -> Result<LinkedSite, AllocError>
+    ensures source { IfOk result (λ site. IsSiteSource (string_bytes files.now.site.top) site.pages) }
+    ensures aliases { IfOk result (λ site. AreAliases site.pages site.aliases.items) }
+    ensures listed { IfOk result (λ site. AreListed files.now site.pages site.listed.items) }
+    ensures sitemaps { IfOk result (λ site. site.has_sitemap ≡ not (length (named_sitemaps files.now) == 0)) }
+{
     let SiteData {
         parts,
         notes,
@@ -95,6 +116,7 @@ pub fn site_pages<R: Threads + Sync, B: FileBytes + Sync>(
     } = data;
     let pages = LinkedPages::new(alloc, files.top(), parts)?;
     let aliases = aliases_among(alloc, &pages, aliases)?;
+    let listed = ListedUrls::new(alloc, files, &pages)?;
     Ok(LinkedSite {
         pages,
         notes,
@@ -102,7 +124,8 @@ pub fn site_pages<R: Threads + Sync, B: FileBytes + Sync>(
         documents,
         anchors,
         places,
-        listed: Vec::new(alloc),
+        listed: listed.urls,
+        has_sitemap: listed.has_sitemap,
     })
 }
 

@@ -122,8 +122,9 @@ pub gained_text : (front piece text : List ℕ) (old new : Summing) → front �
 gained_text front piece text old new none whole gained = subst (λ p. Gained (p ∷ []) old new) (whole ∙ ap (λ l. l ++ text) none) gained
 
 -- after the lines that are needed, those that keep the numbers of `seen` were appended
-pub compacted_whole : (old : SessionView) (next : Had) (mid : SessionView) (out_old out_mid out_new : Summing) → Compacted had_none old next mid out_old out_mid → Gained (log_text (seen_lines 0 mid.core.seen) ∷ []) out_mid out_new → IsCompacted old [] out_old.sum out_old.contents out_new.contents
-compacted_whole old next mid out_old out_mid out_new one last =
+pub compacted_whole : (had : Had) (old : SessionView) (next : Had) (mid : SessionView) (out_old out_mid out_new : Summing) → had ≡ had_none → Compacted had old next mid out_old out_mid → Gained (log_text (seen_lines 0 mid.core.seen) ∷ []) out_mid out_new → IsCompacted old [] out_old.sum out_old.contents out_new.contents
+compacted_whole had old next mid out_old out_mid out_new none begun last =
+    let one : Compacted had_none old next mid out_old out_mid = subst (λ h. Compacted h old next mid out_old out_mid) none begun in
     let text = log_text (seen_lines 0 mid.core.seen) in
     record {
       requests = one.requests;

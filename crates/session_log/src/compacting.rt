@@ -117,7 +117,7 @@ fn compact_to<F: Read + Seek, O: Write>(
 }
 
 /// Runs these lines, and writes those that are needed, and the numbers of `seen`. Fails with `CannotRead` also if a line is too long for the reader.
-#[tactic(auto, using(crate::proofs::Logs::compacted_none, crate::proofs::Logs::compacted_whole))]
+#[tactic(auto, using(crate::proofs::Logs::compacted_none))]
 fn compact_lines<F: Read + Seek, O: Write>(
     alloc: Global,
     session: &mut Session,

@@ -71,18 +71,33 @@ fn list_file<F: Read + Seek>(
         return Err(LogFault::NotALog);
     };
     let (mut session, sums) = session_of_line(alloc, line)?;
-    let mut buffer = vec![in alloc; 0u8; READ_SIZE]?;
-    let first = line.len() as u64 + 1;
-    let whole = whole_end(file, first, len, &mut buffer)?;
-    if sums {
-        checked_sum(alloc, file, whole)?;
-    }
+    let mut lines = checked_lines(alloc, file, line.len() as u64 + 1, len, sums)?;
     let lister = Lister {
         alloc,
         form: plan.form,
     };
-    let mut lines = LineReader::new(alloc, file, first, whole)?;
     list_lines(&lister, plan.kind, &mut session, &mut lines)
+}
+
+/// Returns the whole lines of a log of `len` bytes from `first` on. If it has checksums (`sums`), they are checked before.
+///
+/// # Errors
+/// `CannotRead`, `Damaged`, `NoMemory`.
+fn checked_lines<F: Read + Seek>(
+    alloc: Global,
+    file: &mut F,
+    first: u64,
+    len: u64,
+    sums: bool,
+) -> Result<LineReader<'_, F>, LogFault>
+    ensures fault { IfErr result IsReadFault }
+{
+    let mut buffer = vec![in alloc; 0u8; READ_SIZE]?;
+    let whole = whole_end(file, first, len, &mut buffer)?;
+    if sums {
+        checked_sum(alloc, file, whole)?;
+    }
+    Ok(LineReader::new(alloc, file, first, whole)?)
 }
 
 /// Creates the session of a log with this first line, without its LF. Also returns whether the log has checksums.

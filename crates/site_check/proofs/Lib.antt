@@ -1,11 +1,16 @@
 pub mod Prelude
+pub mod AllReported
 pub mod AllRows
 pub mod Counting
+pub mod FileEntries
 pub mod FileNames
 pub mod Fronts
 pub mod LeadsFound
+pub mod Listed
 pub mod Namesakes
 pub mod Outsides
 pub mod Patterns
+pub mod Retained
+pub mod RootFolders
 pub mod TextsOnce
 pub mod Verdicts

@@ -51,7 +51,7 @@ known_on : (b : Bool) (pages found : List PageFile) (page : PageFile) (number : 
     IsKnown pages (found ++ cond b (page ∷ []) []) (cond b (Some (known_with known number)) known)
 known_on b pages found page number known at is = grind (arith, common_steps, known_more)
 
-some_at : (pages : List PageFile) (n : ℕ) → n < length pages → (page : PageFile) × (slice_get pages n ≡ Some page)
+pub some_at : (pages : List PageFile) (n : ℕ) → n < length pages → (page : PageFile) × (slice_get pages n ≡ Some page)
 some_at [] n within = absurd (omega (arith, within))
 some_at (page ∷ pages) zero within = (page, refl)
 some_at (page ∷ pages) (suc n) within = some_at pages n (omega (arith, within))

@@ -1,5 +1,5 @@
 -- Patterns: a text is searched for the pieces between their `*`, each at its first place.
-use Rattle.site_check.proofs.Prelude.{common_steps, ◌≡◌, ◌∙◌, ℕ, zero, suc, ◌+◌, ◌<◌, ◌≤◌, Bool, true, false, ◌||◌, cond, List, [], ◌∷◌, ◌++◌, length, length-append, drop, take, get_or, refl, sym, ap, inl, inr, arith, cases_Bool, cond-true, cond-false, take-append-drop, bytes_eq, bytes_eq-Decides, list_any, any_end, begins, fits, is_last, is_star, matches}
+use Rattle.site_check.proofs.Prelude.{common_steps, ◌≡◌, ◌∙◌, ℕ, zero, suc, ◌+◌, ◌<◌, ◌≤◌, Bool, true, false, ◌||◌, cond, List, [], ◌∷◌, ◌++◌, length, length-append, drop, take, get_or, refl, sym, ap, inl, inr, arith, cases_Bool, cond-true, cond-false, take-append-drop, bytes_eq, bytes_eq-Decides, list_any, any_end, begins, fits, is_last, is_star}
 use Rattle.std.proofs.Common.{◌≢◌, ◌-◌, ◌&&◌, eqb, length-drop, ne_eqb}
 use Rattle.std.proofs.Math.Bool.{or-false}
 use Rattle.std.proofs.Math.Seq.{drop-append-add, drop-append_seam, drop-nil, take-append_seam}
@@ -26,10 +26,10 @@ has_star (b ∷ piece) more = grind (arith, common_steps, has_star piece more)
 
 -- ---- a piece at the front
 
-begins_with : (front rest : List ℕ) → begins front (front ++ rest) ≡ true
+pub begins_with : (front rest : List ℕ) → begins front (front ++ rest) ≡ true
 begins_with front rest = (bytes_eq-Decides (take (length front) (front ++ rest)) front).1 (take-append_seam front rest)
 
-begins_not : (front text : List ℕ) → ((rest : List ℕ) → text ≢ front ++ rest) → begins front text ≡ false
+pub begins_not : (front text : List ℕ) → ((rest : List ℕ) → text ≢ front ++ rest) → begins front text ≡ false
 begins_not front text lacks =
     elim (cases_Bool (begins front text)) [
       | inl with ↦
@@ -56,7 +56,7 @@ fits_nowhere piece more text plain lacks = fits_front piece more text plain ∙ 
 
 -- ---- the ends of a text
 
-any_none : (test : List ℕ → Bool) (text : List ℕ) → ((i : ℕ) → i ≤ length text → test (drop i text) ≡ false) → any_end test text ≡ false
+pub any_none : (test : List ℕ → Bool) (text : List ℕ) → ((i : ℕ) → i ≤ length text → test (drop i text) ≡ false) → any_end test text ≡ false
 any_none test [] none = none 0 (omega arith)
 any_none test (b ∷ text) none = λ i. none 0 (omega arith) i || any_none test text (λ k below. none (suc k) (omega (arith, below))) i
 
@@ -159,16 +159,13 @@ last_piece pattern text plain =
     ∙ either_way end pattern
     ∙ sym (at_end pattern text (no_star pattern plain))
 
--- ---- an entry
+-- ---- a whole pattern
 
-pub entry_plain : (entry text : List ℕ) → IsPlain entry → begins entry text ≡ matches entry text
-entry_plain entry text plain = sym (cond-false (list_any is_star entry) _ _ (no_star entry plain))
+pub pattern_plain : (pattern text : List ℕ) → IsPlain pattern → bytes_eq pattern text ≡ fits pattern text
+pattern_plain pattern text plain = either_way pattern text ∙ sym (fits_plain pattern text plain)
 
-pub entry_fits : (entry front pattern text rest : List ℕ) → entry ≡ front ++ 42 ∷ pattern → IsPlain front → text ≡ front ++ rest → any_end (fits pattern) rest ≡ matches entry text
-entry_fits entry front pattern text rest is plain begin =
-    sym (fits_there front pattern rest plain) ∙ (λ i. fits (sym is i) (sym begin i)) ∙ sym (cond-true (list_any is_star entry) _ _ (ap (list_any is_star) is ∙ has_star front pattern))
+pub pattern_there : (whole front pattern text rest : List ℕ) → whole ≡ front ++ 42 ∷ pattern → IsPlain front → text ≡ front ++ rest → any_end (fits pattern) rest ≡ fits whole text
+pattern_there whole front pattern text rest is plain begin = sym (fits_there front pattern rest plain) ∙ (λ i. fits (sym is i) (sym begin i))
 
-pub entry_differs : (entry front pattern text : List ℕ) → entry ≡ front ++ 42 ∷ pattern → IsPlain front → ((rest : List ℕ) → text ≢ front ++ rest) → false ≡ matches entry text
-entry_differs entry front pattern text is plain lacks =
-    sym (fits_nowhere front (42 ∷ pattern) text plain lacks) ∙ ap (λ p. fits p text) (sym is)
-    ∙ sym (cond-true (list_any is_star entry) _ _ (ap (list_any is_star) is ∙ has_star front pattern))
+pub pattern_differs : (whole front pattern text : List ℕ) → whole ≡ front ++ 42 ∷ pattern → IsPlain front → ((rest : List ℕ) → text ≢ front ++ rest) → false ≡ fits whole text
+pattern_differs whole front pattern text is plain lacks = sym (fits_nowhere front (42 ∷ pattern) text plain lacks) ∙ ap (λ p. fits p text) (sym is)

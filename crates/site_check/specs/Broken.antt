@@ -70,8 +70,42 @@ is_last pattern text = not (list_any is_star pattern) && bytes_eq pattern (drop 
 abbrev pub matches : List ℕ → List ℕ → Bool
 matches entry text = if list_any is_star entry then fits entry text else begins entry text
 
+-- ---- entries that name a file
+
+-- what is between the file and the target of such an entry
+abbrev pub file_mark : List ℕ
+file_mark = codes ": "
+
+-- the entry has a file and a target
+abbrev pub names_file : List ℕ → Bool
+names_file entry = any_end (begins file_mark) entry
+
+-- the file: all before the first mark
+abbrev pub file_in : List ℕ → List ℕ
+file_in [] = []
+file_in (byte ∷ entry) = if begins file_mark (byte ∷ entry) then [] else byte ∷ file_in entry
+
+-- the target: all after it
+abbrev pub target_in : List ℕ → List ℕ
+target_in [] = []
+target_in (byte ∷ entry) = if begins file_mark (byte ∷ entry) then drop 2 (byte ∷ entry) else target_in entry
+
+-- an entry that names a file matches no target as a whole
+abbrev pub matches_target : List ℕ → List ℕ → Bool
+matches_target entry target = not (names_file entry) && matches entry target
+
+-- it matches the locations in the files that its file fits of the targets that its target matches
+abbrev pub matches_place : List ℕ → List ℕ → List ℕ → Bool
+matches_place entry target file = names_file entry && (matches (target_in entry) target && fits (file_in entry) file)
+
+-- ---- what is left out
+
 abbrev pub is_ignored : List (List ℕ) → List ℕ → Bool
-is_ignored entries text = list_any (λ entry. matches entry text) entries
+is_ignored entries text = list_any (λ entry. matches_target entry text) entries
+
+-- a location in the file of a target
+abbrev pub is_place_ignored : List (List ℕ) → List ℕ → List ℕ → Bool
+is_place_ignored entries target file = list_any (λ entry. matches_place entry target file) entries
 
 -- ---- the rows
 

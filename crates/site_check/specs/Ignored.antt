@@ -1,5 +1,5 @@
 -- The entries of what is known to be broken, and which of them match nothing.
-use Rattle.std.specs.Prelude.{◌≡◌, ◌==◌, ℕ, Bool, true, not, List, [], ◌∷◌, ◌++◌, drop, filter, if◌then◌else◌, string_bytes}
+use Rattle.std.specs.Prelude.{◌≡◌, ◌==◌, ℕ, Bool, true, not, ◌&&◌, List, [], ◌∷◌, ◌++◌, drop, filter, if◌then◌else◌, string_bytes}
 use Rattle.std.specs.List.{list_any, flat_map}
 use Rattle.std.specs.Str.{trim}
 use Rattle.std.specs.Str.Lines.{lines}
@@ -9,7 +9,7 @@ use Rattle.check_report.specs.declared.value.Kind.{Kind}
 use Rattle.check_report.specs.declared.value.Kind.TheVariants.{NoAnchor}
 use Rattle.crawl_pages.specs.Pages.{is_missing}
 use Rattle.crawl_pages.specs.declared.page.PageResult.{PageResult}
-use Rattle.site_check.specs.Broken.{begins, is_ignored, matches, shown}
+use Rattle.site_check.specs.Broken.{begins, file_in, fits, is_ignored, matches, names_file, shown, target_in}
 
 -- a text that is empty or begins with `#` is no entry
 abbrev pub has_no_entry : List ℕ → Bool
@@ -34,9 +34,16 @@ without_mark bytes = if begins mark bytes then drop 3 bytes else bytes
 abbrev pub entries_in : List ℕ → List (List ℕ)
 entries_in bytes = flat_map entry_in (lines (without_mark bytes))
 
--- the entries that match none of the texts
-abbrev pub unused : List (List ℕ) → List (List ℕ) → List (List ℕ)
-unused entries texts = filter (λ entry. not (list_any (matches entry) texts)) entries
+-- the file and the target of an entry match a location of the row
+abbrev pub matches_row : List ℕ → List ℕ → Broken → Bool
+matches_row file target b = matches target (string_bytes b.target) && list_any (λ place. fits file (string_bytes place.file)) b.places.items
+
+-- an entry that names a file matches a location of one of the rows, any other one of the texts
+abbrev pub is_used : List (List ℕ) → List Broken → List ℕ → Bool
+is_used texts rows entry = if names_file entry then list_any (matches_row (file_in entry) (target_in entry)) rows else list_any (matches entry) texts
+
+abbrev pub unused : List (List ℕ) → List (List ℕ) → List Broken → List (List ℕ)
+unused entries texts rows = filter (λ entry. not (is_used texts rows entry)) entries
 
 -- the missing pages, as they are reported
 abbrev pub text_at : List ℕ → PageResult → List (List ℕ)
@@ -60,9 +67,9 @@ anchors_in all = flat_map anchor_in all
 abbrev pub not_ignored : List (List ℕ) → List (List ℕ) → List (List ℕ)
 not_ignored entries texts = filter (λ text. not (is_ignored entries text)) texts
 
--- of all anchors that documents lack those are listed that no entry matches; the entries match none of them, no invalid link with one of
--- the texts `links`, none of the other texts, and no page that is not there
-pub record AreUnused (front : List ℕ) (entries : List (List ℕ)) (results : List PageResult) (links others told all : List (List ℕ)) : Type 0 where
+-- of all anchors that documents lack those have rows that no entry matches; these of the entries match none of them, no invalid link with
+-- one of the texts `links`, none of the other texts, no page that is not there, and no location of the rows
+pub record AreUnused (front : List ℕ) (entries : List (List ℕ)) (results : List PageResult) (links others : List (List ℕ)) (rows : List Broken) (all : List (List ℕ)) : Type 0 where
   pub anchors : List (List ℕ)
-  pub told_anchors : told ≡ not_ignored entries anchors
-  pub exact : all ≡ unused entries (((anchors ++ links) ++ others) ++ missing_texts front results)
+  pub told_anchors : anchors_in rows ≡ not_ignored entries anchors
+  pub exact : all ≡ unused entries (((anchors ++ links) ++ others) ++ missing_texts front results) rows

@@ -1,5 +1,6 @@
 pub mod Aliases
 pub mod Anchors
+pub mod Base
 pub mod Broken
 pub mod Hints
 pub mod Ignored
@@ -7,5 +8,7 @@ pub mod Invalid
 pub mod Leads
 pub mod Leaving
 pub mod Names
+pub mod Reported
 pub mod Told
 pub mod Totals
+pub mod Unlisted

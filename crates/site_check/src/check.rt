@@ -1,21 +1,25 @@
 //! Checks the results of a crawl of a site's saved web.
-ghost use Rattle.std.specs.Prelude.{◌≡◌, ◌==◌, ◌++◌, ℕ, List, [], true, IfOk, OnOk, map, not, string_bytes, length, flat_map};
+ghost use Rattle.std.specs.Prelude.{◌≡◌, ◌==◌, ◌++◌, ℕ, List, [], true, IfOk, OnOk, map, not, string_bytes, length, flat_map, option_map};
 ghost use Rattle.check_report.specs.Text.{is_broken};
 ghost use Rattle.crawl_sources.specs.Tallies.{pointed};
-ghost use Rattle.crawl_pages.specs.declared.page.PageResult.{PageResult};
 ghost use Rattle.site_files.specs.declared.files.SiteFiles.{SiteFiles};
-ghost use Rattle.site_check.specs.Broken.{broken_of, linked_at, redirects_of, result_at, rows_with, ways_with};
-ghost use Rattle.site_check.specs.Hints.{hints_at, hints_in, hints_of};
-ghost use Rattle.site_check.specs.Ignored.{AreUnused, missing_texts, not_ignored, anchors_in, text_at, unused};
-ghost use Rattle.site_check.specs.Invalid.{AreInvalid, AreTexts, invalid_rows_in, row_of, text_of, texts_if};
+ghost use Rattle.site_check.specs.Base.{base_hint_of, hint_at};
+ghost use Rattle.site_check.specs.Broken.{linked_at, redirects_of, result_at, rows_with, ways_with};
+ghost use Rattle.site_check.specs.Hints.{hints_at, hints_in};
+ghost use Rattle.site_check.specs.Ignored.{not_ignored, anchors_in, text_at, unused};
+ghost use Rattle.site_check.specs.Invalid.{AreTexts, invalid_rows_in, row_of, text_of, texts_if};
 ghost use Rattle.site_check.specs.Leads.{indices_in, leads_from, number_in, targets_of};
-ghost use Rattle.site_check.specs.Leaving.{leaving_in, leaving_of, outside_at, outside_linked, outside_texts, row_at, shown_at};
+ghost use Rattle.site_check.specs.Leaving.{leaving_in, outside_at, outside_linked, row_at, shown_at};
 ghost use Rattle.site_check.specs.Names.{AreNamed};
+ghost use Rattle.site_check.specs.Reported.{AreReported, AreRows};
 ghost use Rattle.site_check.specs.Anchors.{anchor_text};
 ghost use Rattle.site_check.specs.Told.{rows_in, way_of};
 ghost use Rattle.site_check.specs.Totals.{totals_of};
+ghost use Rattle.site_check.specs.Unlisted.{unlisted_in};
 
 use crate::anchors::anchor_rows;
+use crate::base::base_hint;
+use crate::file_entries::leave_out;
 use crate::ignored::unused;
 use crate::input::CheckInput;
 use crate::invalid::{InvalidText, invalid_rows, invalid_texts};
@@ -30,9 +34,10 @@ use crate::shown::shown;
 use crate::site_pages::{Pages, Site, documents_of};
 use crate::threads::{lacked_by, leads_by, locate_by};
 use crate::totals::totals_of;
+use crate::unlisted::unlisted;
 use crate::unreached::unreached;
 use crate::worst::worst;
-use check_report::{Broken, FileCount, Findings, Place, Redirect, Totals, is_broken};
+use check_report::{BaseHint, Broken, FileCount, Findings, Place, Redirect, Totals, is_broken};
 use crawl_pages::{NoMemory, PageResult};
 use site_files::{FileBytes, SiteFiles};
 use std::alloc::Global;
@@ -46,7 +51,9 @@ pub struct Checked {
     pub worst: Vec<FileCount>,
     pub redirects: Vec<Redirect>,
     pub unreached: Vec<String>,
+    pub unlisted: Vec<String>,
     pub unused_ignores: Vec<String>,
+    pub base_hint: Option<BaseHint>,
 }
 
 impl Checked {
@@ -58,7 +65,9 @@ impl Checked {
         ensures worst { result.worst.now ≡ self.now.worst.items }
         ensures redirects { result.redirects.now ≡ self.now.redirects.items }
         ensures unreached { result.unreached.now ≡ self.now.unreached.items }
+        ensures unlisted { result.unlisted.now ≡ self.now.unlisted.items }
         ensures unused_ignores { result.unused_ignores.now ≡ self.now.unused_ignores.items }
+        ensures base_hint { option_map (λ hint. hint.now) result.base_hint ≡ self.now.base_hint }
     {
         Findings {
             base,
@@ -67,9 +76,9 @@ impl Checked {
             worst: self.worst.as_slice(),
             redirects: self.redirects.as_slice(),
             unreached: self.unreached.as_slice(),
-            unlisted: &[],
+            unlisted: self.unlisted.as_slice(),
             unused_ignores: self.unused_ignores.as_slice(),
-            base_hint: None,
+            base_hint: self.base_hint.as_ref(),
         }
     }
 
@@ -87,7 +96,7 @@ impl Checked {
 ///
 /// # Errors
 /// Out of memory.
-#[tactic(auto, using(crate::proofs::AllRows::rows_of_all, crate::proofs::AllRows::ways_of_all, crate::proofs::AllRows::texts_of_all, crate::proofs::AllRows::hints_of_all, crate::proofs::AllRows::leaving_of_all, crate::proofs::AllRows::outside_texts_of_all))]
+#[tactic(auto, using(crate::proofs::AllRows::ways_of_all))]
 pub fn check_site<'f, R: Threads + Sync, B: FileBytes + Sync>(
     rt: &R,
     alloc: Global,
@@ -96,23 +105,19 @@ pub fn check_site<'f, R: Threads + Sync, B: FileBytes + Sync>(
     bytes: &B,
     input: CheckInput<'_>,
 ) -> Result<Checked, NoMemory>
-    // The rows of missing pages are the missing results, in order, each with the number of results that link to it, without those
-    // that an entry matches.
-    ensures broken { IfOk result (λ checked. rows_in checked.broken.items ≡ broken_of input.entry.front.now (map string_bytes input.entry.ignores.now) results.now) }
+    // The rows are what entries with a file leave of rows for exactly the missing results, the texts of invalid links in found pages, if
+    // the check lists them, the missing results on the site's host that are not below its top, and missing anchors; each without those
+    // that an entry matches. A missing page has the number of results that link to it, the only page with its file name, unless a link
+    // to the missing page is in the file of that page, and the hint at what a server with other rules finds. The unused entries are those
+    // that match none of these and no location.
+    ensures rows { IfOk result (λ checked. AreReported input.entry.front.now (map string_bytes input.entry.ignores.now) (texts_if input.entry.invalid input.entry.places.now results.now) input.entry.rooted files.now results.now input.entry.found.now checked.broken.items (map string_bytes checked.unused_ignores.items)) }
     // The rows of redirects are the moved results that are linked to.
     ensures redirects { IfOk result (λ checked. map way_of checked.redirects.items ≡ redirects_of input.entry.front.now results.now) }
-    // For a missing page the only page with its file name is suggested, unless a link to the missing page is in the file of that page.
-    ensures names { IfOk result (λ checked. AreNamed input.entry.front.now files.now checked.broken.items) }
-    // The hint of such a row is what a server with other rules finds for the page. No other row has one.
-    ensures hints { IfOk result (λ checked. hints_in checked.broken.items ≡ hints_of input.entry.front.now (map string_bytes input.entry.ignores.now) files.now results.now) }
-    // The rows of invalid links are those of the texts of such links in found pages, each text once and in ascending order, without
-    // those that an entry matches, if the check lists invalid links.
-    ensures invalid { IfOk result (λ checked. AreInvalid (map string_bytes input.entry.ignores.now) (texts_if input.entry.invalid input.entry.places.now results.now) (invalid_rows_in checked.broken.items)) }
-    // The rows of links that lead out of the site are those of the missing results on the site's host that are not below its top, in
-    // order, each with the number of results that link to it, without those that an entry matches.
-    ensures leaving { IfOk result (λ checked. leaving_in checked.broken.items ≡ leaving_of (map string_bytes input.entry.ignores.now) input.entry.rooted files.now results.now input.entry.found.now) }
-    // The unused entries are those that match no missing page, no missing anchor, no invalid link and no link that leads out of the site.
-    ensures ignores { IfOk result (λ checked. AreUnused input.entry.front.now (map string_bytes input.entry.ignores.now) results.now (texts_if input.entry.invalid input.entry.places.now results.now) (outside_texts input.entry.rooted files.now input.entry.found.now) (anchors_in checked.broken.items) (map string_bytes checked.unused_ignores.items)) }
+    // The unlisted documents are those of which no sitemap lists the own URL or an alias, in order, without `404.html`, if they are listed.
+    ensures unlisted { IfOk result (λ checked. map string_bytes checked.unlisted.items ≡ unlisted_in input.entry.front.now input.entry.aliases.now input.entry.documents.now input.entry.listed) }
+    // The hint of BASE is the first folder that at least half and at least two of the paths from the root in the rows of missing pages
+    // begin with, if the site has no file in it and its URL is not known.
+    ensures base_hint { IfOk result (λ checked. option_map hint_at checked.base_hint ≡ base_hint_of input.entry.rooted files.now checked.broken.items) }
     // The totals count the documents and the other files at their own URLs, their links, the pages at aliases, and the rows.
     ensures totals { IfOk result (λ checked. checked.totals ≡ totals_of input.entry.aliases.now input.entry.documents.now results.now checked.broken.items checked.redirects.items) }
     // By the totals something is broken if and only if there is a row.
@@ -220,7 +225,6 @@ fn page_leads<'p, R: Threads + Sync>(
 }
 
 /// The results of a check, with the locations of the links.
-#[tactic(auto, using(crate::proofs::TextsOnce::are_unused))]
 fn told(
     alloc: Global,
     input: CheckInput<'_>,
@@ -229,30 +233,32 @@ fn told(
     sought: &BrokenLinks<'_>,
     places: Vec<TargetPlace>,
 ) -> Result<Checked, NoMemory>
-    ensures broken { IfOk result (λ checked. rows_in checked.broken.items ≡ flat_map (rows_with input.entry.front.now (map string_bytes input.entry.ignores.now)) (map linked_at linked.now)) }
+    ensures rows { IfOk result (λ checked. AreRows input.entry.front.now (map string_bytes input.entry.ignores.now) site.entry.files.now linked.now sought.now.anchors.items sought.now.invalid.items sought.now.outside.items checked.broken.items (map string_bytes checked.unused_ignores.items)) }
     ensures redirects { IfOk result (λ checked. map way_of checked.redirects.items ≡ flat_map (ways_with input.entry.front.now) (map linked_at linked.now)) }
-    ensures names { IfOk result (λ checked. AreNamed input.entry.front.now site.entry.files.now checked.broken.items) }
-    ensures hints { IfOk result (λ checked. hints_in checked.broken.items ≡ flat_map (hints_at input.entry.front.now (map string_bytes input.entry.ignores.now) site.entry.files.now) (map result_at linked.now)) }
-    ensures invalid { IfOk result (λ checked. invalid_rows_in checked.broken.items ≡ map row_of (not_ignored (map string_bytes input.entry.ignores.now) (map text_of sought.now.invalid.items))) }
-    ensures leaving { IfOk result (λ checked. leaving_in checked.broken.items ≡ flat_map (row_at (map string_bytes input.entry.ignores.now)) (map outside_at sought.now.outside.items)) }
-    ensures ignores { IfOk result (λ checked. (results : List PageResult) (links others : List (List ℕ)) → missing_texts input.entry.front.now results ≡ flat_map (text_at input.entry.front.now) (map result_at linked.now) → AreTexts links (map text_of sought.now.invalid.items) → others ≡ map shown_at sought.now.outside.items → AreUnused input.entry.front.now (map string_bytes input.entry.ignores.now) results links others (anchors_in checked.broken.items) (map string_bytes checked.unused_ignores.items)) }
+    ensures unlisted { IfOk result (λ checked. map string_bytes checked.unlisted.items ≡ unlisted_in input.entry.front.now input.entry.aliases.now input.entry.documents.now input.entry.listed) }
+    ensures base_hint { IfOk result (λ checked. option_map hint_at checked.base_hint ≡ base_hint_of input.entry.rooted site.entry.files.now checked.broken.items) }
     ensures totals { IfOk result (λ checked. checked.totals ≡ totals_of input.entry.aliases.now input.entry.documents.now site.entry.pages.results.now checked.broken.items checked.redirects.items) }
 {
-    let results = site.pages.results;
     let others = Others {
         anchors: sought.anchors.as_slice(),
         invalid: sought.invalid.as_slice(),
         outside: sought.outside.as_slice(),
     };
-    let broken = broken_all(alloc, input, site, linked, others, places)?;
+    let Rows {
+        broken,
+        unused_ignores,
+    } = rows_of(alloc, input, site, linked, others, places)?;
     let redirects = redirect_rows(alloc, input.front, linked)?;
-    let unused_ignores = unused_entries(alloc, input, linked, others)?;
-    let unreached = unreached_files(alloc, input, site)?;
+    let Lists {
+        unreached,
+        unlisted,
+        base_hint,
+    } = lists_of(alloc, input, site, broken.as_slice())?;
     let totals = totals_of(
         alloc,
         input.aliases,
         input.documents,
-        results,
+        site.pages.results,
         broken.as_slice(),
         redirects.as_slice(),
     )?;
@@ -263,7 +269,64 @@ fn told(
         worst,
         redirects,
         unreached,
+        unlisted,
         unused_ignores,
+        base_hint,
+    })
+}
+
+/// The rows of what is broken, and the entries of the ignore list that match nothing.
+#[derive(Drop)]
+struct Rows {
+    broken: Vec<Broken>,
+    unused_ignores: Vec<String>,
+}
+
+/// The rows that are reported, and the unused entries.
+fn rows_of(
+    alloc: Global,
+    input: CheckInput<'_>,
+    site: Site<'_, '_>,
+    linked: &[Linked<'_>],
+    others: Others<'_>,
+    places: Vec<TargetPlace>,
+) -> Result<Rows, NoMemory>
+    ensures { IfOk result (λ rows. AreRows input.entry.front.now (map string_bytes input.entry.ignores.now) site.entry.files.now linked.now others.entry.anchors.now others.entry.invalid.now others.entry.outside.now rows.broken.items (map string_bytes rows.unused_ignores.items)) }
+{
+    let mut broken = broken_all(alloc, input, site, linked, others, places)?;
+    let unused_ignores = unused_entries(alloc, input, linked, others, broken.as_slice())?;
+    leave_out(input.ignores, &mut broken);
+    Ok(Rows {
+        broken,
+        unused_ignores,
+    })
+}
+
+/// What is listed next to the rows.
+#[derive(Drop)]
+struct Lists {
+    unreached: Vec<String>,
+    unlisted: Vec<String>,
+    base_hint: Option<BaseHint>,
+}
+
+/// The unreached files, the documents that no sitemap lists, and the hint of BASE for these rows.
+fn lists_of(
+    alloc: Global,
+    input: CheckInput<'_>,
+    site: Site<'_, '_>,
+    broken: &[Broken],
+) -> Result<Lists, NoMemory>
+    ensures unlisted { IfOk result (λ lists. map string_bytes lists.unlisted.items ≡ unlisted_in input.entry.front.now input.entry.aliases.now input.entry.documents.now input.entry.listed) }
+    ensures base_hint { IfOk result (λ lists. option_map hint_at lists.base_hint ≡ base_hint_of input.entry.rooted site.entry.files.now broken.now) }
+{
+    let unreached = unreached_files(alloc, input, site)?;
+    let unlisted = unlisted(alloc, input)?;
+    let base_hint = base_hint(alloc, input.rooted, site.files, broken)?;
+    Ok(Lists {
+        unreached,
+        unlisted,
+        base_hint,
     })
 }
 
@@ -372,20 +435,21 @@ fn joined(rows: Vec<Broken>, others: Vec<Broken>) -> Result<Vec<Broken>, NoMemor
     Ok(all)
 }
 
-/// The entries that match no missing page and none of these others.
+/// The entries that match no missing page, none of these others, and no location of these rows.
 fn unused_entries(
     alloc: Global,
     input: CheckInput<'_>,
     linked: &[Linked<'_>],
     others: Others<'_>,
+    rows: &[Broken],
 ) -> Result<Vec<String>, NoMemory>
-    ensures { IfOk result (λ all. map string_bytes all.items ≡ unused (map string_bytes input.entry.ignores.now) (((map anchor_text others.entry.anchors.now ++ map text_of others.entry.invalid.now) ++ map shown_at others.entry.outside.now) ++ flat_map (text_at input.entry.front.now) (map result_at linked.now))) }
+    ensures { IfOk result (λ all. map string_bytes all.items ≡ unused (map string_bytes input.entry.ignores.now) (((map anchor_text others.entry.anchors.now ++ map text_of others.entry.invalid.now) ++ map shown_at others.entry.outside.now) ++ flat_map (text_at input.entry.front.now) (map result_at linked.now)) rows.now) }
 {
     let mut texts = anchor_texts(alloc, others.anchors)?;
     push_invalid(others.invalid, &mut texts)?;
     push_outside(others.outside, &mut texts)?;
     push_missing(input.front, linked, &mut texts)?;
-    let all = unused(alloc, input.ignores, texts.as_slice())?;
+    let all = unused(alloc, input.ignores, texts.as_slice(), rows)?;
     Ok(all)
 }
 

@@ -2,18 +2,21 @@
 ghost use Rattle.std.specs.Prelude.{◌≡◌, ◌∷◌, ◌++◌, [], IfOk, MatchOption, OnOk, map, string_bytes};
 ghost use Rattle.std.specs.List.{list_any};
 ghost use Rattle.crawl_sources.specs.Tallies.{pointed};
-ghost use Rattle.site_check.specs.Broken.{is_ignored, matches};
-ghost use Rattle.site_check.specs.Ignored.{entries_in, entry_in, entry_of, has_no_entry, unused, without_mark};
+ghost use Rattle.site_check.specs.Broken.{is_ignored, matches, matches_target};
+ghost use Rattle.site_check.specs.Ignored.{entries_in, entry_in, entry_of, has_no_entry, is_used, unused, without_mark};
 
+use crate::file_entries::{is_used_in, split_file};
 use crate::names::split_byte;
 use crate::pattern::matches;
+use check_report::Broken;
 use crawl_pages::NoMemory;
 use std::alloc::Global;
 use text_lines::first_line;
 
 /// Reads an ignore list, one entry per line. An entry with a `*` is a pattern for a whole target, in which `*` matches any text, also
-/// none; any other entry matches the targets that begin with it. Empty lines and lines that start with `#` are skipped; white space
-/// around an entry and a byte order mark at the start are ignored.
+/// none; any other entry matches the targets that begin with it. An entry with a `: ` matches only locations: before the `: ` it has the
+/// file, which can be a pattern, and after it such an entry for targets. Empty lines and lines that start with `#` are skipped; white
+/// space around an entry and a byte order mark at the start are ignored.
 ///
 /// # Errors
 /// Out of memory.
@@ -70,13 +73,13 @@ fn has_no_entry(text: &str) -> bool
     }
 }
 
-/// Whether an entry matches the text.
+/// Whether an entry matches the target with this text.
 pub(crate) fn is_ignored(entries: &[String], text: &str) -> bool
     ensures { result ≡ is_ignored (map string_bytes entries.now) text.now }
 {
     let mut rest = entries;
     'entries: while let Some((entry, more)) = split_entry(rest) {
-        if matches(entry.as_str(), text) {
+        if matches_target(entry.as_str(), text) {
             return true;
         }
         rest = more;
@@ -84,8 +87,15 @@ pub(crate) fn is_ignored(entries: &[String], text: &str) -> bool
     false
 }
 
+/// Whether an entry matches a target. One that names a file does not.
+fn matches_target(entry: &str, target: &str) -> bool
+    ensures { result ≡ matches_target entry.now target.now }
+{
+    matches(entry, target) && split_file(entry).is_none()
+}
+
 /// Splits the first entry from the others. `None` if there are no entries.
-fn split_entry(entries: &[String]) -> Option<(&String, &[String])>
+pub(crate) fn split_entry(entries: &[String]) -> Option<(&String, &[String])>
     ensures { MatchOption result (entries.now ≡ []) (λ x. entries.now ≡ x.0.now ∷ x.1.now) }
 {
     match entries.split_first() {
@@ -94,25 +104,36 @@ fn split_entry(entries: &[String]) -> Option<(&String, &[String])>
     }
 }
 
-/// The entries that match none of these texts.
+/// The entries that match none of these texts, and no location of these rows.
 pub(crate) fn unused(
     alloc: Global,
     entries: &[String],
     texts: &[&str],
+    rows: &[Broken],
 ) -> Result<Vec<String>, NoMemory>
-    ensures { IfOk result (λ all. map string_bytes all.items ≡ unused (map string_bytes entries.now) (pointed texts.now)) }
+    ensures { IfOk result (λ all. map string_bytes all.items ≡ unused (map string_bytes entries.now) (pointed texts.now) rows.now) }
 {
     let mut all = Vec::new(alloc);
     for entry in entries {
-        if !is_used(entry.as_str(), texts) {
+        if !is_used(entry.as_str(), texts, rows) {
             all.push(entry.clone()?)?;
         }
     }
     Ok(all)
 }
 
+/// Whether an entry that names a file matches a location of one of these rows, or any other entry one of these texts.
+fn is_used(entry: &str, texts: &[&str], rows: &[Broken]) -> bool
+    ensures { result ≡ is_used (pointed texts.now) rows.now entry.now }
+{
+    match split_file(entry) {
+        Some((file, target)) => is_used_in(file, target, rows),
+        None => is_used_by(entry, texts),
+    }
+}
+
 /// Whether the entry matches one of these texts.
-fn is_used(entry: &str, texts: &[&str]) -> bool
+fn is_used_by(entry: &str, texts: &[&str]) -> bool
     ensures { result ≡ list_any (matches entry.now) (pointed texts.now) }
 {
     for text in texts {

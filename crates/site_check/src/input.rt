@@ -9,7 +9,8 @@ use site_files::Alias;
 pub struct CheckInput<'a> {
     /// The prefix that is removed from URLs that begin with it.
     pub front: &'a str,
-    /// The ignore list. An entry with a `*` is a pattern for a whole target; any other matches the targets that begin with it.
+    /// The ignore list. An entry with a `: ` matches locations: it has a file and an entry for targets. An entry with a `*` is a pattern for
+    /// a whole target; any other matches the targets that begin with it.
     pub ignores: &'a [String],
     /// The aliases of the site, in the order of their URLs.
     pub aliases: &'a [Alias],
@@ -28,4 +29,6 @@ pub struct CheckInput<'a> {
     pub rooted: bool,
     /// The results of a search from the site's starts, if the files that it does not reach are listed.
     pub reached: Option<&'a [PageResult]>,
+    /// The URLs that sitemaps list, if the documents that none lists are reported.
+    pub listed: Option<&'a [CanonUrl]>,
 }

@@ -18,7 +18,7 @@ use crate::input::CheckInput;
 use crate::leads::{Lead, Maps, Target, TargetNumbers, insert_all, link_indices, push_target};
 use crate::linked::{Linked, linked_among};
 use crate::located::take_places;
-use crate::shown::begins;
+use crate::shown::{begins, is_below};
 use crate::site_pages::Site;
 use crate::threads::leads_by;
 use check_report::{Broken, Kind, Place};
@@ -84,18 +84,7 @@ fn is_left(files: &SiteFiles<'_>, one: &PageResult) -> bool
 fn is_outside(files: &SiteFiles<'_>, url: &str) -> bool
     ensures { result ≡ is_outside files.now url.now }
 {
-    is_on_host(files.origin(), url) && !begins(files.top(), url)
-}
-
-/// Whether a URL has this scheme, host and port.
-#[tactic(auto, using(crate::proofs::Outsides::on_host, crate::proofs::Outsides::off_host))]
-fn is_on_host(origin: &str, url: &str) -> bool
-    ensures { result ≡ begins (origin.now ++ 47 ∷ []) url.now }
-{
-    match url.strip_prefix(origin) {
-        Some(path) => begins("/", path),
-        None => false,
-    }
+    is_below(files.origin(), url) && !begins(files.top(), url)
 }
 
 /// These results with their URLs as they are shown.

@@ -2,7 +2,9 @@
 #![tactic(auto)]
 
 mod anchors;
+mod base;
 mod check;
+mod file_entries;
 mod hints;
 mod ignored;
 mod input;
@@ -19,6 +21,7 @@ mod shown;
 mod site_pages;
 mod threads;
 mod totals;
+mod unlisted;
 mod unreached;
 mod url_sets;
 mod worst;

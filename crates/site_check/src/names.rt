@@ -194,7 +194,7 @@ fn stands_in(file: &str, places: &[Place]) -> bool
 }
 
 /// The file name that a URL ends with.
-fn last_part(url: &str) -> &[u8]
+pub(crate) fn last_part(url: &str) -> &[u8]
     ensures { result.now ≡ last_part url.now }
 {
     behind_slashes(before_query(url).as_bytes())

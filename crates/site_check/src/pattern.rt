@@ -1,6 +1,7 @@
 //! The entries of an ignore list as patterns.
 ghost use Rattle.std.specs.Prelude.{◌≡◌, ◌<◌, MatchOption, length};
-ghost use Rattle.site_check.specs.Broken.{any_end, fits, is_last, matches};
+ghost use Rattle.std.specs.List.{list_any};
+ghost use Rattle.site_check.specs.Broken.{any_end, fits, is_last, is_star, matches};
 
 use crate::shown::begins;
 
@@ -8,12 +9,30 @@ use crate::shown::begins;
 pub(crate) fn matches(entry: &str, text: &str) -> bool
     ensures { result ≡ matches entry.now text.now }
 {
-    match entry.split_once('*') {
+    if has_star(entry) {
+        fits(entry, text)
+    } else {
+        begins(entry, text)
+    }
+}
+
+/// Whether a text has a `*`.
+fn has_star(text: &str) -> bool
+    ensures { result ≡ list_any is_star text.now }
+{
+    text.as_bytes().contains(&b'*')
+}
+
+/// Whether a pattern fits a whole text: each `*` in it matches any text, also none.
+pub(crate) fn fits(pattern: &str, text: &str) -> bool
+    ensures { result ≡ fits pattern.now text.now }
+{
+    match pattern.split_once('*') {
         Some((front, pattern)) => match text.strip_prefix(front) {
             Some(rest) => is_end(pattern, rest),
             None => false,
         },
-        None => begins(entry, text),
+        None => pattern == text,
     }
 }
 
@@ -48,5 +67,5 @@ fn next_piece<'p, 't>(pattern: &'p str, text: &'t str) -> Option<(&'p str, &'t s
 fn is_last(pattern: &str, text: &str) -> bool
     ensures { result ≡ is_last pattern.now text.now }
 {
-    !pattern.as_bytes().contains(&b'*') && text.as_bytes().ends_with(pattern.as_bytes())
+    !has_star(pattern) && text.as_bytes().ends_with(pattern.as_bytes())
 }

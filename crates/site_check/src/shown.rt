@@ -1,5 +1,5 @@
 //! How a URL is reported.
-ghost use Rattle.std.specs.Prelude.{◌≡◌, length, drop, if◌then◌else◌};
+ghost use Rattle.std.specs.Prelude.{◌≡◌, ◌∷◌, ◌++◌, [], length, drop, if◌then◌else◌};
 ghost use Rattle.site_check.specs.Broken.{begins, or_top, shown};
 
 /// The URL without the front, if it begins with that.
@@ -32,4 +32,15 @@ pub(crate) fn begins(front: &str, text: &str) -> bool
     ensures { result ≡ begins front.now text.now }
 {
     text.as_bytes().starts_with(front.as_bytes())
+}
+
+/// Whether the text begins with a folder and a slash.
+#[tactic(auto, using(crate::proofs::Outsides::on_host, crate::proofs::Outsides::off_host))]
+pub(crate) fn is_below(folder: &str, text: &str) -> bool
+    ensures { result ≡ begins (folder.now ++ 47 ∷ []) text.now }
+{
+    match text.strip_prefix(folder) {
+        Some(rest) => begins("/", rest),
+        None => false,
+    }
 }

@@ -235,7 +235,7 @@ fn is_missing(kind: Kind) -> bool
 }
 
 /// Whether the row is that of a missing page.
-fn is_page(kind: Kind) -> bool
+pub(crate) fn is_page(kind: Kind) -> bool
     ensures { result ≡ is_page kind }
 {
     matches!(kind, Kind::NoPage)

@@ -168,6 +168,16 @@ is_start path = option_map_or (is_start_with (last_name path)) (suffix_of path) 
 abbrev pub starts_at : FileKind → List ℕ → Bool
 starts_at kind url = is_page kind || is_feed_kind kind && is_start (before_query url)
 
+-- ---- sitemaps
+
+-- a file of this kind at this URL is a sitemap by its name
+abbrev pub is_named_sitemap : FileKind → List ℕ → Bool
+is_named_sitemap kind url = is_feed_kind kind && is_sitemap (last_name (before_query url))
+
+-- its name does not say whether it is a sitemap or a feed
+abbrev pub is_unnamed : FileKind → List ℕ → Bool
+is_unnamed kind url = is_feed_kind kind && not (is_start (before_query url))
+
 -- ---- index files with names that the rules do not have
 
 -- the names of index files usually begin so

@@ -4,9 +4,9 @@ use Rattle.std.specs.Option.{option_map_or}
 use Rattle.crawl_keys.specs.CanonicalText.{canonical}
 use Rattle.crawl_keys.specs.declared.error.KeyError.{KeyError}
 use Rattle.site_files.specs.Entries.{entry_at, file_in, response_of}
-use Rattle.site_files.specs.Files.{Document, document_at, url_of}
-use Rattle.site_files.specs.Kinds.{starts_at}
-use Rattle.site_files.specs.Pages.{folder_texts, is_found, own_text}
+use Rattle.site_files.specs.Files.{Document, document_at, document_of, url_of}
+use Rattle.site_files.specs.Kinds.{is_named_sitemap, is_unnamed, starts_at}
+use Rattle.site_files.specs.Pages.{folder_texts, found_file, is_found, own_text}
 use Rattle.site_files.specs.Server.{Server}
 use Rattle.site_files.specs.declared.files.SiteFiles.{SiteFiles}
 use Rattle.site_files.specs.declared.page_table.Entry.{Entry}
@@ -99,3 +99,22 @@ start_of files number url file = if starts_at file.kind url && is_own_url files 
 -- the URL of the page with this number, if a check starts there
 abbrev pub start_at : SiteFiles → ℕ → Option (List ℕ)
 start_at files number = option_and_then (λ url. option_and_then (start_of files number url) (document_at files number)) (url_of files number)
+
+-- ---- sitemaps
+
+-- the URL of a page at which a check starts, if its file is a sitemap by its name
+abbrev pub sitemap_of : List ℕ → Document → Option (List ℕ)
+sitemap_of url file = if is_named_sitemap file.kind url then Some url else None
+
+-- the URL of the page with this number, if that is the own URL of a sitemap that is known by its name
+abbrev pub sitemap_at : SiteFiles → ℕ → Option (List ℕ)
+sitemap_at files number = option_and_then (λ url. option_and_then (sitemap_of url) (document_at files number)) (start_at files number)
+
+-- the file of the page at this URL, if its links are read
+abbrev pub document_with : SiteFiles → List ℕ → Option Document
+document_with files url = option_and_then (document_of files) (found_file (entry_at files.pages url))
+
+-- the page at this URL is a sitemap if another sitemap names it: XML or a list of URLs whose name is neither that of a sitemap nor
+-- that of a feed
+abbrev pub may_be_sitemap : SiteFiles → List ℕ → Bool
+may_be_sitemap files url = option_map_or (λ file. is_unnamed file.kind url) (document_with files url) false

@@ -215,7 +215,7 @@ impl<'a> SiteFiles<'a> {
     }
 
     /// The file with this index, if it can have links.
-    fn document_of(&self, index: usize) -> Option<SiteFile<'a>>
+    pub(crate) fn document_of(&self, index: usize) -> Option<SiteFile<'a>>
         ensures { option_map (λ file. site_file file.index file.kind file.name.now) result ≡ document_of self.now index }
     {
         let name = self.name(index)?;

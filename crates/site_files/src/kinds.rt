@@ -1,7 +1,7 @@
 //! The kind of a file, by its name or its media type.
 ghost use Rattle.std.specs.Prelude.{◌≡◌, option_map};
 ghost use Rattle.std.specs.List.{before_first, list_all};
-ghost use Rattle.site_files.specs.Kinds.{begins_with, is_among, is_dot, is_feed, is_feed_name, is_feed_only, is_feed_type, is_home, is_home_name, is_html, is_other, is_packed, is_page, is_semicolon, is_sitemap, is_start, is_start_with, is_unknown, is_url_list, is_xhtml, kind_by, kind_of, kind_of_type, kind_with, last_name, may_be_page, suffix_of};
+ghost use Rattle.site_files.specs.Kinds.{begins_with, is_among, is_dot, is_feed, is_feed_kind, is_feed_name, is_feed_only, is_feed_type, is_home, is_home_name, is_html, is_other, is_packed, is_page, is_semicolon, is_sitemap, is_start, is_start_with, is_unknown, is_url_list, is_xhtml, kind_by, kind_of, kind_of_type, kind_with, last_name, may_be_page, suffix_of};
 ghost use Rattle.url.specs.Input.{rsplit_once};
 
 /// The kind of a file that can have links.
@@ -122,6 +122,13 @@ pub(crate) fn is_page(kind: FileKind) -> bool
     matches!(kind, FileKind::Html | FileKind::Xml)
 }
 
+/// Whether a file of this kind can be a sitemap or a feed.
+pub(crate) fn is_feed_kind(kind: FileKind) -> bool
+    ensures { result ≡ is_feed_kind kind }
+{
+    matches!(kind, FileKind::Feed | FileKind::UrlList)
+}
+
 /// Whether the kind of a file follows from its first bytes only.
 fn is_unknown(kind: FileKind) -> bool
     ensures { result ≡ is_unknown kind }
@@ -213,7 +220,7 @@ fn is_feed_name(name: &[u8]) -> bool
 }
 
 /// Whether the name begins as that of a sitemap does.
-fn is_sitemap(name: &[u8]) -> bool
+pub(crate) fn is_sitemap(name: &[u8]) -> bool
     ensures { result ≡ is_sitemap name.now }
 {
     begins_with(name, b"sitemap")

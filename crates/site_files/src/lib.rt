@@ -20,6 +20,7 @@ mod pages;
 mod rules;
 mod site;
 mod site_list;
+mod sitemaps;
 mod spellings;
 mod starts;
 mod walk;

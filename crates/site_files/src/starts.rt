@@ -1,10 +1,10 @@
 //! The pages at which a check starts.
 ghost use Rattle.std.specs.Prelude.{◌≡◌, option_map};
-ghost use Rattle.site_files.specs.Kinds.{is_feed_kind, starts_at};
+ghost use Rattle.site_files.specs.Kinds.{starts_at};
 ghost use Rattle.site_files.specs.Own.{is_own_url, start_at};
 
 use crate::files::SiteFiles;
-use crate::kinds::{FileKind, is_page, is_start};
+use crate::kinds::{FileKind, is_feed_kind, is_page, is_start};
 use crate::spellings::before_query;
 use crawl_keys::CanonUrl;
 
@@ -39,11 +39,4 @@ fn starts_at(kind: FileKind, url: &str) -> bool
     ensures { result ≡ starts_at kind url.now }
 {
     is_page(kind) || is_feed_kind(kind) && is_start(before_query(url).as_bytes())
-}
-
-/// Whether a file of this kind can be a sitemap or a feed.
-fn is_feed_kind(kind: FileKind) -> bool
-    ensures { result ≡ is_feed_kind kind }
-{
-    matches!(kind, FileKind::Feed | FileKind::UrlList)
 }

@@ -107,7 +107,7 @@ pub fn is_named(found: &ArgMatches<'_>, name: &str) -> bool {
 }
 
 /// Returns the value of an option, unless it is the default.
-pub fn given<'a>(found: &ArgMatches<'a>, option: &str) -> Option<&'a str> {
+pub fn named_value<'a>(found: &ArgMatches<'a>, option: &str) -> Option<&'a str> {
     if is_named(found, option) {
         found.get_str(option)
     } else {
@@ -115,7 +115,7 @@ pub fn given<'a>(found: &ArgMatches<'a>, option: &str) -> Option<&'a str> {
     }
 }
 
-/// Returns the value of an option, if it was given.
+/// Returns the value of an option, if it has one.
 pub fn value_of(
     alloc: Global,
     found: &ArgMatches<'_>,

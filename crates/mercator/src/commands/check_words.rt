@@ -6,20 +6,21 @@ use crate::commands::arguments::{
     Flag, Valued, command_with, flag_of, option, push, push_flags, push_options, workers,
 };
 use crate::commands::folder_words::{base, folder, push_folder_options, site_options, styles};
-use crate::commands::given::Given;
+use crate::commands::option_values::OptionValues;
 use clap::builder::ValueParser;
 use clap::{Arg, ArgAction, ArgGroup, ArgMatches, Command};
 use mercator_site::{CheckForm, CheckOptions, Lists, ReportOptions};
 use std::alloc::{AllocError, Global};
 
-/// The URL of the top if no BASE is given. No site has this host, so no absolute URL leads there. The top is below many folders, so that
+/// The URL of the top if no BASE is values. No site has this host, so no absolute URL leads there. The top is below many folders, so that
 /// a link above it also has a URL.
 const LOCAL: &str =
     "http://folder.invalid/-/-/-/-/-/-/-/-/-/-/-/-/-/-/-/-/-/-/-/-/-/-/-/-/-/-/-/-/-/-/-/-/";
 
 const CHECK_HELP: &str = "\
 Reports links to pages or anchors that do not exist, and invalid links, with the file, line and
-column of each. The exit status is 4 if anything is reported as broken or invalid.
+column of each. The exit status is 4 if a link is broken or invalid, or leaves the site, or if
+--sitemap reports a document.
 Example: mercator check examples/site";
 
 /// `check`: finds the broken links of a folder.
@@ -27,12 +28,18 @@ pub fn check_command<'a>(alloc: Global) -> Result<Command<'a>, AllocError> {
     let mut args = Vec::new(alloc);
     push_check_args(alloc, &mut args)?;
     let about = "Find broken links in a folder of HTML pages";
-    let command = command_with(alloc, "check", about, CHECK_HELP, args)?;
-    let forms = short_forms(alloc)?;
-    command.group(forms)
+    with_short_forms(
+        alloc,
+        command_with(alloc, "check", about, CHECK_HELP, args)?,
+    )
 }
 
-/// The short forms of `--format`, of which at most one may be given.
+/// The command, which accepts at most one short form of `--format`.
+fn with_short_forms<'a>(alloc: Global, command: Command<'a>) -> Result<Command<'a>, AllocError> {
+    command.group(short_forms(alloc)?)
+}
+
+/// The short forms of `--format`, of which at most one may be values.
 fn short_forms<'a>(alloc: Global) -> Result<ArgGroup<'a>, AllocError> {
     ArgGroup::new(alloc, "form")
         .arg("json")?
@@ -42,13 +49,22 @@ fn short_forms<'a>(alloc: Global) -> Result<ArgGroup<'a>, AllocError> {
 
 /// Appends the options and arguments of `check`, for which BASE is optional.
 fn push_check_args<'a>(alloc: Global, args: &mut Vec<Arg<'a>>) -> Result<(), AllocError> {
-    let help = "Number of workers, 1 to 512";
-    push(args, workers(alloc, "1", help))?;
-    push(args, config(alloc))?;
-    push(args, no_config(alloc)?)?;
+    push_run_args(alloc, args)?;
     push_report_args(alloc, args)?;
     push_scope_args(alloc, args)?;
     push_folder_options(alloc, args)?;
+    push_places(alloc, args)
+}
+
+/// Appends the options for the number of workers and for the configuration file.
+fn push_run_args<'a>(alloc: Global, args: &mut Vec<Arg<'a>>) -> Result<(), AllocError> {
+    push(args, workers(alloc, "1", "Number of workers, 1 to 512"))?;
+    push(args, config(alloc))?;
+    push(args, no_config(alloc)?)
+}
+
+/// Appends the arguments FOLDER and BASE.
+fn push_places<'a>(alloc: Global, args: &mut Vec<Arg<'a>>) -> Result<(), AllocError> {
     push(args, folder(alloc, "Folder to check"))?;
     let help =
         "URL of the folder, http or https; without it / is the folder, and the report shows paths";
@@ -135,6 +151,10 @@ const REPORT_FLAGS: &[Flag] = &[
         help: "Also list the files that cannot be reached by following links",
     },
     Flag {
+        name: "sitemap",
+        help: "Also report each document that no sitemap of the folder lists",
+    },
+    Flag {
         name: "external",
         help: "Also list links to other sites, which are not checked",
     },
@@ -185,44 +205,44 @@ fn seed<'a>(alloc: Global) -> Arg<'a> {
 /// The settings of a check by this number of workers, whose report has this form.
 pub fn check_options(
     alloc: Global,
-    given: &Given<'_, '_>,
+    values: &OptionValues<'_, '_>,
     workers: u32,
     form: CheckForm,
 ) -> Result<CheckOptions, AllocError>
     ensures workers { IfOk result (λ options. options.workers ≡ workers) }
     ensures form { IfOk result (λ options. options.report.form ≡ form) }
 {
-    let base = given.text("base");
+    let base = values.text("base");
     Ok(CheckOptions {
-        site: site_options(alloc, *given, base.unwrap_or(LOCAL))?,
+        site: site_options(alloc, *values, base.unwrap_or(LOCAL))?,
         paths: base.is_none(),
         workers,
-        anchors: !given.flag("no-anchors"),
-        invalid: !given.flag("no-invalid"),
+        anchors: !values.flag("no-anchors"),
+        invalid: !values.flag("no-invalid"),
         report: ReportOptions {
             form,
-            lists: lists_of(given),
-            external: given.flag("external"),
+            lists: lists_of(values),
+            external: values.flag("external"),
         },
-        source_url: String::from_str(alloc, given.text("source-url").unwrap_or(""))?,
-        seeds: given.strings(alloc, "seed")?,
-        reachable: given.flag("reachable"),
+        source_url: String::from_str(alloc, values.text("source-url").unwrap_or(""))?,
+        seeds: values.strings(alloc, "seed")?,
+        reachable: values.flag("reachable"),
     })
 }
 
 /// What the report lists.
-fn lists_of(given: &Given<'_, '_>) -> Lists {
+fn lists_of(values: &OptionValues<'_, '_>) -> Lists {
     Lists {
-        all: given.flag("all-sources"),
-        unreached: given.flag("unreached"),
-        unlisted: false,
-        by_target: given.flag("by-target"),
+        all: values.flag("all-sources"),
+        unreached: values.flag("unreached"),
+        unlisted: values.flag("sitemap"),
+        by_target: values.flag("by-target"),
     }
 }
 
-/// The form of the report, or `None` if two different ones are given. A report as text has no colour here.
-pub fn form_of(given: &Given<'_, '_>) -> Option<CheckForm> {
-    form_named(format_of(given.text("format"), short_form(given.line))?)
+/// The form of the report, or `None` if two different ones are values. A report as text has no colour here.
+pub fn form_of(values: &OptionValues<'_, '_>) -> Option<CheckForm> {
+    form_named(format_of(values.text("format"), short_form(values.line))?)
 }
 
 /// The format of the short form on the command line.

@@ -84,8 +84,13 @@ fn push_command<'a>(
     commands: &mut Vec<Command<'a>>,
     made: Result<Command<'a>, AllocError>,
 ) -> Result<(), AllocError> {
-    commands.push(made?)?;
-    Ok(())
+    match made {
+        Ok(command) => {
+            commands.push(command)?;
+            Ok(())
+        }
+        Err(refused) => Err(refused),
+    }
 }
 
 /// `crawl`: prints the report of a crawl of a saved web.

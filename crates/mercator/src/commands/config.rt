@@ -4,8 +4,8 @@ ghost use Rattle.mercator.specs.Plans.{IsShown};
 
 use crate::commands::check_words::FORMATS;
 use crate::commands::folder_words::{HOSTS, SUFFIXES};
-use crate::commands::given::RIVALS;
 use crate::commands::input::Unread;
+use crate::commands::option_values::RIVALS;
 use crate::commands::plan_error::{PlanError, bad_words};
 use crate::commands::source::read_named;
 use clap::ArgMatches;
@@ -24,6 +24,7 @@ const KNOWN: Known = Known {
         "by-target",
         "all-sources",
         "unreached",
+        "sitemap",
         "external",
         "reachable",
         "no-anchors",
@@ -37,7 +38,7 @@ const KNOWN: Known = Known {
     choices: &[("format", FORMATS), ("host", HOSTS), ("fallback", SUFFIXES)],
 };
 
-/// Reads the configuration file of a check: the one that the command line names, otherwise that of the current directory, if it is there.
+/// Reads the configuration file of a check, if there is one.
 pub fn config_of<R: Files>(
     rt: &R,
     alloc: Global,
@@ -45,16 +46,25 @@ pub fn config_of<R: Files>(
 ) -> Result<Option<OptionFile>, PlanError>
     ensures { IfErr result IsShown }
 {
+    match name_of(rt, found) {
+        Some(name) => Ok(Some(read_config(rt, alloc, name)?)),
+        None => Ok(None),
+    }
+}
+
+/// The name of the configuration file: the one that the command line names, otherwise that of the current directory, if it is there.
+fn name_of<'a, R: Files>(rt: &R, found: &ArgMatches<'a>) -> Option<&'a str> {
     if found.get_flag("no-config") {
-        return Ok(None);
+        return None;
     }
-    if let Some(name) = found.get_str("config") {
-        return Ok(Some(read_config(rt, alloc, name)?));
+    match found.get_str("config") {
+        Some(name) => Some(name),
+        None => if is_absent(rt, DEFAULT_NAME) {
+            None
+        } else {
+            Some(DEFAULT_NAME)
+        },
     }
-    if is_absent(rt, DEFAULT_NAME) {
-        return Ok(None);
-    }
-    Ok(Some(read_config(rt, alloc, DEFAULT_NAME)?))
 }
 
 /// Whether there is no file with this name.
@@ -69,17 +79,40 @@ fn is_absent<R: Files>(rt: &R, name: &str) -> bool {
 fn read_config<R: Files>(rt: &R, alloc: Global, name: &str) -> Result<OptionFile, PlanError>
     ensures { IfErr result IsShown }
 {
-    let bytes = match read_named(rt, alloc, name) {
-        Ok(bytes) => bytes,
-        Err(why) => return Err(unread(alloc, name, why)?),
-    };
-    match OptionFile::read(alloc, bytes.as_slice(), KNOWN) {
-        Ok(file) => {
-            check_rivals(alloc, name, &file)?;
-            Ok(file)
-        }
+    match read_named(rt, alloc, name) {
+        Ok(bytes) => config_in(alloc, name, bytes.as_slice()),
+        Err(why) => Err(unread(alloc, name, why)?),
+    }
+}
+
+/// The options in the bytes of the configuration file with this name.
+fn config_in(alloc: Global, name: &str, bytes: &[u8]) -> Result<OptionFile, PlanError>
+    ensures { IfErr result IsShown }
+{
+    match OptionFile::read(alloc, bytes, KNOWN) {
+        Ok(file) => without_rivals(alloc, name, file),
         Err(error) => Err(bad_file(alloc, name, &error)?),
     }
+}
+
+/// The options of the file, if no two of them cannot be used together.
+fn without_rivals(alloc: Global, name: &str, file: OptionFile) -> Result<OptionFile, PlanError>
+    ensures { IfErr result IsShown }
+{
+    match rivals_in(&file) {
+        None => Ok(file),
+        Some(rivals) => Err(two_rivals(alloc, name, rivals)?),
+    }
+}
+
+/// The first two options of the file that cannot be used together.
+fn rivals_in(file: &OptionFile) -> Option<(&'static str, &'static str)> {
+    for pair in RIVALS {
+        if file.has(pair.0) && file.has(pair.1) {
+            return Some(*pair);
+        }
+    }
+    None
 }
 
 /// The error for a configuration file that cannot be read.
@@ -98,35 +131,42 @@ fn unread(alloc: Global, name: &str, why: Unread) -> Result<PlanError, AllocErro
 fn bad_file(alloc: Global, name: &str, error: &FileError) -> Result<PlanError, AllocError>
     ensures { IfOk result IsShown }
 {
-    let name = shown(alloc, name)?;
-    let text = match error {
-        FileError::NoMemory => return Ok(PlanError::NoMemory),
-        FileError::NotToml(line, why) => {
-            let (line, why) = (*line, why.as_str());
-            format!(in alloc; "error: {name}: line {line}: {why}\n")?
-        }
-        FileError::Unknown(key) => {
-            let key = shown(alloc, key.as_str())?;
-            format!(in alloc; "error: {name}: unknown option {key}\n")?
-        }
+    match error {
+        FileError::NoMemory => Ok(PlanError::NoMemory),
+        FileError::NotToml(line, why) => not_toml(alloc, name, *line, why.as_str()),
+        FileError::Unknown(key) => unknown_option(alloc, name, key.as_str()),
         FileError::WrongValue(key, values) => {
-            let (key, values) = (key.as_str(), values.as_str());
-            format!(in alloc; "error: {name}: {key}: must be {values}\n")?
+            wrong_value(alloc, name, key.as_str(), values.as_str())
         }
-    };
+    }
+}
+
+/// The error for a file that is not TOML, by what is wrong in this line.
+fn not_toml(alloc: Global, name: &str, line: usize, why: &str) -> Result<PlanError, AllocError>
+    ensures { IfOk result IsShown }
+{
+    let name = shown(alloc, name)?;
+    let text = format!(in alloc; "error: {name}: line {line}: {why}\n")?;
     bad_words(alloc, text.as_str())
 }
 
-/// Checks that the file has no two options that cannot be used together.
-fn check_rivals(alloc: Global, name: &str, file: &OptionFile) -> Result<(), PlanError>
-    ensures { IfErr result IsShown }
+/// The error for a file with a key that is no option.
+fn unknown_option(alloc: Global, name: &str, key: &str) -> Result<PlanError, AllocError>
+    ensures { IfOk result IsShown }
 {
-    for pair in RIVALS {
-        if file.has(pair.0) && file.has(pair.1) {
-            return Err(two_rivals(alloc, name, *pair)?);
-        }
-    }
-    Ok(())
+    let name = shown(alloc, name)?;
+    let key = shown(alloc, key)?;
+    let text = format!(in alloc; "error: {name}: unknown option {key}\n")?;
+    bad_words(alloc, text.as_str())
+}
+
+/// The error for a file in which an option has none of these values.
+fn wrong_value(alloc: Global, name: &str, key: &str, values: &str) -> Result<PlanError, AllocError>
+    ensures { IfOk result IsShown }
+{
+    let name = shown(alloc, name)?;
+    let text = format!(in alloc; "error: {name}: {key}: must be {values}\n")?;
+    bad_words(alloc, text.as_str())
 }
 
 /// The error for a file that has two options that cannot be used together.

@@ -65,6 +65,7 @@ pub fn run_check<R: Files<File: Send, Dir: Send> + Threads + Wait + Sync, O: Wri
     let report = report_of_folder(rt, alloc, options, urls, list.as_slice(), &mut notes);
     print_notes(alloc, err, &notes)?;
     let report = report?;
+    print_sitemap_note(err, report.lacks_sitemap);
     end(out, report.text.as_slice())?;
     Ok(report.is_broken)
 }
@@ -125,6 +126,13 @@ fn print_notes<E: Write>(alloc: Global, err: &mut E, notes: &[Note]) -> Result<(
         begin(err, line.as_bytes());
     }
     Ok(())
+}
+
+/// Prints a note if a check reports the documents that no sitemap lists, but no sitemap was read.
+fn print_sitemap_note<E: Write>(err: &mut E, lacks_sitemap: bool) {
+    if lacks_sitemap {
+        begin(err, b"mercator: no sitemap was read\n");
+    }
 }
 
 /// A line about something with this name. A name may come from anywhere, so its hidden characters are escaped.

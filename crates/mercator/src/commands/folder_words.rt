@@ -4,7 +4,7 @@ ghost use Rattle.std.specs.Option.{option_map_or};
 ghost use Rattle.mercator.specs.Hosts.{adds_html, is_exact};
 
 use crate::commands::arguments::{Flag, command_with, flag_of, option, push, push_flags, word};
-use crate::commands::given::Given;
+use crate::commands::option_values::{OptionValues, RIVALS};
 use clap::builder::ValueParser;
 use clap::{Arg, ArgAction, Command};
 use mercator_site::SiteOptions;
@@ -49,7 +49,7 @@ pub const HOSTS: &[&str] = &["nginx", "github", "netlify", "plain"];
 
 /// The option for the rules of a host, which the options for single rules would change.
 fn host<'a>(alloc: Global) -> Result<Arg<'a>, AllocError> {
-    option(
+    let host = option(
         alloc,
         "host",
         "HOST",
@@ -57,11 +57,8 @@ fn host<'a>(alloc: Global) -> Result<Arg<'a>, AllocError> {
     )
     .help_heading(FILES)
     .value_parser(ValueParser::Names(HOSTS))
-    .hide_possible_values(true)
-    .conflicts_with("index-file")?
-    .conflicts_with("fallback")?
-    .conflicts_with("exact")?
-    .conflicts_with("index")
+    .hide_possible_values(true);
+    with_rivals(host, "host")
 }
 
 /// The option for the names of index files.
@@ -81,22 +78,22 @@ pub const SUFFIXES: &[&str] = &["html"];
 
 /// The option to look up a path again.
 fn fallback<'a>(alloc: Global) -> Result<Arg<'a>, AllocError> {
-    option(
+    let fallback = option(
         alloc,
         "fallback",
         "SUFFIX",
-        "Look up a path that has no page again with .SUFFIX added; SUFFIX is html",
+        "If a path has no page, look it up again with .SUFFIX added; SUFFIX is html",
     )
     .help_heading(FILES)
     .value_parser(ValueParser::Names(SUFFIXES))
-    .hide_possible_values(true)
-    .conflicts_with("exact")
+    .hide_possible_values(true);
+    with_rivals(fallback, "fallback")
 }
 
 const FOLDER_FLAGS: &[Flag] = &[
     Flag {
         name: "exact",
-        help: "Accept only the exact spelling of a page's URL",
+        help: "Accept only the exact URL of a page, not other spellings such as a//b or a?q",
     },
     Flag {
         name: "queries",
@@ -115,16 +112,22 @@ fn index<'a>(alloc: Global) -> Result<Arg<'a>, AllocError> {
         "index",
         "FILE",
         "Read the URLs of the files in FOLDER from the site list FILE",
-    );
-    index
-        .help_heading(FILES)
-        .value_parser(ValueParser::NonEmptyString)
-        .requires_arg("base")?
-        .conflicts_with("index-file")?
-        .conflicts_with("fallback")?
-        .conflicts_with("exact")?
-        .conflicts_with("queries")?
-        .conflicts_with("follow")
+    )
+    .help_heading(FILES)
+    .value_parser(ValueParser::NonEmptyString)
+    .requires_arg("base")?;
+    with_rivals(index, "index")
+}
+
+/// The option with this name, which cannot be used together with its rivals.
+fn with_rivals<'a>(option: Arg<'a>, name: &str) -> Result<Arg<'a>, AllocError> {
+    let mut option = option;
+    for pair in RIVALS {
+        if pair.0 == name {
+            option = option.conflicts_with(pair.1)?;
+        }
+    }
+    Ok(option)
 }
 
 /// The option to ignore styles.
@@ -151,31 +154,31 @@ pub fn base<'a>(alloc: Global, help: &'a str) -> Arg<'a> {
 /// The settings of `site`, or those of a check that are the same, with this BASE.
 pub fn site_options(
     alloc: Global,
-    given: Given<'_, '_>,
+    values: OptionValues<'_, '_>,
     base: &str,
 ) -> Result<SiteOptions, AllocError> {
-    let host = given.text("host");
+    let host = values.text("host");
     Ok(SiteOptions {
-        folder: String::from_str(alloc, given.line.get_str("folder").unwrap_or("."))?,
+        folder: String::from_str(alloc, values.line.get_str("folder").unwrap_or("."))?,
         base: String::from_str(alloc, base)?,
-        index: given.string(alloc, "index")?,
-        index_files: index_files(alloc, given, host)?,
-        html_fallback: given.text("fallback").is_some() || adds_html(host),
-        exact: given.flag("exact") || is_exact(host),
-        queries: given.flag("queries"),
-        follow: given.flag("follow"),
-        styles: !given.flag("no-styles"),
+        index: values.string(alloc, "index")?,
+        index_files: index_files(alloc, values, host)?,
+        html_fallback: values.text("fallback").is_some() || adds_html(host),
+        exact: values.flag("exact") || is_exact(host),
+        queries: values.flag("queries"),
+        follow: values.flag("follow"),
+        styles: !values.flag("no-styles"),
     })
 }
 
-/// The names of index files: `index.html` for a host, otherwise those that are given.
+/// The names of index files: `index.html` for a host, otherwise those that are values.
 fn index_files(
     alloc: Global,
-    given: Given<'_, '_>,
+    values: OptionValues<'_, '_>,
     host: Option<&str>,
 ) -> Result<Vec<String>, AllocError> {
     if host.is_none() {
-        return given.strings(alloc, "index-file");
+        return values.strings(alloc, "index-file");
     }
     let mut names = Vec::new(alloc);
     names.push(String::from_str(alloc, "index.html")?)?;

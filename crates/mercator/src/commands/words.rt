@@ -10,7 +10,7 @@ use crate::commands::check_words::{check_options, form_of, has_links};
 use crate::commands::command_line::{self, command_line};
 use crate::commands::config::config_of;
 use crate::commands::folder_words::site_options;
-use crate::commands::given::Given;
+use crate::commands::option_values::OptionValues;
 use crate::commands::plan_error::{PlanError, bad_words, visible};
 use crate::commands::planned::{CrawlOptions, Plan};
 use crate::commands::report_words::sections_of;
@@ -319,7 +319,7 @@ fn site_of(alloc: Global, found: &ArgMatches<'_>) -> Result<Plan, PlanError>
     ensures limits { IfOk result IsWithinLimits }
     ensures shown { IfErr result IsShown }
 {
-    let options = Given {
+    let options = OptionValues {
         line: found,
         file: None,
     };
@@ -341,24 +341,25 @@ fn check_of(
     let Some(workers) = workers_of(found) else {
         return Err(misread(alloc));
     };
-    let given = Given { line: found, file };
-    let Some(form) = form_of(&given) else {
+    let values = OptionValues { line: found, file };
+    let Some(form) = form_of(&values) else {
         return Err(bad_words(alloc, TWO_FORMATS)?);
     };
-    if let Some(text) = refusal(&given, form) {
+    if let Some(text) = refusal(&values, form) {
         return Err(bad_words(alloc, text)?);
     }
     Ok(Plan::Check {
-        options: check_options(alloc, &given, workers, form)?,
-        ignores: given.string(alloc, "ignore")?,
+        options: check_options(alloc, &values, workers, form)?,
+        ignores: values.string(alloc, "ignore")?,
     })
 }
 
-/// Why a check whose report has this form cannot have these options.
-fn refusal(given: &Given<'_, '_>, form: CheckForm) -> Option<&'static str> {
-    if given.line.get_str("source-url").is_some() && !has_links(form) {
+/// Why a check whose report has this form cannot have these options. A URL of the sources in the configuration file does not count if the
+/// form has no links, so that the file can serve several formats.
+fn refusal(values: &OptionValues<'_, '_>, form: CheckForm) -> Option<&'static str> {
+    if values.line.get_str("source-url").is_some() && !has_links(form) {
         Some(NO_LINKS)
-    } else if given.text("index").is_some() && given.text("base").is_none() {
+    } else if values.text("index").is_some() && values.text("base").is_none() {
         Some(NO_BASE)
     } else {
         None

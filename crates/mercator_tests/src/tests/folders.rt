@@ -1,11 +1,6 @@
-//! Files in memory: their saved web, their pages, and a check of them. A file that grows while it is read.
-use crawl_keys::{CanonUrl, canonical};
-use crawl_pages::{Fetch, Page};
-use mercator_site::{
-    CheckReport, CheckSettings, Files, ReportOptions, report_of_files, report_of_pages,
-};
-use saved_site::{site_pages, site_web};
-use saved_web::SavedWeb;
+//! Files in memory: their saved web, and a check of them. A file that grows while it is read.
+use mercator_site::{CheckSettings, Files, ReportOptions, report_of_files};
+use saved_site::site_web;
 use site_files::{Body, InMemory, Rules, SiteFiles, SiteNames};
 use std::alloc::{AllocError, Global};
 use std::io;
@@ -14,6 +9,13 @@ use std::sync::Wait;
 use std::thread::Threads;
 
 const BASE: &str = "http://a.test/";
+
+/// The beginning of the saved web of the file.
+const WEB: &[u8] = b"savedweb 2\npage http://a.test/\nlink gone.html\n";
+
+/// The beginning of the report of its check.
+const TOTALS: &[u8] =
+    b"pages 1, files 0, links 1, redirects 0, aliases 0\nbroken links 1, missing pages 1,";
 
 /// A site of one file with a broken link.
 #[derive(Drop)]
@@ -49,58 +51,23 @@ impl OneFile {
             rules,
         })
     }
-
-    fn input(&self) -> SiteNames<'_> {
-        SiteNames {
-            names: self.names.as_slice(),
-            links: &[],
-            base: BASE,
-            rules: &self.rules,
-        }
-    }
-
-    fn bytes(&self) -> InMemory<'_> {
-        InMemory {
-            bodies: self.bodies.as_slice(),
-        }
-    }
 }
 
-fn is_its_page(page: &Page) -> bool {
-    match page {
-        Page::Found { links, skipped: 0 } => match links.as_slice() {
-            [link] => link.as_str() == "http://a.test/gone.html",
-            _ => false,
-        },
-        _ => false,
-    }
-}
-
-fn has_web<R: Threads + Sync>(
-    rt: &R,
-    alloc: Global,
-    site: &OneFile,
-    top: &CanonUrl,
-) -> Option<bool> {
-    let files = SiteFiles::new(alloc, site.input()).ok()?;
-    let web = site_web(rt, alloc, &files, &[], &site.bytes()).ok()?;
+fn has_web<R: Threads + Sync>(rt: &R, alloc: Global, site: &OneFile) -> Option<bool> {
+    let input = SiteNames {
+        names: site.names.as_slice(),
+        links: &[],
+        base: BASE,
+        rules: &site.rules,
+    };
+    let bytes = InMemory {
+        bodies: site.bodies.as_slice(),
+    };
+    let files = SiteFiles::new(alloc, input).ok()?;
+    let web = site_web(rt, alloc, &files, &[], &bytes).ok()?;
     let mut text = Vec::new(alloc);
     web.text.write(&mut text).ok()?;
-    let pages = SavedWeb::read(alloc, text.as_slice()).ok()?;
-    let page = pages.fetch(alloc, top).ok()?;
-    Some(is_its_page(&page))
-}
-
-fn has_pages<R: Threads + Sync>(
-    rt: &R,
-    alloc: Global,
-    site: &OneFile,
-    top: &CanonUrl,
-) -> Option<bool> {
-    let files = SiteFiles::new(alloc, site.input()).ok()?;
-    let linked = site_pages(rt, alloc, &files, &[], &site.bytes()).ok()?;
-    let page = linked.pages.fetch(alloc, top).ok()?;
-    Some(is_its_page(&page))
+    Some(text.as_slice().starts_with(WEB))
 }
 
 fn settings(none: &[String]) -> CheckSettings<'_> {
@@ -119,46 +86,25 @@ fn settings(none: &[String]) -> CheckSettings<'_> {
     }
 }
 
-fn lists_its_link(report: &CheckReport) -> bool {
-    let front =
-        b"pages 1, files 0, links 1, redirects 0, aliases 0\nbroken links 1, missing pages 1,";
-    report.is_broken && report.text.as_slice().starts_with(front)
-}
-
 fn is_checked<R: Threads + Wait + Sync>(rt: &R, alloc: Global, site: &OneFile) -> Option<bool> {
     let files = Files {
         names: site.names.as_slice(),
         bodies: site.bodies.as_slice(),
     };
     let report = report_of_files(rt, alloc, files, BASE, &site.rules, settings(&[])).ok()?;
-    Some(lists_its_link(&report))
+    Some(report.is_broken && report.text.as_slice().starts_with(TOTALS))
 }
 
-fn is_checked_by_its_pages<R: Threads + Wait + Sync>(
-    rt: &R,
-    alloc: Global,
-    site: &OneFile,
-) -> Option<bool> {
-    let files = SiteFiles::new(alloc, site.input()).ok()?;
-    let linked = site_pages(rt, alloc, &files, &[], &site.bytes()).ok()?;
-    let report = report_of_pages(rt, alloc, linked, &files, &site.bytes(), settings(&[])).ok()?;
-    Some(lists_its_link(&report))
-}
-
-// The saved web and the pages in memory have the page at the top, and the check reports its link.
+// The saved web of files in memory has the page and its link, and the check reports the link.
 #[test]
 fn files_in_memory(rt: HostRuntime) {
     let alloc = rt.alloc();
-    let site = OneFile::new(alloc);
-    let top = canonical(alloc, BASE);
-    match (&site, &top) {
-        (Ok(site), Ok(top)) => {
-            assert!(rt; has_web(&rt, alloc, site, top) == Some(true));
-            assert!(rt; has_pages(&rt, alloc, site, top) == Some(true));
-            assert!(rt; is_checked(&rt, alloc, site) == Some(true));
-            assert!(rt; is_checked_by_its_pages(&rt, alloc, site) == Some(true));
+    match OneFile::new(alloc) {
+        Ok(site) => {
+            assert!(rt; has_web(&rt, alloc, &site) == Some(true));
+            assert!(rt; is_checked(&rt, alloc, &site) == Some(true));
         }
-        _ => assert!(rt; false),
+        Err(_) => assert!(rt; false),
     }
 }
 

@@ -73,12 +73,6 @@ struct Writer {
     flushes: bool,
 }
 
-impl Writer {
-    fn has(&self, text: &str) -> bool {
-        self.taken.as_slice() == text.as_bytes()
-    }
-}
-
 impl Write for Writer {
     fn write(&mut self, buf: &[u8]) -> io::Result<usize> {
         if self.takes == 0 || buf.is_empty() {
@@ -98,17 +92,12 @@ impl Write for Writer {
     }
 }
 
-fn push_word(alloc: Global, words: &mut Vec<String>, word: &str) -> Result<(), AllocError> {
-    words.push(String::from_str(alloc, word)?)?;
-    Ok(())
-}
-
 /// The arguments in a text that are separated by spaces.
-pub fn words(alloc: Global, text: &str) -> Result<Vec<String>, AllocError> {
+fn words(alloc: Global, text: &str) -> Result<Vec<String>, AllocError> {
     let mut words = Vec::new(alloc);
     for word in text.split(' ') {
         if !word.is_empty() {
-            push_word(alloc, &mut words, word)?;
+            words.push(String::from_str(alloc, word)?)?;
         }
     }
     Ok(words)
@@ -162,7 +151,9 @@ fn ends<R: Files<File: Send, Dir: Send> + Threads + Wait + Sync>(
         &mut out,
         &mut err,
     );
-    status == row.status && out.has(row.out) && err.has(row.err)
+    status == row.status
+        && out.taken.as_slice() == row.out.as_bytes()
+        && err.taken.as_slice() == row.err.as_bytes()
 }
 
 /// Whether the program ends as the row says, with these failures.

@@ -1,12 +1,9 @@
-use Rattle.mercator_site.proofs.Prelude.{List, map, Ok, refl, sym, ap, subst, ◌∙◌, ◌≡◌, ◌==◌, not, length, string_bytes, err_from_is_err_and, canonical, PageResult, AreOthersListed, IsTopCrawl, host_root, own_of}
+use Rattle.mercator_site.proofs.Prelude.{List, map, Ok, refl, sym, ap, subst, ◌∙◌, ◌≡◌, ◌==◌, ◌&&◌, ◌||◌, not, length, string_bytes, err_from_is_err_and, canonical, PageResult, AreOthersListed, IsTopCrawl, host_root, own_of}
 use Rattle.std.proofs.Common.{true≢false}
-use Rattle.site_check.specs.Broken.{broken_of, redirects_of}
-use Rattle.site_check.specs.Hints.{hints_in, hints_of}
-use Rattle.site_check.specs.Ignored.{AreUnused, anchors_in}
-use Rattle.site_check.specs.Invalid.{AreInvalid, invalid_rows_in, texts_if}
-use Rattle.site_check.specs.Leaving.{leaving_in, leaving_of, outside_texts}
-use Rattle.site_check.specs.Names.{AreNamed}
-use Rattle.site_check.specs.Told.{rows_in, way_of}
+use Rattle.site_check.specs.Broken.{redirects_of}
+use Rattle.site_check.specs.Invalid.{texts_if}
+use Rattle.site_check.specs.Reported.{AreReported}
+use Rattle.site_check.specs.Told.{way_of}
 use Rattle.site_check.specs.Totals.{totals_of}
 use Rattle.mercator_site.proofs.TopCrawls.{same_url}
 use Rattle.mercator_site.proofs.check.report_of_pages.Goals as goal
@@ -35,14 +32,13 @@ returns-clause-named g c = λ web source.
     let rooted = c.args.settings.rooted in
     let same_rooted = c.input_of-input.ensures.rooted in
     let same_found : input.found.now ≡ all = c.input_of-input.ensures.found ∙ sym c.pages.ensures in
-    let outs = outside_texts rooted files all in
-    let same_outs : outside_texts input.rooted files input.found.now ≡ outs = ap (λ is. outside_texts is files input.found.now) same_rooted ∙ ap (outside_texts rooted files) same_found in
     let checked = c.in_ok-checked.checked in
     let report = c.in_ok-report.ensures in
     let aliases = c.args.site.aliases.items in
     let same_aliases = c.input_of-input.ensures.aliases in
     let documents = c.args.site.documents.items in
     let same_documents = c.input_of-input.ensures.documents in
+    let asks_unlisted = c.args.settings.report.lists.unlisted in
     record {
       check = record {
         pages = all;
@@ -50,9 +46,6 @@ returns-clause-named g c = λ web source.
         own = pages;
         are_own = c.own_results-results.ensures crawl.found.ascends ∙ ap (λ o. own_of o all) same_top;
         found = report.found;
-        rows =
-            ap rows_in report.rows ∙ c.in_ok-checked.ensures.broken ∙ ap (λ f. broken_of f (map string_bytes input.ignores.now) pages) same_front
-            ∙ ap (λ es. broken_of front es pages) same_entries;
         ways = ap (map way_of) report.ways ∙ c.in_ok-checked.ensures.redirects ∙ ap (λ f. redirects_of f pages) same_front;
         documents = documents;
         totals =
@@ -61,26 +54,20 @@ returns-clause-named g c = λ web source.
             ∙ ap (λ ws. totals_of aliases documents pages report.found.broken.now ws) (sym report.ways);
         site = c.args.files.now;
         site_top = refl;
-        names = subst (λ bs. AreNamed front c.args.files.now bs) (sym report.rows) (subst (λ f. AreNamed f c.args.files.now checked.broken.items) same_front c.in_ok-checked.ensures.names);
-        hints =
-            ap hints_in report.rows ∙ c.in_ok-checked.ensures.hints ∙ ap (λ f. hints_of f (map string_bytes input.ignores.now) files pages) same_front
-            ∙ ap (λ es. hints_of front es files pages) same_entries;
         places = places;
-        invalid =
-            subst (λ bs. AreInvalid entries links (invalid_rows_in bs)) (sym report.rows)
-            (subst (λ es. AreInvalid es links (invalid_rows_in checked.broken.items)) same_entries
-            (subst (λ ls. AreInvalid (map string_bytes input.ignores.now) ls (invalid_rows_in checked.broken.items)) same_links c.in_ok-checked.ensures.invalid));
-        leaving =
-            ap leaving_in report.rows ∙ c.in_ok-checked.ensures.leaving ∙ ap (λ es. leaving_of es input.rooted files pages input.found.now) same_entries
-            ∙ ap (λ is. leaving_of entries is files pages input.found.now) same_rooted ∙ ap (leaving_of entries rooted files pages) same_found;
-        unused =
-            subst (λ us. AreUnused front entries pages links outs (anchors_in report.found.broken.now) (map string_bytes us)) (sym report.unused)
-            (subst (λ bs. AreUnused front entries pages links outs (anchors_in bs) (map string_bytes checked.unused_ignores.items)) (sym report.rows)
-            (subst (λ es. AreUnused front es pages links outs (anchors_in checked.broken.items) (map string_bytes checked.unused_ignores.items)) same_entries
-            (subst (λ f. AreUnused f (map string_bytes input.ignores.now) pages links outs (anchors_in checked.broken.items) (map string_bytes checked.unused_ignores.items)) same_front
-            (subst (λ os. AreUnused input.front.now (map string_bytes input.ignores.now) pages links os (anchors_in checked.broken.items) (map string_bytes checked.unused_ignores.items)) same_outs
-            (subst (λ ls. AreUnused input.front.now (map string_bytes input.ignores.now) pages ls (outside_texts input.rooted files input.found.now) (anchors_in checked.broken.items) (map string_bytes checked.unused_ignores.items)) same_links c.in_ok-checked.ensures.ignores)))));
-        is_broken = report.is_broken ∙ c.in_ok-checked.ensures.verdict ∙ ap (λ bs. not (length bs == 0)) (sym report.rows);
+        rows =
+            subst (λ us. AreReported front entries links rooted files pages all report.found.broken.now (map string_bytes us)) (sym report.unused)
+            (subst (λ bs. AreReported front entries links rooted files pages all bs (map string_bytes checked.unused_ignores.items)) (sym report.rows)
+            (subst (λ f. AreReported f entries links rooted files pages all checked.broken.items (map string_bytes checked.unused_ignores.items)) same_front
+            (subst (λ es. AreReported input.front.now es links rooted files pages all checked.broken.items (map string_bytes checked.unused_ignores.items)) same_entries
+            (subst (λ ls. AreReported input.front.now (map string_bytes input.ignores.now) ls rooted files pages all checked.broken.items (map string_bytes checked.unused_ignores.items)) same_links
+            (subst (λ is. AreReported input.front.now (map string_bytes input.ignores.now) (texts_if input.invalid places pages) is files pages all checked.broken.items (map string_bytes checked.unused_ignores.items)) same_rooted
+            (subst (λ rs. AreReported input.front.now (map string_bytes input.ignores.now) (texts_if input.invalid places pages) input.rooted files pages rs checked.broken.items (map string_bytes checked.unused_ignores.items)) same_found
+            c.in_ok-checked.ensures.rows))))));
+        is_broken =
+            report.is_broken ∙ ap (λ is. is || (asks_unlisted && not (length checked.unlisted.items == 0))) c.in_ok-checked.ensures.verdict
+            ∙ ap (λ bs. not (length bs == 0) || (asks_unlisted && not (length checked.unlisted.items == 0))) (sym report.rows)
+            ∙ ap (λ us. not (length report.found.broken.now == 0) || (asks_unlisted && not (length us == 0))) (sym report.unlisted);
         contents = report.contents;
         lists = report.lists;
         folder = report.folder;

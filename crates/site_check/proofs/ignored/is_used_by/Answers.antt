@@ -1,6 +1,6 @@
 use Rattle.site_check.proofs.Prelude.{common_steps, ◌≡◌, ◌∙◌, ℕ, List, true, false, arith, sym, matches, list_any, Bor}
 use Rattle.site_check.proofs.Fronts.{any_pointed}
-use Rattle.site_check.proofs.ignored.is_used.Goals as goal
+use Rattle.site_check.proofs.ignored.is_used_by.Goals as goal
 
 pub returns-then-matches : goal.returns-then-matches
 returns-then-matches c =

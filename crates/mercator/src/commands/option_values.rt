@@ -1,8 +1,8 @@
 //! The options of a command line and of a configuration file together.
 ghost use Rattle.std.specs.Prelude.{◌≡◌, option_map};
-ghost use Rattle.mercator.specs.Given.{flag_of, text_of};
+ghost use Rattle.mercator.specs.OptionValues.{flag_of, text_of};
 
-use crate::commands::arguments::{given, is_named, values_of};
+use crate::commands::arguments::{is_named, named_value, values_of};
 use clap::ArgMatches;
 use option_file::OptionFile;
 use std::alloc::{AllocError, Global};
@@ -10,12 +10,12 @@ use std::alloc::{AllocError, Global};
 /// The options of a command line and, if there is one, of a configuration file. An option of the command line replaces the same option of
 /// the file, and those options of the file that cannot be used together with it.
 #[derive(Clone, Copy)]
-pub struct Given<'a, 'm> {
+pub struct OptionValues<'a, 'm> {
     pub line: &'a ArgMatches<'m>,
     pub file: Option<&'a OptionFile>,
 }
 
-/// The pairs of options that cannot be used together.
+/// The pairs of options that cannot be used together. On the command line, `--format` can be used with the short form of the same format.
 pub const RIVALS: &[(&str, &str)] = &[
     ("format", "json"),
     ("format", "html"),
@@ -32,7 +32,7 @@ pub const RIVALS: &[(&str, &str)] = &[
     ("index", "follow"),
 ];
 
-impl Given<'_, '_> {
+impl OptionValues<'_, '_> {
     /// Whether an option without a value is given.
     pub fn flag(&self, name: &str) -> bool {
         let in_file = match self.file {
@@ -53,7 +53,7 @@ impl Given<'_, '_> {
             None => None,
         };
         text_of(
-            given(self.line, name),
+            named_value(self.line, name),
             in_file,
             is_replaced(self.line, name),
         )

@@ -1,0 +1,196 @@
+-- The first folder of a path, and how many paths have it.
+use Rattle.site_check.proofs.Prelude.{common_steps, ◌≡◌, ◌∙◌, ℕ, zero, suc, ◌+◌, ◌<◌, ◌^◌, ◌≤◌, ◌&&◌, Bool, true, false, not, ◌||◌, cond, List, [], ◌∷◌, ◌++◌, Option, Some, None, length, length-map, filter, drop, get_or, slice_get, refl, subst, sym, ap, inl, inr, arith, cases_Bool, cond-true, cond-false, bytes_eq, bytes_eq-Decides, count_by-le-length, list_any, option_map, Bor, pointed, Counts, PageFile, SiteFiles, count_at, ends_path, first_in, hint_among, hint_for, hint_with, is_often, is_slash, named_folder, often_first, one_if, path_count, root_folder, to_slash}
+use Rattle.std.proofs.Common.{◌==◌, add-one, codes, drop-cons, eqb-true}
+use Rattle.std.proofs.lemmas.List.{drop_all}
+use Rattle.std.proofs.lemmas.List.Sums.{sum_by-cons}
+use Rattle.std.specs.Option.{option_and_then, unwrap_or}
+use Rattle.std.proofs.lemmas.Map.Text.{btree_map_updates_str}
+use Rattle.std.specs.BTreeMap as tree
+use Rattle.std.specs.Cmp.Lexicographic.{slice_cmp}
+use Rattle.std.specs.Ordering.{nat_cmp}
+use Rattle.site_check.proofs.Namesakes.{some_at}
+use Rattle.site_check.proofs.Outsides.{IsName, first_free, more_name}
+
+-- ---- the folder
+
+no_folder : (path : List ℕ) → IsName path → to_slash path ≡ None
+no_folder [] free = refl
+no_folder (b ∷ path) free =
+    cond-false (is_slash b) _ _ (first_free b path free)
+    ∙ elim (cases_Bool (ends_path b)) [
+      | inl ends ↦ cond-true (ends_path b) _ _ ends
+      | inr more ↦ cond-false (ends_path b) _ _ more ∙ ap (option_map (λ name. b ∷ name)) (no_folder path (more_name b path free))
+    ]
+
+-- the bytes before a slash are the folder, unless one of them ends the path
+longer : (is : Bool) (b : ℕ) (folder : List ℕ) → option_map (λ name. b ∷ name) (cond is None (Some folder)) ≡ cond is None (Some (b ∷ folder))
+longer true b folder = refl
+longer false b folder = refl
+
+cut_folder : (folder more : List ℕ) → IsName folder → to_slash (folder ++ 47 ∷ more) ≡ cond (list_any ends_path folder) None (Some folder)
+cut_folder [] more free = refl
+cut_folder (b ∷ folder) more free =
+    cond-false (is_slash b) _ _ (first_free b folder free)
+    ∙ elim (cases_Bool (ends_path b)) [
+      | inl ends ↦ cond-true (ends_path b) _ _ ends ∙ sym (cond-true (list_any ends_path (b ∷ folder)) _ _ (λ i. ends i || list_any ends_path folder))
+      | inr goes_on ↦
+          cond-false (ends_path b) _ _ goes_on ∙ ap (option_map (λ name. b ∷ name)) (cut_folder folder more (more_name b folder free))
+          ∙ longer (list_any ends_path folder) b folder ∙ ap (λ is. cond is None (Some (b ∷ folder))) (sym (λ i. goes_on i || list_any ends_path folder))
+    ]
+
+abbrev pub is_folder : List ℕ → Bool
+is_folder name = not (length name == 0) && not (list_any ends_path name)
+
+named : (folder : List ℕ) → is_folder folder ≡ true → Some folder ≡ named_folder (cond (list_any ends_path folder) None (Some folder))
+named [] is = grind (arith, common_steps)
+named (b ∷ folder) is = grind (arith, common_steps, cases_Bool, cond-true, cond-false)
+
+unnamed : (folder : List ℕ) → is_folder folder ≡ false → None ≡ named_folder (cond (list_any ends_path folder) None (Some folder))
+unnamed [] is = refl
+unnamed (b ∷ folder) is = grind (arith, common_steps, cases_Bool, cond-true, cond-false)
+
+pub folder_there : (path folder more : List ℕ) → path ≡ folder ++ 47 ∷ more → IsName folder → is_folder folder ≡ true → Some folder ≡ named_folder (to_slash path)
+folder_there path folder more is free own = named folder own ∙ sym (ap (λ p. named_folder (to_slash p)) is ∙ ap named_folder (cut_folder folder more free))
+
+pub folder_lacks : (path folder more : List ℕ) → path ≡ folder ++ 47 ∷ more → IsName folder → is_folder folder ≡ false → None ≡ named_folder (to_slash path)
+folder_lacks path folder more is free own = unnamed folder own ∙ sym (ap (λ p. named_folder (to_slash p)) is ∙ ap named_folder (cut_folder folder more free))
+
+pub no_slash_there : (path : List ℕ) → IsName path → None ≡ named_folder (to_slash path)
+no_slash_there path free = sym (ap named_folder (no_folder path free))
+
+-- ---- a path from the root
+
+pub root_there : (written path : List ℕ) (n : ℕ) → written ≡ codes "/" ++ drop n written → path ≡ drop n written → named_folder (to_slash path) ≡ root_folder written
+root_there written path n split cut = ap (λ p. named_folder (to_slash p)) cut ∙ sym (ap root_folder split)
+
+pub root_lacks : (written : List ℕ) → ((rest : List ℕ) → written ≡ codes "/" ++ rest → ⊥) → None ≡ root_folder written
+root_lacks [] lacks = refl
+root_lacks (b ∷ written) lacks =
+    elim (cases_Bool (is_slash b)) [
+      | inl is ↦ absurd (lacks written (ap (λ first. first ∷ written) (eqb-true b 47 is)))
+      | inr other ↦ sym (cond-false (is_slash b) _ _ other)
+    ]
+
+-- ---- the counts
+
+-- a folder that is in a map with one more
+pub count_put : (old new : Counts) (folder : Bor (List ℕ)) (count : ℕ) → tree.Updates (λ x y. slice_cmp nat_cmp x.now y.now) old new folder (Some count) → count ≡ count_at old folder.now + 1 →
+    (other : List ℕ) → count_at new other ≡ one_if (bytes_eq folder.now other) + count_at old other
+count_put old new folder count updates is other =
+    let at : Option ℕ → ℕ = λ o. unwrap_or o 0 in
+    ap at (btree_map_updates_str folder.now old new (Some count) updates other)
+    ∙ elim (cases_Bool (bytes_eq folder.now other)) [
+      | inl same ↦
+          let own : count_at old folder.now ≡ count_at old other = ap (count_at old) ((bytes_eq-Decides folder.now other).0 same) in
+          let one : count ≡ 1 + count_at old other = omega (arith, is, own) in
+          ap at (cond-true (bytes_eq folder.now other) (Some count) _ same) ∙ one ∙ sym (ap (λ b. one_if b + count_at old other) same)
+      | inr differ ↦
+          let none : count_at old other ≡ 0 + count_at old other = omega arith in
+          ap at (cond-false (bytes_eq folder.now other) (Some count) _ differ) ∙ none ∙ sym (ap (λ b. one_if b + count_at old other) differ)
+    ]
+
+one_for : (is : Bool) → is ≡ true → one_if is ≡ 1
+one_for is passed = ap one_if passed
+
+path_more : (folder : Bor (List ℕ)) (more : List (Bor (List ℕ))) (other : List ℕ) → path_count (pointed (folder ∷ more)) other ≡ one_if (bytes_eq folder.now other) + path_count (pointed more) other
+path_more folder more other = sum_by-cons (λ x. one_if (bytes_eq x other)) folder.now (pointed more)
+
+-- what is counted so far and what is left are all
+pub record AreCounts (counts : Counts) (rest folders : List (Bor (List ℕ))) : Type 0 where
+  pub each : (folder : List ℕ) → count_at counts folder + path_count (pointed rest) folder ≡ path_count (pointed folders) folder
+
+-- the count of the next one fits
+pub count_fits : (counts : Counts) (folder : Bor (List ℕ)) (more folders : List (Bor (List ℕ))) → length folders < 2 ^ 64 → AreCounts counts (folder ∷ more) folders → count_at counts folder.now + 1 < 2 ^ 64
+count_fits counts folder more folders small are =
+    let own : bytes_eq folder.now folder.now ≡ true = (bytes_eq-Decides folder.now folder.now).1 refl in
+    let all : count_at counts folder.now + path_count (pointed (folder ∷ more)) folder.now ≡ path_count (pointed folders) folder.now = are.each folder.now in
+    let one : one_if (bytes_eq folder.now folder.now) ≡ 1 = one_for (bytes_eq folder.now folder.now) own in
+    let most : path_count (pointed folders) folder.now ≤ length (pointed folders) = count_by-le-length (λ other. bytes_eq other folder.now) (pointed folders) in
+    let same : length (pointed folders) ≡ length folders = length-map folders (λ (x : Bor (List ℕ)). x.now) in
+    omega (arith, small, all, one, most, same, path_more folder more folder.now)
+
+-- what is left from an index on
+cut_here : (folders : List (Bor (List ℕ))) (i : ℕ) (folder : Bor (List ℕ)) → i < length folders → folder ≡ get_or folders i folder → drop i folders ≡ folder ∷ drop (i + 1) folders
+cut_here folders i folder below is =
+    drop-cons folders i folder below ∙ ap (λ x. x ∷ drop (suc i) folders) (sym is) ∙ ap (λ n. folder ∷ drop n folders) (sym (add-one i))
+
+pub counts_more : (old new : Counts) (folders : List (Bor (List ℕ))) (i : ℕ) (folder : Bor (List ℕ)) → i < length folders → folder ≡ get_or folders i folder → length folders < 2 ^ 64 →
+    AreCounts old (drop i folders) folders → (count_at old folder.now + 1 < 2 ^ 64 → (other : List ℕ) → count_at new other ≡ one_if (bytes_eq folder.now other) + count_at old other) →
+    AreCounts new (drop (i + 1) folders) folders
+counts_more old new folders i folder below is small are counted =
+    let more = drop (i + 1) folders in
+    let here = subst (λ l. AreCounts old l folders) (cut_here folders i folder below is) are in
+    record {
+      each = λ other.
+          let all : count_at old other + path_count (pointed (folder ∷ more)) other ≡ path_count (pointed folders) other = here.each other in
+          let next : count_at new other ≡ one_if (bytes_eq folder.now other) + count_at old other = counted (count_fits old folder more folders small here) other in
+          omega (arith, all, next, path_more folder more other);
+    }
+
+pub counts_end : (counts : Counts) (folders : List (Bor (List ℕ))) (i : ℕ) → length folders ≤ i → AreCounts counts (drop i folders) folders → (folder : List ℕ) → count_at counts folder ≡ path_count (pointed folders) folder
+counts_end counts folders i past are folder =
+    let none : path_count (pointed (drop i folders)) folder ≡ 0 = ap (λ l. path_count (pointed l) folder) (drop_all i folders past) in
+    omega (arith, none, are.each folder)
+
+-- ---- the first that is often there
+
+-- the folder at an index, which the test is about
+often_at : (of : ℕ) (count_of : List ℕ → ℕ) (folders : List (Bor (List ℕ))) (i : ℕ) (folder : Bor (List ℕ)) → i < length folders → folder ≡ get_or folders i folder →
+    often_first of count_of (pointed (drop i folders)) ≡ first_in (cond (is_often of (count_of folder.now)) (folder.now ∷ filter (λ f. is_often of (count_of f)) (pointed (drop (i + 1) folders))) (filter (λ f. is_often of (count_of f)) (pointed (drop (i + 1) folders))))
+often_at of count_of folders i folder below is = ap (λ l. often_first of count_of (pointed l)) (cut_here folders i folder below is)
+
+pub often_here : (of : ℕ) (count_of : List ℕ → ℕ) (folders : List (Bor (List ℕ))) (i : ℕ) (folder : Bor (List ℕ)) (test : Bool) (all : Option (List ℕ)) → i < length folders → folder ≡ get_or folders i folder →
+    test ≡ is_often of (count_of folder.now) → test ≡ true → often_first of count_of (pointed (drop i folders)) ≡ all → Some folder.now ≡ all
+often_here of count_of folders i folder test all below is tested often first =
+    let more = filter (λ f. is_often of (count_of f)) (pointed (drop (i + 1) folders)) in
+    sym (often_at of count_of folders i folder below is ∙ ap first_in (cond-true (is_often of (count_of folder.now)) (folder.now ∷ more) more (sym tested ∙ often))) ∙ first
+
+pub often_skip : (of : ℕ) (count_of : List ℕ → ℕ) (folders : List (Bor (List ℕ))) (i : ℕ) (folder : Bor (List ℕ)) (test : Bool) (all : Option (List ℕ)) → i < length folders → folder ≡ get_or folders i folder →
+    test ≡ is_often of (count_of folder.now) → test ≡ false → often_first of count_of (pointed (drop i folders)) ≡ all → often_first of count_of (pointed (drop (i + 1) folders)) ≡ all
+often_skip of count_of folders i folder test all below is tested seldom first =
+    let more = filter (λ f. is_often of (count_of f)) (pointed (drop (i + 1) folders)) in
+    sym (often_at of count_of folders i folder below is ∙ ap first_in (cond-false (is_often of (count_of folder.now)) (folder.now ∷ more) more (sym tested ∙ seldom))) ∙ first
+
+pub often_none : (of : ℕ) (count_of : List ℕ → ℕ) (folders : List (Bor (List ℕ))) (i : ℕ) (all : Option (List ℕ)) → length folders ≤ i → often_first of count_of (pointed (drop i folders)) ≡ all → None ≡ all
+often_none of count_of folders i all past first = sym (ap (λ l. often_first of count_of (pointed l)) (drop_all i folders past)) ∙ first
+
+-- ---- the pages of a site
+
+drop_at : {X : Type 0} (xs : List X) (i : ℕ) (x : X) → slice_get xs i ≡ Some x → drop i xs ≡ x ∷ drop (suc i) xs
+drop_at [] i x at = grind (arith, common_steps)
+drop_at (y ∷ xs) zero x at = grind (arith, common_steps)
+drop_at (y ∷ xs) (suc i) x at = drop_at xs i x at
+
+drop_there : {X : Type 0} (xs : List X) (i : ℕ) (x : X) → slice_get xs i ≡ Some x → drop i xs ≡ x ∷ drop (i + 1) xs
+drop_there xs i x at = drop_at xs i x at ∙ ap (λ n. x ∷ drop n xs) (sym (add-one i))
+
+-- the page with this number, which the test is about
+page_here : (test : PageFile → Bool) (pages : List PageFile) (n : ℕ) (is : Bool) → n < length pages → ((page : PageFile) → slice_get pages n ≡ Some page → is ≡ test page) →
+    list_any test (drop n pages) ≡ (is || list_any test (drop (n + 1) pages))
+page_here test pages n is within tested =
+    let (page, at) = some_at pages n within in
+    ap (list_any test) (drop_there pages n page at) ∙ (λ i. sym (tested page at) i || list_any test (drop (n + 1) pages))
+
+pub page_found : (test : PageFile → Bool) (pages : List PageFile) (n : ℕ) (is all : Bool) → n < length pages → ((page : PageFile) → slice_get pages n ≡ Some page → is ≡ test page) → is ≡ true →
+    list_any test (drop n pages) ≡ all → true ≡ all
+page_found test pages n is all within tested found so_far =
+    sym (page_here test pages n is within tested ∙ (λ i. found i || list_any test (drop (n + 1) pages))) ∙ so_far
+
+pub page_passed : (test : PageFile → Bool) (pages : List PageFile) (n : ℕ) (is all : Bool) → n < length pages → ((page : PageFile) → slice_get pages n ≡ Some page → is ≡ test page) → is ≡ false →
+    list_any test (drop n pages) ≡ all → list_any test (drop (n + 1) pages) ≡ all
+page_passed test pages n is all within tested passed so_far =
+    sym (page_here test pages n is within tested ∙ (λ i. passed i || list_any test (drop (n + 1) pages))) ∙ so_far
+
+pub pages_end : (test : PageFile → Bool) (pages : List PageFile) (n : ℕ) (all : Bool) → length pages ≤ n → list_any test (drop n pages) ≡ all → false ≡ all
+pages_end test pages n all past so_far = sym (ap (list_any test) (drop_all n pages past)) ∙ so_far
+
+-- ---- the hint
+
+pub hint_chosen : (files : SiteFiles) (counts : Counts) (all : List (List ℕ)) (of paths : ℕ) (folder : List ℕ) → of ≡ length all → ((other : List ℕ) → count_at counts other ≡ path_count all other) →
+    paths ≡ count_at counts folder → Some folder ≡ often_first of (count_at counts) all → hint_with files folder paths of ≡ hint_among files all
+hint_chosen files counts all of paths folder whole are own first =
+    (λ i. hint_with files folder ((own ∙ are folder) i) (whole i)) ∙ ap (option_and_then (hint_for files all)) (first ∙ (λ i. often_first (whole i) (λ other. are other i) all))
+
+pub hint_lacks : (files : SiteFiles) (counts : Counts) (all : List (List ℕ)) (of : ℕ) → of ≡ length all → ((other : List ℕ) → count_at counts other ≡ path_count all other) →
+    None ≡ often_first of (count_at counts) all → None ≡ hint_among files all
+hint_lacks files counts all of whole are first = ap (option_and_then (hint_for files all)) (first ∙ (λ i. often_first (whole i) (λ other. are other i) all))

@@ -1,0 +1,79 @@
+-- The rows of a check: those that entries with a file leave of the rows of all targets.
+use Rattle.std.specs.Prelude.{◌≡◌, ◌==◌, ℕ, Bool, not, ◌&&◌, List, ◌++◌, length, map, filter, flat_map, Option, string_bytes, option_map}
+use Rattle.check_report.specs.declared.value.Broken.{Broken}
+use Rattle.check_report.specs.declared.value.Kind.{Kind}
+use Rattle.check_report.specs.declared.value.Place.{Place}
+use Rattle.crawl_pages.specs.declared.page.PageResult.{PageResult}
+use Rattle.site_check.specs.Anchors.{anchor_text}
+use Rattle.site_check.specs.Broken.{broken_of, is_place_ignored, linked_at, result_at, rows_with}
+use Rattle.site_check.specs.Hints.{hints_at, hints_in, hints_of}
+use Rattle.site_check.specs.Ignored.{AreUnused, anchors_in, not_ignored, text_at, unused}
+use Rattle.site_check.specs.Invalid.{AreInvalid, invalid_rows_in, row_of, text_of}
+use Rattle.site_check.specs.Leaving.{leaving_in, leaving_of, outside_at, outside_texts, row_at, shown_at}
+use Rattle.site_check.specs.Names.{AreNamed}
+use Rattle.site_check.specs.Told.{rows_in}
+use Rattle.site_check.specs.declared.invalid.InvalidText.{InvalidText}
+use Rattle.site_check.specs.declared.leaving.Outside.{Outside}
+use Rattle.site_check.specs.declared.linked.Linked as code
+use Rattle.site_check.specs.declared.missing_anchors.MissingAnchor.{MissingAnchor}
+use Rattle.site_files.specs.declared.files.SiteFiles.{SiteFiles}
+
+-- ---- what is left
+
+-- a row with all that is printed of it
+pub record TargetRow : Type 0 where
+  pub target : List ℕ
+  pub kind : Kind
+  pub pages : ℕ
+  pub places : List Place
+  pub same_name : Option (List ℕ)
+  pub hint : Option (List ℕ)
+
+abbrev pub target_row : Broken → TargetRow
+target_row b =
+    record { target = string_bytes b.target; kind = b.kind; pages = b.pages; places = b.places.items; same_name = option_map string_bytes b.same_name; hint = option_map string_bytes b.hint }
+
+-- the locations that no entry matches
+abbrev pub places_left : List (List ℕ) → List ℕ → List Place → List Place
+places_left entries target places = filter (λ place. not (is_place_ignored entries target (string_bytes place.file))) places
+
+-- a row goes if it has locations and none of them is left. One without locations stays
+abbrev pub is_gone : List (List ℕ) → TargetRow → Bool
+is_gone entries row = not (length row.places == 0) && length (places_left entries row.target row.places) == 0
+
+-- a row with the locations that are left
+abbrev pub with_left : List (List ℕ) → TargetRow → TargetRow
+with_left entries row =
+    record { target = row.target; kind = row.kind; pages = row.pages; places = places_left entries row.target row.places; same_name = row.same_name; hint = row.hint }
+
+abbrev pub rows_left : List (List ℕ) → List TargetRow → List TargetRow
+rows_left entries rows = map (with_left entries) (filter (λ row. not (is_gone entries row)) rows)
+
+-- ---- all rows
+
+-- these rows are what the entries leave of rows for exactly the following: the missing pages, in order, each with the number of results that
+-- link to it, the only page with its file name and the hint at it; the texts `links` of invalid links, each once; and the URLs outside the
+-- site. The entries `unused_ones` match none of these, no missing anchor and no location
+pub record AreReported (front : List ℕ) (entries links : List (List ℕ)) (rooted : Bool) (files : SiteFiles) (results found : List PageResult) (rows : List Broken) (unused_ones : List (List ℕ)) : Type 0 where
+  pub whole : List Broken
+  pub pages : rows_in whole ≡ broken_of front entries results
+  pub names : AreNamed front files whole
+  pub hints : hints_in whole ≡ hints_of front entries files results
+  pub invalid : AreInvalid entries links (invalid_rows_in whole)
+  pub leaving : leaving_in whole ≡ leaving_of entries rooted files results found
+  pub left : map target_row rows ≡ rows_left entries (map target_row whole)
+  pub ignores : AreUnused front entries results links (outside_texts rooted files found) whole unused_ones
+
+-- ---- how they are found
+
+-- the same over the results that found no page and what else is broken
+pub record AreRows (front : List ℕ) (entries : List (List ℕ)) (files : SiteFiles) (linked : List code.Linked) (anchors : List MissingAnchor) (invalid : List InvalidText) (outside : List Outside) (rows : List Broken) (unused_ones : List (List ℕ)) : Type 0 where
+  pub whole : List Broken
+  pub pages : rows_in whole ≡ flat_map (rows_with front entries) (map linked_at linked)
+  pub names : AreNamed front files whole
+  pub hints : hints_in whole ≡ flat_map (hints_at front entries files) (map result_at linked)
+  pub anchors_are : anchors_in whole ≡ not_ignored entries (map anchor_text anchors)
+  pub texts_are : invalid_rows_in whole ≡ map row_of (not_ignored entries (map text_of invalid))
+  pub leaving : leaving_in whole ≡ flat_map (row_at entries) (map outside_at outside)
+  pub left : map target_row rows ≡ rows_left entries (map target_row whole)
+  pub ignores : unused_ones ≡ unused entries (((map anchor_text anchors ++ map text_of invalid) ++ map shown_at outside) ++ flat_map (text_at front) (map result_at linked)) whole
