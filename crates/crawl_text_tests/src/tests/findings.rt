@@ -514,36 +514,64 @@ fn forms(alloc: Global, findings: &Findings<'_>, contents: Contents<'_>) -> [boo
     ]
 }
 
+/// What a report has in each of its lists.
+#[derive(Drop)]
+struct Rows {
+    broken: Vec<Broken>,
+    worst: [FileCount; 1],
+    redirects: [Redirect; 2],
+    unreached: [String; 1],
+    unlisted: [String; 1],
+    unused: [String; 1],
+    hint: BaseHint,
+}
+
+impl Rows {
+    fn new(alloc: Global) -> Option<Rows> {
+        let broken = targets(alloc)?;
+        let worst = [count(alloc, "b.html", 2)?];
+        let guide = redirect(alloc, "guide", "guide/", 7)?;
+        let old = redirect(alloc, "old.html", "", 1)?;
+        let unreached = [text(alloc, "x\t.html")?];
+        let unlisted = [text(alloc, "p%20q.html")?];
+        let unused = [text(alloc, "http://a.test/")?];
+        let folder = text(alloc, "/d&/")?;
+        Some(Rows {
+            broken,
+            worst,
+            redirects: [guide, old],
+            unreached,
+            unlisted,
+            unused,
+            hint: BaseHint {
+                folder,
+                paths: 3,
+                of: 4,
+            },
+        })
+    }
+
+    fn findings(&self) -> Findings<'_> {
+        Findings {
+            base: "http://s.test",
+            totals: TOTALS,
+            broken: self.broken.as_slice(),
+            worst: &self.worst,
+            redirects: &self.redirects,
+            unreached: &self.unreached,
+            unlisted: &self.unlisted,
+            unused_ignores: &self.unused,
+            base_hint: Some(&self.hint),
+        }
+    }
+}
+
 fn printed(alloc: Global) -> Option<[bool; 7]> {
-    let broken = targets(alloc)?;
-    let worst = [count(alloc, "b.html", 2)?];
-    let redirects = [
-        redirect(alloc, "guide", "guide/", 7)?,
-        redirect(alloc, "old.html", "", 1)?,
-    ];
-    let unreached = [text(alloc, "x\t.html")?];
-    let unlisted = [text(alloc, "p%20q.html")?];
-    let unused = [text(alloc, "http://a.test/")?];
-    let hint = BaseHint {
-        folder: text(alloc, "/d&/")?,
-        paths: 3,
-        of: 4,
-    };
+    let rows = Rows::new(alloc)?;
     let others = [
         external(alloc, "http://o.test/?a&b", 3)?,
         external(alloc, "https://p.test/", 1)?,
     ];
-    let findings = Findings {
-        base: "http://s.test",
-        totals: TOTALS,
-        broken: broken.as_slice(),
-        worst: &worst,
-        redirects: &redirects,
-        unreached: &unreached,
-        unlisted: &unlisted,
-        unused_ignores: &unused,
-        base_hint: Some(&hint),
-    };
     let contents = Contents {
         lists: Lists {
             unreached: true,
@@ -554,7 +582,7 @@ fn printed(alloc: Global) -> Option<[bool; 7]> {
         folder: "s:te",
         source_url: "",
     };
-    Some(forms(alloc, &findings, contents))
+    Some(forms(alloc, &rows.findings(), contents))
 }
 
 /// Optional lists that are not chosen are neither counted nor printed.
@@ -619,30 +647,43 @@ fn ends_with(bytes: &[u8], first: &[u8], second: &str, third: &[u8]) -> Option<b
     Some(rest.strip_suffix(second.as_bytes())?.ends_with(first))
 }
 
+/// A missing page without locations, and an unused entry of an ignore list.
+#[derive(Drop)]
+struct Named {
+    broken: [Broken; 1],
+    unused: [String; 1],
+}
+
+impl Named {
+    fn findings(&self) -> Findings<'_> {
+        Findings {
+            base: "",
+            totals: TOTALS,
+            broken: &self.broken,
+            worst: &[],
+            redirects: &[],
+            unreached: &[],
+            unlisted: &[],
+            unused_ignores: &self.unused,
+            base_hint: None,
+        }
+    }
+}
+
 /// Which forms show the name as expected: the text, the HTML page, the annotations.
 fn seen(alloc: Global, row: &Seen) -> Option<[bool; 3]> {
     let broken = [target(alloc, &(row.0, Kind::NoPage, "", &[]))?];
     let unused = [text(alloc, row.0)?];
-    let findings = Findings {
-        base: "",
-        totals: TOTALS,
-        broken: &broken,
-        worst: &[],
-        redirects: &[],
-        unreached: &[],
-        unlisted: &[],
-        unused_ignores: &unused,
-        base_hint: None,
-    };
+    let named = Named { broken, unused };
     let contents = Contents {
         lists: Lists::default(),
         external: None,
         folder: "",
         source_url: "",
     };
-    let text = print_text(alloc, &findings, contents, false).ok()?;
-    let page = print_page(alloc, &findings, contents).ok()?;
-    let command = print_annotations(alloc, &findings, contents).ok()?;
+    let text = print_text(alloc, &named.findings(), contents, false).ok()?;
+    let page = print_page(alloc, &named.findings(), contents).ok()?;
+    let command = print_annotations(alloc, &named.findings(), contents).ok()?;
     Some([
         ends_with(text.as_slice(), b":\n  ", row.1, b"\n")?,
         ends_with(page.as_slice(), b"<pre>\n", row.1, AFTER_NAME)?,
