@@ -1,19 +1,19 @@
 -- The limits that several crates share. Each number is only here.
 use Rattle.std.specs.Prelude.{ℕ, ◌≤◌, ◌^◌}
 
--- the most workers, and so subqueues
+-- the greatest number of workers, and so of queues: each worker has one
 abbrev pub worker_limit : ℕ
 worker_limit = 512
 
--- the greatest maximum of units that are out at one time
+-- the greatest number to which a frontier can limit its pending units
 abbrev pub pending_limit : ℕ
 pending_limit = 2 ^ 40
 
--- the most bytes of a line
+-- the greatest length of a line, in bytes
 abbrev pub line_limit : ℕ
 line_limit = 4096
 
--- a frontier can be made with these numbers
+-- a frontier can be made with this number of workers and this limit of units
 pub record AreLimits (workers max : ℕ) : Type 0 where
   pub some_worker : 1 ≤ workers
   pub few_workers : workers ≤ worker_limit
