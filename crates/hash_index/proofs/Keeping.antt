@@ -1,4 +1,4 @@
--- Indices that are kept, and what is found by them.
+-- What a hash index keeps, and what a search of it finds.
 use Rattle.hash_index.proofs.Prelude.{◌≡◌, inl, inr, ℕ, ◌+◌, ◌<◌, ◌≤◌, Bool, true, false, List, [], ◌∷◌, ◌++◌, length, map, take, get_or, slice_get, Option, Some, None, IfSome, Result, Ok, Err, IfOk, refl, sym, ap, subst, ◌∙◌, arith, bytes_eq, unwrap_or, both_ways, false_from_ne_true, take_more, length-take-le, map-append, index_of, stands_at, AreApart, AreTaken, IsFirstVacant, IsInSlots, Misses, IsBeside, IsKept, AreKept, IsIndexOf, HashIndex}
 use Rattle.std.specs.BTreeMap.{get, get_by_text}
 use Rattle.std.specs.Ordering.{nat_cmp}
@@ -8,16 +8,16 @@ use Rattle.hash_index.proofs.Listed.{same_text, push_cases, slice_get_take, stan
 
 -- ---- the overflow
 
--- what is kept for a hash or a text is what was kept, unless it is new
+-- if an index was kept for a hash or a text, it is still the one that is kept
 pub was_kept : (o : Option ℕ) (index kept k : ℕ) → kept ≡ unwrap_or o index → o ≡ Some k → kept ≡ k
 was_kept o index kept k is at = is ∙ ap (λ o. unwrap_or o index) at
 
--- no index of the overflow passes if neither the hash's first nor the text's own does
+-- no index in the overflow passes if neither the first of the hash nor that of the text passes
 pub misses_beside : (passes : ℕ → Bool) (overflow : Overflow) (hash : ℕ) (text : List ℕ) (index first : ℕ) → first ≡ unwrap_or (get nat_cmp overflow.by_hash hash) index
     → passes first ≡ false → ((k : ℕ) → get_by_text overflow.by_text text ≡ Some k → passes k ≡ false) → (k : ℕ) → IsBeside overflow hash text k → passes k ≡ false
 misses_beside passes overflow hash text index first is other own k beside = grind (arith, was_kept)
 
--- an index is not the one that is kept if its text is not there, and others stay
+-- if the text is not at the index that is kept for it, changing that index keeps each index whose text is in the list
 pub text_stays : (texts : List (List ℕ)) (old new : List ℕ → Option ℕ) (key : List ℕ) (index kept : ℕ) → kept ≡ unwrap_or (old key) index → stands_at texts kept key ≡ false
     → ((other : List ℕ) (k : ℕ) → bytes_eq key other ≡ false → old other ≡ Some k → new other ≡ Some k)
     → (other : List ℕ) (k : ℕ) → old other ≡ Some k → stands_at texts k other ≡ true → new other ≡ Some k
@@ -32,7 +32,7 @@ text_stays texts old new key index kept is not_there others other k at stands = 
 
 -- ---- what stays kept
 
--- an index that is lost neither by the slots nor by the overflow
+-- an index stays kept if neither the slots nor the overflow lose it
 pub stays : (old new : HashIndex) (hash : ℕ) (text : List ℕ) (k : ℕ) → (IsInSlots old.slots hash k → IsInSlots new.slots hash k)
     → (AreTaken old.slots hash 8 → AreTaken new.slots hash 8) → (IsBeside old.overflow hash text k → IsBeside new.overflow hash text k) → IsKept old hash text k → IsKept new hash text k
 stays old new hash text k slots taken beside (inl held) = inl (slots held)
@@ -64,9 +64,9 @@ module _ (hash : List ℕ → ℕ) (texts : List (List ℕ)) (table : HashIndex)
   answers None found never = sym (none_found (never refl))
   answers (Some k) found never = sym (stands_first texts key k is.0 found)
 
-  -- ---- the index of the list, and of one text more
+  -- ---- the index of the list, and of the list with one more text
 
-  -- each index at which the text is stays kept
+  -- it is the index of the list if each index whose text is in the list stays kept
   pub index_stays : (new : HashIndex) → ((text : List ℕ) (k : ℕ) → IsKept table (hash text) text k → stands_at texts k text ≡ true → IsKept new (hash text) text k) → IsIndexOf hash texts new
   index_stays new stay = (is.0, λ k text at. stay text k (is.1 k text at) (stands_there texts k text at))
 
@@ -79,12 +79,12 @@ module _ (hash : List ℕ → ℕ) (texts : List (List ℕ)) (table : HashIndex)
     ],
   )
 
--- a list of items with one more
+-- for a list of items with one more
 pub pushed_item : {X : Type 0} (text : X → List ℕ) (hash : List ℕ → ℕ) (table : HashIndex) (items longer : List X) (item : X) → longer ≡ items ++ item ∷ []
     → IsIndexOf hash (map text items ++ text item ∷ []) table → IsIndexOf hash (map text longer) table
 pushed_item text hash table items longer item is known = grind (arith, map-append)
 
--- what the maps of the overflow say when all slots are taken is what a search returns
+-- if all slots of the hash are taken, the maps of the overflow decide the result of a search
 module _ (hash : List ℕ → ℕ) (texts : List (List ℕ)) (old new : HashIndex) (key : List ℕ) (was : IsIndexOf hash texts old) (misses : Misses (λ k. stands_at texts k key) old.slots (hash key)) where
   pub found_beside : {E : Type 0} (r : Result (Option ℕ) E) → IfOk r (λ o. IfSome o (λ k. stands_at texts k key ≡ true))
       → IfOk r (λ o. o ≡ None → (k : ℕ) → IsBeside old.overflow (hash key) key k → stands_at texts k key ≡ false) → IfOk r (λ o. o ≡ index_of texts key)
@@ -105,7 +105,7 @@ module _ (hash : List ℕ → ℕ) (texts : List (List ℕ)) (i : ℕ) (key : Li
   own_hash : h ≡ hash key
   own_hash = hash_is ∙ ap hash (sym is)
 
-  -- all texts keep their indices if one of them does and the others do
+  -- if one text keeps its index and the other texts keep theirs, all do
   pub keeps_each : (old new : HashIndex) → ((other : List ℕ) (n k : ℕ) → bytes_eq key other ≡ false → IsKept old n other k → IsKept new n other k)
       → (IsKept old h key i → IsKept new h key i) → AreKept hash texts old → AreKept hash texts new
   keeps_each old new others own kept k text at = by_text (bytes_eq key text) refl
@@ -118,7 +118,7 @@ module _ (hash : List ℕ → ℕ) (texts : List (List ℕ)) (i : ℕ) (key : Li
           let hashed : IsKept new (hash key) key i = subst (λ n. IsKept old n key i → IsKept new n key i) own_hash own (kept i key here) in
           subst (λ j. IsKept new (hash text) text j) index (subst (λ u. IsKept new (hash u) u i) same hashed)
 
-  -- one more of the first n texts keeps its index if it had it before
+  -- of the first n texts and one more, each keeps its index
   pub keeps_taken : (before old new : HashIndex) → AreKept hash texts before → ((other : List ℕ) (n k : ℕ) → bytes_eq key other ≡ false → IsKept old n other k → IsKept new n other k)
       → (IsKept before h key i → IsKept new h key i) → AreKept hash (take i texts) old → AreKept hash (take (i + 1) texts) new
   keeps_taken before old new was others own kept =

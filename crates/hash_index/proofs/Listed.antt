@@ -1,4 +1,4 @@
--- Texts of a list by their indices.
+-- Texts of a list and their indices.
 use Rattle.hash_index.proofs.Prelude.{◌≡◌, ◌⊎◌, inl, inr, ℕ, zero, suc, ◌<◌, Bool, true, false, List, [], ◌∷◌, ◌++◌, length, take, slice_get, Option, Some, None, is_some, refl, ap, subst, suc-le-suc, zero-le, arith, option_map, bytes_eq, both_ways, index_of, is_this, stands_at, AreApart}
 use Rattle.std.specs.Bool.{if◌then◌else◌}
 use Rattle.std.specs.List.{list_any}
@@ -7,14 +7,14 @@ use Rattle.std.proofs.lemmas.Slice.Eq.{bytes_eq-Decides}
 pub same_text : (u v : List ℕ) → bytes_eq u v ≡ true → u ≡ v
 same_text u v e = (bytes_eq-Decides u v).0 e
 
--- an element of a list with one more
+-- an element of a list with one more is an element of the list or the last
 pub push_cases : {X : Type 0} (xs : List X) (y : X) (k : ℕ) (x : X) → slice_get (xs ++ y ∷ []) k ≡ Some x → ((k < length xs) × (slice_get xs k ≡ Some x)) ⊎ ((k ≡ length xs) × (y ≡ x))
 push_cases [] y zero x at = inr (refl, cc)
 push_cases [] y (suc k) x at = absurd (cc)
 push_cases (z ∷ zs) y zero x at = inl (suc-le-suc zero-le, at)
 push_cases (z ∷ zs) y (suc k) x at = grind (arith, suc-le-suc, push_cases zs y k x at)
 
--- an element of the first n
+-- an element of the first n is an element of the list below n
 pub slice_get_take : {X : Type 0} (n : ℕ) (xs : List X) (k : ℕ) (x : X) → slice_get (take n xs) k ≡ Some x → (k < n) × (slice_get xs k ≡ Some x)
 slice_get_take zero xs k x at = absurd (cc)
 slice_get_take (suc n) [] k x at = absurd (cc)
@@ -31,7 +31,7 @@ at_index texts k key stands = by_text (slice_get texts k) stands
 pub stands_there : (texts : List (List ℕ)) (k : ℕ) (key : List ℕ) → slice_get texts k ≡ Some key → stands_at texts k key ≡ true
 stands_there texts k key at = grind (arith, bytes_eq-Decides)
 
--- the text is at the index that is returned
+-- the text is at the index that `index_of` returns
 pub found_at : (texts : List (List ℕ)) (key : List ℕ) (k : ℕ) → index_of texts key ≡ Some k → slice_get texts k ≡ Some key
 found_at [] key k found = absurd (cc)
 found_at (text ∷ texts) key k found = by_first (bytes_eq text key) refl found (index_of texts key) refl (found_at texts key)
@@ -46,12 +46,12 @@ found_at (text ∷ texts) key k found = by_first (bytes_eq text key) refl found 
         let at : suc j ≡ k = cc in
         subst (λ i. slice_get (text ∷ texts) i ≡ Some key) at (rest j more)
 
--- if none is returned, it is nowhere
+-- if it returns none, the text is nowhere in the list
 pub absent_at : (texts : List (List ℕ)) (key : List ℕ) → index_of texts key ≡ None → (k : ℕ) → slice_get texts k ≡ Some key → ⊥
 absent_at [] key none k at = cc
 absent_at (text ∷ texts) key none k at = grind (arith, both_ways, absent_at texts key, bytes_eq-Decides)
 
--- the index at which it is, is the one that is returned
+-- the index at which the text is, is the one that it returns
 pub stands_first : (texts : List (List ℕ)) (key : List ℕ) (k : ℕ) → AreApart texts → stands_at texts k key ≡ true → index_of texts key ≡ Some k
 stands_first texts key k apart stands = by_index (index_of texts key) refl
   where
@@ -62,7 +62,7 @@ stands_first texts key k apart stands = by_index (index_of texts key) refl
 pub AreApart-push : (texts : List (List ℕ)) (key : List ℕ) → index_of texts key ≡ None → AreApart texts → AreApart (texts ++ key ∷ [])
 AreApart-push texts key none apart i k text at_i at_k = grind (arith, push_cases, absent_at)
 
--- a text has an index if it is one of the list's
+-- a text has an index if and only if it is in the list
 pub has_index : (texts : List (List ℕ)) (key : List ℕ) → is_some (index_of texts key) ≡ list_any (λ text. bytes_eq text key) texts
 has_index [] key = refl
 has_index (text ∷ texts) key = grind (arith, has_index texts key)

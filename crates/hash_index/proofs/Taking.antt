@@ -1,8 +1,8 @@
--- What slots say once one of them was taken.
+-- Slots after one of them was taken.
 use Rattle.hash_index.proofs.Prelude.{◌≡◌, ◌≢◌, inl, inr, ◌<◌, ◌+◌, ℕ, ◌-◌, zero, suc, Bool, false, List, [], ◌∷◌, get_or, set, bit_and, bit_xor, refl, sym, ap, ◌∙◌, arith, cases_lt, cases_eq, length-set, get_or-set_other, no_slot, mark_of, word_of, slot_of, word_at, AreTaken, IsFirstVacant, IsInSlots, Misses}
 use Rattle.std.specs.Int.Bits.{xor_assoc, xor_self, xor_zero_l}
 
--- what was mixed for a hash, it reads
+-- combining an index with the mark twice returns the index
 pub mixed_twice : (mark index : ℕ) → bit_xor mark (bit_xor mark index) ≡ index
 mixed_twice mark index =
     sym (xor_assoc mark mark index) ∙ ap (λ none. bit_xor none index) (xor_self mark) ∙ xor_zero_l index
@@ -41,7 +41,7 @@ module _ (slots : List ℕ) (i word : ℕ) (free : get_or slots i no_slot ≡ 0)
   index_put hash index first is =
       (first.0, first.1, taken_stays hash first.0 first.2, word_there hash first.0 (sym first.3) ∙ is)
 
--- no slot before this one has a index that passes, and this one is vacant
+-- no index passes if none does in the slots before this one, and this one is vacant
 pub misses_to : (passes : ℕ → Bool) (slots : List ℕ) (hash number : ℕ) → word_at slots hash number ≡ 0
     → ((i k : ℕ) → i < number → word_at slots hash i ≡ word_of hash k → passes k ≡ false) → Misses passes slots hash
 misses_to passes slots hash number vacant never index held = elim (cases_lt held.0 number) [

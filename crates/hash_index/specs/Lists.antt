@@ -1,7 +1,7 @@
 -- Lists of texts, and the index of a text.
 use Rattle.std.specs.Prelude.{◌≡◌, ℕ, suc, Bool, false, List, [], ◌∷◌, slice_get, Option, Some, None, if◌then◌else◌, option_map, bytes_eq}
 
--- the index of the text, the first of them
+-- the index at which the text is first in the list, if it is in it
 abbrev pub index_of : List (List ℕ) → List ℕ → Option ℕ
 index_of [] key = None
 index_of (text ∷ more) key = if bytes_eq text key then Some 0 else option_map suc (index_of more key)
@@ -11,7 +11,7 @@ abbrev pub is_this : Option (List ℕ) → List ℕ → Bool
 is_this None key = false
 is_this (Some text) key = bytes_eq text key
 
--- the text is at the index
+-- the text at the index is this one
 abbrev pub stands_at : List (List ℕ) → ℕ → List ℕ → Bool
 stands_at texts index key = is_this (slice_get texts index) key
 

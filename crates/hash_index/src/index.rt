@@ -1,4 +1,4 @@
-//! The hash index.
+//! The hash index: finds a text's position in a list that its caller keeps.
 ghost use Rattle.std.specs.Prelude.{◌≡◌, ◌<◌, ◌≤◌, ◌^◌, ◌∷◌, ◌++◌, ℕ, List, [], Some, None, true, false, length, IfOk, bytes_eq};
 ghost use Rattle.hash_index.specs.Lists.{index_of};
 ghost use Rattle.hash_index.specs.Index.{IsKept, IsIndexOf, with_slots, capacity_of};
@@ -9,13 +9,14 @@ use crate::slots::{INDEX_LIMIT, Search, Slots};
 use crate::text_list::TextList;
 use std::alloc::{AllocError, Global};
 
-/// For how many texts there are slots at the first.
+/// The least number of texts for which slots are made.
 const FIRST_TEXTS: usize = 16;
 
-/// The indices of the texts of a list. The list is the caller's, who lends it to each call; no text is in it twice.
+/// Maps each text of a list to its index. The caller keeps the list and lends it to each call; no text is in it twice.
 ///
 /// A search looks at the slots of the text's hash, which are next to each other, and mostly at one text. The result does not depend
-/// on hashes: it is what the list has at an index. The list has at most 2^31 texts, with some 6 to 12 bytes for each.
+/// on the hash function: it is always the index that the text has in the list. The list has at most 2^31 texts, and the index takes
+/// some 6 to 12 bytes for each.
 #[derive(Debug, Drop)]
 pub struct HashIndex {
     pub(crate) slots: Slots,
@@ -23,7 +24,7 @@ pub struct HashIndex {
 }
 
 impl HashIndex {
-    /// The index of a list with no text. It takes no memory.
+    /// Makes the index of an empty list. It takes no memory.
     pub fn new(alloc: Global) -> HashIndex {
         HashIndex {
             slots: Slots::none(alloc),
@@ -31,7 +32,7 @@ impl HashIndex {
         }
     }
 
-    /// The index of an empty list, with slots for `count` texts: it allocates no more before there are more texts.
+    /// Makes the index of an empty list, with slots for `count` texts. It allocates no slots until there are more texts than that.
     pub fn with_capacity(alloc: Global, count: usize) -> Result<HashIndex, AllocError>
         ensures { IfOk result (λ index. count ≤ capacity_of index) }
     {
@@ -41,20 +42,21 @@ impl HashIndex {
         })
     }
 
-    /// For how many texts there are slots.
+    /// Returns the number of texts for which there are slots.
     pub fn capacity(&self) -> usize
         ensures { result ≡ capacity_of self.now }
     {
         self.slots.capacity()
     }
 
-    /// An index that may be that of a text with this hash: the first that its slots name. The list is not read, so the text at it
-    /// may be another. A caller that looks for many texts reads ahead by it, so that all reads of memory wait at the same time.
+    /// Returns an index at which a text with this hash may be: the first that its slots name. The list is not read, so the text at
+    /// that index may be another. A caller that looks for many texts can read the texts at these indices first, so that all reads
+    /// of memory wait at the same time.
     pub fn guess(&self, hash: u64) -> usize {
         self.slots.guess(hash)
     }
 
-    /// The index of the key's text in the list.
+    /// Returns the index of the key's text in the list, or `None` if it is not there.
     pub fn find<L: TextList, K: Keyed>(&self, list: &L, key: &K) -> Option<usize>
         requires index { IsIndexOf L.hash (L.texts list.now) self.now }
         requires hash { K.hash (K.text key.now) ≡ L.hash (K.text key.now) }
@@ -63,7 +65,7 @@ impl HashIndex {
         self.find_text(list, key.text(), key.text_hash())
     }
 
-    /// Returns the index of a text in the list, by the text and its hash.
+    /// Likewise, for a text and its hash.
     fn find_text<L: TextList>(&self, list: &L, text: &str, hash: u64) -> Option<usize>
         requires index { IsIndexOf L.hash (L.texts list.now) self.now }
         requires hash { hash ≡ L.hash text.now }
@@ -76,8 +78,9 @@ impl HashIndex {
         }
     }
 
-    /// The index of the key's text in the list. If the text is not in it, the list's next index is kept for the text from
-    /// now on: the caller may push the text or not, and nothing has to be undone. The only error is out of memory, or 2^31 texts.
+    /// Returns the index of the key's text in the list. If the text is not there, the result is `None`, and the index that the list
+    /// assigns next is kept for it. The caller may then push the text or not: nothing has to be undone. The only error is out of
+    /// memory, which is also returned if the list has 2^31 texts.
     pub fn find_or_insert<L: TextList, K: Keyed>(
         &mut self,
         list: &L,
@@ -86,17 +89,17 @@ impl HashIndex {
         requires index { IsIndexOf L.hash (L.texts list.now) self.old }
         requires hash { K.hash (K.text key.now) ≡ L.hash (K.text key.now) }
         ensures found { IfOk result (λ found. found ≡ index_of (L.texts list.now) (K.text key.now)) }
-        // It is the index of the list still, whatever comes of it, and of the list with the text.
+        // Even after an error it is the index of the list. If the text was new, it is also that of the list with the text.
         ensures before { IsIndexOf L.hash (L.texts list.now) self.new }
         ensures pushed { IfOk result (λ found. found ≡ None → IsIndexOf L.hash (L.texts list.now ++ K.text key.now ∷ []) self.new) }
-        // No slots are made while there are slots for one text more.
+        // No slots are allocated while there are slots for one more text.
         ensures capacity { length (L.texts list.now) < capacity_of self.old → capacity_of self.new ≡ capacity_of self.old }
     {
         self.make_room(list)?;
         self.find_text_or_insert(list, key.text(), key.text_hash())
     }
 
-    /// Does what [`HashIndex::find_or_insert`] does, for a text and its hash, after room was made. The number of slots stays.
+    /// Likewise, for a text and its hash, after room was made. The number of slots does not change.
     fn find_text_or_insert<L: TextList>(
         &mut self,
         list: &L,
@@ -124,7 +127,7 @@ impl HashIndex {
         }
     }
 
-    /// Makes slots for one text more, if there are none.
+    /// Makes slots for one more text if there are none.
     fn make_room<L: TextList>(&mut self, list: &L) -> Result<(), AllocError>
         requires { IsIndexOf L.hash (L.texts list.now) self.old }
         ensures index { IsIndexOf L.hash (L.texts list.now) self.new }
@@ -141,8 +144,8 @@ impl HashIndex {
         Ok(())
     }
 
-    /// Makes slots for `count` texts. The maps of the overflow stay: nearly all texts that were chosen to collide are in them, and
-    /// would otherwise be sorted each time.
+    /// Makes slots for `count` texts. The maps of the overflow do not change: if many texts were chosen to collide, nearly all of
+    /// them are in these maps, and would otherwise be sorted each time.
     fn grow<L: TextList>(&mut self, list: &L, count: usize) -> Result<(), AllocError>
         requires index { IsIndexOf L.hash (L.texts list.now) self.old }
         requires few { length (L.texts list.now) < 2 ^ 31 }
@@ -156,8 +159,8 @@ impl HashIndex {
         Ok(())
     }
 
-    /// Puts the index into other slots, which will replace these, or into the overflow if all slots of its hash are taken.
-    /// What is not in these slots is there already.
+    /// Puts the index into other slots, which will replace these, or into the overflow if all slots of its hash are taken. If the
+    /// index is not in these slots, it is in the overflow already.
     fn put_anew(
         &mut self,
         slots: &mut Slots,
@@ -168,7 +171,7 @@ impl HashIndex {
         requires { index < 2 ^ 31 }
         ensures own { IfOk result (λ _. IsKept self.old hash text.now index → IsKept (with_slots self.new slots.new) hash text.now index) }
         ensures others { (other : List ℕ) (h k : ℕ) → bytes_eq text.now other ≡ false → IsKept (with_slots self.old slots.old) h other k → IsKept (with_slots self.new slots.new) h other k }
-        // By the slots that are there too each index stays kept, whatever comes of it.
+        // With the old slots too, each index stays kept, even after an error.
         ensures own_before { IsKept self.old hash text.now index → IsKept self.new hash text.now index }
         ensures others_before { (other : List ℕ) (h k : ℕ) → bytes_eq text.now other ≡ false → IsKept self.old h other k → IsKept self.new h other k }
     {

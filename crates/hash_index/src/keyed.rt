@@ -1,9 +1,9 @@
-//! What has a text to be found by.
+//! Values that can be found by a text.
 ghost use Rattle.std.specs.Prelude.{◌≡◌, ℕ, List};
 
-/// A value that is found by its text. The hash of the text is kept with it, or computed at each call.
+/// A value that is found by its text. The hash of the text is stored with it, or computed at each call.
 ///
-/// Equal texts have one hash. Nothing else depends on it: different texts may have one hash too.
+/// Equal texts have the same hash. Different texts may have the same hash too: no result depends on it.
 pub trait Keyed {
     // The bytes of the value's text.
     ghost text: { Self → List ℕ };

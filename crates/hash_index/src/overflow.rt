@@ -9,21 +9,21 @@ use crate::text_list::{TextList, stands_at};
 use std::alloc::{AllocError, Global};
 use std::collections::BTreeMap;
 
-/// Two ordered maps. An attacker who chooses the texts can give many of them the same slots, or even one hash. Then they are put
-/// here, and n of them are found in n log n steps, for any texts.
+/// Two ordered maps. An attacker who chooses the texts can make many of them use the same slots, or even give them the same hash.
+/// Their indices are then put here, and n texts are found in n log n steps, whatever they are.
 ///
-/// An index only says at which position of the list to look, and the list has the text. So an index that was put for a text that
-/// was not pushed means nothing.
+/// An index only says where in the list to look; the text is in the list. So an index that was put here for a text that was then
+/// not pushed does no harm.
 #[derive(Debug, Drop)]
 pub struct Overflow {
-    /// By the hash: the first text of each.
+    /// By the hash: the index of the first text with this hash.
     pub by_hash: BTreeMap<u64, usize>,
-    /// By the text: those whose hash is there for another.
+    /// By the text: the indices of the further texts with the same hash.
     pub by_text: BTreeMap<String, usize>,
 }
 
 impl Overflow {
-    /// It takes no memory.
+    /// Makes empty maps. They take no memory.
     pub fn new(alloc: Global) -> Overflow {
         Overflow {
             by_hash: BTreeMap::new(alloc),
@@ -31,7 +31,7 @@ impl Overflow {
         }
     }
 
-    /// The index of the text, which has this hash.
+    /// Returns the index of the text, which has this hash, or `None` if the list does not have it.
     pub fn find<L: TextList>(&self, list: &L, text: &str, hash: u64) -> Option<usize>
         ensures found { IfSome result (λ index. stands_at (L.texts list.now) index text.now ≡ true) }
         ensures missing { result ≡ None → (k : ℕ) → IsBeside self.now hash text.now k → stands_at (L.texts list.now) k text.now ≡ false }
@@ -43,7 +43,7 @@ impl Overflow {
         find_text(list, &self.by_text, text)
     }
 
-    /// Likewise. If there is none, the text has the list's next index from now on.
+    /// Likewise. If there is none, the index that the list assigns next is kept for the text.
     #[tactic(auto, using(crate::proofs::Keeping::misses_beside))]
     pub fn find_or_insert<L: TextList>(
         &mut self,
@@ -55,7 +55,7 @@ impl Overflow {
         ensures found { IfOk result (λ found. IfSome found (λ index. stands_at (L.texts list.now) index text.now ≡ true)) }
         ensures missing { IfOk result (λ found. found ≡ None → (k : ℕ) → IsBeside self.old hash text.now k → stands_at (L.texts list.now) k text.now ≡ false) }
         ensures own { IfOk result (λ found. found ≡ None → IsBeside self.new hash text.now (length (L.texts list.now))) }
-        // An index stays kept for the text at it, whatever comes of it.
+        // An index whose text is in the list stays kept, even after an error.
         ensures stay { (other : List ℕ) (h k : ℕ) → IsBeside self.old h other k → stands_at (L.texts list.now) k other ≡ true → IsBeside self.new h other k }
     {
         let index = list.text_count();
@@ -64,13 +64,13 @@ impl Overflow {
             return Ok(Some(first));
         }
         if first == index {
-            // Of nearly all texts the only one of the hash.
+            // Nearly always this is the only text with the hash.
             return Ok(find_text(list, &self.by_text, text));
         }
         find_text_or_insert(alloc, &mut self.by_text, list, text)
     }
 
-    /// Puts the index for a text, which has this hash.
+    /// Keeps the index for the text, which has this hash.
     pub fn put(
         &mut self,
         alloc: Global,
@@ -79,7 +79,7 @@ impl Overflow {
         index: usize,
     ) -> Result<(), AllocError>
         ensures own { IfOk result (λ _. IsBeside self.new hash text.now index) }
-        // What was kept stays kept, whatever comes of it.
+        // What was kept stays kept, even after an error.
         ensures again { IsBeside self.old hash text.now index → IsBeside self.new hash text.now index }
         ensures others { (other : List ℕ) (h k : ℕ) → bytes_eq text.now other ≡ false → IsBeside self.old h other k → IsBeside self.new h other k }
     {
@@ -90,7 +90,7 @@ impl Overflow {
     }
 }
 
-/// The index that is kept for the hash: this one from now on, if there was none.
+/// Returns the index that is kept for the hash. If there was none, this one is kept from now on.
 fn hash_or_insert(
     by_hash: &mut BTreeMap<u64, usize>,
     hash: u64,
@@ -103,7 +103,7 @@ fn hash_or_insert(
     Ok(*by_hash.entry(hash)?.or_insert(index))
 }
 
-/// The index of the text, by the texts.
+/// Returns the index that is kept for the text, if the list has the text there.
 fn find_text<L: TextList>(list: &L, by_text: &BTreeMap<String, usize>, text: &str) -> Option<usize>
     ensures found { IfSome result (λ index. stands_at (L.texts list.now) index text.now ≡ true) }
     ensures missing { result ≡ None → (k : ℕ) → get_by_text by_text.now text.now ≡ Some k → stands_at (L.texts list.now) k text.now ≡ false }
@@ -114,7 +114,7 @@ fn find_text<L: TextList>(list: &L, by_text: &BTreeMap<String, usize>, text: &st
     }
 }
 
-/// Likewise. If there is none, the text has the list's next index from now on: one search for both.
+/// Likewise. If there is none, the index that the list assigns next is kept for the text. One search does both.
 #[tactic(auto, using(crate::proofs::Keeping::text_stays))]
 fn find_text_or_insert<L: TextList>(
     alloc: Global,
@@ -133,13 +133,13 @@ fn find_text_or_insert<L: TextList>(
         return Ok(Some(kept));
     }
     if kept != index {
-        // It was put for a text that did not come.
+        // The index was kept for a text that was never pushed.
         put_text(alloc, by_text, text, index)?;
     }
     Ok(None)
 }
 
-/// The index that is kept for the text: this one from now on, if there was none.
+/// Returns the index that is kept for the text. If there was none, this one is kept from now on.
 #[tactic(auto, using(std::proofs::lemmas::Map::Text::text_keys))]
 fn text_or_insert(
     alloc: Global,
@@ -155,7 +155,7 @@ fn text_or_insert(
     Ok(*by_text.entry(key)?.or_insert(index))
 }
 
-/// Puts the index under the text.
+/// Keeps the index for the text, in place of another.
 fn put_text(
     alloc: Global,
     by_text: &mut BTreeMap<String, usize>,

@@ -1,4 +1,4 @@
-//! A table of indices of a list, four bytes each, by the hashes of the texts at these indices.
+//! A table of indices of a list, four bytes each, found by the hashes of the texts at these indices.
 ghost use Rattle.std.specs.Prelude.{◌≡◌, ◌≢◌, ◌<◌, ◌≤◌, ◌^◌, ℕ, true, false, length, set, IfOk, IfSome, IfNone};
 ghost use Rattle.hash_index.specs.Lists.{stands_at};
 ghost use Rattle.hash_index.specs.Slots as spec;
@@ -8,28 +8,28 @@ use crate::text_list::{TextList, stands_at};
 use std::alloc::{AllocError, Global};
 use std::marker::Model;
 
-/// How many slots a hash has, side by side: 32 bytes.
+/// The number of slots that a hash has, next to each other: 32 bytes.
 const BUCKET: usize = 8;
 
-/// What a vacant slot has.
+/// The word of a vacant slot.
 const VACANT: u32 = 0;
 
-/// What is read past the end of the table.
+/// The word that is read past the end of the table.
 const NO_SLOT: u32 = u32::MAX;
 
-/// How many indices a slot can distinguish.
+/// The number of different indices that a slot can store.
 pub const INDEX_LIMIT: usize = 1 << 31;
 
-/// A table of slots. A hash has a bucket of them, and takes the first that is vacant, for good.
+/// A table of slots. A hash has a bucket of them, and takes the first vacant one, for good.
 ///
-/// A taken slot has the exclusive or of an index and the mark of its hash. So read by another hash it mostly says a number past
-/// the list's end, and no text is compared in vain.
+/// A taken slot stores the exclusive or of an index and the mark of its hash. If a search for another hash reads it, the result is
+/// mostly past the end of the list, so no text is compared in vain.
 #[derive(Debug, Drop)]
 pub struct Slots {
     words: Vec<u32>,
 }
 
-// Contracts see the table's numbers.
+// Contracts see the numbers in the table.
 impl Model for Slots {
     ghost use Rattle.std.specs.Prelude.{List, ℕ};
 
@@ -38,29 +38,29 @@ impl Model for Slots {
     ghost view = { λ slots. slots.words.items };
 }
 
-/// What a search of the slots came to.
+/// The result of a search in the slots.
 pub enum Search {
     /// The text is at this index.
     Found(usize),
     /// None of the hash's slots leads to the text, and this is the first that is vacant.
     Vacant(usize),
-    /// None leads to the text, and all are taken.
+    /// None leads to the text, and all slots of the hash are taken.
     Full,
 }
 
 impl Slots {
-    /// No slot. It takes no memory.
+    /// Makes a table without slots. It takes no memory.
     pub fn none(alloc: Global) -> Slots {
         Slots {
             words: Vec::new(alloc),
         }
     }
 
-    /// Vacant slots for `count` texts.
+    /// Makes vacant slots for `count` texts.
     pub fn new(alloc: Global, count: usize) -> Result<Slots, AllocError>
         ensures { IfOk result (λ slots. count ≤ capacity_with (length slots)) }
     {
-        // A third stays vacant, so few texts find all slots of their hashes taken.
+        // A third of the slots stay vacant, so all slots of a hash are rarely taken.
         let wanted = count.saturating_add(count.div_ceil(2)).max(BUCKET);
         let Some(length) = wanted.checked_next_power_of_two() else {
             return Err(AllocError);
@@ -70,7 +70,7 @@ impl Slots {
         })
     }
 
-    /// For how many texts the slots are: all but a third of them.
+    /// Returns the number of texts for which there are slots: two thirds of them.
     pub fn capacity(&self) -> usize
         ensures { result ≡ capacity_with (length self.now) }
     {
@@ -103,7 +103,8 @@ impl Slots {
         Search::Full
     }
 
-    /// The first index that a slot of the hash leads to, of those that a list may have that these slots are for.
+    /// Returns the first index that a slot of the hash leads to and that a list for these slots can have, or `usize::MAX` if there
+    /// is none.
     pub fn guess(&self, hash: u64) -> usize {
         let limit = self.capacity();
         for number in 0..BUCKET {
@@ -163,7 +164,7 @@ impl Slots {
         None
     }
 
-    /// Puts the index into the slot, which is the first vacant one of the hash.
+    /// Puts the index into this slot, which is the first vacant one of the hash.
     pub fn put_at(&mut self, slot: usize, hash: u64, index: usize)
         requires few { index < 2 ^ 31 }
         requires vacant { IsFirstVacant self.old hash slot }
@@ -173,13 +174,13 @@ impl Slots {
         ensures taken { (other : ℕ) → AreTaken self.old other 8 → AreTaken self.new other 8 }
     {
         let word = word_of(hash, index);
-        // It always is.
+        // Always true, since the slot is one of the table.
         if slot < self.words.len() {
             self.words[slot] = word;
         }
     }
 
-    /// What a slot of the hash has.
+    /// Returns the word in a slot of the hash, by the slot's number in the bucket.
     fn word(&self, hash: u64, number: usize) -> u32
         ensures { result ≡ word_at self.now hash number }
     {
@@ -189,7 +190,7 @@ impl Slots {
         }
     }
 
-    /// The position of the hash's slot.
+    /// Returns the position in the table of a hash's slot.
     fn slot(&self, hash: u64, number: usize) -> usize
         ensures { result ≡ slot_of self.now hash number }
     {
@@ -197,7 +198,7 @@ impl Slots {
     }
 }
 
-/// What a slot of the hash has for an index.
+/// Returns the word in a slot of the hash that has this index.
 fn word_of(hash: u64, index: usize) -> u32
     requires { index < 2 ^ 31 }
     ensures { result ≡ spec.word_of hash index }
@@ -205,7 +206,7 @@ fn word_of(hash: u64, index: usize) -> u32
     (mark_of(hash) ^ index) as u32 + 1
 }
 
-/// The index for what a slot of the hash has that is taken.
+/// Returns the index for the word of a taken slot of the hash.
 fn index_in(hash: u64, word: u32) -> usize
     requires { word ≢ 0 }
     ensures { (index : ℕ) → word ≡ spec.word_of hash index → result ≡ index }
@@ -213,7 +214,7 @@ fn index_in(hash: u64, word: u32) -> usize
     mark_of(hash) ^ (word - 1) as usize
 }
 
-/// The upper bits of a hash. The slot is by the lower ones.
+/// Returns the upper bits of a hash. The lower ones choose the bucket.
 fn mark_of(hash: u64) -> usize
     ensures value { result ≡ spec.mark_of hash }
     ensures few { result < 2 ^ 31 }

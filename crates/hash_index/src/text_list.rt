@@ -1,10 +1,10 @@
-//! A list of texts, as a hash index is lent it.
+//! Lists of texts that a hash index can search.
 ghost use Rattle.std.specs.Prelude.{◌≡◌, ◌<◌, ℕ, List, [], length, map, get_or};
 ghost use Rattle.hash_index.specs.Lists.{stands_at};
 
 use crate::keyed::Keyed;
 
-/// A list of texts by their indices, from 0: items that have texts, or an arena of texts.
+/// A list of texts with indices from 0: items that have texts, or an arena of texts.
 pub trait TextList {
     // The bytes of each text, in the list's order.
     ghost texts: { Self → List (List ℕ) };
@@ -12,7 +12,7 @@ pub trait TextList {
     // The hash of a text.
     ghost hash: { List ℕ → ℕ };
 
-    /// How many texts there are.
+    /// Returns the number of texts.
     fn text_count(&self) -> usize
         ensures { result ≡ length (texts self.now) };
 
@@ -21,7 +21,7 @@ pub trait TextList {
         requires { index < length (texts self.now) }
         ensures { result.now ≡ get_or (texts self.now) index [] };
 
-    /// The hash of the text at the index.
+    /// Returns the hash of the text at the index.
     fn hash_at(&self, index: usize) -> u64
         requires { index < length (texts self.now) }
         ensures { result ≡ hash (get_or (texts self.now) index []) };
