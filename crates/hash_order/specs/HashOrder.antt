@@ -1,4 +1,4 @@
--- Texts in the order of their hashes, and those with one hash in the order of their bytes.
+-- Texts in the order of their hashes. Texts with the same hash are in the order of their bytes.
 use Rattle.std.proofs.Common.{◌≡◌, ◌∙◌, ℕ, Bool, true, false, List, Some, refl, sym, ap, subst}
 use Rattle.std.specs.Str.{bytes_eq}
 use Rattle.std.specs.declared.cmp.Ordering.{Ordering}
@@ -9,7 +9,7 @@ use Rattle.std.specs.Cmp.Lexicographic.{slice_cmp, nat_list_cmp_total, texts_tie
 use Rattle.std.proofs.lemmas.Slice.Eq.{bytes_eq-Decides}
 use Rattle.std.specs.Hash.FoldHasher.{initial, write, finish}
 
--- the hash of a text: what std's fast hasher makes of its bytes
+-- the hash of a text: the one that std's fast hasher computes from its bytes
 unfoldable pub hash_of : List ℕ → ℕ
 hash_of text = finish (write initial text)
 
@@ -20,7 +20,7 @@ by_hash = then_cmp (on hash_of nat_cmp) (slice_cmp nat_cmp)
 pub by_hash_total : IsTotalOrder by_hash
 by_hash_total = then_total (on_total hash_of nat_cmp_total) nat_list_cmp_total
 
--- what does not tie by the bytes does not tie
+-- two texts that differ by bytes do not tie
 apart : (o s : Ordering) → is_eq s ≡ false → is_eq (ordering_then o s) ≡ false
 apart Less s h = refl
 apart Equal s h = h
@@ -30,7 +30,7 @@ ties_by : (b : Bool) (u v : List ℕ) → bytes_eq u v ≡ b → bytes_eq u v �
 ties_by true u v e = e ∙ sym (ap is_eq (subst (λ w. by_hash u w ≡ Equal) ((bytes_eq-Decides u v).0 e) (tied_itself by_hash_total u)))
 ties_by false u v e = e ∙ sym (apart (nat_cmp (hash_of u) (hash_of v)) (slice_cmp nat_cmp u v) (sym (texts_ties u v) ∙ e))
 
--- two texts tie if they have the same bytes
+-- two texts tie if and only if they have the same bytes
 pub by_hash_ties : (u v : List ℕ) → bytes_eq u v ≡ eq_by_cmp by_hash u v
 by_hash_ties u v = ties_by (bytes_eq u v) u v refl
 

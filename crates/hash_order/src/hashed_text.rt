@@ -9,9 +9,9 @@ use std::cmp::Ordering;
 use std::hash::{FoldHasher, Hasher};
 use std::marker::Model;
 
-/// The hash of a text: the same number for the same bytes, always.
+/// Returns the hash of a text: always the same number for the same bytes.
 ///
-/// An attacker can choose texts that collide, so no result may depend on different hashes.
+/// An attacker can choose texts with equal hashes, so no result may require that hashes differ.
 #[tactic(auto, unfolding(crate::specs::HashOrder::hash_of))]
 pub fn hash_of(text: &str) -> u64
     ensures { result ≡ spec.hash_of text.now }
@@ -21,8 +21,8 @@ pub fn hash_of(text: &str) -> u64
     hasher.finish()
 }
 
-/// A borrowed text as a key of sets and maps. It is equal to another if their bytes are. Its order is by hash, and by bytes
-/// if hashes are equal, so texts that were chosen to collide are found as fast as in byte order.
+/// A borrowed text as a key of sets and maps. Keys are equal if their bytes are. Their order is by hash, and by bytes if the hashes
+/// are equal. So a search is fast also among texts that were chosen to have the same hash.
 #[derive(Debug, Drop)]
 pub struct HashedText<'a> {
     hash: u64,
@@ -42,7 +42,7 @@ impl<'a> Model for HashedText<'a> {
 }
 
 impl<'a> HashedText<'a> {
-    /// The key of a text whose hash is kept.
+    /// Makes the key of a text whose hash the caller has.
     pub fn with_hash(text: &'a str, hash: u64) -> HashedText<'a>
         requires { hash ≡ spec.hash_of text.now }
         ensures { result ≡ text.now }

@@ -1,4 +1,4 @@
-//! Texts in the order of their hashes: a search in a set of them reads another text only if hashes are equal.
+//! Texts in the order of their hashes: a search in a set of them reads another text only if the hashes are equal.
 #![tactic(auto)]
 
 mod hashed_text;
