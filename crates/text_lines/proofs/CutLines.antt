@@ -1,4 +1,4 @@
--- Bytes as a first line and the rest, and the text of a line.
+-- Bytes cut into a first line and the rest, and the text of a line.
 use Rattle.text_lines.proofs.Prelude.{◌≡◌, ℕ, ◌+◌, ◌<◌, ◌≤◌, ◌-◌, ◌==◌, Bool, true, false, cond, List, [], ◌∷◌, ◌++◌, length, take, drop, get_or, Option, Some, None, Ok, Err, codes, refl, sym, ap, subst, ◌∙◌, arith, length-append, ltb-true, ltb-false, le-ltb, lt-ltb, is_utf8-from_IsUtf8, IsUtf8-from_is_utf8, IsUtf8-append, IsUtf8-from_ascii, take_all, take_more, take-append-drop, drop_more, get_or-drop, length-drop}
 use Rattle.std.proofs.lemmas.Grind.{common_steps}
 use Rattle.std.specs.List.{position, position_or_len, slice_split}
@@ -25,7 +25,7 @@ found b n i e = grind arith
 pub nonempty : (n : ℕ) → (n == 0) ≡ false → 0 < n
 nonempty n e = grind arith
 
--- a part that is not the last loses its CR
+-- a part that is not the last one loses the CR at its end
 before_others : (part : List ℕ) (parts : List (List ℕ)) → 0 < length parts → lines_of_parts (part ∷ parts) ≡ strip_carriage_return part ∷ lines_of_parts parts
 before_others part parts h = grind arith
 
@@ -65,7 +65,7 @@ ascii_one b low = IsUtf8-from_ascii (b ∷ []) (IsAscii-from_all (b ∷ []) (All
 last_back : (line : List ℕ) → 0 < length line → line ≡ take (length line - 1) line ++ get_or line (length line - 1) 0 ∷ []
 last_back line some = grind (arith, take_all, take_more)
 
--- a line is UTF-8 if it is UTF-8 without the CR at its end
+-- a line is UTF-8 if it is so without the CR at its end
 cr_back : (line : List ℕ) (b : Bool) → (get_or line (length line - 1) 0 == 13) ≡ b → IsUtf8 (if b then take (length line - 1) line else line) → IsUtf8 line
 cr_back line false at utf8 = utf8
 cr_back [] true at utf8 = absurd (cc)
@@ -78,7 +78,7 @@ cr_back (x ∷ xs) true at utf8 =
 pub lf_at : (bytes : List ℕ) (end : ℕ) → position is_lf bytes ≡ Some end → (end < length bytes) × (get_or bytes end 0 ≡ 10)
 lf_at bytes end e = grind (arith, found, ltb-true, eqb-true, passes_at_first)
 
--- bytes are UTF-8 if their first line and the rest are
+-- bytes are UTF-8 if their first line and the rest are UTF-8
 pub whole_utf8 : (bytes : List ℕ) (end : ℕ) → position is_lf bytes ≡ Some end → IsUtf8 (strip_carriage_return (take end bytes)) → IsUtf8 (drop (end + 1) bytes) → IsUtf8 bytes
 whole_utf8 bytes end e line more =
     let at = lf_at bytes end e in
@@ -93,7 +93,7 @@ no_bytes bytes e = grind (arith, common_steps, eqb-true)
 
 -- ---- the text after the first line
 
--- a word before the first line does not change what follows that line
+-- a prefix of the first line does not change the text after that line
 pub behind_page : (text : List ℕ) → behind_line text ≡ behind_line (codes "page " ++ text)
 behind_page text = grind arith
 

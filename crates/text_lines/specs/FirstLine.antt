@@ -3,7 +3,7 @@ use Rattle.std.specs.Prelude.{ℕ, ◌==◌, List, [], ◌∷◌}
 use Rattle.std.specs.List.{after_first}
 use Rattle.std.specs.Str.Lines.{lines}
 
--- the first of the lines, or nothing if there are none
+-- the first of these lines, or an empty line if there are none
 abbrev pub first_of : List (List ℕ) → List ℕ
 first_of [] = []
 first_of (line ∷ more) = line

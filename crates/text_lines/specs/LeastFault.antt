@@ -1,13 +1,13 @@
 -- The first error in lines: the first check that fails on the first line that fails one.
 use Rattle.std.specs.Prelude.{◌≡◌, ℕ, List, [], ◌∷◌, ◌++◌, Option, Some, None}
 
--- none of these lines fails a check after the earlier lines; `fault_after earlier line` is the first check that a line fails
--- after these earlier lines, if it fails one
+-- none of these lines fails a check after the earlier lines. `fault_after earlier line` is the first check that a line fails after these earlier lines, if it
+-- fails one
 abbrev pub SoundAfter : {E : Type 0} → (List (List ℕ) → List ℕ → Option E) → List (List ℕ) → List (List ℕ) → Type 0
 SoundAfter fault_after earlier [] = Unit {0}
 SoundAfter fault_after earlier (line ∷ more) = (fault_after earlier line ≡ None) × SoundAfter fault_after (earlier ++ line ∷ []) more
 
--- the lines before some line have no error, and that line has this one
+-- the lines before some line pass all checks, and that line has this error
 pub record IsLeastFault {E : Type 0} (fault_after : List (List ℕ) → List ℕ → Option E) (lines : List (List ℕ)) (fault : E) : Type 0 where
   pub front : List (List ℕ)
   pub line : List ℕ

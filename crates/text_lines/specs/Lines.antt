@@ -6,14 +6,14 @@ use Rattle.crawl_limits.specs.Limits.{line_limit}
 use Rattle.text_lines.specs.declared.lines.LineError.{LineError}
 use Rattle.text_lines.specs.declared.lines.LineError.TheVariants.{TooLong, NotText}
 
--- the line itself, or the first check that it fails
+-- the text of a line, or the first check that it fails
 abbrev pub text_of : ℕ → List ℕ → Result (List ℕ) LineError
 text_of number line =
     if nat_lt line_limit (length line) then Err (TooLong number)
     else if is_utf8 line then Ok line
     else Err (NotText number)
 
--- a result that refers to bytes, as those bytes
+-- the bytes to which a result refers
 abbrev pub bytes_at : {E : Type 0} → Result (Bor (List ℕ)) E → Result (List ℕ) E
 bytes_at (Ok x) = Ok x.now
 bytes_at (Err e) = Err e

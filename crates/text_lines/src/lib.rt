@@ -1,4 +1,4 @@
-//! Bytes cut into lines, and lines into fields, for all text formats.
+//! Cuts bytes into lines, and lines into fields, for all text formats.
 #![tactic(auto)]
 
 mod fields;

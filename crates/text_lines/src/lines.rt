@@ -7,7 +7,7 @@ ghost use Rattle.text_lines.specs.FirstLine.{line_in, behind_line};
 pub use crawl_limits::LINE_LIMIT;
 use memchr::memchr;
 
-/// Why a line has no text, in the order of the checks. Each error has the number of its line, from 1.
+/// Why a line is rejected, in the order of the checks. Each error has the number of its line, from 1.
 #[derive(Clone, Copy, Debug, PartialEq, Eq)]
 pub enum LineError {
     /// The line has more than [`LINE_LIMIT`] bytes.
@@ -16,13 +16,13 @@ pub enum LineError {
     NotText(u64),
 }
 
-/// The first line of the bytes and the rest, or `None` if there are no bytes.
+/// Returns the first line of the bytes and the rest, or `None` if there are no bytes.
 ///
-/// A line ends at LF, or at the end of the bytes. One CR directly before its LF is no part of it.
+/// A line ends at LF, or at the end of the bytes. One CR directly before the LF is not part of it.
 pub fn first_line(bytes: &[u8]) -> Option<(&[u8], &[u8])>
     ensures cut { MatchOption result (lines bytes.now ≡ []) (λ x. lines bytes.now ≡ x.0.now ∷ lines x.1.now) }
     ensures shorter { IfSome result (λ x. length x.1.now < length bytes.now) }
-    // If the first line and the rest are UTF-8, so are the bytes.
+    // If the first line and the rest are UTF-8, the bytes are too.
     ensures utf8 { MatchOption result (IsUtf8 bytes.now) (λ x. IsUtf8 x.0.now → IsUtf8 x.1.now → IsUtf8 bytes.now) }
 {
     match newline_in(bytes) {
@@ -32,7 +32,7 @@ pub fn first_line(bytes: &[u8]) -> Option<(&[u8], &[u8])>
     }
 }
 
-/// The same for a text, whose lines are texts.
+/// Likewise for a text, whose lines are texts.
 pub fn first_text(text: &str) -> Option<(&str, &str)>
     ensures cut { MatchOption result (lines text.now ≡ []) (λ x. lines text.now ≡ x.0.now ∷ lines x.1.now) }
     ensures shorter { IfSome result (λ x. length x.1.now < length text.now) }
@@ -45,7 +45,7 @@ pub fn first_text(text: &str) -> Option<(&str, &str)>
     }
 }
 
-/// The first line of a text and the rest; both are empty if the text is.
+/// Returns the first line of a text and the rest; both are empty if the text is.
 pub fn split_line(text: &str) -> (&str, &str)
     ensures line { result.0.now ≡ line_in text.now }
     ensures behind { result.1.now ≡ behind_line text.now }
@@ -56,7 +56,7 @@ pub fn split_line(text: &str) -> (&str, &str)
     }
 }
 
-/// The bytes, cut after the first LF from this index on, or `None` if there is none.
+/// Returns the bytes up to and with the first LF from this index on, and the rest, or `None` if there is no LF.
 #[tactic(auto, using(crate::proofs::CutLines::newline_from, std::proofs::lemmas::List::take_rest, crate::proofs::CutLines::cut_behind))]
 pub fn cut_line(bytes: &[u8], from: usize) -> Option<(&[u8], &[u8])>
     requires { from ≤ length bytes.now }
@@ -96,7 +96,7 @@ fn text_without_return(line: &str) -> &str
     }
 }
 
-/// The text of the line with this number, whose bytes are UTF-8.
+/// Returns the text of a line whose bytes are UTF-8, without one CR at its end. `number` is the line's number, from 1.
 ///
 /// # Errors
 /// `TooLong` only.
@@ -109,7 +109,7 @@ pub fn short_text(number: u64, line: &str) -> Result<&str, LineError>
     Ok(line)
 }
 
-/// The text of the line with this number.
+/// Returns the text of a line, without one CR at its end. `number` is the line's number, from 1.
 ///
 /// # Errors
 /// `TooLong`, then `NotText`.
