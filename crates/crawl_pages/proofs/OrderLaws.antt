@@ -1,4 +1,4 @@
--- The order of results, in the words of URLs.
+-- The order of results, stated for their URLs.
 use native.Mathlib.Omega.{arith}
 use Rattle.std.proofs.Common.{◌≡◌, ℕ, not, ◌&&◌, List, filter, map, Ordering, Bor, sym, ap, ◌∙◌, bytes_eq}
 use Rattle.std.specs.Ordering.{is_lt, is_eq, nat_cmp, ordering_reverse}
@@ -21,7 +21,7 @@ before_ranks = ranks_by nat_list_cmp_total (λ r. r.url)
 pub references_rank : IsStrictWeakOrder (λ (a : Bor PageResult) b. is_before a.now b.now)
 references_rank = ranks_by nat_list_cmp_total (λ r. r.now.url)
 
--- a stable sort of references is that of what they point to
+-- a stable sort of references is that of the results to which they refer
 pub results_by_url-from_sort : (given sorted : List (Bor PageResult)) → IsSortedBy (λ a b. is_before a.now b.now) sorted → IsStableBy (λ a b. is_before a.now b.now) given sorted → map (λ r. r.now) sorted ≡ results_by_url (map (λ r. r.now) given)
 results_by_url-from_sort given sorted ascends stable =
     ap (map (λ r. r.now)) (stable_sort-from_sort (λ a b. is_before a.now b.now) references_rank given sorted ascends stable)

@@ -1,4 +1,4 @@
--- A stable sort by a test has one result: the list that ascends by it and keeps the order of what ties.
+-- A stable sort by a test has one result: the list that ascends by it and keeps elements that tie in their order.
 use Rattle.std.proofs.Common.{◌≡◌, ℕ, zero, suc, ◌<◌, ◌≤◌, Bool, true, false, not, List, [], ◌∷◌, length, get_or, filter, map, refl, sym, ap, ◌∙◌, subst, arith, inl, inr, suc-le-suc, zero-le, add-one}
 use Rattle.std.proofs.lemmas.Bool.{cond-true, cond-false, cases_Bool, and_parts, not-true, false≢true}
 use Rattle.std.specs.Cmp.{IsStrictWeakOrder}
@@ -6,7 +6,7 @@ use Rattle.std.specs.List.Sorted.{ties, IsPermutation, IsSortedBy, IsStableBy}
 use Rattle.std.proofs.lemmas.List.Sorted.{sorted_far, IsPermutation-refl, IsPermutation-cons, IsPermutation-trans, IsPermutation-middle}
 use Rattle.crawl_pages.specs.ResultOrder.{insertion, stable_sort}
 
--- ---- a filter, one element
+-- ---- the elements of a list that pass a test
 
 pub filter-kept : {X : Type 0} (p : X → Bool) (y : X) (ys : List X) → p y ≡ true → filter p (y ∷ ys) ≡ y ∷ filter p ys
 filter-kept p y ys h = cond-true _ _ _ h
@@ -25,7 +25,7 @@ neither lt x y h = let both = and_parts (not (lt x y)) (not (lt y x)) h in (not-
 tie : {X : Type 0} (lt : X → X → Bool) (x y : X) → lt x y ≡ false → lt y x ≡ false → ties lt x y ≡ true
 tie lt x y left right = rw (left, right) refl
 
--- ---- placing keeps what ties in its order
+-- ---- an insertion keeps elements that tie in their order
 
 filter-insertion : {X : Type 0} (lt : X → X → Bool) → IsStrictWeakOrder lt → (x c : X) (ds : List X) → filter (ties lt x) (insertion lt c ds) ≡ filter (ties lt x) (c ∷ ds)
 filter-insertion lt o x c [] = refl
@@ -62,7 +62,7 @@ Ascends-stable_sort : {X : Type 0} (lt : X → X → Bool) → IsStrictWeakOrder
 Ascends-stable_sort lt o [] = tt
 Ascends-stable_sort lt o (c ∷ cs) = Ascends-insertion lt o c (stable_sort lt cs) (Ascends-stable_sort lt o cs)
 
--- ---- the same by places, as std says it
+-- ---- the same for indices, as std states it
 
 AreAtLeast-at : {X : Type 0} (lt : X → X → Bool) (x : X) (ys : List X) → ((j : ℕ) → j < length ys → lt (get_or ys j x) x ≡ false) → AreAtLeast lt x ys
 AreAtLeast-at lt x [] h = tt
@@ -89,7 +89,7 @@ sorted-stable_sort lt o cs k d low below =
     let P : ℕ → Type 0 = λ n. lt (get_or (stable_sort lt cs) n d) (get_or (stable_sort lt cs) k d) ≡ false in
     subst P (sym (add-one k)) (next_above lt (stable_sort lt cs) k d (omega arith) (Ascends-stable_sort lt o cs))
 
--- ---- placing moves elements, and adds and drops none
+-- ---- an insertion moves elements, and neither adds nor drops any
 
 IsPermutation-insertion : {X : Type 0} (lt : X → X → Bool) (c : X) (ds : List X) → IsPermutation (c ∷ ds) (insertion lt c ds)
 IsPermutation-insertion lt c [] = IsPermutation-refl (c ∷ [])
@@ -107,7 +107,7 @@ IsPermutation-stable_sort lt [] = IsPermutation-refl []
 IsPermutation-stable_sort lt (c ∷ cs) =
     IsPermutation-trans _ _ _ (IsPermutation-cons c _ _ (IsPermutation-stable_sort lt cs)) (IsPermutation-insertion lt c (stable_sort lt cs))
 
--- ---- there is one
+-- ---- there is only one such list
 
 -- what ties with x occurs among them
 AreAtLeast-found : {X : Type 0} (lt : X → X → Bool) → IsStrictWeakOrder lt → (n x : X) (ys : List X) (w : X) (ws : List X) → AreAtLeast lt n ys → filter (ties lt x) ys ≡ w ∷ ws → lt x n ≡ false
@@ -143,7 +143,7 @@ stable_sort-from_sort lt o xs ys sorted stable =
     same_from_ties lt o ys (stable_sort lt xs) (Ascends-from_sort lt o ys sorted) (Ascends-stable_sort lt o xs)
     (λ x. stable x ∙ sym (filter-stable_sort lt o x xs))
 
--- ---- elements seen as others
+-- ---- elements that are mapped to others
 
 map-insertion : {X Y : Type 0} (v : Y → X) (lt : X → X → Bool) (c : Y) (ds : List Y) → map v (insertion (λ a b. lt (v a) (v b)) c ds) ≡ insertion lt (v c) (map v ds)
 map-insertion v lt c [] = refl

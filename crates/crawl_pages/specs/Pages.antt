@@ -3,7 +3,7 @@ use Rattle.std.specs.Prelude.{ℕ, Bool, true, false, List, [], option_to_list}
 use Rattle.crawl_pages.specs.declared.page.Page.{Page}
 use Rattle.crawl_pages.specs.declared.page.Page.TheVariants.{Found, Moved, Missing}
 
--- the links that a crawl follows; those of a moved page are where it moved to, if that has a URL
+-- the links that a crawl follows from a page. If the page has moved, they are the URL to which it moved, if that is known
 abbrev pub links_of : Page → List (List ℕ)
 links_of (Found links skipped) = links
 links_of (Moved to) = option_to_list to

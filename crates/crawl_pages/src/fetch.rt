@@ -1,4 +1,4 @@
-//! The sources of pages.
+//! Sources of pages.
 ghost use Rattle.std.specs.Prelude.{◌≡◌, IfOk};
 
 use crate::page::Page;
@@ -34,12 +34,12 @@ impl<T: Drop> From<AllocFailed<T>> for FetchError {
     }
 }
 
-/// A source of pages. Its meaning is fixed: one page for every URL. A fetch may fail, but it never returns another page.
+/// A source of pages. Which page each URL has is fixed: a fetch may fail, but it never returns another page.
 pub trait Fetch {
     ghost use Rattle.std.specs.Prelude.{ℕ, List};
     ghost use Rattle.crawl_pages.specs.declared.page.Page.{Page};
 
-    /// The page of each canonical text.
+    /// The page of each canonical URL.
     ghost meaning: { Self → List ℕ → Page };
 
     /// Returns the page at the URL.

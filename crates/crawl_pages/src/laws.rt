@@ -3,7 +3,7 @@ ghost use Rattle.std.specs.Prelude.{◌≡◌, List, IsPermutation};
 ghost use Rattle.crawl_pages.specs.ResultOrder.{results_by_url, IsInOrder};
 ghost use Rattle.crawl_pages.specs.declared.page.PageResult.{PageResult};
 
-/// The results in order are all of them, in ascending order of URL, with the results of one URL as they were given. No other
+/// Results in order are all of the results, in ascending order of URL; those with the same URL stay in the given order. No other
 /// list is in that order.
 pub fn one_order()
     ensures all { (results : List PageResult) → IsPermutation results (results_by_url results) }

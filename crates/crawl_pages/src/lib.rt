@@ -1,4 +1,4 @@
-//! The pages of a crawl, their sources, and the order of results.
+//! The pages of a crawl, the sources that they come from, and the order of results.
 #![tactic(auto)]
 
 mod fetch;

@@ -1,4 +1,4 @@
-//! What a fetch of a URL gives: its links, the URL to which it moved, or that there is no page.
+//! The result of a fetch: the links of a page, the URL to which it moved, or that there is no page.
 ghost use Rattle.std.specs.Prelude.{◌≡◌, Ok, bytes_eq};
 ghost use Rattle.std.specs.Cmp.{partial_equiv_from_equiv};
 ghost use Rattle.std.specs.Cmp.Lexicographic.{pointwise, lists_per, lists_equiv, nat_list_eq_equiv};
@@ -12,13 +12,13 @@ use std::marker::Model;
 /// Out of memory.
 pub type NoMemory = AllocError;
 
-/// The links of a page, in the order of the page; a link that occurs twice is in it twice.
+/// The links of a page, in the order of the page. A link that occurs twice is listed twice.
 #[derive(Debug, Drop)]
 pub struct Links {
     urls: Vec<CanonUrl>,
 }
 
-// Contracts see links as the list of their texts.
+// Contracts see the list of their texts.
 impl Model for Links {
     ghost use Rattle.std.specs.Prelude.{ℕ, List};
 
@@ -28,7 +28,7 @@ impl Model for Links {
 }
 
 impl Links {
-    /// The links, in order.
+    /// Returns the links, in order.
     pub fn as_slice(&self) -> &[CanonUrl]
         ensures { result.now ≡ self.now }
     {
@@ -83,12 +83,12 @@ pub enum Page {
     Found {
         /// Its links that have a canonical URL.
         links: Links,
-        /// How many further links it has that are no URL or neither http nor https.
+        /// The number of further links, which are not URLs or neither http nor https.
         skipped: u64,
     },
     /// The page has moved.
     Moved {
-        /// Where to, if that has a canonical URL.
+        /// Its new URL, if that is canonical.
         to: Option<CanonUrl>,
     },
     /// There is no page at the URL.
@@ -100,12 +100,12 @@ pub enum Page {
 pub struct PageResult {
     /// The URL that was fetched.
     pub url: CanonUrl,
-    /// What is there.
+    /// The page that was found there.
     pub page: Page,
 }
 
-/// The links that a crawl follows from the page: the URL to which it moved, if it did, and none if it is missing. Every
-/// crawl asks for links here.
+/// Returns the links that a crawl follows from the page: the URL to which it moved, if it did, and none if it is missing. Every
+/// crawl calls this function.
 pub fn links_of(page: &Page) -> &[CanonUrl]
     ensures { result.now ≡ links_of page.now }
 {
@@ -157,7 +157,7 @@ impl Page {
 }
 
 impl PageResult {
-    /// The same once more, equal to its source and sharing the texts of its URLs. The only error is `NoMemory`.
+    /// Returns an equal result that shares the texts of the URLs. The only error is `NoMemory`.
     pub fn copy(&self) -> Result<PageResult, KeyError>
         ensures { Gives KeyError.NoMemory (λ copy. copy) result (Ok self.now) }
     {

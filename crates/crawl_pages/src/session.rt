@@ -6,8 +6,8 @@ use crate::page::Page;
 use crawl_keys::CanonUrl;
 use std::alloc::Global;
 
-/// A source of pages whose fetches save work by what they keep in a session. Each worker owns its session, so the session needs
-/// no lock. A fetch returns the page that the URL means, whatever the session contains.
+/// A source of pages that keeps state in a session, so that later fetches are faster. Each worker owns its session, so the session
+/// needs no lock. A fetch returns the page that the URL means, whatever the session contains.
 ///
 /// Every [`Fetch`] is a `SessionFetch` whose session is empty.
 pub trait SessionFetch {
@@ -17,19 +17,19 @@ pub trait SessionFetch {
     /// What is kept between fetches.
     type Session: Drop + Send;
 
-    /// The page of each canonical text.
+    /// The page of each canonical URL.
     ghost meaning: { Self → List ℕ → Page };
 
-    /// Whether what the session contains is right for this source.
+    /// Whether the session is one of this source.
     ghost is_of: { Self → Self.Session → Type 0 };
 
-    /// Returns an empty session, which is one of `among` sessions: the more there are, the less each should keep.
+    /// Returns an empty session. `among` is the number of sessions: the more there are, the less each should store.
     fn open_session(&self, alloc: Global, among: u32) -> Self::Session
         ensures { is_of self.now result };
 
     /// Prepares for fetches of the URLs with these hashes, which are likely to come next. The source may read now what the fetches
-    /// will read, so that all of it waits for memory at the same time. The result is some sum of what was read, so that the
-    /// compiler keeps every read. It means nothing.
+    /// will read, so that all reads wait for memory at the same time. The result is a sum over what was read, so that the compiler
+    /// does not remove the reads; it has no other meaning.
     fn expect(&self, _hashes: &[u64]) -> u64 {
         0
     }
@@ -37,7 +37,7 @@ pub trait SessionFetch {
     /// Returns the page at the URL.
     ///
     /// # Errors
-    /// `NoMemory` if memory ran out, `Failed` if the source gave no answer. The session stays right for the source.
+    /// `NoMemory` if memory ran out, `Failed` if the source returned nothing. The session stays valid for the source.
     fn fetch_in(
         &self,
         alloc: Global,
