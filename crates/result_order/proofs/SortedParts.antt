@@ -1,4 +1,4 @@
--- Results with their numbers: what begins alike, and what is sorted in two parts.
+-- Results with their numbers: URLs that begin alike, and two parts that are sorted one by one.
 use Rattle.result_order.proofs.Prelude.{◌≡◌, ℕ, zero, suc, ◌+◌, ◌-◌, ◌*◌, ◌<◌, ◌≤◌, Bool, false, List, [], ◌∷◌, ◌++◌, length, take, drop, get_or, slice_index, refl, sym, ap, subst, ◌∙◌, arith, inl, inr, All, Contains, IsPermutation, IsNonDecreasingBy, IsSortedBy, IsSortedByKey, slice_cmp, nat_list_cmp_total, nat_cmp, is_lt, ordering_then, ordering_reverse, cases_lt, cases_order, cases_eq, map-append, length-append, length-map, take-append-drop, get_or_append_left, get_or-append_right, get_or-map, All-permutation, IsPermutation-append, IsPermutation-map, IsPermutation-sym, IsNonDecreasingBy-take, IsNonDecreasingBy-drop, Contains-permutation, PageResult, Numbered, AreAlikeWithin, BeginAlike, bytes_from, IsSixteen, AllBeginAlike, AreInOrder, ArePrepared, AllEqual, ArePartedAt, IsNumbered, pages_of}
 use Rattle.std.proofs.Math.Seq.{take-append_seam}
 use Rattle.std.proofs.lemmas.List.Elements.{All-contains, All-take, All-drop, Contains-get_or, Contains-append_left, Contains-append_right}
@@ -20,7 +20,7 @@ rises : (count : ℕ) (s t : List ℕ) (i j a b : ℕ) → Small (bytes_from s i
 rises zero s t i j a b small less = less
 rises (suc count) s t i j a b small less = grind (arith, nat_tests, rises count, slice_index)
 
--- the bytes of two texts are the same from an index on, up to one at which that of the first is less
+-- two texts have the same bytes from one index up to another, where the byte of the first is less
 record FirstLess (s t : List ℕ) (from : ℕ) : Type 0 where
   index : ℕ
   alike : (k : ℕ) → from ≤ k → k < index → slice_index s k ≡ slice_index t k

@@ -1,14 +1,14 @@
-//! How far URLs begin alike.
+//! The number of bytes with which all URLs begin.
 ghost use Rattle.std.specs.Prelude.{◌+◌, ◌*◌, ◌≤◌};
 ghost use Rattle.result_order.specs.Sorting.{AllBeginAlike, IsAlikeUntil, pages_of};
 ghost use Rattle.result_order.specs.Sixteens.{AreAlikeWithin};
 
 use crate::numbered::{BYTES, Numbered, byte_at, text_of};
 
-/// No number has bytes of a URL from this index on.
+/// Numbers have only bytes of a URL before this index.
 const END: usize = 4096;
 
-/// An index up to which all URLs begin alike, if they do so up to `from`. It leaves room for `levels` numbers.
+/// Returns an index before which all URLs are the same, if they are so before `from`. It leaves room for `levels` numbers.
 pub fn beginning_of(pages: &[Numbered], from: usize, levels: usize) -> usize
     requires alike { AllBeginAlike from (pages_of pages.now) }
     requires room { from + 16 * levels ≤ 4096 }
@@ -22,7 +22,8 @@ pub fn beginning_of(pages: &[Numbered], from: usize, levels: usize) -> usize
     alike_in_all(text, pages, from, last_of(text, from, levels))
 }
 
-/// The last index up to which a beginning is searched: the end of the text, or less to leave room for `levels` numbers.
+/// Returns the index at which the search for the common beginning ends: the end of the text, or less to leave room for `levels`
+/// numbers.
 fn last_of(text: &[u8], from: usize, levels: usize) -> usize
     requires { from + 16 * levels ≤ 4096 }
     ensures least { from ≤ result }
@@ -31,7 +32,7 @@ fn last_of(text: &[u8], from: usize, levels: usize) -> usize
     text.len().min(END - BYTES * levels).max(from)
 }
 
-/// The index, `most` at most, up to which all URLs have the same bytes as the text from `from` on.
+/// Returns the index up to which all URLs have the same bytes as the text, from `from` on; it is at most `most`.
 fn alike_in_all(text: &[u8], pages: &[Numbered], from: usize, most: usize) -> usize
     requires { from ≤ most }
     ensures { IsAlikeUntil from most text.now pages.now result }
@@ -46,7 +47,7 @@ fn alike_in_all(text: &[u8], pages: &[Numbered], from: usize, most: usize) -> us
     end
 }
 
-/// The index, `most` at most, up to which two texts have the same bytes from `from` on.
+/// Returns the index up to which two texts have the same bytes, from `from` on; it is at most `most`.
 fn alike_to(first: &[u8], second: &[u8], from: usize, most: usize) -> usize
     requires { from ≤ most }
     ensures least { from ≤ result }

@@ -4,7 +4,7 @@ ghost use Rattle.result_order.specs.Sixteens.{IsSixteen};
 
 use crawl_pages::PageResult;
 
-/// How many bytes a number has.
+/// The number of bytes of a URL in a number.
 pub const BYTES: usize = 16;
 
 /// A result, and sixteen bytes of its URL as a number.
@@ -21,7 +21,7 @@ pub fn text_of(numbered: &Numbered) -> &[u8]
     numbered.page.url.as_str().as_bytes()
 }
 
-/// Sixteen bytes of a text as a number, the first of which weighs most. The bytes after the text's end are zeros.
+/// Returns sixteen bytes of a text as a number, the most significant first. After the end of the text come zeros.
 pub fn number_at(text: &[u8], from: usize) -> u128
     requires { from + 16 ≤ 4096 }
     ensures { IsSixteen text.now from result }
@@ -49,7 +49,7 @@ pub fn number_at(text: &[u8], from: usize) -> u128
     ])
 }
 
-/// As [`number_at`], for a text that may end earlier.
+/// Likewise, for a text that may end before the sixteenth byte.
 fn number_near_end(text: &[u8], from: usize) -> u128
     requires { from + 16 ≤ 4096 }
     ensures { IsSixteen text.now from result }
@@ -75,7 +75,7 @@ fn number_near_end(text: &[u8], from: usize) -> u128
     u128::from_be_bytes(bytes)
 }
 
-/// The byte at an index, and 0 after the end.
+/// Returns the byte at an index, or 0 after the end.
 pub fn byte_at(text: &[u8], index: usize) -> u8
     ensures { result ≡ slice_index text.now index }
 {

@@ -6,8 +6,8 @@ use crate::beginning::beginning_of;
 use crate::numbered::{Numbered, number_at, text_of};
 use std::thread::{Threads, for_each_mut};
 
-/// Sets each number to sixteen bytes of the URL, after the common beginning of all URLs. Returns the index at which these bytes
-/// begin. All URLs begin alike up to `from`, and the index leaves room for `levels` numbers.
+/// Sets each number to sixteen bytes of the URL, after the bytes with which all URLs begin. Returns the index of the first of these
+/// sixteen. All URLs must be the same before `from`. The result leaves room for `levels` numbers.
 pub fn number_all<R: Threads + Sync>(
     rt: &R,
     parts: usize,
@@ -25,7 +25,7 @@ pub fn number_all<R: Threads + Sync>(
     begin
 }
 
-/// Sets each number to the sixteen bytes of the URL from `from` on, in at most `parts` threads.
+/// Sets each number to the sixteen bytes of the URL from `from` on, with at most `parts` threads.
 #[tactic(auto, using(crate::proofs::SortedParts::each_page_same))]
 fn set_numbers<R: Threads + Sync>(rt: &R, parts: usize, pages: &mut [Numbered], from: usize)
     requires { from + 16 ≤ 4096 }

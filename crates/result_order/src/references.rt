@@ -5,7 +5,7 @@ ghost use Rattle.crawl_pages.specs.ResultOrder.{results_by_url};
 use crawl_pages::PageResult;
 use std::alloc::{AllocError, Global};
 
-/// References to the results, in ascending byte order of URL. Results with one URL stay in the given order.
+/// Returns references to the results, in ascending byte order of URL. Results with the same URL stay in the given order.
 pub fn results_by_url(alloc: Global, results: &[PageResult]) -> Result<Vec<&PageResult>, AllocError>
     ensures { IfOk result (λ ordered. map (λ r. r.now) ordered.items ≡ results_by_url results.now) }
 {

@@ -1,8 +1,8 @@
 //! A sort that mostly compares numbers: sixteen bytes of each URL, stored next to the result.
 //!
-//! A comparison of two URLs reads both from memory; a number is in the list itself. The bytes that all URLs begin with are left
-//! out. Results with the same number are sorted by the next sixteen bytes, and so on. Small groups, and those that many numbers
-//! did not separate, are sorted by their URLs.
+//! A comparison of two URLs reads both from memory; a number is in the list itself. The bytes with which all URLs begin are left
+//! out of the numbers. Results with the same number are sorted by the next sixteen bytes, and so on. Small groups, and groups that
+//! have the same number `LEVELS` times, are sorted by their URLs.
 ghost use Rattle.std.specs.Prelude.{◌≡◌, ◌+◌, ◌*◌, ◌<◌, ◌≤◌, length, IfOk, IfSome, IsNone};
 ghost use Rattle.std.specs.List.Sorted.{IsPermutation, IsNonDecreasingBy, IsSortedByKey};
 ghost use Rattle.std.specs.Cmp.Lexicographic.{slice_cmp};
@@ -17,22 +17,22 @@ use rayon::slice::par_sort_unstable_by_key;
 use std::alloc::{AllocError, Global};
 use std::thread::{Threads, join_mut};
 
-/// How many numbers of a URL are compared before its text is.
+/// The greatest number of numbers that are compared before the URLs are.
 const LEVELS: usize = 32;
 
-/// A shorter list is sorted by its URLs.
+/// A list shorter than this is sorted by its URLs.
 const FEW: usize = 12;
 
-/// A shorter list is sorted in one thread.
+/// A list shorter than this is sorted in one thread.
 const MANY: usize = 4096;
 
-/// A list is cut into this number of parts for each thread, because some parts take longer than others.
+/// The number of parts of a list for each thread. More than one, since some parts take longer than others.
 const PARTS: usize = 2;
 
-/// A list's memory is given back each time that this number of items has left it.
+/// The memory of a list is freed each time that this number of items has left it.
 const STEP: usize = 1 << 17;
 
-/// The results in ascending order of the bytes of their URLs. If `threads` is 1, no thread is started.
+/// Returns the results in ascending order of the bytes of their URLs. If `threads` is 1, no thread is started.
 pub fn in_order<R: Threads + Sync>(
     rt: &R,
     alloc: Global,
@@ -52,7 +52,7 @@ pub fn in_order<R: Threads + Sync>(
     without_numbers(alloc, pages)
 }
 
-/// The results in any order, each with the number 0. Their old memory is given back meanwhile.
+/// Returns the results in any order, each with the number 0. Meanwhile the memory of the old list is freed step by step.
 fn with_numbers(alloc: Global, results: Vec<PageResult>) -> Result<Vec<Numbered>, AllocError>
     ensures { IfOk result (λ pages. IsPermutation results.items (pages_of pages.items)) }
 {
@@ -65,7 +65,7 @@ fn with_numbers(alloc: Global, results: Vec<PageResult>) -> Result<Vec<Numbered>
     Ok(pages)
 }
 
-/// The results without their numbers. The memory of the numbers is given back meanwhile.
+/// Returns the results without their numbers. Meanwhile the memory of the old list is freed step by step.
 fn without_numbers(alloc: Global, pages: Vec<Numbered>) -> Result<Vec<PageResult>, AllocError>
     ensures { IfOk result (λ results. results.items ≡ pages_of pages.items) }
 {
@@ -79,7 +79,7 @@ fn without_numbers(alloc: Global, pages: Vec<Numbered>) -> Result<Vec<PageResult
     Ok(results)
 }
 
-/// Gives back the memory that a list's items left, once for each `STEP` of them.
+/// Frees the memory that a list's items have left, once for each `STEP` items.
 fn give_back<T>(rest: &mut Vec<T>)
     ensures { rest.new.items ≡ rest.old.items }
 {
@@ -88,7 +88,7 @@ fn give_back<T>(rest: &mut Vec<T>)
     }
 }
 
-/// Sorts results whose URLs begin alike up to `from`: by at most `levels` numbers, then by their URLs.
+/// Sorts results whose URLs are the same before `from`: by at most `levels` numbers, then by the URLs.
 #[cycle(sort)]
 fn sort_from<R: Threads + Sync>(
     rt: &R,
@@ -112,7 +112,7 @@ fn sort_from<R: Threads + Sync>(
     sort_runs(rt, parts, pages, from, levels - 1);
 }
 
-/// Sorts results that are in the order of their numbers, which are the sixteen bytes from `from` on.
+/// Sorts results that are in the order of their numbers, which have the sixteen bytes from `from` on.
 #[cycle(sort)]
 fn sort_runs<R: Threads + Sync>(
     rt: &R,
@@ -135,7 +135,7 @@ fn sort_runs<R: Threads + Sync>(
     }
 }
 
-/// Sorts two parts, at the same time if they may be cut further. If no thread can be started, this one sorts both.
+/// Sorts two halves, in two threads if `parts` is more than 1. If no thread can be started, this one sorts both.
 #[cycle(sort)]
 fn sort_both<R: Threads + Sync>(
     rt: &R,
@@ -170,7 +170,7 @@ fn sort_both<R: Threads + Sync>(
     join_mut(rt, &mut first, &mut second);
 }
 
-/// The number of parts, or 1 if the list is too short for another thread.
+/// Returns the number of parts, or 1 if the list is too short to be sorted in several threads.
 fn parts_worth(pages: &[Numbered], parts: usize) -> usize {
     if pages.len() < MANY { 1 } else { parts }
 }
@@ -187,7 +187,8 @@ fn sort_by_number<R: Threads + Sync>(rt: &R, parts: usize, pages: &mut [Numbered
     }
 }
 
-/// An index near the middle such that the numbers before it, which rise, are less than the others; `None` if all are equal.
+/// Returns an index near the middle before which all numbers are less than from it on, or `None` if all numbers are equal. The
+/// numbers ascend.
 fn middle(pages: &[Numbered]) -> Option<usize>
     requires { IsNonDecreasingBy (λ p. p.number) pages.now }
     ensures none { IsNone result → AllEqual pages.now }
