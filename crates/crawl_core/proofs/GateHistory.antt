@@ -23,7 +23,7 @@ taken_out : (least k : ℕ) (xs : List ℕ) → Rising least xs → list_any (is
 taken_out least k [] rising = refl
 taken_out least k (x ∷ xs) rising = grind (arith, eqb-true, is_at_number, none_at, taken_out (suc x) k xs rising.1)
 
--- and every other number is
+-- and every other number stays in it
 pub others_stay : (q k : ℕ) (xs : List ℕ) → (k ≡ q → ⊥) → list_any (is_at (nat_cmp q)) (remove_key (is_at (nat_cmp k)) xs) ≡ list_any (is_at (nat_cmp q)) xs
 others_stay q k [] apart = refl
 others_stay q k (x ∷ xs) apart = grind (arith, eqb-true, is_at_number, apart_at, others_stay q k xs apart)

@@ -1,4 +1,4 @@
--- The unit of the URL that a subqueue is busy with goes to a sender.
+-- Handing the unit of the URL that a subqueue is busy with to a sender.
 use Rattle.crawl_core.proofs.Prelude.{◌≡◌, ℕ, suc, ◌+◌, ◌≤◌, Bool, true, false, not, ◌&&◌, cond, unwrap_or, List, [], ◌∷◌, nat_eq, slice_get, slice_set, Option, Some, None, refl, sym, ap, subst, ◌∙◌, arith, true≢false, ne_eqb, nat_tests, option_map, nat_cmp, is_at, insert_entry, insert_key, AllZip, list_any, remove_key, lookup, remove_entry, nat_cmp_total, length-map, length-drop, Word, one_if, GateSide, enter, grant, holds, look, remembers, shown_word, units_out, Hands, can_hand_over, handed_over, has_room, is_fetching, kept_progress, lets_in, progress, progress_of, Kept, KeptQueue, IsCounted, kept_count, outstanding, Shows, ShowsQueue, State, count_of, unfinished_in, with_subqueue, Subqueue, after_finishing, unfinished}
 use Rattle.crawl_core.proofs.Places.{sum_at}
 use Rattle.crawl_core.proofs.RunParts.{eqb_same}

@@ -51,7 +51,7 @@ at_rank h [] i x y at e = absurd (cc)
 at_rank h (z ∷ zs) zero x y at e = let here : h z ≡ Some y = ap h (cc) ∙ e in rw here refl
 at_rank {X} {Y} h (z ∷ zs) (suc i) x y at e = grind (arith, nat_tests, at_rank h zs i x y)
 
--- and before those that pass later
+-- and before the elements that pass later
 pub rank_below : {X Y : Type 0} (h : X → Option Y) (xs : List X) (i j : ℕ) (x : X) (y : Y) → i < j → slice_get xs i ≡ Some x → h x ≡ Some y → length (filter_map h (take i xs)) < length (filter_map h (take j xs))
 rank_below h [] i j x y lt at e = absurd (cc)
 rank_below h (z ∷ zs) i zero x y lt at e = absurd (omega arith)

@@ -1,4 +1,4 @@
--- A move of what is kept is the step of each state that it shows.
+-- A move of what is kept is a step of each state that it may represent.
 use Rattle.crawl_core.proofs.Prelude.{eqb-true, unwrap_or, subst, ◌≡◌, ℕ, zero, suc, Bool, true, false, cond, ◌||◌, not, nat_eq, ◌+◌, List, [], ◌∷◌, ◌++◌, map, drop, replicate, slice_get, slice_set, Option, Some, None, refl, sym, ap, ◌∙◌, arith, MatchOption, if◌then◌else◌, AllZip, sum_by, nat_cmp, bytes_eq, is_at, lookup, nat_cmp_total, length-map, length-drop, map-append, drop-append-le, length_push, sum_by-cons, sum_by_push, nat_tests, slice_get_within, Event, Look, Enter, Admit, Back, EndSeeds, Take, Done, Close, Reply, Message, has_url, count_from, Subqueue, unfinished, oldest, next_message, after_accepting, after_taking, after_finishing, GateTurn, new_gate, holds, look, enter, back, end_seeds, close, State, start, Turn, turn, Kept, KeptQueue, empty_queue, outstanding, has_text, has_seen, number_at, Shows, ShowsQueue, Makes}
 use Rattle.std.proofs.Math.ListN.{drop_of_length-le}
 use Rattle.crawl_core.specs.declared.reply.Reply.TheVariants as told

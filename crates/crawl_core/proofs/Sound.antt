@@ -137,7 +137,7 @@ look_sound state sound sender = record {
 
 -- ## The turns of a subqueue
 
--- a message that the subqueue has accepted is not one of a URL that it has not
+-- a message that the subqueue has accepted has a different URL than one that it has not accepted
 unseen_differs : (accepted : List Message) (url : List ℕ) (i : ℕ) (m : Message) → has_url accepted url ≡ false → slice_get accepted i ≡ Some m → m.url ≡ url → ⊥
 unseen_differs [] url i m unseen at same = absurd (cc)
 unseen_differs (x ∷ xs) url zero m unseen at same = grind (arith, some_is, nat_list_eq_equiv)

@@ -4,7 +4,7 @@ use Rattle.crawl_core.specs.Kept.{KeptQueue}
 use Rattle.crawl_core.specs.State.{State}
 use Rattle.crawl_core.specs.Subqueue.{Subqueue}
 
--- by what is kept: the last of the URLs accepted before those that wait
+-- by what is kept: of the URLs that were accepted, the last one that no longer waits
 abbrev pub kept_fetch : KeptQueue → Option (List ℕ)
 kept_fetch queue =
     if queue.busy then slice_get queue.seen (length queue.seen - length queue.waiting - 1)
@@ -16,6 +16,6 @@ fetch_of queue =
     if queue.busy then option_map (λ m. m.url) (slice_get queue.accepted (queue.taken - 1))
     else None
 
--- likewise for the subqueue with this number, if there is one
+-- likewise for the subqueue with this number; the outer `None` if there is no such subqueue
 abbrev pub in_fetch : State → ℕ → Option (Option (List ℕ))
 in_fetch state queue = option_map fetch_of (slice_get state.subqueues queue)

@@ -1,7 +1,7 @@
 -- Flags as numbers, and whether two are the same.
 use Rattle.std.specs.Prelude.{ℕ, Bool, true, false, not}
 
--- 1 if the flag is set, else 0; and whether two flags are the same
+-- 1 if the flag is set, otherwise 0; and whether two flags are equal
 abbrev pub one_if : Bool → ℕ
 one_if true = 1
 one_if false = 0

@@ -1,5 +1,5 @@
--- The gate's half of a state: who holds a unit, which word each sender remembers, and the gate's own steps. How many units
--- are out also depends on the subqueues; so each step gets `messages`, how many accepted messages are not done.
+-- The gate's half of a state: who holds a unit, which word each sender remembers, and the gate's own steps. The number of units that are held also depends on
+-- the subqueues, so each step gets `messages`, the number of accepted messages that are not done.
 use Rattle.std.specs.Prelude.{ℕ, suc, ◌+◌, Bool, true, false, ◌&&◌, ◌||◌, not, List, [], length, nat_eq, if◌then◌else◌, Option, Some, None}
 use Rattle.std.specs.List.{list_any}
 use Rattle.std.specs.Ordering.{nat_cmp}
@@ -14,8 +14,8 @@ use Rattle.crawl_core.specs.declared.reply.Refusal.{Refusal}
 use Rattle.crawl_core.specs.declared.reply.Refusal.TheVariants as why
 use Rattle.crawl_core.specs.Flags.{one_if, same_flag}
 
--- the senders that hold a unit, in ascending order; the word that each sender remembers, if any, by ascending sender;
--- whether the opening unit is still out; whether the gate is closed; and the maximum, which never changes
+-- the senders that hold a unit, in ascending order; the word that each sender remembers, if any, by ascending sender; whether the opening unit is still held;
+-- whether the gate is closed; and the maximum of units, which never changes
 pub record GateSide : Type 0 where
   pub holders : List ℕ
   pub remembered : List (ℕ × Word)
@@ -23,11 +23,11 @@ pub record GateSide : Type 0 where
   pub closed : Bool
   pub max : ℕ
 
--- the opening unit is out, and no other
+-- only the opening unit is held
 abbrev pub new_gate : ℕ → GateSide
 new_gate max = record { holders = []; remembered = []; opening = true; closed = false; max = max }
 
--- how many units are out: the opening one, one for each sender that holds one, one for each message that is not done
+-- the number of units that are held: the opening one, one for each sender that holds one, one for each message that is not done
 abbrev pub units_out : GateSide → ℕ → ℕ
 units_out gate messages = one_if gate.opening + length gate.holders + messages
 
@@ -45,7 +45,7 @@ holds gate sender = list_any (is_at (nat_cmp sender)) gate.holders
 abbrev pub remembers : GateSide → ℕ → Option Word
 remembers gate sender = lookup (is_at (nat_cmp sender)) gate.remembered
 
--- the sender's unit is given back, or goes with a URL
+-- the sender's unit is given back, or is passed on to a URL
 abbrev pub let_go : GateSide → ℕ → GateSide
 let_go gate sender = record gate { holders = remove_key (is_at (nat_cmp sender)) gate.holders }
 
@@ -58,7 +58,7 @@ pub record GateTurn : Type 0 where
 abbrev pub turned_away : GateSide → Refusal → GateTurn
 turned_away gate reason = record { reply = told.Refused reason; gate = gate }
 
--- a unit was given back: the reply is the count that is left
+-- a unit was given back: the reply is the number that is left
 abbrev pub gave_back : GateSide → ℕ → GateTurn
 gave_back gate messages = record { reply = told.Count (units_out gate messages); gate = gate }
 
@@ -79,7 +79,7 @@ grant gate messages sender = record {
   };
 }
 
--- `Enter` by a sender that holds none, and that remembers this word, if any
+-- `Enter` by a sender that holds no unit, and that remembers this word, if any
 abbrev pub enter_with : GateSide → ℕ → ℕ → Option Word → GateTurn
 enter_with gate messages sender None = turned_away gate why.Nothing
 enter_with gate messages sender (Some word) =
@@ -93,15 +93,15 @@ enter gate messages sender =
     if holds gate sender then turned_away gate why.Busy
     else enter_with gate messages sender (remembers gate sender)
 
--- `Back`: the sender's unit
+-- `Back`: the sender's unit is given back
 abbrev pub back : GateSide → ℕ → ℕ → GateTurn
 back gate messages sender = if holds gate sender then gave_back (let_go gate sender) messages else turned_away gate why.Nothing
 
--- `EndSeeds`: the opening unit
+-- `EndSeeds`: the opening unit is given back
 abbrev pub end_seeds : GateSide → ℕ → GateTurn
 end_seeds gate messages = if gate.opening then gave_back (record gate { opening = false }) messages else turned_away gate why.Nothing
 
--- `Close`: closed if it is so already, or if no unit is out
+-- `Close`: the gate is closed if it was closed already, or if no unit is held
 abbrev pub close : GateSide → ℕ → GateTurn
 close gate messages =
     if gate.closed || nat_eq (units_out gate messages) 0 then record { reply = told.Closed; gate = record gate { closed = true } }

@@ -1,9 +1,9 @@
--- Which events make the state greater.
+-- Which events make the state larger.
 use Rattle.std.specs.Prelude.{Bool, true, false}
 use Rattle.crawl_core.specs.declared.event.Event.{Event}
 use Rattle.crawl_core.specs.declared.event.Event.TheVariants.{Look, Enter, Admit, Back, EndSeeds, Take, Done, Close}
 
--- A word, a holder or a URL more has to be kept. All other events take something away, and need no memory.
+-- These events may add a word, a holder or a URL. All other events only remove something, and need no memory.
 abbrev pub needs_memory : Event → Bool
 needs_memory (Look _) = true
 needs_memory (Enter _) = true

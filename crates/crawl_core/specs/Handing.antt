@@ -1,5 +1,4 @@
--- The unit of the URL that a subqueue is busy with goes to a sender: `Done`, `Look` and `Enter` in one call. And how far a
--- subqueue is.
+-- Handing the unit of the URL that a subqueue is busy with to a sender: `Done`, `Look` and `Enter` in one call. And the progress of a subqueue.
 use Rattle.std.specs.Prelude.{◌≡◌, ℕ, suc, ◌-◌, Bool, false, nat_eq, not, ◌&&◌, length, slice_get, if◌then◌else◌, Option, None, Some, option_map}
 use Rattle.crawl_core.specs.declared.event.Event.TheVariants.{Look, Enter, Done}
 use Rattle.crawl_core.specs.declared.progress.Progress.{Progress}
@@ -18,23 +17,23 @@ abbrev pub is_fetching : Option Subqueue → Bool
 is_fetching None = false
 is_fetching (Some queue) = queue.busy
 
--- once the URL is done, there is room for the sender
+-- after the URL is done, a unit is left for the sender
 abbrev pub has_room : State → Bool
 has_room state = not (nat_eq (count_of state) (suc state.gate.max))
 
 abbrev pub can_hand_over : State → ℕ → ℕ → Bool
 can_hand_over state queue sender = is_fetching (slice_get state.subqueues queue) && (lets_in state.gate sender && has_room state)
 
--- the state after the three events
+-- the state after these three events
 abbrev pub handed_over : State → ℕ → ℕ → State
 handed_over state queue sender = (turn (turn (turn state (Done queue)).state (Look sender)).state (Enter sender)).state
 
--- whatever state was kept: the unit was handed over if that can be, and what is kept now is the state after that
+-- for each state that was kept: if the unit can be handed over, the new state is the one after that, and otherwise the old one
 abbrev pub Hands : Kept → ℕ → ℕ → Bool → Kept → Type 0
 Hands old queue sender handed new =
     (state : State) → Shows old state → (handed ≡ can_hand_over state queue sender) × Shows new (if handed then handed_over state queue sender else state)
 
--- how far a subqueue is, by what is kept, and by a state
+-- the progress of a subqueue, by what is kept, and by a state
 abbrev pub kept_progress : KeptQueue → Progress
 kept_progress queue = record { accepted = length queue.seen; taken = length queue.seen - length queue.waiting; busy = queue.busy }
 

@@ -1,4 +1,4 @@
--- What a history, a list of events with their replies, says of each subqueue and of the units.
+-- What a history, a list of events with their replies, states about each subqueue and about the units.
 use Rattle.std.specs.Prelude.{fold, ◌≡◌, ℕ, suc, ◌+◌, ◌<◌, List, map, take, nat_eq, slice_get, if◌then◌else◌, Option, Some, None, Bool, true, false}
 use Rattle.std.specs.List.{filter_map, count_by, list_any}
 use Rattle.crawl_core.specs.declared.word.Word.{Word}
@@ -39,8 +39,7 @@ done_by queue _ _ = false
 abbrev pub done_in : ℕ → List (Event × Reply) → ℕ
 done_in queue history = count_by (λ x. done_by queue x.0 x.1) history
 
--- the messages that left the subqueue, in the order in which their URLs were taken: of each URL the message that the
--- subqueue accepted with it
+-- the messages that left the subqueue, in the order in which their URLs were taken: for each URL the message with which the subqueue accepted it
 abbrev pub left_in : ℕ → List (Event × Reply) → List Message
 left_in queue history = filter_map (message_with (accepted_in queue history)) (taken_urls queue history)
 
@@ -54,22 +53,21 @@ abbrev pub AcceptsOnce : List (Event × Reply) → Type 0
 AcceptsOnce history =
     (queue i j : ℕ) (url : List ℕ) → slice_get (accepted_urls queue history) i ≡ Some url → slice_get (accepted_urls queue history) j ≡ Some url → i ≡ j
 
--- each URL that was taken is that of a message that left; and those of one sender left with the numbers 0, 1, 2, .. in
--- this order
+-- each URL that was taken is that of a message that left, and the messages of one sender left with the numbers 0, 1, 2, .. in this order
 pub record LeavesInOrder (history : List (Event × Reply)) : Type 0 where
   pub leaves : (queue : ℕ) → map (λ m. m.url) (left_in queue history) ≡ taken_urls queue history
   pub numbered : (queue sender k number : ℕ) → slice_get (numbers_of (left_in queue history) sender) k ≡ Some number → number ≡ k
 
--- between two takes from a subqueue, the URL of the first is done
+-- between two takes from a subqueue, the URL of the first one is done
 abbrev pub FetchesOneAtATime : List (Event × Reply) → Type 0
 FetchesOneAtATime history =
     (queue i j : ℕ) (first second : List ℕ) → i < j → slice_get history i ≡ Some (Take queue, told.Taken first) → slice_get history j ≡ Some (Take queue, told.Taken second) → (k : ℕ) × (left : ℕ) × (i < k) × (k < j) × (slice_get history k ≡ Some (Done queue, told.Count left))
 
--- an event admitted this URL to the subqueue
+-- one of the events admitted this URL to the subqueue
 abbrev pub IsAdmitted : List Event → ℕ → List ℕ → Type 0
 IsAdmitted events queue url = (place : ℕ) × (sender : ℕ) × (slice_get events place ≡ Some (Admit sender url queue))
 
--- no two admissions of one URL name different subqueues
+-- all admissions of a URL name the same subqueue
 abbrev pub AssignsEachUrl : List Event → Type 0
 AssignsEachUrl events =
     (i j : ℕ) (sender other : ℕ) (url : List ℕ) (queue there : ℕ) → slice_get events i ≡ Some (Admit sender url queue) → slice_get events j ≡ Some (Admit other url there) → queue ≡ there
@@ -79,12 +77,12 @@ abbrev pub TakesOnce : List (Event × Reply) → Type 0
 TakesOnce history =
     (i j : ℕ) (queue there : ℕ) (url : List ℕ) → slice_get history i ≡ Some (Take queue, told.Taken url) → slice_get history j ≡ Some (Take there, told.Taken url) → i ≡ j
 
--- and only from the subqueue that its admissions name
+-- a URL is taken only from the subqueue that its admissions name
 abbrev pub TakesWhereAdmitted : List Event → List (Event × Reply) → Type 0
 TakesWhereAdmitted events history =
     (i j : ℕ) (sender queue there : ℕ) (url : List ℕ) → slice_get history i ≡ Some (Take queue, told.Taken url) → slice_get events j ≡ Some (Admit sender url there) → queue ≡ there
 
--- whether the reply says that a unit came out, and whether one came back
+-- whether the reply states that a unit was taken, and whether one was given back
 abbrev pub comes_out : Reply → Bool
 comes_out (told.Entered count) = true
 comes_out _ = false
@@ -93,12 +91,11 @@ abbrev pub comes_back : Reply → Bool
 comes_back (told.Count count) = true
 comes_back _ = false
 
--- this many units are out after a history: the opening one, and one more for each that came out, one less for each that
--- came back
+-- this number of units is held after a history: the opening one, plus those that were taken, minus those that were given back
 abbrev pub AreOut : ℕ → List (Event × Reply) → Type 0
 AreOut count history = count + count_by (λ x. comes_back x.1) history ≡ 1 + count_by (λ x. comes_out x.1) history
 
--- how many units the reply says are out after its event, if it says so
+-- the number of units that the reply states, if it states one
 abbrev pub told_count : Reply → Option ℕ
 told_count (told.Word count closed) = Some count
 told_count (told.Entered count) = Some count
@@ -107,12 +104,12 @@ told_count (told.Pending count) = Some count
 told_count told.Closed = Some 0
 told_count _ = None
 
--- the count in a reply is that of the units out by the history up to and with its event
+-- the number in a reply is that of the units held by the history up to and with its event
 abbrev pub TellsUnits : List (Event × Reply) → Type 0
 TellsUnits history =
     (k count : ℕ) (event : Event) (reply : Reply) → slice_get history k ≡ Some (event, reply) → told_count reply ≡ Some count → AreOut count (take (suc k) history)
 
--- whether the reply says that the gate is closed, and whether one did
+-- whether the reply states that the gate is closed, and whether one of the replies does
 abbrev pub says_closed : Reply → Bool
 says_closed told.Closed = true
 says_closed _ = false
@@ -120,7 +117,7 @@ says_closed _ = false
 abbrev pub was_closed : List (Event × Reply) → Bool
 was_closed history = list_any (λ x. says_closed x.1) history
 
--- whether the opening unit was given back
+-- whether the event gave the opening unit back
 abbrev pub ends_seeds : Event → Reply → Bool
 ends_seeds EndSeeds (told.Count left) = true
 ends_seeds _ _ = false
@@ -135,7 +132,7 @@ holds_after sender held (Admit who url queue) (told.Accepted there number) = if 
 holds_after sender held (Back who) (told.Count left) = if nat_eq who sender then false else held
 holds_after sender held _ _ = held
 
--- whether the sender holds a unit: it entered, and since then no URL of it was accepted and it gave nothing back
+-- whether the sender holds a unit: it entered, and since then no URL of it was accepted and it did not give the unit back
 abbrev pub has_unit : List (Event × Reply) → ℕ → Bool
 has_unit history sender = fold (λ held x. holds_after sender held x.0 x.1) false history
 
@@ -149,17 +146,17 @@ word_after sender word _ _ = word
 abbrev pub last_word : List (Event × Reply) → ℕ → Option Word
 last_word history sender = fold (λ word x. word_after sender word x.0 x.1) None history
 
--- a look finds the gate closed exactly if a reply before said so
+-- a look finds the gate closed if and only if an earlier reply stated that it is
 abbrev pub TellsClosing : List (Event × Reply) → Type 0
 TellsClosing history =
     (k sender count : ℕ) (closed : Bool) → slice_get history k ≡ Some (Look sender, told.Word count closed) → closed ≡ was_closed (take k history)
 
--- an acceptance names the subqueue that its event names
+-- the reply `Accepted` names the subqueue of its event
 abbrev pub NamesItsSubqueue : List (Event × Reply) → Type 0
 NamesItsSubqueue history =
     (k sender queue there number : ℕ) (url : List ℕ) → slice_get history k ≡ Some (Admit sender url queue, told.Accepted there number) → there ≡ queue
 
--- whether a reply says of no unit that it came out or back, and of no URL that it was accepted or taken
+-- whether a reply states neither that a unit was taken or given back, nor that a URL was accepted or taken
 abbrev pub is_quiet : Reply → Bool
 is_quiet (told.Entered count) = false
 is_quiet (told.Accepted queue number) = false
@@ -167,7 +164,7 @@ is_quiet (told.Taken url) = false
 is_quiet (told.Count left) = false
 is_quiet _ = true
 
--- after a reply `Closed` nothing is entered, accepted, taken or given back
+-- after a reply `Closed` no unit is taken or given back, and no URL accepted or taken
 abbrev pub StaysClosed : List (Event × Reply) → Type 0
 StaysClosed history =
     (i j : ℕ) (event : Event) (later : Event × Reply) → i < j → slice_get history i ≡ Some (event, told.Closed) → slice_get history j ≡ Some later → is_quiet later.1 ≡ true

@@ -1,5 +1,5 @@
--- What the machine keeps of a state: the gate's half as it is, and of each subqueue what waits, what it ever accepted, and a
--- map of numbers in place of messages.
+-- What the machine stores of a state: the gate's half unchanged, and for each subqueue the URLs that wait, all URLs that it ever accepted, and the number of
+-- messages of each sender in place of the messages.
 use Rattle.std.specs.Prelude.{◌≡◌, ℕ, ◌+◌, ◌≤◌, Bool, false, List, [], length, unwrap_or, bytes_eq}
 use Rattle.std.specs.List.{sum_by, list_any}
 use Rattle.std.specs.Ordering.{nat_cmp}
@@ -10,8 +10,8 @@ use Rattle.crawl_core.specs.Flags.{one_if}
 use Rattle.crawl_limits.specs.Limits.{pending_limit}
 use Rattle.crawl_core.specs.GateSide.{GateSide, units_out, shown_word}
 
--- of a subqueue: the URLs that wait, oldest first; those that it ever accepted, oldest first; how many of each sender it
--- accepted, by ascending sender; whether the one taken last is not done yet
+-- for a subqueue: the URLs that wait, oldest first; all that it ever accepted, oldest first; how many of them are each sender's, by ascending sender; and
+-- whether the one that was taken last is not done
 pub record KeptQueue : Type 0 where
   pub waiting : List (List ℕ)
   pub seen : List (List ℕ)
@@ -25,15 +25,15 @@ pub record Kept : Type 0 where
 abbrev pub empty_queue : KeptQueue
 empty_queue = record { waiting = []; seen = []; numbers = []; busy = false }
 
--- how many URLs of a subqueue are not done
+-- the number of URLs of a subqueue that are not done
 abbrev pub outstanding : KeptQueue → ℕ
 outstanding queue = length queue.waiting + one_if queue.busy
 
--- how many URLs are not done
+-- the number of URLs that are not done
 abbrev pub outstanding_in : Kept → ℕ
 outstanding_in kept = sum_by outstanding kept.queues
 
--- how many units are out
+-- the number of units that are held
 abbrev pub kept_count : Kept → ℕ
 kept_count kept = units_out kept.gate (outstanding_in kept)
 
@@ -41,7 +41,7 @@ kept_count kept = units_out kept.gate (outstanding_in kept)
 abbrev pub kept_word : Kept → Word
 kept_word kept = shown_word kept.gate (outstanding_in kept)
 
--- whether the URL is one of the texts
+-- whether the URL is one of these texts
 abbrev pub has_text : List (List ℕ) → List ℕ → Bool
 has_text texts url = list_any (λ text. bytes_eq text url) texts
 
@@ -49,15 +49,15 @@ has_text texts url = list_any (λ text. bytes_eq text url) texts
 abbrev pub has_seen : KeptQueue → List ℕ → Bool
 has_seen queue url = has_text queue.seen url
 
--- how many of the sender it accepted
+-- the number of URLs of the sender that it accepted
 abbrev pub number_at : List (ℕ × ℕ) → ℕ → ℕ
 number_at numbers sender = unwrap_or (lookup (is_at (nat_cmp sender)) numbers) 0
 
--- no sender has more than there are
+-- no sender has more URLs than the subqueue accepted
 abbrev pub AreFew : KeptQueue → Type 0
 AreFew queue = (sender : ℕ) → number_at queue.numbers sender ≤ length queue.seen
 
--- the count that is stored is the one of what is kept, at most the maximum, and that is small
+-- the number that is stored is the number of units, it is at most the maximum, and that is small
 pub record IsCounted (kept : Kept) (count : ℕ) : Type 0 where
   pub counted : count ≡ kept_count kept
   pub within : count ≤ kept.gate.max

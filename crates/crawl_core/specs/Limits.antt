@@ -1,6 +1,6 @@
--- The limit of the machine itself. A frontier that is no part of a larger crawl has the smaller one of workers.
+-- The machine's own limit of queues. A frontier that is not part of a larger crawl has the smaller limit of workers.
 use Rattle.std.specs.Prelude.{ℕ, ◌^◌}
 
--- the most subqueues of a machine
+-- the greatest number of queues of a machine
 abbrev pub queue_limit : ℕ
 queue_limit = 2 ^ 20

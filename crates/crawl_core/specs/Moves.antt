@@ -1,5 +1,5 @@
--- The machine's own table: `Step`'s, with what is kept of a subqueue in the place of the subqueue. The gate's half is the
--- same; each other name is that of its counterpart in `Step`.
+-- The machine's own table of steps: that of `Step`, with what is kept of a subqueue in place of the subqueue. The gate's half is the same. Each other
+-- definition has the name of its counterpart in `Step`.
 use Rattle.std.specs.Prelude.{◌≡◌, ℕ, suc, true, false, not, List, [], ◌∷◌, ◌++◌, slice_get, slice_set, if◌then◌else◌, Option, Some, None}
 use Rattle.std.specs.Ordering.{nat_cmp}
 use Rattle.std.specs.BTreeMap.{insert_entry}
@@ -29,7 +29,7 @@ by_gate kept done = record { reply = done.reply; kept = record kept { gate = don
 abbrev pub with_queue : Kept → ℕ → KeptQueue → Kept
 with_queue kept place queue = record kept { queues = slice_set kept.queues place queue }
 
--- a subqueue with one URL of the sender more
+-- a subqueue with one more URL of the sender
 abbrev pub accepting : KeptQueue → List ℕ → ℕ → KeptQueue
 accepting queue url sender = record queue {
   waiting = queue.waiting ++ url ∷ [];

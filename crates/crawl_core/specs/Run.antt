@@ -5,7 +5,7 @@ use Rattle.crawl_core.specs.declared.reply.Reply.{Reply}
 use Rattle.crawl_core.specs.State.{State, start}
 use Rattle.crawl_core.specs.Step.{Step}
 
--- from the old state, these events have these replies, one after another, and lead to the new state
+-- from the old state, these events have these replies, one after the other, and lead to the new state
 abbrev pub Run : State → List (Event × Reply) → State → Type 0
 Run old [] new = new ≡ old
 Run old (x ∷ xs) new = (next : State) × Step old x.0 x.1 next × Run next xs new

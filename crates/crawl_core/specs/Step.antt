@@ -1,5 +1,4 @@
--- One step of the frontier, put together from the gate's half and the subqueues': the reply to an event in a state,
--- and the state after it.
+-- One step of the frontier, composed of the gate's half and those of the subqueues: the reply to an event in a state, and the state after it.
 use Rattle.std.specs.Prelude.{◌≡◌, ℕ, List, not, slice_get, slice_set, if◌then◌else◌, Option, Some, None}
 use Rattle.crawl_core.specs.declared.event.Event.{Event}
 use Rattle.crawl_core.specs.declared.event.Event.TheVariants.{Look, Enter, Admit, Back, EndSeeds, Take, Done, Close}
@@ -21,18 +20,18 @@ pub record Turn : Type 0 where
 abbrev pub refused : State → Refusal → Turn
 refused state reason = record { reply = told.Refused reason; state = state }
 
--- a unit was given back: the reply is the count that is left
+-- a unit was given back: the reply is the number that is left
 abbrev pub counted : State → Turn
 counted state = record { reply = told.Count (count_of state); state = state }
 
--- a step of only the gate
+-- a step that changes only the gate
 abbrev pub by_gate : State → GateTurn → Turn
 by_gate state done = record { reply = done.reply; state = record state { gate = done.gate } }
 
 abbrev pub with_subqueue : State → ℕ → Subqueue → State
 with_subqueue state place queue = record state { subqueues = slice_set state.subqueues place queue }
 
--- `Admit`: a URL that the subqueue accepted is seen; another goes to its end, and the sender's unit goes with it
+-- `Admit`: if the subqueue accepted the URL before, the reply is `Seen`; otherwise it is added at the end, with the sender's unit
 abbrev pub put : State → ℕ → List ℕ → ℕ → Subqueue → Turn
 put state sender url place queue = let message = next_message queue sender url in record {
   reply = told.Accepted place message.number;
@@ -49,7 +48,7 @@ admit_to state sender url place (Some queue) =
     else if has_url queue.accepted url then record { reply = told.Seen; state = state }
     else put state sender url place queue
 
--- `Take`: the oldest message that has not been taken, if there is one; its subqueue is busy from now on
+-- `Take`: the oldest message that was not taken, if there is one; its subqueue is then busy
 abbrev pub take_oldest : State → ℕ → Subqueue → Option Message → Turn
 take_oldest state place queue None = record { reply = told.Empty; state = state }
 take_oldest state place queue (Some message) = record {
@@ -63,14 +62,14 @@ take_from state place (Some queue) =
     if queue.busy then refused state why.Busy
     else take_oldest state place queue (oldest queue)
 
--- `Done`: the subqueue is not busy any more
+-- `Done`: the subqueue is no longer busy
 abbrev pub done_with : State → ℕ → Option Subqueue → Turn
 done_with state place None = refused state why.NoSuch
 done_with state place (Some queue) =
     if queue.busy then counted (with_subqueue state place (after_finishing queue))
     else refused state why.Nothing
 
--- what each event does; each refusal comes before what it refuses
+-- the effect of each event, after the checks for which it may be refused
 abbrev pub turn : State → Event → Turn
 turn state (Look sender) = by_gate state (look state.gate (unfinished_in state) sender)
 turn state (Enter sender) = by_gate state (enter state.gate (unfinished_in state) sender)

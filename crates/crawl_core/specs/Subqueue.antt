@@ -1,9 +1,9 @@
--- The half of a state that each subqueue has: what it accepted, how much of it was taken, and its own three steps.
+-- A subqueue's half of a state: what it accepted, how much of it was taken, and its own three steps.
 use Rattle.std.specs.Prelude.{ℕ, suc, ◌-◌, Bool, true, false, List, [], ◌∷◌, ◌++◌, length, drop, slice_get, Option}
 use Rattle.crawl_core.specs.Flags.{one_if}
 use Rattle.crawl_core.specs.Messages.{Message, count_from}
 
--- what a subqueue accepted, oldest first, and how many of these were taken; busy: the one taken last is not done yet
+-- the messages that a subqueue accepted, oldest first; how many of them were taken; and `busy`: the one that was taken last is not done
 pub record Subqueue : Type 0 where
   pub accepted : List Message
   pub taken : ℕ
@@ -12,34 +12,34 @@ pub record Subqueue : Type 0 where
 abbrev pub empty_subqueue : Subqueue
 empty_subqueue = record { accepted = []; taken = 0; busy = false }
 
--- how many messages were taken and are done
+-- the number of messages that were taken and are done
 abbrev pub finished : Subqueue → ℕ
 finished queue = queue.taken - one_if queue.busy
 
--- how many are accepted and not done
+-- the number of messages that were accepted and are not done
 abbrev pub unfinished : Subqueue → ℕ
 unfinished queue = length queue.accepted - finished queue
 
--- what is accepted and has not been taken
+-- the messages that were accepted and not yet taken
 abbrev pub waiting : Subqueue → List Message
 waiting queue = drop queue.taken queue.accepted
 
--- the first of these
+-- the first of these messages
 abbrev pub oldest : Subqueue → Option Message
 oldest queue = slice_get queue.accepted queue.taken
 
--- the sender's URL as the subqueue's next message
+-- the message with which the subqueue would accept the sender's URL
 abbrev pub next_message : Subqueue → ℕ → List ℕ → Message
 next_message queue sender url = record { url = url; sender = sender; number = count_from queue.accepted sender }
 
--- a message goes to the end
+-- a message is added at the end
 abbrev pub after_accepting : Subqueue → Message → Subqueue
 after_accepting queue message = record queue { accepted = queue.accepted ++ message ∷ [] }
 
--- the oldest is taken
+-- the oldest message that waits is taken
 abbrev pub after_taking : Subqueue → Subqueue
 after_taking queue = record queue { taken = suc queue.taken; busy = true }
 
--- the one taken last is done
+-- the message that was taken last is done
 abbrev pub after_finishing : Subqueue → Subqueue
 after_finishing queue = record queue { busy = false }

@@ -8,7 +8,7 @@ use std::fmt;
 /// Out of memory: an allocation failed.
 pub type NoMemory = AllocError;
 
-/// Why there is no frontier, in the order of the checks.
+/// Why no frontier was made, in the order of the checks.
 #[derive(Clone, Copy, Debug, PartialEq, Eq)]
 pub enum CoreError {
     /// The number of workers is not 1 to [`WORKER_LIMIT`](crate::WORKER_LIMIT).

@@ -1,5 +1,5 @@
-//! Laws of whole runs: what holds of any events and the replies that [`run`](crate::run) gives to them. None does anything
-//! when it is called.
+//! Laws of whole runs: what is true of any events and the replies that [`run`](crate::run) returns for them. Calling a law does
+//! nothing.
 ghost use Rattle.std.specs.Prelude.{◌≡◌, ℕ, List, ◌++◌, ◌∷◌, [], length, map, slice_get, Some, zip, Contains};
 ghost use Rattle.crawl_core.specs.Messages.{Message};
 ghost use Rattle.crawl_core.specs.Subqueue.{Subqueue};
@@ -17,8 +17,8 @@ pub fn one_run()
     ensures one { (workers max : ℕ) (events : List Event) (replies others : List Reply) → IsRun workers max events replies → IsRun workers max events others → replies ≡ others }
 {}
 
-/// First in, first out, once: in each subqueue the k-th URL taken is the k-th accepted, no URL is accepted twice, the
-/// messages of a sender leave with the numbers 0, 1, 2, .. in this order, and there is one fetch at a time.
+/// First in, first out, once: the k-th URL that is taken from a subqueue is the k-th that it accepted, no subqueue accepts a URL
+/// twice, the messages of a sender leave with the numbers 0, 1, 2, .. in this order, and one URL is fetched at a time.
 pub fn taken_once_in_order()
     ensures in_order { (workers max : ℕ) (events : List Event) (replies : List Reply) → IsRun workers max events replies → TakesInOrder (zip events replies) }
     ensures once { (workers max : ℕ) (events : List Event) (replies : List Reply) → IsRun workers max events replies → AcceptsOnce (zip events replies) }
@@ -30,8 +30,8 @@ pub fn taken_once_in_order()
     ensures where_admitted { (workers max : ℕ) (events : List Event) (replies : List Reply) → IsRun workers max events replies → AssignsEachUrl events → TakesWhereAdmitted events (zip events replies) }
 {}
 
-/// Nothing is invented: the reply `Accepted` names the subqueue of its event, and each URL that a subqueue has accepted or
-/// that was taken from it was admitted to it by one of the events.
+/// Nothing is invented: the reply `Accepted` names the subqueue of its event, and each URL that a subqueue accepted or that was
+/// taken from it was admitted to it by one of the events.
 pub fn admitted_before()
     ensures named { (workers max : ℕ) (events : List Event) (replies : List Reply) → IsRun workers max events replies → NamesItsSubqueue (zip events replies) }
     ensures accepted { (workers max : ℕ) (history : List (Event × Reply)) (state : State) → Run (start workers max) history state → (queue k : ℕ) (found : Subqueue) (m : Message) → slice_get state.subqueues queue ≡ Some found → slice_get found.accepted k ≡ Some m → IsAdmitted (map (λ x. x.0) history) queue m.url }
@@ -43,14 +43,14 @@ pub fn seen_means_accepted()
     ensures { (workers max : ℕ) (front back : List (Event × Reply)) (sender queue : ℕ) (url : List ℕ) (end : State) → Run (start workers max) (front ++ (Event.Admit sender url queue, told.Seen) ∷ back) end → Contains (accepted_urls queue front) url }
 {}
 
-/// Empty means taken: at a reply `Empty` every URL that the subqueue accepted was taken.
+/// Empty means taken: at a reply `Empty`, every URL that the subqueue accepted was taken.
 pub fn empty_means_taken()
     ensures { (workers max : ℕ) (front back : List (Event × Reply)) (queue : ℕ) (end : State) → Run (start workers max) (front ++ (Event.Take queue, told.Empty) ∷ back) end → taken_urls queue front ≡ accepted_urls queue front }
 {}
 
-/// Closed means done: at a reply `Closed` the opening unit is gone, nobody holds a unit, and every accepted message was
-/// taken and is done; so from each subqueue were taken exactly the URLs that it accepted, in order, and each of these fetches
-/// ended with a `Done`.
+/// Closed means done: at a reply `Closed`, the seeds have ended, no sender holds a unit, and every accepted message was taken and
+/// is done. So the URLs taken from each subqueue are exactly those that it accepted, in order, and each of these fetches ended with
+/// a `Done`.
 pub fn closed_means_finished()
     ensures drained { (workers max : ℕ) (front back : List (Event × Reply)) (event : Event) (end : State) → Run (start workers max) (front ++ (event, told.Closed) ∷ back) end → (queue : ℕ) → taken_urls queue front ≡ accepted_urls queue front }
     ensures done { (workers max : ℕ) (front back : List (Event × Reply)) (event : Event) (end : State) → Run (start workers max) (front ++ (event, told.Closed) ∷ back) end → (queue : ℕ) → done_in queue front ≡ length (taken_urls queue front) }
@@ -62,8 +62,8 @@ pub fn closed_for_good()
     ensures { (workers max : ℕ) (events : List Event) (replies : List Reply) → IsRun workers max events replies → StaysClosed (zip events replies) }
 {}
 
-/// Every state of a run meets the gate's invariant and, in each subqueue, the subqueue's. It has the run's limits, and its
-/// history determines it. The same is true of the counts in the replies, and of whether a look finds the gate closed.
+/// Every state of a run satisfies the gate's invariant and, for each subqueue, that of subqueues. It has the run's limits, and is
+/// determined by its history. So are the counts in the replies, and whether a look finds the gate closed.
 pub fn invariants_in_runs()
     ensures gate { (workers max : ℕ) (history : List (Event × Reply)) (state : State) → HasRoom max → Run (start workers max) history state → GateInvariant state.gate (count_of state) }
     ensures subqueues { (workers max : ℕ) (history : List (Event × Reply)) (state : State) → Run (start workers max) history state → EachSubqueue SubqueueInvariant state }

@@ -3,7 +3,7 @@
 
 mod error;
 mod event;
-/// What holds of whole runs.
+/// Theorems about whole runs.
 pub mod laws;
 mod machine;
 mod progress;

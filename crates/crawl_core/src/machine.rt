@@ -1,4 +1,4 @@
-//! The machine: what it keeps, how it begins, and one step of it.
+//! The machine: its state, how it begins, and one step.
 ghost use Rattle.std.specs.Prelude.{◌≡◌, ◌<◌, ◌≤◌, ◌⊎◌, ◌↔◌, false, Err, IfOk, OnOk, OnErr, IsOk};
 ghost use Rattle.crawl_core.specs.Growth.{needs_memory};
 ghost use Rattle.crawl_core.specs.Limits.{queue_limit};
@@ -21,22 +21,22 @@ mod gate;
 mod handing;
 mod queues;
 
-/// The most subqueues of a machine, 2^20. So the parts of one crawl can have many more together than one frontier has.
+/// The greatest number of queues of a machine, 2^20. The parts of one crawl can together have more of them than one frontier.
 pub const QUEUE_LIMIT: u32 = 1 << 20;
 
-/// A frontier as a pure machine: one subqueue for each worker, and the gate's word.
+/// A frontier as a pure machine: the gate, and one subqueue for each worker.
 #[derive(Drop)]
 pub struct Core {
     queues: UrlQueues,
     /// The senders that hold a unit.
     holders: BTreeSet<u64>,
-    /// The word that each sender read last, unless it entered by it.
+    /// The word that each sender read last, unless it has entered with it since.
     remembered: BTreeMap<u64, Word>,
-    /// The opening unit is still out.
+    /// Whether the opening unit is still held.
     opening: bool,
     closed: bool,
     max: u64,
-    /// How many units are out.
+    /// The number of units that are held.
     count: u64,
 }
 
@@ -51,10 +51,10 @@ impl Model for Core {
 }
 
 impl Core {
-    /// A frontier with that many subqueues and that maximum of units: the opening unit is out, nothing else is held.
+    /// Makes a frontier with this number of subqueues and this maximum of units. Only the opening unit is held.
     ///
     /// # Errors
-    /// `BadWorkers`, then `BadMax`, for a number outside its limits; `NoMemory` if memory was refused.
+    /// `BadWorkers`, then `BadMax`, if a number is outside its limits; `NoMemory` if an allocation fails.
     pub fn new(alloc: Global, workers: u32, max: u64) -> Result<Core, CoreError>
         ensures start { IfOk result (λ core. Shows core (start workers max)) }
         ensures limits { OnOk result (AreLimits workers max) }
@@ -67,10 +67,10 @@ impl Core {
         Core::with_queues(alloc, workers, max)
     }
 
-    /// A frontier as that of [`Core::new`], with up to [`QUEUE_LIMIT`] subqueues: those of all parts of a crawl.
+    /// Makes a frontier as [`Core::new`] does, with up to [`QUEUE_LIMIT`] subqueues: those of all parts of a crawl.
     ///
     /// # Errors
-    /// `BadWorkers`, then `BadMax`, for a number outside its limits; `NoMemory` if memory was refused.
+    /// `BadWorkers`, then `BadMax`, if a number is outside its limits; `NoMemory` if an allocation fails.
     pub fn with_queues(alloc: Global, queues: u32, max: u64) -> Result<Core, CoreError>
         ensures start { IfOk result (λ core. Shows core (start queues max)) }
         ensures limits { OnOk result ((1 ≤ queues) × (queues ≤ queue_limit) × (1 ≤ max) × (max ≤ pending_limit)) }
@@ -94,10 +94,10 @@ impl Core {
         })
     }
 
-    /// One step: the reply to the event.
+    /// Makes one step, and returns the reply to the event.
     ///
     /// # Errors
-    /// Out of memory. The machine is then unchanged. Only `Look`, `Enter` and `Admit` need memory.
+    /// Out of memory; the machine is then unchanged. Only `Look`, `Enter` and `Admit` need memory.
     #[tactic(auto, using(crate::proofs::Simulation::makes))]
     pub fn step(&mut self, event: &Event) -> Result<Reply, NoMemory>
         ensures step { IfOk result (λ reply. Makes self.old event.now reply self.new) }

@@ -1,4 +1,4 @@
-/// How far a subqueue is: how many URLs it accepted, how many of these were taken, and whether the last of those is not done.
+/// The progress of a subqueue: how many URLs it accepted, how many of them were taken, and whether the last one taken is not done.
 #[derive(Clone, Copy, Debug, PartialEq, Eq)]
 pub struct Progress {
     pub accepted: usize,

@@ -10,10 +10,10 @@ use crate::machine::Core;
 use crate::reply::Reply;
 use std::alloc::Global;
 
-/// A new frontier's replies to these events, one for each.
+/// Returns a new frontier's replies to these events, one for each.
 ///
 /// # Errors
-/// Those of [`Core::new`], and `NoMemory` if a step or a reply runs out of memory.
+/// Those of [`Core::new`], and `NoMemory` if memory runs out in a step or for a reply.
 pub fn run(alloc: Global, workers: u32, max: u64, events: &[Event]) -> Result<Vec<Reply>, CoreError>
     ensures run { IfOk result (λ replies. IsRun workers max events.now replies.items) }
     ensures limits { OnOk result (AreLimits workers max) }

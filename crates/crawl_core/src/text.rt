@@ -1,4 +1,4 @@
-//! Texts are equal and print as their bytes.
+//! Texts of URLs, which are shared by their copies.
 ghost use Rattle.std.specs.Prelude.{◌≡◌, Some, IfOk, bytes_eq};
 ghost use Rattle.std.specs.Cmp.{partial_equiv_from_equiv};
 ghost use Rattle.std.specs.Cmp.Lexicographic.{nat_list_eq_equiv};
@@ -11,7 +11,7 @@ use std::fmt;
 use std::marker::Model;
 use std::sync::ArcStr;
 
-/// A URL as the machine keeps it: any text, which contracts see as its bytes.
+/// A URL in the machine: any text, which contracts see as its bytes.
 ///
 /// Texts are equal and print as their bytes, which are kept once and shared by all copies, in any threads. So a copy takes no
 /// memory, and fails only if the count of copies is at its limit.
@@ -34,7 +34,7 @@ impl Model for Text {
 }
 
 impl Text {
-    /// A copy of a text, on memory of its own.
+    /// Copies a text to memory of its own.
     pub fn from_str(alloc: Global, text: &str) -> Result<Text, NoMemory>
         ensures { IfOk result (λ copy. copy ≡ text.now) }
     {
@@ -44,7 +44,7 @@ impl Text {
         })
     }
 
-    /// The text itself.
+    /// Returns the text.
     pub fn as_str(&self) -> &str
         ensures { result.now ≡ self.now }
     {

@@ -1,4 +1,4 @@
-//! What the machine keeps of one subqueue.
+//! What the machine stores of one subqueue.
 ghost use Rattle.std.specs.Prelude.{◌≡◌, ◌∷◌, [], true, false, drop, IfOk, IfSome, IfNone, OnErr, OnSome, option_map};
 ghost use Rattle.crawl_core.specs.Fetching.{kept_fetch};
 ghost use Rattle.crawl_core.specs.Handing.{kept_progress};
@@ -13,18 +13,18 @@ use std::alloc::Global;
 use std::collections::{BTreeMap, VecDeque};
 use std::marker::Model;
 
-/// A queue of URLs that wait, and what it has to remember of those that it accepted.
+/// A queue of URLs that wait, and what is remembered of all URLs that it accepted.
 #[derive(Drop)]
 pub struct UrlQueue {
     /// Oldest first.
     waiting: VecDeque<Text>,
-    /// All that were ever accepted, oldest first.
+    /// All URLs that were ever accepted, oldest first.
     seen: Vec<Text>,
-    /// The index of each of these.
+    /// The index of each of these in the list.
     index: HashIndex,
-    /// How many of each sender were accepted.
+    /// The number of accepted URLs of each sender.
     numbers: BTreeMap<u64, u64>,
-    /// The one taken last is not done yet.
+    /// The URL that was taken last is not done.
     busy: bool,
 }
 
@@ -42,7 +42,7 @@ impl Model for UrlQueue {
 }
 
 impl UrlQueue {
-    /// Takes no memory.
+    /// Makes an empty queue. It takes no memory.
     pub fn new(alloc: Global) -> UrlQueue
         ensures { result ≡ empty_queue }
     {
@@ -73,7 +73,7 @@ impl UrlQueue {
         self.seen.get(taken.saturating_sub(1))
     }
 
-    /// How far the queue is.
+    /// Returns the queue's progress.
     pub fn progress(&self) -> Progress
         ensures { result ≡ kept_progress self.now }
     {
@@ -85,7 +85,7 @@ impl UrlQueue {
         }
     }
 
-    /// Appends a URL, and returns how many of the sender came before it. `None` if the URL was ever accepted here.
+    /// Appends a URL, and returns the number of earlier URLs of the sender, or `None` if the URL was ever accepted here.
     pub fn accept(&mut self, url: &Text, sender: u64) -> Result<Option<u64>, NoMemory>
         ensures seen { IfOk result (λ number. IfNone number (has_seen self.old url.now ≡ true)) }
         ensures unchanged { IfOk result (λ number. IfNone number (self.new ≡ self.old)) }
@@ -121,7 +121,7 @@ impl UrlQueue {
         Some(url)
     }
 
-    /// The URL that was taken last is done.
+    /// Marks the URL that was taken last as done.
     pub fn finish(&mut self)
         ensures { self.new ≡ record self.old { busy = false } }
     {

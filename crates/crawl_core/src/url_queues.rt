@@ -1,4 +1,4 @@
-//! The subqueues of a machine, each read and changed by its number.
+//! The subqueues of a machine, which are read and changed by their numbers.
 ghost use Rattle.std.specs.Prelude.{◌≡◌, ◌∷◌, [], ◌<◌, true, false, length, replicate, slice_get, slice_set, Some, None, drop, IfOk, IfSome, IfNone, OnErr, OnSome, is_some, option_map};
 ghost use Rattle.crawl_core.specs.Fetching.{kept_fetch};
 ghost use Rattle.crawl_core.specs.Handing.{kept_progress};
@@ -29,7 +29,7 @@ impl Model for UrlQueues {
 }
 
 impl UrlQueues {
-    /// That many subqueues in which nothing was ever accepted.
+    /// Makes this number of empty subqueues.
     pub fn new(alloc: Global, workers: u32) -> Result<UrlQueues, NoMemory>
         ensures { IfOk result (λ queues. queues ≡ replicate workers empty_queue) }
     {
@@ -40,7 +40,7 @@ impl UrlQueues {
         Ok(UrlQueues { queues })
     }
 
-    /// Whether the subqueue is busy, if there is one.
+    /// Whether the subqueue is busy, or `None` if there is no such subqueue.
     pub fn is_busy(&self, place: u32) -> Option<bool>
         ensures { result ≡ option_map (λ queue. queue.busy) (slice_get self.now place) }
     {
@@ -48,7 +48,7 @@ impl UrlQueues {
         Some(queue.is_busy())
     }
 
-    /// The URL that the subqueue took last, if that is not done yet; nothing if there is no such subqueue.
+    /// The URL that was taken last from the subqueue, if it is not done; the outer `None` if there is no such subqueue.
     pub fn in_fetch(&self, place: u32) -> Option<Option<&Text>>
         ensures { option_map (λ found. option_map (λ url. url.now) found) result ≡ option_map kept_fetch (slice_get self.now place) }
     {
@@ -56,7 +56,7 @@ impl UrlQueues {
         Some(queue.in_fetch())
     }
 
-    /// How far the subqueue is, if there is one.
+    /// Returns the progress of the subqueue, or `None` if there is no such subqueue.
     pub fn progress(&self, place: u32) -> Option<Progress>
         ensures { result ≡ option_map kept_progress (slice_get self.now place) }
     {
@@ -71,8 +71,8 @@ impl UrlQueues {
         self.queues.get(place as usize).is_some()
     }
 
-    /// Appends a URL to the subqueue, and returns how many of the sender came before it. `None` if the subqueue has accepted the
-    /// URL before.
+    /// Appends a URL to the subqueue, and returns the number of earlier URLs of the sender, or `None` if the subqueue has accepted
+    /// the URL before.
     pub fn accept(&mut self, place: u32, url: &Text, sender: u64) -> Result<Option<u64>, NoMemory>
         requires { is_some (slice_get self.old place) ≡ true }
         ensures seen { IfOk result (λ number. IfNone number ((queue : KeptQueue) → slice_get self.old place ≡ Some queue → has_seen queue url.now ≡ true)) }
@@ -85,7 +85,7 @@ impl UrlQueues {
         self.queues[place as usize].accept(url, sender)
     }
 
-    /// Takes the URL of the subqueue that has waited longest.
+    /// Takes the URL that has waited longest in the subqueue.
     pub fn take(&mut self, place: u32) -> Option<Text>
         requires { place < length self.old }
         ensures empty { IfNone result ((queue : KeptQueue) → slice_get self.old place ≡ Some queue → queue.waiting ≡ []) }
@@ -96,7 +96,7 @@ impl UrlQueues {
         self.queues[place as usize].take()
     }
 
-    /// The URL of the subqueue that was taken last is done.
+    /// Marks the URL that was taken last from the subqueue as done.
     pub fn finish(&mut self, place: u32)
         requires { place < length self.old }
         ensures { (queue : KeptQueue) → slice_get self.old place ≡ Some queue → self.new ≡ slice_set self.old place (record queue { busy = false }) }

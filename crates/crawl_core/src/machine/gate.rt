@@ -1,4 +1,4 @@
-//! The events on the gate's word.
+//! The events that read or change the gate.
 ghost use Rattle.std.specs.Prelude.{◌≡◌, IfOk, OnErr};
 ghost use Rattle.crawl_core.specs.Kept.{kept_word};
 ghost use Rattle.crawl_core.specs.Moves.{Moves};
@@ -11,7 +11,7 @@ use crate::reply::{Refusal, Reply};
 use crate::word::Word;
 
 impl Core {
-    /// Returns the gate's word: how many units are out, and whether the gate is closed.
+    /// Returns the gate's word: the number of units that are held, and whether the gate is closed.
     pub(super) fn word(&self) -> Word
         ensures { result ≡ kept_word self.now }
     {
@@ -21,7 +21,7 @@ impl Core {
         }
     }
 
-    /// Replies with the gate's word, and remembers it for the sender's next `Enter`.
+    /// Replies with the gate's word, and stores it as the one that the sender remembers.
     pub(super) fn look(&mut self, sender: u64) -> Result<Reply, NoMemory>
         ensures moves { IfOk result (λ reply. Moves self.old (Event.Look sender) reply self.new) }
         ensures err { OnErr result (self.new ≡ self.old) }
@@ -34,8 +34,8 @@ impl Core {
         })
     }
 
-    /// The sender takes a unit, if the gate's word is still the one that it read last. `Lost` means that the word has changed,
-    /// and the sender has to read it again. A closed gate or one with the maximum of units refuses.
+    /// Takes a unit for the sender, if the gate's word is still the one that it remembers. The reply `Lost` means that the word has
+    /// changed, and that the sender has to read it again. The event is refused if the gate is closed or all units are held.
     pub(super) fn enter(&mut self, sender: u64) -> Result<Reply, NoMemory>
         ensures moves { IfOk result (λ reply. Moves self.old (Event.Enter sender) reply self.new) }
         ensures err { OnErr result (self.new ≡ self.old) }
@@ -61,7 +61,7 @@ impl Core {
         Ok(Reply::Entered(self.count))
     }
 
-    /// The sender gives its unit back. It is refused if the sender holds none.
+    /// Gives the sender's unit back. Refused if the sender holds none.
     pub(super) fn back(&mut self, sender: u64) -> Reply
         ensures { Moves self.old (Event.Back sender) result self.new }
     {
@@ -72,7 +72,7 @@ impl Core {
         Reply::Count(self.count)
     }
 
-    /// Gives the opening unit back. It is refused if that was given back before.
+    /// Gives the opening unit back. Refused if that was done before.
     pub(super) fn end_seeds(&mut self) -> Reply
         ensures { Moves self.old Event.EndSeeds result self.new }
     {
@@ -84,7 +84,7 @@ impl Core {
         Reply::Count(self.count)
     }
 
-    /// Closes the gate if no unit is out. Otherwise nothing changes, and the reply is `Pending` with the number of units.
+    /// Closes the gate if no unit is held. Otherwise nothing changes, and the reply is `Pending` with the number of units.
     pub(super) fn close(&mut self) -> Reply
         ensures { Moves self.old Event.Close result self.new }
     {

@@ -1,5 +1,5 @@
-//! What a session needs in addition to the events: handing the unit of a URL in progress to a sender, the progress of a
-//! subqueue, and the number of units that are held.
+//! What a session needs in addition to the events: handing the unit of a URL in progress to a sender, the progress of a subqueue,
+//! and the number of units that are held.
 ghost use Rattle.std.specs.Prelude.{◌≡◌, false, slice_get, unwrap_or, IfOk, OnErr, OnOk, option_map};
 ghost use Rattle.std.specs.BTreeMap.{is_at, insert_entry};
 ghost use Rattle.std.specs.BTreeSet.{insert_key};
@@ -18,7 +18,7 @@ use std::alloc::AllocError;
 use std::collections::{BTreeMap, BTreeSet};
 
 impl Core {
-    /// How many units are out.
+    /// Returns the number of units that are held.
     #[tactic(auto, using(crate::proofs::Handing::kept_count_of))]
     pub fn count(&self) -> u64
         ensures { (state : State) → Shows self.now state → result ≡ count_of state }
@@ -26,7 +26,7 @@ impl Core {
         self.count
     }
 
-    /// How far the subqueue is, if there is one.
+    /// Returns the progress of the subqueue, or `None` if there is no such subqueue.
     #[tactic(auto, using(crate::proofs::Handing::kept_progress_of))]
     pub fn progress(&self, queue: u32) -> Option<Progress>
         ensures { (state : State) → Shows self.now state → result ≡ progress_of state queue }
@@ -34,11 +34,11 @@ impl Core {
         self.queues.progress(queue)
     }
 
-    /// Hands the unit of the URL that the subqueue is busy with to the sender, and returns whether that can be: `Done`, then
-    /// `Look` and `Enter`, which are then not refused. It can be if the gate is open and the sender holds no unit.
+    /// Hands the unit of the URL that the subqueue is busy with to the sender: `Done`, then `Look` and `Enter`, which are not
+    /// refused. Returns `false`, and changes nothing, if the subqueue is not busy, the gate is closed or the sender holds a unit.
     ///
     /// # Errors
-    /// Out of memory. The machine is then as it was.
+    /// Out of memory. The machine is then unchanged.
     pub fn hand_over(&mut self, queue: u32, sender: u64) -> Result<bool, NoMemory>
         ensures hands { IfOk result (λ handed. Hands self.old queue sender handed self.new) }
         ensures err { OnErr result (self.new ≡ self.old) }
@@ -55,14 +55,14 @@ impl Core {
         Ok(true)
     }
 
-    /// Whether the queue exists and the URL that it took last is not done.
+    /// Whether the queue exists and the URL that was taken from it last is not done.
     fn is_fetching(&self, queue: u32) -> bool
         ensures { result ≡ unwrap_or (option_map (λ queue. queue.busy) (slice_get self.now.queues queue)) false }
     {
         self.queues.is_busy(queue).unwrap_or(false)
     }
 
-    /// Whether the gate is open and the sender holds no unit, so that it can be given one.
+    /// Whether the gate is open and the sender holds no unit, so that it can get one.
     fn lets_in(&self, sender: u64) -> bool
         ensures { result ≡ lets_in self.now.gate sender }
     {
@@ -70,7 +70,7 @@ impl Core {
     }
 }
 
-/// The sender is one more holder, and forgets its word: it looks, and enters.
+/// Adds the sender to the holders, and removes the word that it remembers: the effect of `Look` and `Enter`.
 ///
 /// # Errors
 /// Out of memory. Nothing changes.

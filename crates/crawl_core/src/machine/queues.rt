@@ -1,4 +1,4 @@
-//! The events on a subqueue.
+//! The events that read or change a subqueue.
 ghost use Rattle.std.specs.Prelude.{◌≡◌, IfOk, OnErr, option_map};
 ghost use Rattle.crawl_core.specs.Fetching.{in_fetch};
 ghost use Rattle.crawl_core.specs.Moves.{Moves};
@@ -13,8 +13,8 @@ use crate::reply::{Refusal, Reply};
 use crate::text::Text;
 
 impl Core {
-    /// The URL that the subqueue took last, whose fetch is not done; `Some(None)` if the subqueue is not busy, and `None`
-    /// if there is no such subqueue.
+    /// Returns the URL that was taken from the subqueue last, if it is not done: `Some(None)` if the subqueue is not busy, and
+    /// `None` if there is no such subqueue.
     #[tactic(auto, using(crate::proofs::Fetching::kept_in_fetch))]
     pub fn in_fetch(&self, queue: u32) -> Option<Option<&Text>>
         ensures { (state : State) → Shows self.now state → option_map (λ found. option_map (λ url. url.now) found) result ≡ in_fetch state queue }
@@ -22,8 +22,8 @@ impl Core {
         self.queues.in_fetch(queue)
     }
 
-    /// Accepts a URL into the queue, with the sender's unit, unless the queue has accepted it before. The sender must hold a unit,
-    /// and keeps it if the URL is not accepted.
+    /// Accepts a URL into the queue, with the sender's unit, unless the queue has accepted it before. Refused if the sender holds
+    /// no unit. The sender keeps its unit if the URL is not accepted.
     pub(super) fn admit(&mut self, sender: u64, url: &Text, queue: u32) -> Result<Reply, NoMemory>
         ensures moves { IfOk result (λ reply. Moves self.old (Event.Admit sender url.now queue) reply self.new) }
         ensures err { OnErr result (self.new ≡ self.old) }
@@ -37,12 +37,12 @@ impl Core {
         let Some(number) = self.queues.accept(queue, url, sender)? else {
             return Ok(Reply::Seen);
         };
-        // The sender's unit goes with the URL, so the count stays.
+        // The sender's unit now belongs to the URL, so the count does not change.
         self.holders.remove(&sender);
         Ok(Reply::Accepted { queue, number })
     }
 
-    /// Takes the URL that has waited longest in the queue. It is refused while the URL taken before it is not done.
+    /// Takes the URL that has waited longest in the queue. Refused while the URL that was taken before is not done.
     pub(super) fn take(&mut self, queue: u32) -> Reply
         ensures { Moves self.old (Event.Take queue) result self.new }
     {
@@ -58,7 +58,7 @@ impl Core {
         Reply::Taken(url)
     }
 
-    /// The URL that the queue took last is done, and its unit is given back.
+    /// Ends the fetch of the URL that was taken last from the queue, and gives its unit back.
     pub(super) fn done(&mut self, queue: u32) -> Reply
         ensures { Moves self.old (Event.Done queue) result self.new }
     {
