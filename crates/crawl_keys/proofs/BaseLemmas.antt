@@ -9,7 +9,7 @@ use Rattle.crawl_keys.proofs.PlainLemmas.{query_text}
 use Rattle.crawl_keys.proofs.PlainLinks.{in_folder, resolve-in_folder, resolve-query, resolve-rooted, resolve-same, spelled_query, spelled_in_folder, spelled_rooted}
 use Rattle.crawl_keys.proofs.SpelledLemmas.{parse_spelled, resolve-spelled}
 
--- a slice from the front
+-- a slice from the start
 pub front_slice : (xs own : List ℕ) (n : ℕ) → own ≡ xs → slice_range own 0 n ≡ take n xs
 front_slice xs own n same = grind arith
 
@@ -19,7 +19,7 @@ back_slice xs own n same = take_all (length own - n) (drop n own) (omega (arith,
 
 -- ---- the URL of a text
 
--- a text parses to one URL
+-- a text parses to at most one URL
 pub one_url : (text : List ℕ) (one other : Parts) → parse_url None text ≡ Ok one → parse_url None text ≡ Ok other → one ≡ other
 one_url text one other its own = grind arith
 

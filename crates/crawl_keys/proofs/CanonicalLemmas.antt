@@ -1,10 +1,10 @@
--- A canonical text parses to the very URL that it is the text of.
+-- Parsing a canonical text returns the URL of which it is the text.
 use Rattle.crawl_keys.proofs.Prelude.{◌≡◌, List, ℕ, None, Ok, Err, true, false, arith, or_cases, cond-true, cond-false, bytes_eq-Decides, SpecialNotFile, Parts, IsValid, kind_of, serialize, parse_url-serialize_special, NotHttp}
 use Rattle.url.specs.Scheme.{scheme_type, default_port}
 use Rattle.url.specs.Parser.{parse_url}
 use Rattle.crawl_keys.specs.CanonicalText.{IsCanonical, canonical, is_web, text_of, without_fragment}
 
--- the standard calls the scheme of a web URL special, and it is no file
+-- the scheme of a web URL is special, and not `file`
 pub web_kind : (url : Parts) → is_web url ≡ true → kind_of url ≡ SpecialNotFile
 unfolding scheme_type default_port
 web_kind url web = grind (arith, bytes_eq-Decides, or_cases)
@@ -23,7 +23,7 @@ parse_url-without_fragment url valid web =
 pub canonical_text : (url : Parts) → IsValid url → is_web url ≡ true → IsCanonical (serialize (without_fragment url))
 canonical_text url valid web = grind (arith, without_fragment_valid, parse_url-without_fragment)
 
--- and it is the one of the URL
+-- and it is the text of the URL
 pub text_of-web : (url : Parts) → is_web url ≡ true → text_of url ≡ Ok (serialize (without_fragment url))
 unfolding text_of
 text_of-web url web = cond-true _ _ _ web

@@ -67,7 +67,7 @@ letter_kept b letter = grind (arith, nat_tests)
 letter_query : (b : ℕ) → Passes is_ascii_alphabetic b → IsNot 63 b
 letter_query b letter same = grind (arith, nat_tests)
 
--- a property of each byte in lower case
+-- a property of each byte of the text in lower case
 unlower : (P : ℕ → Type 0) (xs : List ℕ) → All P (lowercase xs) → All (λ b. P (to_ascii_lowercase b)) xs
 unlower P [] all = All-nil (λ b. P (to_ascii_lowercase b))
 unlower P (x ∷ xs) all =
@@ -137,7 +137,7 @@ decoded [] names = percent_decode-nil
 decoded (b ∷ host) names =
     percent_decode_not_percent b host (name_percent b (All-head (Passes is_name) b host names)) ∙ ap (λ t. b ∷ t) (decoded host (All-tail (Passes is_name) b host names))
 
--- the parser puts it in lower case
+-- the parser converts the host to lower case
 special_cased : (host : List ℕ) → All (Passes is_name) host → parse_special_host host ≡ host_of_ascii (Some (lowercase host))
 unfolding parse_special_host ascii_domain
 special_cased host names = grind (arith, cond-false, no_bracket, decoded, cond-true, list_all_from_All, name_ascii)
@@ -164,7 +164,7 @@ abbrev with_user : List ℕ → Option (List ℕ) → Host (List ℕ) → Option
 with_user scheme user host port =
     with_authority scheme (split_once 58 (unwrap_or user [])).0 (unwrap_or (split_once 58 (unwrap_or user [])).1 []) host port
 
--- the result for a host without a path whose text in lower case is this
+-- the result for a host without a path; this is its text in lower case
 abbrev of_host : List ℕ → List ℕ → Parsed Parts
 of_host scheme name = and_then (host_of_ascii (Some name)) (λ host. Ok (with_user scheme None host None))
 
@@ -231,7 +231,7 @@ two_slashes : (kind : SchemeType) (rest : List ℕ) → leading_slashes kind (47
 unfolding leading_slashes
 two_slashes kind rest = refl
 
--- a base that counts has the scheme
+-- if there is a base, it has the scheme
 abbrev Fits : List ℕ → Option Parts → Type 0
 Fits scheme None = Unit {0}
 Fits scheme (Some base) = (base.scheme ≡ scheme) × (is_special (kind_of base) ≡ true)
@@ -253,7 +253,7 @@ parts_at scheme base body query some = grind arith
 
 -- ---- the rest after the authority
 
--- the parser reads it as a slash and the path
+-- the parser reads the rest as a slash and the path
 record IsTail (tail path : List ℕ) : Type 0 where
   kept : All (Passes is_kept) tail
   first : ((split_once 63 tail).0 ≡ []) ⊎ (get_or (split_once 63 tail).0 0 0 ≡ 47)
@@ -279,7 +279,7 @@ tail_of rest authority path plain (inr cut) = record { tail = []; is = cut.0 ∙
 
 -- ---- the whole
 
--- the result for a scheme, a host of this name, and a slash and this path
+-- the result for this scheme, this host, and a slash and this path
 abbrev made : List ℕ → List ℕ → List ℕ → Parsed Parts
 made scheme name path =
     let rest = split_once 63 (47 ∷ path) in
@@ -308,7 +308,7 @@ parse_cased base own scheme authority name tail path o a t =
 
 -- ---- its target
 
--- the host's bytes and the path, for the text in lower case
+-- the bytes of the host and the path, for the text in lower case
 record IsName (host path : List ℕ) : Type 0 where
   some : 0 < length host
   names : All (Passes is_name) host

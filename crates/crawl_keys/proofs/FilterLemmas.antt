@@ -55,7 +55,7 @@ ends_with-dot (b ∷ more) suffix =
         ap (λ s. bytes_eq (46 ∷ suffix) s) (drop-longer b more (length suffix) longer)
         ∙ rest ∙ rw (bytes_eq-lengths more suffix (λ same. absurd (omega arith)), and_right (is_dot b) false refl) refl
 
--- some element passes one of two tests exactly if some element passes the first or some element passes the second
+-- some element passes one of two tests if and only if some element passes the first or some element passes the second
 pub list_any-or : {A : Type 0} (p q : A → Bool) (xs : List A) → list_any (λ x. p x || q x) xs ≡ (list_any p xs || list_any q xs)
 list_any-or p q [] = refl
 list_any-or p q (x ∷ xs) = grind (arith, list_any-or p q xs)
@@ -70,7 +70,7 @@ pub list_any-contains : (text : List ℕ) (strings : List (String Global)) → l
 list_any-contains text [] = refl
 list_any-contains text (s ∷ more) = rw (is_eq-slice_cmp text (string_bytes s), list_any-contains text more) refl
 
--- a string is inserted among strings as its bytes are inserted among theirs
+-- inserting a string among strings inserts its bytes among theirs
 pub map-insert_key : (string : String Global) (strings : List (String Global)) → map string_bytes (insert_key string_cmp strings string) ≡ insert_key (slice_cmp nat_cmp) (map string_bytes strings) (string_bytes string)
 map-insert_key string [] = refl
 map-insert_key string (s ∷ more) = grind (arith, map-insert_key string more)
@@ -85,13 +85,13 @@ pub is_behind_dot-none : (text suffix : List ℕ) → position_or_len is_dot tex
 is_behind_dot-none [] suffix all = refl
 is_behind_dot-none (b ∷ more) suffix all = grind (arith, cases_Bool, is_behind_dot-none more)
 
--- a host is within some suffix exactly if it is a suffix or has one after a dot
+-- a host is within some suffix if and only if it is a suffix or has one after a dot
 pub list_any-within : (host : List ℕ) (suffixes : List (List ℕ)) → list_any (is_within host) suffixes ≡ (list_any (bytes_eq host) suffixes || list_any (is_behind_dot host) suffixes)
 list_any-within host suffixes =
     list_any-or (bytes_eq host) (λ suffix. ends_with nat_eq host (codes "." ++ suffix)) suffixes
     ∙ ap (λ b. list_any (bytes_eq host) suffixes || b) (list_any-same _ _ (ends_with-dot host) suffixes)
 
--- some suffix is after a dot of the text exactly if the text after the first dot is a suffix or has one after a dot
+-- some suffix is after a dot of the text if and only if the text after the first dot is a suffix or has one after a dot
 pub behind-first : (text behind : List ℕ) (suffixes : List (List ℕ)) → position_or_len is_dot text < length text → behind ≡ after_first is_dot text → list_any (is_behind_dot text) suffixes ≡ (list_any (bytes_eq behind) suffixes || list_any (is_behind_dot behind) suffixes)
 behind-first text behind suffixes within cut =
     list_any-same _ _ (λ suffix. is_behind_dot-first text suffix within) suffixes

@@ -10,23 +10,23 @@ use Rattle.crawl_keys.proofs.CanonicalLemmas.{web_kind}
 
 -- ---- how the parser reads the text
 
--- the list begins with the byte, and all in it have the property
+-- the list begins with the byte, and all its bytes have the property
 pub record Begins (b : ℕ) (P : ℕ → Type 0) (l : List ℕ) : Type 0 where
   pub rest : List ℕ
   pub is : l ≡ b ∷ rest
   pub all : All P l
 
--- a byte that does not pass ends the front that does
+-- the longest prefix whose bytes pass ends at a byte that does not pass
 prefix_len-stops : (p : ℕ → Bool) (xs : List ℕ) (i : ℕ) → i < length xs → p (get_or xs i 0) ≡ false → prefix_len p xs ≤ i
 prefix_len-stops p [] i inside fails = absurd (omega arith)
 prefix_len-stops p (x ∷ xs) zero inside fails = rw fails (omega arith)
 prefix_len-stops p (x ∷ xs) (suc i) inside fails = grind (arith, cases_Bool, prefix_len-stops p xs i)
 
--- nor does the end that does reach back over it
+-- and the longest suffix begins after such a byte
 pub suffix_len-stops : (p : ℕ → Bool) (front : List ℕ) (b : ℕ) (rest : List ℕ) → p b ≡ false → suffix_len p (front ++ b ∷ rest) ≤ length rest
 suffix_len-stops p front b rest fails = grind (arith, common_steps, length-append, length-reverse, get_or-reverse, get_or-append_seam, prefix_len-stops)
 
--- some of the front of a list that is not empty
+-- a prefix of a list that is not empty
 begins-take : (b : ℕ) (P : ℕ → Type 0) (rest : List ℕ) (n : ℕ) → 0 < n → All P (b ∷ rest) → Begins b P (take n (b ∷ rest))
 begins-take b P rest zero some all = absurd (omega arith)
 begins-take b P rest (suc n) some all = record { rest = take n rest; is = refl; all = All-take P (suc n) (b ∷ rest) all }
@@ -67,7 +67,7 @@ begins-split b s P l other k = record {
   all = All-split s P l k.all;
 }
 
--- the scheme's end would be a colon
+-- if the text had a scheme, a colon would end it
 abbrev pub NoScheme : ℕ → ℕ → Type 0
 NoScheme b x = (b ≡ 47) ⊎ (x ≢ 58)
 
@@ -77,7 +77,7 @@ no_scheme b l k = grind (arith, cond-false, and_right, ne_eqb, cases_eq, get_or_
 
 -- ---- the parts of the page that the parser uses
 
--- the folder of the page, as a page of its own
+-- the folder of the page, as a URL of its own
 abbrev folder : Parts → Parts
 folder url = record url { path = without_last_segment url.path ++ 47 ∷ []; query = None; fragment = None }
 
@@ -189,7 +189,7 @@ folder_text-root url web =
 serialize-folder : (url : Parts) → IsWeb url → serialize (folder url) ≡ folder_text url ++ 47 ∷ []
 serialize-folder url web = grind (arith, bare_text, append_assoc, folder_text-root)
 
--- two pages whose folders have one text have one folder
+-- two pages whose folders have the same text have the same folder
 same_folder : (one other : Parts) → IsWeb one → IsWeb other → folder_text one ≡ folder_text other → folder one ≡ folder other
 same_folder one other its own same =
     let text = serialize-folder one its ∙ ap (λ l. l ++ 47 ∷ []) same ∙ sym (serialize-folder other own) in
@@ -198,12 +198,12 @@ same_folder one other its own same =
 
 -- ---- the whole
 
--- a text with no first colon has none
+-- if the first colon is not in a text, the text has none
 pub none_from_first : (p : ℕ → Bool) (l : List ℕ) → position_or_len p l ≡ length l → list_any p l ≡ false
 none_from_first p [] first = refl
 none_from_first p (x ∷ l) first = grind (arith, or_from, cases_Bool, none_from_first p l)
 
--- the text begins visibly, and has no scheme
+-- the text begins with a byte that is not trimmed, and has no scheme
 pub record IsPlain (text : List ℕ) : Type 0 where
   pub first : ℕ
   pub above : 32 < first

@@ -9,7 +9,7 @@ use Rattle.crawl_keys.proofs.FolderLemmas.{suffix_len-stops}
 
 -- ---- the parser's first steps
 
--- a text that the parser cuts nothing off at the end
+-- a text at whose end the parser trims nothing
 record EndsVisibly (l : List ℕ) : Type 0 where
   front : List ℕ
   last : ℕ
@@ -19,7 +19,7 @@ record EndsVisibly (l : List ℕ) : Type 0 where
 visible_end : (l : List ℕ) → ends_visibly l ≡ true → EndsVisibly l
 visible_end l visible = grind (arith, common_steps, ltb-true, get_or_past, cases_lt, split_around, drop_all)
 
--- the trimmed front of such a text, for any rest
+-- the beginning of such a text after trimming, whatever the rest is
 record Kept (trims : ℕ → Bool) (P : ℕ → Type 0) (front : List ℕ) (c : ℕ) : Type 0 where
   kept : List ℕ
   is : (rest : List ℕ) → trim_start trims (front ++ c ∷ rest) ≡ kept ++ c ∷ rest
@@ -75,7 +75,7 @@ cut_parts front c fragment above plain =
 
 -- ---- the parser's last step
 
--- the URL with a tail, of which its text keeps only the query
+-- the URL with a tail: its text has only the query of the tail
 text_of-web : (url : Parts) (query : Option (List ℕ)) (fragment : Option (List ℕ)) → is_web url ≡ true → text_of (with_tail (before_tail url query fragment) query fragment) ≡ text_of (with_tail url query None)
 unfolding text_of
 text_of-web url query fragment web = grind (arith, web_kind, cond-false, and_left)
@@ -102,7 +102,7 @@ parse_parts-fragment : (scheme : List ℕ) (base : Option Parts) (body : List �
 unfolding parse_parts
 parse_parts-fragment scheme base body query one other = grind (arith, text_of_parse-tail, text_of-fragment)
 
--- more than a fragment
+-- the text is more than a fragment
 abbrev IsMore : List ℕ → Option (List ℕ) → Type 0
 IsMore body query = (is_empty body && not (is_some query)) ≡ false
 
@@ -125,7 +125,7 @@ parse_url-cut base text front cut = grind (arith, parse_by_scheme-fragment, more
 
 -- ---- the whole
 
--- the text has a fragment, and ends visibly before it
+-- the text has a fragment, and the byte before that is not trimmed
 record IsLong (text : List ℕ) : Type 0 where
   front : List ℕ
   last : ℕ
@@ -151,7 +151,7 @@ long_text text visible inside =
       plain = subst (All (IsNot 35)) k.is plain;
     }
 
--- the text stays, or is cut
+-- the text stays whole, or it is cut
 long_or_whole : (text : List ℕ) → (before_fragment text ≡ text) ⊎ IsLong text
 long_or_whole text = grind (arith, long_text, cond-true, take_all, cases_lt, cond-false, cases_Bool)
 

@@ -10,7 +10,7 @@ use Rattle.crawl_keys.proofs.SpelledLemmas.{resolve-spelled, spelled_at, spelled
 
 -- ---- the scheme of a page
 
--- the byte is left as it is in a text before its query
+-- a text before its query keeps the byte unchanged
 abbrev stands : ℕ → Bool
 stands b = is_kept b && not (b == 63)
 
@@ -77,7 +77,7 @@ resolve-behind base rest valid page plain =
     ∙ ap (λ p. resolve_from p text) (sym page.parses)
     ∙ resolve-spelled base (serialize base) text _ _ page.parses k
 
--- the two texts are that of the URL that the link leads to
+-- the two texts together are that of the URL to which the link leads
 front_scheme : (text scheme : List ℕ) (k : IsCanonical text) → IsSchemeOf text scheme → (rest : List ℕ) → scheme ++ rest ≡ k.url.scheme ++ 58 ∷ rest
 front_scheme text scheme k own rest = ap (λ s. s ++ rest) (own k.url k.parses) ∙ append_assoc k.url.scheme (58 ∷ []) rest
 

@@ -5,7 +5,7 @@ use Rattle.std.proofs.lemmas.Map.Lookups.{exact_bytes}
 use Rattle.std.proofs.lemmas.Map.Views.{Contains-from_any, list_any-from_Contains}
 use Rattle.crawl_keys.specs.declared.filter.error.FilterError.{FilterError}
 
--- the texts that pass a test, with one more text
+-- whether some text passes a test, with one more text
 pub list_any-insert_key : (test : List ℕ → Bool) (texts : List (List ℕ)) (text : List ℕ) → list_any test (insert_key (slice_cmp nat_cmp) texts text) ≡ (list_any test texts || test text)
 list_any-insert_key test [] text = or-false (test text)
 list_any-insert_key test (x ∷ more) text = at_order (slice_cmp nat_cmp text x) refl (list_any-insert_key test more text)
@@ -35,7 +35,7 @@ list_any-insert_key test (x ∷ more) text = at_order (slice_cmp nat_cmp text x)
         again (test x) (list_any test more) ∙ ap (λ b. (test x || list_any test more) || b) same
     at_order Greater is rest = ap (λ b. test x || b) rest ∙ later (test x) (list_any test more) (test text)
 
--- and with some more
+-- likewise with several more
 pub list_any-fold : (test : List ℕ → Bool) (texts more : List (List ℕ)) → list_any test (fold (insert_key (slice_cmp nat_cmp)) texts more) ≡ (list_any test texts || list_any test more)
 list_any-fold test texts [] = sym (or-false (list_any test texts))
 list_any-fold test texts (text ∷ more) =
@@ -47,11 +47,11 @@ list_any-fold test texts (text ∷ more) =
     grouped true b c = refl
     grouped false b c = refl
 
--- suffixes in order pass the tests that they pass as they were given
+-- some suffix in order passes a test if and only if some given suffix does
 pub list_any-in_order : (test : List ℕ → Bool) (suffixes : List (List ℕ)) → list_any test (in_order suffixes) ≡ list_any test suffixes
 list_any-in_order test suffixes = list_any-fold test [] suffixes
 
--- they are the same suffixes
+-- the suffixes in order are the given ones
 pub Contains-in_order : (suffixes : List (List ℕ)) (suffix : List ℕ) → Contains (in_order suffixes) suffix ↔ Contains suffixes suffix
 Contains-in_order suffixes suffix = (
   λ kept. Contains-from_any same suffix suffixes (sym (list_any-in_order (bytes_eq suffix) suffixes) ∙ list_any-from_Contains nat_list_eq_equiv suffix (in_order suffixes) kept),
@@ -70,7 +70,7 @@ allows-in_order (suffix ∷ more) url = at_some (in_order (suffix ∷ more)) (li
     at_some [] some = cc
     at_some (x ∷ xs) some = refl
 
--- the kept suffixes are those given
+-- the stored suffixes are the given ones
 pub Contains-kept : (given kept : List (List ℕ)) → ◌≡◌ {A = Result (List (List ℕ)) FilterError} (Ok (in_order given)) (Ok kept) → (suffix : List ℕ) → Contains kept suffix ↔ Contains given suffix
 Contains-kept given kept same suffix =
     let is : in_order given ≡ kept = cc in

@@ -1,7 +1,7 @@
 -- From the mask of 16 lanes to the bytes of a text.
 use Rattle.crawl_keys.proofs.Prelude.{◌≡◌, ◌≢◌, ℕ, ◌+◌, ◌-◌, ◌%◌, ◌^◌, ◌<◌, ◌≤◌, ◌==◌, Bool, true, false, not, ◌||◌, cond, refl, List, map, length, get_or, bit_and, bit_or, Fits, w8, replicate, sym, ap, ◌∙◌, subst, arith, inl, inr, agree_below, agree_below_at, cases_eq, cond-false, cond-true, eq-eqb, ne_eqb, not-false, not-true, first_set_mask_l, get_or-chunk, get_or-zip2, leading_from_mask_l, length-chunk, length-zip2, map-map, mask_l-mod, run_in_chunk_fails, run_in_chunk_le, run_in_chunk_stops, splat_is_map, zip2_of_maps, get_or-map, length-map, prefix_len_passes, prefix_len, chunk, mask_l, top, zip2, Follow, IsRun, first_set, is_host_byte, is_kept, is_other, may_begin, may_follow}
 
--- a splat, as computed lane by lane from v
+-- a vector with the same byte in each lane, computed lane by lane from v
 pub splat : (v : List ℕ) (y : ℕ) → length v ≡ 16 → replicate 16 y ≡ map (λ _. y) v
 splat v y long = splat_is_map v 16 y long
 
@@ -16,8 +16,7 @@ none_set z few none k inside =
     let all = leading_from_mask_l (top 7) z mask in
     not-true _ (prefix_len_passes (λ x. not (top 7 x)) z k 0 (omega (arith, all)))
 
--- For 16 bytes and the byte before each: the test of each byte, the slashes among the bytes before, and the test of each byte after
--- one.
+-- For 16 bytes and the byte before each: a test of each byte, the slashes among the bytes before, and a test of each byte that follows a slash.
 module _ (own slashes begins : ℕ → ℕ) (other : (a : ℕ) → a ≢ 47 → slashes a ≡ 0)
     (first : agree_below (λ b. top 7 (bit_or (own b) (bit_and (slashes 47) (begins b))) || may_begin b) (λ _. true) 256 ≡ true)
     (later : agree_below (λ b. top 7 (bit_or (own b) (bit_and 0 (begins b))) || is_kept b) (λ _. true) 256 ≡ true) where
@@ -85,7 +84,7 @@ all_follow text at z own slashes begins room fits is other first later none k fr
     (subst (λ j. may_follow (get_or text (at + i) 0) (get_or text j 0) ≡ true) next
     (follows own slashes begins other first later (get_or text (at + i) 0) (get_or text (at + 1 + i) 0) (fits (at + 1 + i)).fits test))
 
--- a lane stops exactly if its byte fails the test
+-- the run ends at the first byte that fails the test
 run_of : (test : ℕ → Bool) (text : List ℕ) (at r : ℕ) (z : List ℕ) (f : ℕ → ℕ) → at + 16 ≤ length text → ((k : ℕ) → Fits w8 (get_or text k 0))
     → r ≡ first_set (mask_l (map (top 7) z) % 2 ^ 64) → z ≡ map f (chunk at 16 text)
     → ((x : ℕ) → x < 256 → top 7 (f x) ≡ not (test x)) → IsRun test text at r
@@ -102,14 +101,14 @@ run_of test text at r z f room fits found lanes told =
       stops = λ short. not-true _ (sym (at_byte (at + r)) ∙ run_in_chunk_stops stops text at 16 r 0 room counted short);
     }
 
--- if the byte may not be in a host
+-- likewise for bytes that a host may have
 pub host_run : (text : List ℕ) (at r : ℕ) (z : List ℕ) (f : ℕ → ℕ) → at + 16 ≤ length text → ((k : ℕ) → Fits w8 (get_or text k 0))
     → r ≡ first_set (mask_l (map (top 7) z) % 2 ^ 64) → z ≡ map f (chunk at 16 text)
     → agree_below (λ x. top 7 (f x)) (λ x. not (is_host_byte x)) 256 ≡ true → IsRun is_host_byte text at r
 host_run text at r z f room fits found lanes all =
     run_of is_host_byte text at r z f room fits found lanes (λ x below. agree_below_at (λ y. top 7 (f y)) (λ y. not (is_host_byte y)) 256 x all below)
 
--- if the byte is the mark
+-- likewise for bytes other than the mark
 pub other_run : (text : List ℕ) (at mark r : ℕ) (z : List ℕ) → at + 16 ≤ length text → ((k : ℕ) → Fits w8 (get_or text k 0))
     → r ≡ first_set (mask_l (map (top 7) z) % 2 ^ 64) → z ≡ map (λ x. cond (x == mark) 255 0) (chunk at 16 text) → IsRun (is_other mark) text at r
 other_run text at mark r z room fits found lanes =

@@ -42,7 +42,7 @@ word_scheme scheme word =
 not_web : (url : Parts) → is_special (kind_of url) ≡ false → is_web url ≡ false
 not_web url other = grind (arith, web_kind, cases_Bool)
 
--- a page of the web is no base for it
+-- the URL of a web page is not a base for it
 other_base : (base : Parts) (scheme : List ℕ) → is_special (scheme_type scheme) ≡ false → base_for_scheme (Some base) scheme ≡ None
 other_base base scheme other = grind (arith, cond_both, and_parts, bytes_eq-Decides)
 
@@ -67,7 +67,7 @@ before_query : (path : List ℕ) → first_is_slash path ≡ false → StopsAt (
 unfolding split_once
 before_query path rootless = grind (arith, common_steps, cond_both, or_from, and_right)
 
--- a link of that kind is refused on each page
+-- resolving such a link fails on every page
 pub refuses-opaque : (page text : List ℕ) → IsCanonical page → IsOpaque text → resolve page text ≡ Err NotHttp
 unfolding split_once
 refuses-opaque page text k o =

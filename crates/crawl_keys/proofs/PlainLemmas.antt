@@ -1,4 +1,4 @@
--- The segments of a path, and a query, in a text that the parser of URLs leaves as it is.
+-- The segments of a path, and a query, in a text that the parser of URLs leaves unchanged.
 use Rattle.crawl_keys.proofs.Prelude.{◌≡◌, ◌≢◌, ℕ, suc, ◌+◌, ◌-◌, ◌<◌, ◌==◌, Bool, true, not, ◌&&◌, List, [], ◌∷◌, ◌++◌, length, take, drop, get_or, take-append-drop, refl, ap, sym, subst, ◌∙◌, ⊎_elim, All, Some, IfSome, arith, bit_and, nat_eq, Option, is_some, unwrap_or, agree_below, agree_below_at, and_from, and_parts, cases_eq, cond-false, cond-true, cond_both, eq-eqb, eqb-true, ne_eqb, true≢false, nat_tests, All-nil, All-cons, All-head, All-tail, All-weaker, list_all-append, after_first, before_first, list_all, position_or_len, prefix_len, passes_at_first, split_at_first, IsKept, PATH, SPECIAL_QUERY, SpecialNotFile, All_from_list_all, IsNot, Passes, StopsAt, StopsAt-drop-prefix_len, list_all_from_All, IsNoSlash, kept_from_passes, Follow, is_kept, is_other, is_plain, may_begin, may_follow}
 use Rattle.url.specs.Input.{split_once, when}
 use Rattle.url.specs.Path.{dot_len, dot_count, IsSegment, IsSegmentList, join_segments}
@@ -42,7 +42,7 @@ all_kept last (b ∷ text) plain =
 pub plain_then : (last b : ℕ) (text : List ℕ) → may_follow last b ≡ true → is_plain b text ≡ true → is_plain last (b ∷ text) ≡ true
 plain_then last b text first plain = grind (arith, and_from, cond_both, list_all_from_All, all_kept)
 
--- if a text is plain and its first byte is no `?`, the rest is plain after that byte
+-- if a text is plain and its first byte is not `?`, the rest is plain after that byte
 plain_after : (last b : ℕ) (text : List ℕ) → is_plain last (b ∷ text) ≡ true → b ≢ 63 → is_plain b text ≡ true
 plain_after last b text plain other = grind arith
 
@@ -153,7 +153,7 @@ rooted_path last b text slash plain none =
 
 -- ---- the query
 
--- the mark and the query, if there is one
+-- the `?` and the query, if there is a query
 abbrev pub query_text : Option (List ℕ) → List ℕ
 query_text query = when (is_some query) (63 ∷ []) ++ unwrap_or query []
 

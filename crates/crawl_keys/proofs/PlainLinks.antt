@@ -1,4 +1,4 @@
--- The targets of links in common forms: the parser's relative state on texts that it leaves as they are.
+-- The targets of links in common forms: the parser's relative state on texts that it leaves unchanged.
 use Rattle.crawl_keys.proofs.Prelude.{common_steps, ◌≡◌, ℕ, zero, suc, ◌+◌, ◌<◌, ◌==◌, true, false, List, [], ◌∷◌, ◌++◌, length, get_or, drop, reverse, refl, ap, sym, subst, ◌∙◌, ⊎_elim, inl, All, Some, None, Ok, IfSome, arith, append_assoc, append-nil, length-append, take_all, add-one, Option, if◌then◌else◌, prefix_len, and_left, and_parts, cond-false, cond_both, eqb-true, lt-leb, or_cases, true≢false, nat_tests, flat_map-append, get_or-reverse, length-reverse, All-nil, All-cons, All-append, All-from_get_or, All-head, All-weaker, IsKept, SchemeType, SpecialNotFile, SPECIAL_QUERY, BeforeHost, AfterHost, head_only, Parts, IsValid, kind_of, offset, query_set, serialize, All_from_list_all, IsNot, Passes, StopsAt, filter_all, list_all_from_All, split_once_none, IsNoSlash, parse_path_more, without_last_valid, parse_after_slash, parse_own_segments, stays_unless_file, base_from_authority, option_unchanged, IsPage, resolve, text_of_parse, is_of_folder, root_text, IsInFolder, above, behind_ups, has_no_scheme, is_query, is_rooted, is_same, first_is_slash, is_kept, is_plain, may_follow, IsSpelled}
 use Rattle.url.specs.Input.{is_c0_control_or_space, split_once, strip_tabs_and_new_lines, trim_c0_control_and_space}
 use Rattle.url.specs.Parser.{Parsed, after_double_slash, after_slashes, and_then, before_tail, inherit, leading_slashes, parse_by_scheme, parse_parts, parse_relative, parse_url, parse_without_scheme, split_scheme, with_path, with_tail}
@@ -48,7 +48,7 @@ pub parse_url-kept : (base : Parts) (text body : List ℕ) (query : Option (List
 unfolding parse_url
 parse_url-kept base text body query kept split none = grind (arith, uncut)
 
--- the last step leaves a kept query as it is
+-- the last step leaves a kept query unchanged
 tail_of : (base : Parts) (path : List ℕ) (query : Option (List ℕ)) → kind_of base ≡ SpecialNotFile → IfSome query (All (IsKept SPECIAL_QUERY))
     → with_tail (before_tail (with_path (head_only base) path) query None) query None ≡ with_rest base path query
 tail_of base path query kind kept = grind (arith, option_unchanged, before_special, with_rest)
@@ -108,7 +108,7 @@ parse_url-rooted : (base : Parts) (text : List ℕ) → IsWeb base → get_or te
     → parse_url (Some base) text ≡ Ok (with_rest base (split_once 63 text).0 (split_once 63 text).1)
 parse_url-rooted base text web slash plain = grind (arith, common_steps, with_rest, rooted_more)
 
--- the target of the page's URL with a rest
+-- the target of a link that replaces the path and the query
 pub resolve-rest : (base : Parts) (link text path : List ℕ) (query : Option (List ℕ)) → IsValid base → IsPage base → IsRest text path query
     → parse_url (Some base) link ≡ Ok (with_rest base path query) → resolve (serialize base) link ≡ Ok (root_text base ++ text)
 resolve-rest base link text path query valid page rest parses = grind (arith, web_url, text_of-web, with_rest, rest_text)
@@ -198,7 +198,7 @@ folder_rest base n rest web plain =
       whole = ap (λ t. front ++ 47 ∷ t) split.whole ∙ sym (append_assoc front (47 ∷ body) (query_text (split_once 63 rest).1));
     }
 
--- a text of a folder has a path, and no scheme
+-- a text that depends on the folder has a path, and no scheme
 record HasPath (text : List ℕ) : Type 0 where
   none : split_scheme (split_once 63 text).0 ≡ None
   some : 0 < length (split_once 63 text).0
@@ -214,7 +214,7 @@ no_up_scheme : (text : List ℕ) → split_scheme (46 ∷ text) ≡ None
 unfolding split_scheme scheme_len
 no_up_scheme text = refl
 
--- so has one that begins with a dot
+-- so has a text that begins with a dot
 dot_path : (text : List ℕ) → HasPath (46 ∷ text)
 unfolding split_once
 dot_path text = record { none = no_up_scheme (split_once 63 text).0; some = omega arith }
@@ -339,7 +339,7 @@ same_fragment base text web page =
 pub resolve-same : (base : Parts) (text : List ℕ) → IsValid base → IsPage base → is_same text ≡ true → resolve (serialize base) text ≡ Ok (serialize base)
 resolve-same base text valid page same = grind (arith, web_url, same_empty, eqb-true, same_fragment)
 
--- one `../` more
+-- one more `../`
 pub behind_more : (n : ℕ) (text : List ℕ) → behind_ups n (46 ∷ 46 ∷ 47 ∷ text) ≡ behind_ups (n + 1) text
 behind_more n text = one_more n text ∙ ap (λ k. behind_ups k text) (sym (add-one n))
   where

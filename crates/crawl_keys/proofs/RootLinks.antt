@@ -16,7 +16,7 @@ none_above : (n : ℕ) → above n [] ≡ []
 none_above zero = refl
 none_above (suc n) = ap without_last_segment (none_above n) ∙ nothing_above
 
--- the parser's relative state, on a path that it reads as this one
+-- the parser's relative state, on a text whose path it reads as this one
 root_relative : (base : Parts) (n : ℕ) (text body : List ℕ) → kind_of base ≡ SpecialNotFile → StopsAt (is_slash SpecialNotFile) text
     → ((front : List ℕ) → parse_path SpecialNotFile front text ≡ parse_path SpecialNotFile (above n front) body) → is_plain 47 body ≡ true → All (IsNot 63) body
     → parse_relative base (47 ∷ text) ≡ Ok (with_path (head_only base) (47 ∷ body))

@@ -1,4 +1,4 @@
--- Texts of web URLs that are made of a head, a path and a query.
+-- Texts of web URLs that consist of a beginning, a path and a query.
 use Rattle.crawl_keys.proofs.Prelude.{common_steps, ◌≡◌, ℕ, ◌+◌, ◌<◌, true, false, not, ◌&&◌, ◌||◌, List, [], ◌∷◌, ◌++◌, length, get_or, take, drop, refl, ap, sym, subst, ◌∙◌, All, Some, None, Ok, IfSome, arith, append_assoc, append-nil, length-append, length-take-le, take-append-drop, lit<, Option, IsAscii, bytes_eq, codes, slice_range, is_ascii_digit, to_ascii_lowercase, list_all, and_left, and_right, or_from, true≢false, nat_tests, All-nil, prefix_len-le-length, IsKept, hash_of, Domain, SpecialNotFile, FORBIDDEN_DOMAIN, SPECIAL_QUERY, USERINFO, BeforeHost, AfterHost, Parts, IsValid, IsValidHead, has_authority, offset, serialize, pieces, IsSegmentList, Passes, All-take-prefix_len, is_empty_nonempty, lowercase_other, map_fixed, kept_from_passes, parse_url-serialize_special, IsAscii-serialize, special_has_authority, Laid, IsCanonical, canonical, is_web, resolve, resolve_from, text_of_parse, without_fragment, root_text, IsLaidOut, host_len, is_host_byte, is_lower, is_named, is_plain, is_plain_host, IsSpelled, host_key, host_of_parse}
 use Rattle.url.specs.Host.{IsDomain, IsHostOf}
 use Rattle.url.specs.Input.{is_empty, rsplit_once, split_once}
@@ -15,7 +15,7 @@ slice_range-host url valid web =
     slice_at _ (pieces (without_fragment url)) 6 7 _ _ refl (omega arith) refl refl ∙ append-nil _
     ∙ sym (ap host_of_parse (parse_url-without_fragment url valid web))
 
--- the fields that are read off a web URL are laid out
+-- what is read from a web URL is laid out
 laid_out : (u : Laid) (url : Parts) → IsValid url → is_web url ≡ true → u.text ≡ serialize (without_fragment url) → IsAscii u.text → u.host_start ≡ offset url BeforeHost → u.host_end ≡ offset url AfterHost → u.hash ≡ hash_of u.text → IsSpelled u.text u.host_start u.host_end → IsLaidOut u
 laid_out u url valid web spelled ascii start end hashed own = record {
   canonical = rw spelled (canonical_text url valid web);
@@ -59,7 +59,7 @@ laid_spelled u k hashed =
     laid_out u k.url k.valid k.web (sym k.spelled ∙ (λ i. serialize (record k.url { fragment = k.bare i })))
     (subst IsAscii k.spelled (IsAscii-serialize k.url k.valid)) (sym k.start) (sym k.end) hashed k
 
--- likewise for equal offsets
+-- likewise for positions that are equal to these
 pub spelled_at : (text : List ℕ) (start end own its : ℕ) → IsSpelled text start end → own ≡ start → its ≡ end → IsSpelled text own its
 spelled_at text start end own its k first last = grind arith
 
@@ -145,7 +145,7 @@ host_lower b host = lowercase_other b (grind (arith, nat_tests))
 host_domain : (host : List ℕ) → All (Passes is_host_byte) host → is_named host ≡ true → IsDomain host
 host_domain host all letter = grind (arith, host_kept, map_fixed, host_lower, named)
 
--- a scheme of the web
+-- a web scheme
 pub record IsWebScheme (scheme : List ℕ) : Type 0 where
   pub is : IsScheme scheme
   pub web : (bytes_eq scheme (codes "http") || bytes_eq scheme (codes "https")) ≡ true

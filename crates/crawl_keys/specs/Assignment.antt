@@ -1,20 +1,20 @@
--- Which subqueue a host key is assigned to.
+-- The subqueue to which a host key is assigned.
 use Rattle.std.specs.Prelude.{ℕ, ◌+◌, ◌*◌, ◌%◌, ◌^◌, List, [], ◌∷◌, length}
 use Rattle.crawl_keys.specs.HostKey.{host_key}
 
--- the sum of the bytes, each times 31 to the power of how many bytes follow it
+-- the sum of the bytes, each multiplied by 31 to the power of the number of bytes after it
 abbrev pub weighted_sum : List ℕ → ℕ
 weighted_sum [] = 0
 weighted_sum (b ∷ bytes) = b * 31 ^ length bytes + weighted_sum bytes
 
--- the hash of a key, of 32 bits
+-- the hash of a key, 32 bits
 unfoldable pub hash : List ℕ → ℕ
 hash key = weighted_sum key % 2 ^ 32
 
--- which of n subqueues a key is assigned to
+-- the subqueue, of n, to which a key is assigned
 abbrev pub assign : List ℕ → ℕ → ℕ
 assign key n = hash key % n
 
--- which of n subqueues a canonical text belongs to: that of its host key
+-- the subqueue, of n, to which a canonical text belongs: that of its host key
 abbrev pub subqueue_of : List ℕ → ℕ → ℕ
 subqueue_of text n = assign (host_key text) n

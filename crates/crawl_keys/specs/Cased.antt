@@ -1,5 +1,4 @@
--- URLs of the web that the parser spells in another way: in any case of letters, with the port that is the scheme's own, or
--- with no path.
+-- Web URLs that the parser spells differently: with upper-case letters, with the scheme's default port, or without a path.
 use Rattle.std.specs.Prelude.{◌≡◌, ◌⊎◌, ◌++◌, ℕ, true, List, [], ◌∷◌, length, codes, Option, None, Ok}
 use Rattle.std.specs.Char.{is_ascii_digit}
 use Rattle.std.specs.List.{list_all}
@@ -10,16 +9,15 @@ use Rattle.url.specs.Parts.{Parts}
 use Rattle.crawl_keys.specs.CanonicalText.{text_of_parse}
 use Rattle.crawl_keys.specs.Plain.{host_len, is_plain_host}
 
--- on whatever page the text is, or on none, it leads there
+-- the text leads to this URL from every page, and without a page
 abbrev pub LeadsAnywhere : List ℕ → List ℕ → Type 0
 LeadsAnywhere text url = (base : Option Parts) → text_of_parse (parse_url base text) ≡ Ok url
 
--- a scheme of the web in lower case, and its slashes
+-- a web scheme in lower case, and its slashes
 abbrev pub IsFront : List ℕ → Type 0
 IsFront front = (front ≡ codes "http://") ⊎ (front ≡ codes "https://")
 
--- the front is the scheme in lower case with its slashes, and the port a colon and the digits of the scheme's own port, which the
--- parser leaves out
+-- the front is the scheme in lower case with its slashes, and the port is a colon and the digits of the scheme's default port, which the parser omits
 pub record IsFrontOf (scheme front port : List ℕ) : Type 0 where
   pub digits : List ℕ
   pub web : (lowercase scheme ≡ codes "http") ⊎ (lowercase scheme ≡ codes "https")
@@ -28,7 +26,7 @@ pub record IsFrontOf (scheme front port : List ℕ) : Type 0 where
   pub whole : list_all is_ascii_digit digits ≡ true
   pub own : parse_port (lowercase scheme) digits ≡ Ok None
 
--- the text is this front, a slash and what follows; or only the front, and nothing follows
+-- the text is this front, a slash and the rest; or only the front, and the rest is empty
 abbrev pub IsCut : List ℕ → List ℕ → List ℕ → Type 0
 IsCut text front back = (text ≡ front ++ slash ∷ back) ⊎ ((text ≡ front) × (back ≡ []))
 
@@ -36,7 +34,7 @@ IsCut text front back = (text ≡ front ++ slash ∷ back) ⊎ ((text ≡ front)
 abbrev pub IsWithPort : List ℕ → List ℕ → List ℕ → Type 0
 IsWithPort text host port = (text ≡ host ++ port) ⊎ (text ≡ host)
 
--- the URL is the front, the host in lower case, a slash and the path, and all that follows the front is in its common form
+-- the URL is the front, the host in lower case, a slash and the path, and everything after the front is in its common form
 pub record IsLowered (front host path url : List ℕ) : Type 0 where
   pub is : url ≡ front ++ (lowercase host ++ slash ∷ path)
   pub plain : is_plain_host (lowercase host ++ slash ∷ path) ≡ true

@@ -1,4 +1,4 @@
--- The end of a page's folder, and the links that lead to one URL from all pages of a folder.
+-- The end of a page's folder, and the links that lead to the same URL from all pages of a folder.
 use Rattle.std.specs.Prelude.{ℕ, Bool, not, ◌&&◌, ◌||◌, ◌==◌, nat_lt, List, slice_index}
 use Rattle.std.specs.List.{list_any}
 use Rattle.url.specs.declared.slicing.Position.TheVariants.{BeforeScheme, AfterPath, AfterPort}
@@ -10,8 +10,8 @@ use Rattle.url.specs.Path.{without_last_segment}
 abbrev pub is_colon : ℕ → Bool
 is_colon b = b == colon
 
--- The URL to which such a text leads depends only on the folder of the page: it has no scheme, since it begins with a slash or has
--- no colon; it is more than a query or a fragment; and nothing is trimmed before its first byte.
+-- Only the folder of the page determines the URL to which such a text leads: the text has no scheme, since it begins with a slash or has no colon; it is more
+-- than a query or a fragment; and nothing is trimmed at its start.
 abbrev pub is_of_folder : List ℕ → Bool
 is_of_folder text =
     nat_lt space (slice_index text 0)

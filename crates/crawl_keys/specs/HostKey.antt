@@ -1,10 +1,10 @@
--- Which host a URL belongs to.
+-- The host to which a URL belongs.
 use Rattle.std.specs.Prelude.{ℕ, List, [], None, Ok, Err}
 use Rattle.url.specs.Host.{host_text}
 use Rattle.url.specs.Parts.{Parts, host_or_empty}
 use Rattle.url.specs.Parser.{Parsed, parse_url}
 
--- the serialized host of what was parsed, without its port; empty if the parse has no URL
+-- the serialized host of a parsed URL, without its port; empty if the parser failed
 abbrev pub host_of_parse : Parsed Parts → List ℕ
 host_of_parse (Ok url) = host_text (host_or_empty url)
 host_of_parse (Err _) = []

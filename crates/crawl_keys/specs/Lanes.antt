@@ -1,9 +1,9 @@
--- What is computed of 16 bytes at the same time.
+-- What is computed for 16 bytes at the same time.
 use Rattle.std.specs.Prelude.{◌≡◌, ◌<◌, ◌≤◌, ◌+◌, ◌==◌, ℕ, Bool, true, false, List, slice_index, if◌then◌else◌}
 use Rattle.std.specs.Int.{w64, trailing_zeros}
 use Rattle.crawl_keys.specs.Plain.{may_follow}
 
--- each of these positions is followed by a byte that may follow the one there
+-- from one position to before another, each byte may be followed by the byte after it
 abbrev pub Follow : List ℕ → ℕ → ℕ → Type 0
 Follow text at end = (k : ℕ) → at ≤ k → k < end → may_follow (slice_index text k) (slice_index text (k + 1)) ≡ true
 
@@ -13,6 +13,6 @@ pub record IsRun (test : ℕ → Bool) (text : List ℕ) (at run : ℕ) : Type 0
   pub pass : (k : ℕ) → at ≤ k → k < at + run → test (slice_index text k) ≡ true
   pub stops : run < 16 → test (slice_index text (at + run)) ≡ false
 
--- the place of the lowest bit that is set, or 16
+-- the position of the lowest bit that is set, or 16
 abbrev pub first_set : ℕ → ℕ
 first_set mask = if mask == 0 then 16 else trailing_zeros w64 mask

@@ -1,4 +1,4 @@
--- Links that are resolved without a parse.
+-- Links that are resolved without the parser.
 use Rattle.std.specs.Prelude.{◌≡◌, ◌≤◌, ◌+◌, ◌-◌, ◌++◌, ℕ, zero, suc, Bool, true, false, ◌&&◌, ◌||◌, ◌==◌, List, [], ◌∷◌, length, take, slice_index, slice_range, ⊤}
 use Rattle.std.specs.List.{list_all}
 use Rattle.url.specs.declared.scheme.SchemeType.TheVariants.{SpecialNotFile}
@@ -11,7 +11,7 @@ use Rattle.crawl_keys.specs.Folders.{is_of_folder}
 use Rattle.crawl_keys.specs.Plain.{first_is_slash, host_len, is_kept, is_plain, is_plain_host}
 use Rattle.crawl_keys.specs.Spelled.{IsSpelled}
 
--- two slashes, and a plain host that is so long, with a path and a query
+-- two slashes, a plain host of this length, and then a path and a query
 pub record IsByHost (text : List ℕ) (len : ℕ) : Type 0 where
   pub rest : List ℕ
   pub is : text ≡ slash ∷ slash ∷ rest
@@ -19,7 +19,7 @@ pub record IsByHost (text : List ℕ) (len : ℕ) : Type 0 where
   pub host : len ≡ host_len rest
   pub within : len ≤ length rest
 
--- a path that begins with one slash, and a query
+-- a path that begins with one slash, and possibly a query
 abbrev pub is_rooted : List ℕ → Bool
 is_rooted text = first_is_slash text && is_plain 0 text
 
@@ -27,40 +27,40 @@ is_rooted text = first_is_slash text && is_plain 0 text
 abbrev pub is_query : List ℕ → Bool
 is_query text = slice_index text 0 == question_mark && is_plain 0 text
 
--- `../` n times, and a text
+-- `../` n times, and then a text
 abbrev pub behind_ups : ℕ → List ℕ → List ℕ
 behind_ups zero text = text
 behind_ups (suc n) text = dot ∷ dot ∷ slash ∷ behind_ups n text
 
--- the path of the folder that is n above the one with this path
+-- the path of the folder that is n folders above the one with this path
 abbrev pub above : ℕ → List ℕ → List ℕ
 above zero path = path
 above (suc n) path = without_last_segment (above n path)
 
--- What the parser makes of the text's path after any other, it makes of the rest's after one n folders above; and both
--- have one query.
+-- After any other path, the parser reads the path of the text as it reads that of the rest after a path that is n folders higher. Both texts have the same
+-- query.
 pub record ReadsAs (text : List ℕ) (ups : ℕ) (rest : List ℕ) : Type 0 where
   pub path : (front : List ℕ) → parse_path SpecialNotFile front (split_once question_mark text).0 ≡ parse_path SpecialNotFile (above ups front) (split_once question_mark rest).0
   pub query : (split_once question_mark text).1 ≡ (split_once question_mark rest).1
 
--- after dot segments of the text, and segments that they take back, comes the rest
+-- the text is the rest after dot segments, and after segments that dot segments remove
 pub record IsBehind (text : List ℕ) (ups : ℕ) (rest : List ℕ) : Type 0 where
   pub reads : ReadsAs text ups rest
   pub kept : list_all is_kept rest ≡ true → list_all is_kept text ≡ true
   pub rootless : first_is_slash rest ≡ false → first_is_slash text ≡ false
 
--- the text is whole segments and the rest, and where the rest reads as more, it reads as these and more
+-- the text is whole segments and then the rest; and whatever the rest reads as, the text reads as these segments and then that
 pub record IsAhead (text rest : List ℕ) : Type 0 where
   pub front : List ℕ
   pub is : text ≡ front ++ rest
   pub lifts : (more : List ℕ) → IsBehind rest 0 more → IsBehind text 0 (front ++ more)
 
--- the text ends with dot segments and more, and reads as what is before them and what is after them
+-- the text ends with dot segments and more, and reads as what is before these dot segments and what is after them
 pub record IsWithin (text dots behind : List ℕ) : Type 0 where
   pub within : length dots ≤ length text
   pub reads : IsBehind text 0 (take (length text - length dots) text ++ behind)
 
--- a slash, and a path that reads as one of plain segments after the root, above which there is no folder
+-- a slash, and a path that reads as plain segments after the root, above which there is no folder
 pub record IsAtRoot (text rest : List ℕ) : Type 0 where
   pub path : List ℕ
   pub ups : ℕ
@@ -72,14 +72,14 @@ pub record IsAtRoot (text rest : List ℕ) : Type 0 where
 abbrev pub has_no_scheme : List ℕ → Bool
 has_no_scheme text = slice_index text 0 == dot || is_of_folder text
 
--- the text leads to the folder n above the page's, and from there by a path that begins with a segment, and a query
+-- the text leads to the folder n above the page's, and from there along a path that begins with a segment, and a query
 pub record IsInFolder (text : List ℕ) (ups : ℕ) (rest : List ℕ) : Type 0 where
   pub behind : IsBehind text ups rest
   pub plain : is_plain slash rest ≡ true
   pub no_scheme : has_no_scheme text ≡ true
 
--- At which byte the folder n above ends in the text of a page, whose path begins at the root. A folder ends after its slash,
--- and above the first one there is none.
+-- The position in the text of a page, whose path begins at `root`, at which the folder n above the page's ends. A folder ends after its slash, and there is
+-- none above the first one.
 abbrev pub folder_above : List ℕ → ℕ → ℕ → ℕ → ℕ
 folder_above page root folder zero = folder
 folder_above page root folder (suc n) = root + length (without_last_segment (slice_range page root (folder_above page root folder n - 1))) + 1

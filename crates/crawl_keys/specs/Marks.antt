@@ -1,4 +1,4 @@
--- Which texts a table of marks has marked.
+-- Which texts are marked in a table of marks.
 use Rattle.std.specs.Prelude.{◌≡◌, ℕ, Bool, true, false, ◌%◌, List, length, get_or, bytes_eq}
 use Rattle.std.specs.List.{list_any}
 use Rattle.crawl_keys.specs.Assignment.{hash}

@@ -9,7 +9,7 @@ use Rattle.crawl_keys.specs.Plain.{first_is_slash, is_lower, is_plain}
 abbrev pub IsWord : List ℕ → Type 0
 IsWord bytes = (0 < length bytes) × (prefix_len is_lower bytes ≡ length bytes)
 
--- a scheme of letters that is not special, a colon, and after it no slash; and all is in its common form
+-- a scheme of letters that is not special, a colon, and then no slash; and all of it is in its common form
 pub record IsOpaque (text : List ℕ) : Type 0 where
   pub scheme : List ℕ
   pub path : List ℕ

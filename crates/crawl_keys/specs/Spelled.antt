@@ -4,7 +4,7 @@ use Rattle.url.specs.declared.slicing.Position.TheVariants.{BeforeHost, AfterHos
 use Rattle.url.specs.Parts.{Parts, IsValid, offset, serialize}
 use Rattle.crawl_keys.specs.CanonicalText.{is_web}
 
--- the text is that of a valid web URL with no fragment, whose host is between the two positions
+-- the text is that of a valid web URL without a fragment, and its host is between the two positions
 pub record IsSpelled (text : List ℕ) (host_start host_end : ℕ) : Type 0 where
   pub url : Parts
   pub valid : IsValid url

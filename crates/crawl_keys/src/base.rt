@@ -1,4 +1,4 @@
-//! A page whose links are resolved.
+//! The base URL of links: the page on which they are.
 ghost use Rattle.std.specs.Prelude.{◌≡◌, ◌≤◌, ◌+◌, ℕ, List, Some, length, true, IfOk, IfSome};
 ghost use Rattle.std.specs.Result.{result_ok};
 ghost use Rattle.crawl_keys.specs.Bases.{IsBase, IsFolderOf, IsSchemeOf};
@@ -131,7 +131,7 @@ impl Base {
         }
     }
 
-    /// The result of a link that need not be parsed. `None` means unknown.
+    /// The result for a link that need not be parsed. `None` means unknown.
     #[inline(always)]
     fn known(&self, alloc: Global, text: &str) -> Option<Result<CanonUrl, KeyError>>
         ensures { IfSome result (λ answer. Gives KeyError.NoMemory (λ url. url) answer (spec.resolve self.now text.now)) }
@@ -147,7 +147,7 @@ impl Base {
         }
     }
 
-    /// The canonical URL of a link that is not plain. The text before its fragment may be.
+    /// The canonical URL of a link that is not in a common form. The text before its fragment may be.
     fn without_fragment(&self, alloc: Global, text: &str) -> Result<CanonUrl, KeyError>
         ensures { Gives KeyError.NoMemory (λ url. url) result (spec.resolve self.now text.now) }
     {
@@ -197,7 +197,7 @@ impl Base {
         }
     }
 
-    /// The canonical URL of a link that is appended to what the page's text has before its path.
+    /// The canonical URL of a link that is appended to the page's text before its path.
     fn rooted(&self, alloc: Global, text: &str) -> Result<CanonUrl, KeyError>
         requires { is_rooted text.now ≡ true }
         ensures { Gives KeyError.NoMemory (λ url. url) result (spec.resolve self.now text.now) }
@@ -218,7 +218,7 @@ impl Base {
         CanonUrl::join(alloc, path, text, self.url.host())
     }
 
-    /// The result of a link into the page's folder, or into one above it. `None` means unknown.
+    /// The result for a link into the page's folder, or into one above it. `None` means unknown.
     fn beside(&self, alloc: Global, text: &str) -> Option<Result<CanonUrl, KeyError>>
         ensures { IfSome result (λ answer. Gives KeyError.NoMemory (λ url. url) answer (spec.resolve self.now text.now)) }
     {
@@ -229,7 +229,7 @@ impl Base {
         None
     }
 
-    /// The result of a link with dot segments. `None` means unknown.
+    /// The result for a link with dot segments. `None` means unknown.
     fn dotted(&self, alloc: Global, text: &str) -> Option<Result<CanonUrl, KeyError>>
         ensures { IfSome result (λ answer. Gives KeyError.NoMemory (λ url. url) answer (spec.resolve self.now text.now)) }
     {
@@ -244,8 +244,8 @@ impl Base {
         self.dotted_within(alloc, text, ups, rest)
     }
 
-    /// The result of a link with dot segments after another segment. `rest` is the text after the leading dot segments, which
-    /// climb `ups` folders. `None` means unknown.
+    /// The result for a link with dot segments after another segment. `rest` is the text after the leading dot segments, which lead
+    /// up `ups` folders. `None` means unknown.
     #[tactic(auto, using(crate::proofs::DotLinks::behind_both))]
     fn dotted_within(
         &self,
@@ -271,7 +271,7 @@ impl Base {
         None
     }
 
-    /// The canonical URL of a link that begins with a slash, is not plain and has no fragment to be cut.
+    /// The canonical URL of a link that begins with a slash, is not in a common form, and from which no fragment can be cut.
     fn from_root(&self, alloc: Global, text: &str) -> Result<CanonUrl, KeyError>
         ensures { Gives KeyError.NoMemory (λ url. url) result (spec.resolve self.now text.now) }
     {
@@ -302,7 +302,7 @@ impl Base {
         CanonUrl::join(alloc, root, rest, self.url.host())
     }
 
-    /// The canonical URL of a link that is not plain and has no fragment to be cut.
+    /// The canonical URL of a link that is not in a common form, and from which no fragment can be cut.
     fn not_plain(&self, alloc: Global, text: &str) -> Result<CanonUrl, KeyError>
         ensures { Gives KeyError.NoMemory (λ url. url) result (spec.resolve self.now text.now) }
     {

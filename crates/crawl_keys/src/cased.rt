@@ -9,7 +9,7 @@ use crate::plain::{HostPlace, is_plain, plain_host_len};
 use crate::{CanonUrl, KeyError};
 use std::alloc::{AllocError, Global};
 
-/// The canonical URL of such a text, which does not depend on the page. `None` means unknown.
+/// The canonical URL of such a text, which is the same on every page. `None` means unknown.
 pub fn respelled(alloc: Global, text: &str) -> Result<Option<CanonUrl>, KeyError>
     ensures url { IfOk result (λ found. IfSome found (λ url. LeadsAnywhere text.now url)) }
     ensures refused { IfErr result (λ e. e ≡ KeyError.NoMemory) }

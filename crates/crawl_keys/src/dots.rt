@@ -10,8 +10,8 @@ use crate::canon_url::joined;
 use crate::plain::{is_plain, len_before};
 use std::alloc::{AllocError, Global};
 
-/// The number of folders that a text climbs by its leading dot segments, and the text after them and after the segments that
-/// they remove: 1 and `b` for `../a/.././b`.
+/// The number of folders that a text leads up by its leading dot segments, and the text after them and after the segments that they
+/// remove: 1 and `b` for `../a/.././b`.
 pub fn behind_dots(text: &str) -> (usize, &str)
     ensures { IsBehind text.now result.0 result.1.now }
 {
@@ -24,7 +24,7 @@ pub fn behind_dots(text: &str) -> (usize, &str)
     (ups, rest)
 }
 
-/// The same for one dot segment, if the text begins with one, or with a segment that a dot segment removes.
+/// Likewise for the first dot segment, if the text begins with one, or with a segment and the dot segment that removes it.
 fn behind_one(text: &str) -> Option<(usize, &str)>
     ensures behind { IfSome result (λ step. IsBehind text.now step.0 step.1.now) }
     ensures shorter { IfSome result (λ step. step.0 + length step.1.now < length text.now) }
@@ -74,7 +74,8 @@ pub fn without_dots(alloc: Global, text: &str) -> Result<Option<String>, AllocEr
     Ok(Some(path))
 }
 
-/// The text from such dot segments on, and the text after them, if they remove no segment before them.
+/// Returns the text from the first such dot segments on, and the text after them. `None` if there are none, or if they remove a
+/// segment that is before them.
 fn dots_within(text: &str) -> Option<(&str, &str)>
     ensures { IfSome result (λ found. IsWithin text.now found.0.now found.1.now) }
 {

@@ -52,7 +52,7 @@ impl Filter {
     pub fn new(alloc: Global, suffixes: &[&str]) -> Result<Filter, FilterError>
         ensures exact { Gives FilterError.NoMemory (λ filter. filter) result (spec.filter_of (map (λ suffix. suffix.now) suffixes.now)) }
 
-        // The suffixes kept are those given, and allow the URLs that those do.
+        // The filter has exactly the given suffixes.
         ensures keeps { IfOk result (λ filter. (suffix : List ℕ) → Contains filter suffix ↔ Contains (map (λ suffix. suffix.now) suffixes.now) suffix) }
         ensures alike { IfOk result (λ filter. (url : List ℕ) → spec.allows filter url ≡ spec.allows (map (λ suffix. suffix.now) suffixes.now) url) }
     {
@@ -76,8 +76,8 @@ impl Filter {
 
     /// Whether the filter allows the URL.
     ///
-    /// The call allocates nothing. It looks up the host key and what follows each of its dots, so its
-    /// time hardly depends on the number of suffixes.
+    /// The call allocates nothing. It looks up the host key and the text after each of its dots, so its time hardly depends on the
+    /// number of suffixes.
     pub fn allows(&self, url: &CanonUrl) -> bool
         ensures { result ≡ spec.allows self.now url.now }
     {

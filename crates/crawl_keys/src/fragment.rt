@@ -9,9 +9,8 @@ use crate::plain::len_before;
 
 /// The text of a link before its fragment.
 ///
-/// It leads to the same canonical URL as the whole text, on every page. So links to the anchors of
-/// one page become one text. If nothing, a space or a control character is right before the `#`, the
-/// text stays whole.
+/// It leads to the same canonical URL as the whole text, on every page. So links to the anchors of one page have the same text. The
+/// text stays whole if its fragment comes first, or directly after a space or a control character.
 ///
 /// ```rust
 /// assert_eq!(rt; before_fragment("use.html#run"), "use.html");

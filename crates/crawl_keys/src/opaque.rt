@@ -17,7 +17,7 @@ pub fn is_opaque(text: &str) -> bool
     }
 }
 
-/// The same for a text that begins with a letter.
+/// Likewise for a text that begins with a letter.
 #[tactic(auto, using(crate::proofs::PlainLemmas::cut_at))]
 fn has_opaque_path(text: &str) -> bool
     ensures { result ≡ true → IsOpaque text.now }

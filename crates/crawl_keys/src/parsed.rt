@@ -9,14 +9,15 @@ use std::alloc::Global;
 use std::fmt;
 use url::Url;
 
-/// The URL that one of the threads parsed, if any has. It is only a hint: its user tests that it has the page's text.
+/// A cell for the parsed URL of a page, which any thread may fill. It is only a hint: each use tests that its URL has the page's
+/// text.
 #[derive(Drop)]
 pub struct Parsed {
     cell: OnceBox<Url>,
 }
 
 impl Parsed {
-    /// A cell in which nothing is parsed yet.
+    /// Makes an empty cell.
     pub fn new(alloc: Global) -> Parsed {
         Parsed {
             cell: OnceBox::new(alloc),

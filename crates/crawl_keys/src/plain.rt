@@ -148,7 +148,7 @@ pub fn len_before(bytes: &[u8], mark: u8) -> usize
     last + other_run(bytes, last, mark)
 }
 
-/// The same, one byte at a time.
+/// Likewise, one byte at a time.
 #[tactic(auto, using(url::proofs::InputLemmas::prefix_len_is))]
 fn len_before_short(bytes: &[u8], mark: u8) -> usize
     ensures value { result ≡ prefix_len (spec.is_other mark) bytes.now }
@@ -197,8 +197,8 @@ pub fn is_plain(last: u8, text: &[u8]) -> bool
     run == text.len() || has_plain_query(last, text, run)
 }
 
-/// At least how many bytes of the text stay unchanged by the rule for a path, whether or not it has a query: all, or those
-/// before 16 bytes of which one is not allowed there.
+/// A lower bound on how many bytes of the text stay unchanged by the rule for a path, whether or not it has a query: all bytes, or
+/// those before a group of 16 in which one is not allowed.
 fn plain_run(last: u8, text: &[u8]) -> usize
     ensures value { result ≡ length text.now → spec.is_plain last text.now ≡ true }
     ensures within { result ≤ length text.now }
@@ -217,8 +217,8 @@ fn plain_run(last: u8, text: &[u8]) -> usize
     }
 }
 
-/// At least how far each byte of a text of more than 16 bytes may follow the byte before it: to the end, or to the position
-/// before 16 bytes of which one may not.
+/// A lower bound on how far each byte of a text of more than 16 bytes may follow the byte before it: to the end, or to the start of
+/// a group of 16 in which one may not.
 #[tactic(auto, using(std::proofs::lemmas::Bool::cases_lt))]
 fn follow_run(text: &[u8]) -> usize
     requires { LANES < length text.now }
@@ -237,15 +237,15 @@ fn follow_run(text: &[u8]) -> usize
     if follow(text, last) { text.len() } else { last }
 }
 
-/// Whether the text stays unchanged if the rule for a path ends at the first `?`. At least `run` bytes of it stay unchanged
-/// by that rule. `false` means unknown.
+/// Whether the text stays unchanged if the rule for a path applies only up to the first `?`. By that rule at least the first `run`
+/// bytes stay unchanged. `false` means unknown.
 #[tactic(auto, using(crate::proofs::PlainLemmas::plain_query))]
 fn has_plain_query(last: u8, text: &[u8], run: usize) -> bool
     requires { run ≤ length text.now }
     ensures { result ≡ true → spec.is_plain last text.now ≡ true }
 {
     let end = len_before(text, b'?');
-    // The byte that is not allowed is before the query.
+    // A byte that a path does not allow is before the query.
     if end > run + LANES {
         return false;
     }
@@ -260,7 +260,7 @@ fn are_kept(bytes: &[u8]) -> bool
     bytes.iter().all(|byte| is_kept(*byte))
 }
 
-/// Whether each byte may follow the one before it, tested one byte at a time. `false` means unknown.
+/// Whether each byte may follow the one before it; the bytes are tested one at a time. `false` means unknown.
 #[tactic(auto, using(std::proofs::lemmas::List::drop_more, crate::proofs::PlainLemmas::plain_then, std::proofs::lemmas::List::drop_all))]
 fn is_plain_short(last: u8, text: &[u8]) -> bool
     ensures { result ≡ true → spec.is_plain last text.now ≡ true }

@@ -44,7 +44,7 @@ pub fn is_canonical(text: &str) -> bool
     }
 }
 
-/// The canonical URL of a text that was not seen to be canonical. The text before its fragment may be.
+/// The canonical URL of a text that is not in a common form. The text before its fragment may be.
 fn without_fragment(alloc: Global, text: &str) -> Result<CanonUrl, KeyError>
     ensures { Gives KeyError.NoMemory (λ url. url) result (spec.canonical text.now) }
 {
@@ -58,7 +58,7 @@ fn without_fragment(alloc: Global, text: &str) -> Result<CanonUrl, KeyError>
     }
 }
 
-/// The canonical URL of a text that was not seen to be canonical, and has no fragment to be cut.
+/// The canonical URL of a text that is not in a common form, and from which no fragment can be cut.
 fn not_plain(alloc: Global, text: &str) -> Result<CanonUrl, KeyError>
     ensures { Gives KeyError.NoMemory (λ url. url) result (spec.canonical text.now) }
 {

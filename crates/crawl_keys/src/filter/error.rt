@@ -12,7 +12,7 @@ pub enum FilterError {
     /// The suffix at this index, from 0, is the first that is empty or has a byte other than `a` to
     /// `z`, `0` to `9`, `-` and `.`.
     BadSuffix(u64),
-    /// The allocator had no memory.
+    /// An allocation failed.
     NoMemory,
 }
 

@@ -6,8 +6,7 @@ use crate::assignment::hash;
 use std::alloc::{AllocError, Global};
 use std::marker::Model;
 
-/// The number of cells per marked text. So about one in sixteen of the other texts finds its cell
-/// marked.
+/// The number of cells per marked text. With 16, about one in sixteen of the other texts has a cell that is marked.
 const PLACES_A_TEXT: usize = 16;
 
 /// Marks of texts, each in the cell that the text's hash selects.

@@ -22,8 +22,7 @@ pub(super) struct Suffixes {
     marks: Marks,
 }
 
-// In contracts, suffixes are their bytes, in order. Each suffix is marked, so a text without a mark
-// is not a suffix.
+// In contracts, suffixes are their bytes, in order. Each suffix is marked, so a text without a mark is not a suffix.
 impl Model for Suffixes {
     ghost use Rattle.std.specs.Prelude.{ℕ, List, map, string_bytes};
     ghost use Rattle.crawl_keys.specs.Marks.{AreMarked};
