@@ -1,4 +1,4 @@
--- The page that a saved web has at a URL.
+-- The page that a saved web has at each URL.
 use Rattle.std.specs.Prelude.{◌≡◌, ◌⊎◌, ℕ, not, List, [], ◌∷◌, if◌then◌else◌, Option, Some, None, count_by, is_none, filter_map, take_while}
 use Rattle.std.specs.Result.{result_ok}
 use Rattle.crawl_keys.specs.CanonicalText.{resolve}
@@ -8,12 +8,12 @@ use Rattle.crawl_pages.specs.declared.page.Page.TheVariants.{Found, Moved, Missi
 use Rattle.saved_pages.specs.declared.line.Line.{Line}
 use Rattle.saved_pages.specs.declared.line.Line.TheVariants as says
 
--- the lines after the first that is the page with this URL
+-- the lines after the first page line with this URL
 abbrev pub lines_behind : List (List ℕ) → List ℕ → Option (List (List ℕ))
 lines_behind [] url = None
 lines_behind (line ∷ more) url = if is_page_at url line then Some more else lines_behind more url
 
--- ---- what belongs to a page, up to the next page
+-- ---- the lines of a page, up to the next page
 
 abbrev pub put_link : Line (List ℕ) → List (List ℕ) → List (List ℕ)
 put_link (says.Page text) texts = []
@@ -31,7 +31,7 @@ put_moved (says.Link text) later = None
 put_moved (says.Moved text) later = Some text
 put_moved _ later = later
 
--- the text of the moved line among these, if one comes before any page or link
+-- the text of the moved line among these, if there is one before any page or link
 abbrev pub moved_text : List (List ℕ) → Option (List ℕ)
 moved_text [] = None
 moved_text (line ∷ more) = put_moved (line_of line) (moved_text more)
@@ -42,21 +42,21 @@ moved_text (line ∷ more) = put_moved (line_of line) (moved_text more)
 abbrev pub link_url : List ℕ → List ℕ → Option (List ℕ)
 link_url base text = result_ok (resolve base text)
 
--- the page at a URL, by the texts of its links
+-- the page at a URL, from the texts of its links
 abbrev pub found_page : List ℕ → List (List ℕ) → Page
 found_page url texts = Found (filter_map (link_url url) texts) (count_by (λ text. is_none (link_url url text)) texts)
 
--- the page at a URL, by the text of its moved line or else by its links
+-- the page at a URL, from the text of its moved line, or else from its links
 abbrev pub page_with : List ℕ → Option (List ℕ) → List (List ℕ) → Page
 page_with url (Some text) texts = Moved (link_url url text)
 page_with url None texts = found_page url texts
 
--- the page at a URL, by the lines after the page's own
+-- the page at a URL, from the lines after the page's own
 abbrev pub page_behind : List ℕ → Option (List (List ℕ)) → Page
 page_behind url None = Missing
 page_behind url (Some lines) = page_with url (moved_text lines) (link_texts lines)
 
--- the page that the lines of a web say of a URL
+-- the page that these lines define at a URL
 abbrev pub page_of : List (List ℕ) → List ℕ → Page
 page_of lines url = page_behind url (lines_behind lines url)
 
@@ -70,7 +70,7 @@ page_urls lines = filter_map page_url lines
 abbrev pub up_to_page : List (List ℕ) → List (List ℕ)
 up_to_page lines = take_while (λ line. not (is_page line)) lines
 
--- no moved line is among these; or one is, and no link
+-- there is no moved line among these, or there is one and no link
 abbrev pub IsUnmixed : List (List ℕ) → Type 0
 IsUnmixed lines =
     (count_by is_moved_line lines ≡ 0) ⊎ ((count_by is_moved_line lines ≡ 1) × (count_by is_link lines ≡ 0))

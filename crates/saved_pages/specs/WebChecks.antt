@@ -1,4 +1,4 @@
--- Which check a line of a saved web fails first, by what is known of the lines before it.
+-- The first check that a line of a saved web fails, from what is known of the lines before it.
 use Rattle.std.specs.Prelude.{ℕ, ◌==◌, Bool, true, false, ◌||◌, List, codes, if◌then◌else◌, Option, Some, None, Result, Ok, Err, bytes_eq}
 use Rattle.crawl_keys.specs.CanonicalText.{canonical}
 use Rattle.crawl_keys.specs.Outcome.{Gives}
@@ -12,7 +12,7 @@ use Rattle.saved_pages.specs.declared.error.WebError.TheVariants as wrong
 use Rattle.saved_pages.specs.declared.line.Line.{Line}
 use Rattle.saved_pages.specs.declared.line.Line.TheVariants as says
 
--- what the checks of a line need to know of the lines before it
+-- what the checks of a line need to know about the lines before it
 pub record Before : Type 0 where
   -- the number of the line itself, from 1
   pub number : ℕ
@@ -23,10 +23,10 @@ pub record Before : Type 0 where
   -- a link, or a moved line, is under the last page
   pub link : Bool
   pub moved : Bool
-  -- a page has this URL
+  -- whether a page has this URL
   pub known : List ℕ → Bool
 
--- the error of a web one of whose lines has no text
+-- the error of a saved web with a line that has no text
 abbrev pub fault_of : LineError → WebError
 fault_of (TooLong number) = wrong.LineTooLong number
 fault_of (NotText number) = wrong.NotText number
@@ -42,18 +42,18 @@ abbrev pub header_fault : Result Bool WebError → Option WebError
 header_fault (Ok second) = None
 header_fault (Err fault) = Some fault
 
--- a page, by its URL and which URLs are known
+-- a page line, by its URL and the URLs of the pages before it
 abbrev pub page_fault : ℕ → (List ℕ → Bool) → Result (List ℕ) KeyError → Option WebError
 page_fault number known (Ok url) = if known url then Some (wrong.PageTwice number) else None
 page_fault number known (Err _) = Some (wrong.BadPageUrl number)
 
--- a line that needs a page above it, by whether there is one, and whether the lines under that page rule this line out
+-- a line that needs a page above it, by whether there is one, and whether the lines under that page exclude this line
 abbrev pub under_fault : ℕ → Bool → Bool → Option WebError
 under_fault number some_page mixed =
     if some_page then (if mixed then Some (wrong.MovedMixed number) else None)
     else Some (wrong.LinkBeforePage number)
 
--- a line after the first, by what it says; version 1 has no moved lines
+-- a line after the first, by its content; version 1 has no moved lines
 abbrev pub said_fault : Before → Line (List ℕ) → Option WebError
 said_fault b (says.Page text) = page_fault b.number b.known (canonical text)
 said_fault b (says.Link text) = under_fault b.number b.some_page b.moved
@@ -66,17 +66,17 @@ abbrev pub text_fault : Before → Result (List ℕ) LineError → Option WebErr
 text_fault b (Err fault) = Some (fault_of fault)
 text_fault b (Ok text) = if b.number == 1 then header_fault (header_of text) else said_fault b (line_of_text text)
 
--- the first check that a line fails: its length, its bytes, and then what it says
+-- the first check that a line fails: its length, whether it is UTF-8, then its content
 abbrev pub line_fault : Before → List ℕ → Option WebError
 line_fault b line = text_fault b (text_of b.number line)
 
 -- ---- results
 
--- a check that a line fails, if it fails one, as a result
+-- the check that a line fails, if any, as a result
 abbrev pub checked : Option WebError → Result (Unit {0}) WebError
 checked None = Ok tt
 checked (Some fault) = Err fault
 
--- the result is the expected error, or a success if none is expected; or memory ran out
+-- the result is the expected error, or a success if none is expected; or it is out of memory
 abbrev pub Tells : {T : Type 0} → Result T WebError → Option WebError → Type 0
 Tells result expected = Gives wrong.NoMemory (λ _. tt) result (checked expected)

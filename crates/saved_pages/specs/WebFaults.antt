@@ -1,4 +1,4 @@
--- Which lines are a saved web, and the error of lines that are not: that of the first line that fails a check.
+-- Which lines are a saved web, and the error of lines that are not: the first error of the first line that fails a check.
 use Rattle.std.specs.Prelude.{◌≡◌, ◌⊎◌, ℕ, ◌+◌, ◌<◌, Bool, false, List, [], ◌∷◌, length, codes, if◌then◌else◌, Option, bytes_eq}
 use Rattle.std.specs.List.{list_any}
 use Rattle.text_lines.specs.LeastFault.{SoundAfter, IsLeastFault}
@@ -7,7 +7,7 @@ use Rattle.saved_pages.specs.WebLines.{is_page, is_link, is_moved_line, is_page_
 use Rattle.saved_pages.specs.declared.error.WebError.{WebError}
 use Rattle.saved_pages.specs.declared.error.WebError.TheVariants as wrong
 
--- ---- one line after others
+-- ---- one line after the lines before it
 
 -- the first of the lines is the header of version 2
 abbrev pub is_second : List (List ℕ) → Bool
@@ -19,7 +19,7 @@ abbrev pub under_last_page : List (List ℕ) → List (List ℕ)
 under_last_page [] = []
 under_last_page (line ∷ more) = if list_any is_page (line ∷ more) then under_last_page more else line ∷ more
 
--- what the checks of the next line need to know of these lines
+-- what the checks of the next line need to know about these lines
 abbrev pub before : List (List ℕ) → Before
 before earlier = record {
   number = length earlier + 1;
@@ -36,16 +36,16 @@ fault_after earlier line = line_fault (before earlier) line
 
 -- ---- all lines
 
--- there are lines, and none fails a check
+-- there is a line, and no line fails a check
 pub record IsSound (lines : List (List ℕ)) : Type 0 where
   pub some : 0 < length lines
   pub sound : SoundAfter fault_after [] lines
 
--- the error of lines that are not a saved web; no line at all is a bad header
+-- the error of lines that are not a saved web; if there is no line, it is a bad header
 abbrev pub IsWebFault : List (List ℕ) → WebError → Type 0
 IsWebFault [] fault = fault ≡ wrong.BadHeader
 IsWebFault (line ∷ more) fault = IsLeastFault fault_after (line ∷ more) fault
 
--- an error that may be reported for lines: theirs, or out of memory
+-- an error that may be returned for these lines: the one above, or out of memory
 abbrev pub IsWebRefusal : List (List ℕ) → WebError → Type 0
 IsWebRefusal lines told = IsWebFault lines told ⊎ (told ≡ wrong.NoMemory)

@@ -1,4 +1,4 @@
--- What a line of a saved web says, whichever version the web has.
+-- The content of a line of a saved web, of either version.
 use Rattle.std.specs.Prelude.{ℕ, ◌==◌, Bool, true, false, List, length, codes, if◌then◌else◌, Option, Some, None}
 use Rattle.std.specs.Borrow.{Bor}
 use Rattle.std.specs.Option.{option_map_or}
@@ -9,7 +9,7 @@ use Rattle.text_lines.specs.Fields.{at_space}
 use Rattle.saved_pages.specs.declared.line.Line.{Line}
 use Rattle.saved_pages.specs.declared.line.Line.TheVariants as says
 
--- what a text says, by what is before its first space and what is after it
+-- the content of a text, from the texts before and after its first space
 abbrev pub said_apart : List ℕ → Option (List ℕ × List ℕ) → Line (List ℕ)
 said_apart text None = if length text == 0 then says.Empty else says.Other
 said_apart text (Some p) =
@@ -21,11 +21,11 @@ said_apart text (Some p) =
 abbrev pub line_of_text : List ℕ → Line (List ℕ)
 line_of_text text = said_apart text (at_space text)
 
--- what a line says; a line that is not UTF-8 is neither a page, nor a link, nor a moved line
+-- the content of a line; a line that is not UTF-8 is neither a page, nor a link, nor a moved line
 abbrev pub line_of : List ℕ → Line (List ℕ)
 line_of line = if is_utf8 line then line_of_text line else says.Other
 
--- what a line says whose text is borrowed
+-- the content of a line whose text is borrowed
 abbrev pub pointed : Line (Bor (List ℕ)) → Line (List ℕ)
 pointed (says.Page text) = says.Page text.now
 pointed (says.Link text) = says.Link text.now
@@ -59,10 +59,10 @@ abbrev pub url_said : Line (List ℕ) → Option (List ℕ)
 url_said (says.Page text) = result_ok (canonical text)
 url_said _ = None
 
--- the canonical URL of the page that a line is
+-- the canonical URL of the line, if it is a page line
 abbrev pub page_url : List ℕ → Option (List ℕ)
 page_url line = url_said (line_of line)
 
--- the line is the page with this URL
+-- the line is a page line with this URL
 abbrev pub is_page_at : List ℕ → List ℕ → Bool
 is_page_at url line = option_map_or (λ own. bytes_eq own url) (page_url line) false

@@ -18,7 +18,7 @@ use crawl_keys::{KeyError, canonical, is_canonical};
 use std::alloc::Global;
 use text_lines::{short_text, split_line, text_of};
 
-/// What the checks of a line need to know of the lines above it, in addition to their pages and their number.
+/// What the checks of a line need to know about the lines above it, in addition to the pages and the line's number.
 #[derive(Clone, Copy)]
 pub struct Above {
     /// The web has version 2.
@@ -30,7 +30,7 @@ pub struct Above {
 }
 
 impl Above {
-    /// Returns what is known above the first line.
+    /// Returns what is known before the first line.
     pub fn nothing() -> Above
         ensures { result ≡ record { second = false; link = false; moved = false } }
     {
@@ -41,14 +41,14 @@ impl Above {
         }
     }
 
-    /// Returns what is known below the first line, which says whether the web has version 2.
+    /// Returns what is known after the first line, which has the version.
     fn in_version(self, second: bool) -> Above
         ensures { result ≡ record self { second = second } }
     {
         Above { second, ..self }
     }
 
-    /// Returns what is known below the line of a page: the page has no links and has not moved. The version stays.
+    /// Returns what is known after a page line: the page has no links and has not moved. The version stays.
     fn under_new_page(self) -> Above
         ensures { result ≡ record { second = self.second; link = false; moved = false } }
     {
@@ -59,14 +59,14 @@ impl Above {
         }
     }
 
-    /// Returns what is known below a link.
+    /// Returns what is known after a link.
     fn with_link(self) -> Above
         ensures { result ≡ record self { link = true } }
     {
         Above { link: true, ..self }
     }
 
-    /// Returns what is known below a moved line.
+    /// Returns what is known after a moved line.
     fn with_moved(self) -> Above
         ensures { result ≡ record self { moved = true } }
     {
@@ -89,7 +89,7 @@ pub fn add_line<'a>(
 ) -> Result<Above, WebError>
     ensures tells { Tells result (line_fault (kept_before number pages.old above) line.now) }
     ensures adds { OnOk result (Adds pages.old pages.new (page_url line.now) (behind_line rest.now)) }
-    // A page that passes the checks has a URL.
+    // A page line that passes the checks has a URL.
     ensures page { OnOk result (is_page line.now ≡ is_some (page_url line.now)) }
     ensures follows { IfOk result (λ new. Follows number line.now above new) }
 {
@@ -164,7 +164,7 @@ pub fn header(text: &str) -> Result<bool, WebError>
     }
 }
 
-/// Adds the page whose URL this text spells.
+/// Adds the page whose URL is written in this text.
 fn add_page<'a>(
     alloc: Global,
     pages: &mut Pages<'a>,
@@ -186,7 +186,7 @@ fn add_page<'a>(
     }
 }
 
-/// Adds the page that the line with this number is.
+/// Adds a page, which is on the line with this number, unless there is a page with its URL.
 fn add_known<'a>(pages: &mut Pages<'a>, number: u64, page: KnownPage<'a>) -> Result<(), WebError>
     ensures tells { Tells result (page_fault number (has pages.old) (Ok page.entry.url)) }
     ensures adds { OnOk result (Adds pages.old pages.new (Some page.entry.url) page.entry.behind) }
@@ -198,7 +198,7 @@ fn add_known<'a>(pages: &mut Pages<'a>, number: u64, page: KnownPage<'a>) -> Res
     }
 }
 
-/// Whether the text is a canonical URL and is also the first line of `behind`. `false` says nothing.
+/// Whether the text is a canonical URL and is also the first line of `behind`. `false` means unknown.
 fn is_written(text: &str, behind: &str) -> bool
     ensures url { result ≡ true → canonical text.now ≡ Ok text.now }
     ensures line { result ≡ true → line_in behind.now ≡ text.now }
@@ -206,7 +206,8 @@ fn is_written(text: &str, behind: &str) -> bool
     is_canonical(text) && split_line(behind).0 == text
 }
 
-/// Returns what follows `page` and a space at the front, if they are there. The lines after the first are the same.
+/// Returns the text after `page` and a space at its start, or the whole text if it does not start so. The lines after the first are
+/// the same.
 #[tactic(auto, using(text_lines::proofs::CutLines::behind_page))]
 fn behind_word(rest: &str) -> &str
     ensures { behind_line result.now ≡ behind_line rest.now }
@@ -217,7 +218,7 @@ fn behind_word(rest: &str) -> &str
     }
 }
 
-/// Checks a line that needs a page above it. `mixed`: the lines under that page rule this line out.
+/// Checks a line that needs a page above it. `mixed` says that the lines under that page exclude this line.
 fn check_under(number: u64, some_page: bool, mixed: bool) -> Result<(), WebError>
     ensures { Tells result (under_fault number some_page mixed) }
 {

@@ -23,9 +23,9 @@ pub enum WebError {
     /// The line with this number is a moved line under a page that has a link or a moved line, or a link under a page that
     /// has a moved line.
     MovedMixed(u64),
-    /// The line with this number is a page whose text has no canonical `http` or `https` URL.
+    /// The line with this number is a page line whose text has no canonical `http` or `https` URL.
     BadPageUrl(u64),
-    /// The line with this number is a page with the canonical URL of an earlier one.
+    /// The line with this number is a page line with the canonical URL of an earlier page.
     PageTwice(u64),
     /// Out of memory. This error may be returned instead of any other result.
     NoMemory,

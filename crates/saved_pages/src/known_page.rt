@@ -11,13 +11,13 @@ use std::marker::Model;
 use std::mem::size_of;
 use text_lines::split_line;
 
-/// How many bytes most processors read from memory at a time.
+/// The number of bytes that most processors read from memory at a time: a cache line.
 const LINE: usize = 64;
 
-/// How many such lines of a page are read ahead.
+/// The number of cache lines of a page that are read ahead.
 const LINES_AHEAD: usize = 5;
 
-/// A page of a saved web: its URL, and all that follows its line.
+/// A page of a saved web: its URL, and everything after its line.
 #[derive(Drop)]
 pub struct KnownPage<'a> {
     text: PageText<'a>,
@@ -29,20 +29,20 @@ const _: () = prove!(size_of::<KnownPage<'static>>() == 24);
 /// The text of a page.
 #[derive(Drop)]
 enum PageText<'a> {
-    /// The input from its URL on. Most pages are written like this.
+    /// The input from the URL of the page on. Most pages are written like this.
     Written(&'a str),
-    /// The line of the page spells its URL in another way.
+    /// For a page whose line spells its URL differently from the canonical text.
     Made(Box<MadePage<'a>>),
 }
 
-/// A page whose line spells its URL in another way.
+/// A page whose line spells its URL differently from the canonical text.
 #[derive(Drop)]
 struct MadePage<'a> {
     url: CanonUrl,
     behind: &'a str,
 }
 
-// Contracts see the text of the URL, which is canonical, and what follows the line.
+// Contracts see the text of the URL, which is canonical, and the text after the page's line.
 impl<'a> Model for KnownPage<'a> {
     ghost use Rattle.std.specs.Prelude.{◌≡◌, Ok};
     ghost use Rattle.crawl_keys.specs.CanonicalText.{canonical};
@@ -60,7 +60,7 @@ impl<'a> Model for KnownPage<'a> {
 }
 
 impl<'a> KnownPage<'a> {
-    /// Returns the page with this URL, which the first line of this text spells.
+    /// Makes the page with this URL, which the first line of the text spells.
     pub fn new(alloc: Global, url: CanonUrl, text: &'a str) -> Result<KnownPage<'a>, AllocError>
         ensures { IfOk result (λ page. page ≡ record { url = url; behind = behind_line text.now }) }
     {
@@ -78,7 +78,7 @@ impl<'a> KnownPage<'a> {
         }
     }
 
-    /// Returns the page whose URL is the first line of this text.
+    /// Makes the page whose URL is the first line of this text.
     pub fn written(text: &'a str) -> KnownPage<'a>
         requires { canonical (line_in text.now) ≡ Ok (line_in text.now) }
         ensures { result ≡ record { url = line_in text.now; behind = behind_line text.now } }
@@ -121,7 +121,7 @@ impl<'a> KnownPage<'a> {
 }
 
 impl KnownPage<'_> {
-    /// Returns about how many bytes of the input are left at the page's beginning.
+    /// Returns about how many bytes of the input there are from the page's start on.
     pub fn bytes_left(&self) -> usize {
         match &self.text {
             PageText::Written(text) => text.len(),
@@ -129,7 +129,7 @@ impl KnownPage<'_> {
         }
     }
 
-    /// Reads a byte of each of its first lines of memory. The result has no meaning.
+    /// Reads a byte of each of its first cache lines. The result has no meaning.
     pub fn read_ahead(&self) -> u64 {
         let bytes = match &self.text {
             PageText::Written(text) => text.as_bytes(),
@@ -144,18 +144,18 @@ impl KnownPage<'_> {
         sum
     }
 
-    /// Returns about how many bytes the page has, up to the next page, if there is one.
+    /// Returns about how many bytes the page has, up to the next page or, if there is none, to the end.
     pub fn bytes_before(&self, next: Option<&KnownPage<'_>>) -> usize {
         let left = self.bytes_left();
         let behind = match next {
             Some(next) => next.bytes_left(),
             None => 0,
         };
-        // The next page may be one of other bytes.
+        // The next page may be in other bytes.
         if behind < left { left - behind } else { left }
     }
 
-    /// Returns the host of its URL, with the port.
+    /// Returns the host of the page's URL, with the port.
     pub fn host(&self) -> &str {
         match self.url().split('/').nth(2) {
             Some(host) => host,
@@ -175,7 +175,7 @@ impl Keyed for KnownPage<'_> {
         self.url()
     }
 
-    // Called for the page that is added, and when the index grows.
+    // Called for a page that is added, and when the index grows.
     fn text_hash(&self) -> u64 {
         hash_of(self.url())
     }

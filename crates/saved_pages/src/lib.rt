@@ -1,4 +1,4 @@
-//! The pages of a saved web: what a line says, the checks of a line, and the pages of the lines, each URL once.
+//! The pages of a saved web: the content of a line, the checks of a line, and a list of pages with different URLs.
 #![tactic(auto)]
 
 mod add;

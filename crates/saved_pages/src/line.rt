@@ -1,10 +1,10 @@
-//! What a line of a saved web says.
+//! The content of a line of a saved web.
 ghost use Rattle.std.specs.Prelude.{◌≡◌};
 ghost use Rattle.saved_pages.specs.WebLines.{pointed, line_of_text, line_of};
 
 use text_lines::split_space;
 
-/// What a line after the first says.
+/// The content of a line after the first.
 #[derive(Clone, Copy)]
 pub enum Line<T> {
     /// `page URL`: a page, with the text of its URL.
@@ -13,25 +13,25 @@ pub enum Line<T> {
     Link(T),
     /// `moved TEXT`: the URL to which the last page moved, as its text, which may be empty.
     Moved(T),
-    /// Nothing.
+    /// An empty line.
     Empty,
     /// Anything else.
     Other,
 }
 
-/// Returns what a line with this text says.
+/// Returns the content of a line with this text.
 pub fn line_of(text: &str) -> Line<&str>
     ensures text { pointed result ≡ line_of_text text.now }
     ensures line { pointed result ≡ line_of text.now }
 {
-    // Most lines are links, so nothing is searched for in them.
+    // Most lines are links, so they are tested for first.
     match text.strip_prefix("link ") {
         Some(link) => Line::Link(link),
         None => by_first_word(text),
     }
 }
 
-/// Returns what a line with this text says, by what is before its first space.
+/// Returns the content of a line by the text before its first space.
 fn by_first_word(text: &str) -> Line<&str>
     ensures { pointed result ≡ line_of_text text.now }
 {

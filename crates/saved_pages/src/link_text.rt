@@ -7,7 +7,7 @@ use hash_index::Keyed;
 use hash_order::hash_of;
 use std::marker::Model;
 
-/// The text of a link, as a key of what is known of it. Its hash is computed once.
+/// The text of a link, as a key for what is known about it. Its hash is computed once.
 #[derive(Drop)]
 pub struct LinkText<'a> {
     hash: u64,
@@ -44,7 +44,7 @@ impl<'a> LinkText<'a> {
         self.text
     }
 
-    /// Returns the text without its fragment, which leads to the same URL. Most texts have none.
+    /// Returns the text without its fragment. It leads to the same URL. Most texts have no fragment.
     pub fn before_fragment(&self) -> LinkText<'a>
         ensures { (base : List ℕ) → link_url base result ≡ link_url base self.now }
     {

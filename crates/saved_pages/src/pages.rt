@@ -9,14 +9,14 @@ use hash_index::HashIndex;
 use std::alloc::{AllocError, Global};
 use std::marker::Model;
 
-/// Pages in the order in which they were read, no two with one URL, and the index by which they are found.
+/// Pages with different URLs, in the order in which they were read, and the index with which they are found.
 #[derive(Drop)]
 pub struct Pages<'a> {
     list: Vec<KnownPage<'a>>,
     index: HashIndex,
 }
 
-// Contracts see the list.
+// Contracts see the list of pages.
 impl<'a> Model for Pages<'a> {
     ghost use Rattle.std.specs.Prelude.{List, map};
     ghost use Rattle.std.specs.Coded.{coded_list};
@@ -34,7 +34,8 @@ impl<'a> Model for Pages<'a> {
 }
 
 impl<'a> Pages<'a> {
-    /// Returns no pages, with an index for `count` pages. If there is no memory for that, the index grows with the pages.
+    /// Makes a list without pages, and an index with slots for `count` pages. If there is no memory for them, the index grows with
+    /// the list.
     pub fn new(alloc: Global, count: usize) -> Pages<'a>
         ensures { result ≡ [] }
     {
@@ -55,14 +56,14 @@ impl<'a> Pages<'a> {
         self.list.is_empty()
     }
 
-    /// How many pages there are.
+    /// Returns the number of pages.
     pub fn len(&self) -> usize
         ensures { result ≡ length self.now }
     {
         self.list.len()
     }
 
-    /// Adds a page, unless there is a page with its URL. Returns whether it was added.
+    /// Adds a page, unless there is one with its URL. Returns whether it was added.
     #[tactic(auto, using(crate::proofs::PageIndex::has_index_there))]
     pub fn add(&mut self, page: KnownPage<'a>) -> Result<bool, AllocError>
         ensures added { IfOk result (λ added. added ≡ not (has self.old page.entry.url)) }
@@ -81,7 +82,7 @@ impl<'a> Pages<'a> {
         ensures page { option_map (λ page. page.now) result ≡ page_with self.now url.now }
         ensures same { IfSome result (λ page. page.now.url ≡ url.now) }
     {
-        // An index with no slots is searched to its end.
+        // A search in an index without slots would look through all of it, so it is skipped.
         if self.list.is_empty() {
             return None;
         }
@@ -101,7 +102,7 @@ impl<'a> Pages<'a> {
         self.index.find(&self.list, url)
     }
 
-    /// Reads the slots that look-ups of these hashes read first. The result has no meaning.
+    /// Reads the slots in which a look-up of each of these hashes begins. The result has no meaning.
     pub fn read_slots(&self, hashes: &[u64]) -> u64 {
         let mut sum: u64 = 0;
         for hash in hashes {
@@ -110,7 +111,7 @@ impl<'a> Pages<'a> {
         sum
     }
 
-    /// Reads the pages in the list that the slots of these hashes name. The result has no meaning.
+    /// Reads the pages that the slots of these hashes name. The result has no meaning.
     pub fn read_list(&self, hashes: &[u64]) -> u64 {
         let mut sum: u64 = 0;
         for hash in hashes {
@@ -121,7 +122,7 @@ impl<'a> Pages<'a> {
         sum
     }
 
-    /// Reads the first lines of memory of the pages that the slots of these hashes name. The result has no meaning.
+    /// Reads the first cache lines of the pages that the slots of these hashes name. The result has no meaning.
     pub fn read_texts(&self, hashes: &[u64]) -> u64 {
         let mut sum: u64 = 0;
         for hash in hashes {
@@ -147,7 +148,7 @@ impl<'a> Pages<'a> {
         self.list.get(index)
     }
 
-    /// Appends the URLs of the pages.
+    /// Appends the URLs of the pages to `all`.
     pub fn push_urls(&self, alloc: Global, all: &mut Vec<CanonUrl>) -> Result<(), AllocError>
         ensures { OnOk result (all.new.items ≡ all.old.items ++ urls self.now) }
     {
@@ -157,7 +158,7 @@ impl<'a> Pages<'a> {
         Ok(())
     }
 
-    /// Returns about how many bytes of the input are theirs.
+    /// Returns about how many bytes of the input the pages have.
     pub fn bytes(&self) -> usize {
         match self.list.first() {
             Some(page) => page.bytes_left(),
@@ -165,13 +166,13 @@ impl<'a> Pages<'a> {
         }
     }
 
-    /// Returns the index of the first page after the given number of these bytes.
+    /// Returns the index of the first page after the first `bytes` of these bytes.
     pub fn index_behind(&self, bytes: usize) -> usize {
         let left = self.bytes().saturating_sub(bytes);
         self.list.partition_point(|page| page.bytes_left() > left)
     }
 
-    /// Whether some page has about the given number of bytes, up to the next page or to the end.
+    /// Whether some page has at least about this number of bytes, up to the next page or to the end.
     pub fn has_long_page(&self, bytes: usize) -> bool {
         let mut before: usize = 0;
         for page in &self.list {

@@ -7,15 +7,15 @@ use hash_index::HashIndex;
 use std::alloc::{AllocError, Global};
 use std::marker::Model;
 
-/// Different URLs, each with its index. They are in the order in which they were inserted.
+/// Different URLs in the order in which they were inserted, each found by its text.
 #[derive(Drop)]
 pub struct UrlList {
     urls: Vec<CanonUrl>,
-    /// The index of each of these.
+    /// The index of each URL in the list.
     index: HashIndex,
 }
 
-// Contracts see the list.
+// Contracts see the list of URLs.
 impl Model for UrlList {
     ghost use Rattle.std.specs.Prelude.{ℕ, List, map};
     ghost use Rattle.hash_order.specs.HashOrder.{hash_of};
@@ -42,7 +42,7 @@ impl UrlList {
     /// Returns the index of the URL. If the list does not have the URL, a copy of it is pushed.
     pub fn find_or_insert(&mut self, url: &CanonUrl) -> Result<u32, AllocError>
         ensures there { IfOk result (λ index. slice_get self.new index ≡ Some url.now) }
-        // Also if an allocation fails.
+        // This is also true if an allocation fails.
         ensures keep { KeepIndices self.old self.new }
     {
         let found = self.index.find_or_insert(&self.urls, url)?;
@@ -67,7 +67,7 @@ impl UrlList {
         }
     }
 
-    /// Returns the URLs, without the means to find one.
+    /// Returns only the URLs.
     pub fn into_urls(self) -> Vec<CanonUrl>
         ensures { result.items ≡ self }
     {
@@ -76,7 +76,7 @@ impl UrlList {
     }
 }
 
-/// Returns the index as four bytes.
+/// Converts an index to four bytes. Fails if it does not fit.
 fn short(index: usize) -> Result<u32, AllocError>
     ensures { IfOk result (λ short. short ≡ index) }
 {
