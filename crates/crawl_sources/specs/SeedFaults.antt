@@ -1,4 +1,4 @@
--- The error of a seeds file as a relation: its first line that fails a check, and there the first check.
+-- The error of a seeds file as a relation: the first check that the first line with an error fails.
 use Rattle.std.specs.Prelude.{ℕ, ◌+◌, List, length, Option}
 use Rattle.crawl_sources.specs.Seeds.{line_fault}
 use Rattle.crawl_sources.specs.declared.seeds.SeedsFault.{SeedsFault}

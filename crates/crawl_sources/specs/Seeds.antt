@@ -1,4 +1,4 @@
--- Which seeds the lines of a file are, and the error of lines that are none: that of the first line that fails a check.
+-- The seeds on the lines of a file, and the error of other files: the first error of the first line that fails a check.
 use Rattle.std.specs.Prelude.{ℕ, ◌+◌, ◌==◌, List, [], ◌∷◌, length, if◌then◌else◌, Option, Some, None, Result, Ok, Err, filter_map}
 use Rattle.std.specs.Option.{option_or}
 use Rattle.std.specs.Result.{result_ok}
@@ -11,9 +11,9 @@ use Rattle.text_lines.specs.declared.lines.LineError.TheVariants.{TooLong, NotTe
 use Rattle.crawl_sources.specs.declared.seeds.SeedsFault.{SeedsFault}
 use Rattle.crawl_sources.specs.declared.seeds.SeedsFault.TheVariants as wrong
 
--- ---- the checks of a line, by its number
+-- ---- the checks of a line
 
--- the error of a file one of whose lines has no text
+-- the error of a file with a line that has no text
 abbrev pub fault_of : LineError → SeedsFault
 fault_of (TooLong number) = wrong.LineTooLong number
 fault_of (NotText number) = wrong.NotText number
@@ -28,16 +28,16 @@ abbrev pub url_fault : ℕ → Result (List ℕ) KeyError → Option SeedsFault
 url_fault number (Ok url) = None
 url_fault number (Err e) = Some (key_fault number e)
 
--- an empty line is no seed, and no error
+-- the error of a line's text; an empty line is neither a seed nor an error
 abbrev pub text_fault : ℕ → Result (List ℕ) LineError → Option SeedsFault
 text_fault number (Err e) = Some (fault_of e)
 text_fault number (Ok text) = if length text == 0 then None else url_fault number (canonical text)
 
--- the first check that a line fails: its length, its bytes, and then its URL
+-- the first check that a line fails: its length, whether it is UTF-8, then its URL
 abbrev pub line_fault : ℕ → List ℕ → Option SeedsFault
 line_fault number line = text_fault number (text_of number line)
 
--- the first error of lines, the first of which has this number
+-- the first error of lines, of which the first has this number
 abbrev pub first_fault : ℕ → List (List ℕ) → Option SeedsFault
 first_fault number [] = None
 first_fault number (line ∷ more) = option_or (line_fault number line) (first_fault (number + 1) more)
@@ -52,11 +52,11 @@ abbrev pub unless_fault : Option SeedsFault → List (List ℕ) → Result (List
 unless_fault None urls = Ok urls
 unless_fault (Some fault) urls = Err fault
 
--- the URLs of the lines that are not empty, in order; the first error, if a line has one
+-- the URLs of the lines that are not empty, in order; or the first error, if a line has one
 abbrev pub seeds_in : List (List ℕ) → Result (List (List ℕ)) SeedsFault
 seeds_in lines = unless_fault (first_fault 1 lines) (filter_map seed_url lines)
 
--- a check that a line fails, if it fails one, as a result
+-- the check that a line fails, if any, as a result
 abbrev pub checked : Option SeedsFault → Result (Unit {0}) SeedsFault
 checked None = Ok tt
 checked (Some fault) = Err fault

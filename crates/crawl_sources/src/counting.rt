@@ -14,8 +14,8 @@ use std::collections::BTreeMap;
 /// A count for each of some URLs.
 pub type Tallies<'a> = BTreeMap<HashedText<'a>, Tally<'a>>;
 
-/// For the URL of each of `told`, how many of the results link to it, and the least of their URLs; all of them too, if
-/// `all` are to be listed.
+/// Counts, for the URL of each result of `told`, the results that link to it. Each count has the least URL of these results, and if
+/// `all` is set, all their URLs.
 ///
 /// # Errors
 /// Only out of memory.
@@ -33,7 +33,7 @@ pub fn tally_links<'a>(
     Ok(tallies)
 }
 
-/// What is counted for this URL, for which there is a count.
+/// Returns the count for this URL. There must be one.
 pub fn tally_of<'t, 'a>(tallies: &'t Tallies<'a>, url: &'a CanonUrl) -> &'t Tally<'a>
     requires { IsSome (count_of tallies.now url.now) }
     ensures { count_of tallies.now url.now ≡ Some result.now }
@@ -44,7 +44,7 @@ pub fn tally_of<'t, 'a>(tallies: &'t Tallies<'a>, url: &'a CanonUrl) -> &'t Tall
     }
 }
 
-/// A count of none for each of these URLs.
+/// Returns a count of 0 for the URL of each of these results.
 fn no_tallies<'a>(alloc: Global, told: &[&'a PageResult]) -> Result<Tallies<'a>, NoMemory>
     ensures known { IfOk result (λ tallies. (url : List ℕ) → list_any (λ r. bytes_eq r.url url) (pointed told.now) ≡ true → IsSome (count_of tallies url)) }
     ensures none { IfOk result (λ tallies. (all : Bool) (url : List ℕ) → IsTally all [] url (count_of tallies url)) }
@@ -56,7 +56,7 @@ fn no_tallies<'a>(alloc: Global, told: &[&'a PageResult]) -> Result<Tallies<'a>,
     Ok(tallies)
 }
 
-/// Counts the links of these results, numbered from 1.
+/// Counts the links of these results, which are numbered from 1.
 #[tactic(auto, using(std::proofs::lemmas::List::take_more, crate::proofs::Counts::tally_more))]
 fn count_results<'a>(
     tallies: &mut Tallies<'a>,
@@ -74,7 +74,7 @@ fn count_results<'a>(
     Ok(())
 }
 
-/// Counts the result with this number and this URL for each URL that is among its links.
+/// Counts the result with this number and this URL once for each URL among its links.
 fn count_links<'a>(
     tallies: &mut Tallies<'a>,
     all: bool,
@@ -90,7 +90,7 @@ fn count_links<'a>(
     Ok(())
 }
 
-/// Adds the page to the count for the link's URL, if the table has one. A page that was counted there already adds nothing.
+/// Adds the page to the count for the link's URL, if there is one. A page that was already counted there adds nothing.
 fn count_link<'a>(
     tallies: &mut Tallies<'a>,
     all: bool,

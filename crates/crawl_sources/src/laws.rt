@@ -1,4 +1,4 @@
-//! What holds of sources and of seeds. None does anything when it is called.
+//! Laws about sources and seeds. A law is a function that does nothing; its clauses are the theorem.
 ghost use Rattle.std.specs.Prelude.{◌≡◌, ℕ, false, List, [], Some, None, All, Contains};
 ghost use Rattle.std.specs.Ordering.{is_lt, nat_cmp};
 ghost use Rattle.std.specs.Cmp.Lexicographic.{slice_cmp};
@@ -8,7 +8,7 @@ ghost use Rattle.crawl_sources.specs.Seeds.{first_fault};
 ghost use Rattle.crawl_sources.specs.Sources.{least};
 ghost use Rattle.crawl_sources.specs.declared.seeds.SeedsFault.{SeedsFault};
 
-/// The least of texts is one of them, and none of them is less; there is none only if there is no text.
+/// The least of several texts is one of them, and none of them is less. There is a least text if there is any text.
 #[tactic(auto, using(crate::proofs::Least::least_among, crate::proofs::Least::least_below, crate::proofs::Least::least_none))]
 pub fn least_text()
     ensures among { (texts : List (List ℕ)) (text : List ℕ) → least texts ≡ Some text → Contains texts text }
@@ -16,8 +16,8 @@ pub fn least_text()
     ensures none { (texts : List (List ℕ)) → least texts ≡ None → texts ≡ [] }
 {}
 
-/// The error of a seeds file is that of its first line that fails a check, and there the first check; if there is none, no
-/// line fails one.
+/// The error of a seeds file is the first check that its first line with an error fails. If there is no error, no line fails a
+/// check.
 #[tactic(auto, using(crate::proofs::Faults::least_fault, crate::proofs::Faults::sound_lines))]
 pub fn first_fault_is_least()
     ensures fault { (lines : List (List ℕ)) (fault : SeedsFault) → first_fault 1 lines ≡ Some fault → IsLeastFault fault_after lines fault }

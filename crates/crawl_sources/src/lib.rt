@@ -2,7 +2,7 @@
 #![tactic(auto)]
 
 mod counting;
-/// What holds of sources.
+/// Laws about sources and seeds.
 pub mod laws;
 mod seeds;
 mod tally;

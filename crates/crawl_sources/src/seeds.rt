@@ -1,4 +1,4 @@
-//! The seeds that a file has, one per line.
+//! The seeds in a file, one per line.
 ghost use Rattle.std.specs.Prelude.{◌≡◌, IfOk};
 ghost use Rattle.std.specs.Str.Lines.{lines};
 ghost use Rattle.crawl_keys.specs.Outcome.{Gives};
@@ -9,14 +9,14 @@ use crawl_keys::{CanonUrl, KeyError, canonical};
 use std::alloc::{AllocFailed, Global};
 use text_lines::{LineError, first_line, text_of};
 
-/// Why bytes are no seeds, in the order of the checks of a line. Lines are numbered from 1.
+/// Why bytes are not a list of seeds, in the order of the checks of a line. Lines are numbered from 1.
 #[derive(Clone, Copy, Debug, PartialEq, Eq)]
 pub enum SeedsFault {
     /// The line with this number has more than [`LINE_LIMIT`](text_lines::LINE_LIMIT) bytes.
     LineTooLong(u64),
     /// The line with this number is not UTF-8.
     NotText(u64),
-    /// The line with this number is not empty, and no URL.
+    /// The line with this number is neither empty nor a URL.
     NotUrl(u64),
     /// The line with this number is a URL that is neither `http` nor `https`.
     NotHttp(u64),
@@ -43,11 +43,10 @@ impl<T: Drop> From<AllocFailed<T>> for SeedsFault {
     }
 }
 
-/// The canonical URLs of the seeds that the bytes are, one per line, in their order; empty lines are skipped.
+/// Returns the canonical URLs of the seeds in these bytes, one per line, in order. Empty lines are skipped.
 ///
 /// # Errors
-/// That of the first line that fails a check, and there the first of the checks, in the order of [`SeedsFault`]; `NoMemory`
-/// if an allocation failed.
+/// The first check, in the order of [`SeedsFault`], that the first line with an error fails; `NoMemory` if an allocation failed.
 pub fn read_seeds(alloc: Global, bytes: &[u8]) -> Result<Vec<CanonUrl>, SeedsFault>
     ensures { Gives SeedsFault.NoMemory (λ urls. urls.items) result (seeds_in (lines bytes.now)) }
 {
@@ -64,7 +63,7 @@ pub fn read_seeds(alloc: Global, bytes: &[u8]) -> Result<Vec<CanonUrl>, SeedsFau
     Ok(urls)
 }
 
-/// The seed that the line with this number is; none if it is empty.
+/// Returns the seed on the line with this number, or `None` if the line is empty.
 fn seed_of(alloc: Global, number: u64, line: &[u8]) -> Result<Option<CanonUrl>, SeedsFault>
     ensures tells { Gives SeedsFault.NoMemory (λ _. tt) result (checked (line_fault number line.now)) }
     ensures url { IfOk result (λ url. url ≡ seed_url line.now) }

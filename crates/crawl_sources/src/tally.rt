@@ -7,7 +7,7 @@ use crawl_pages::NoMemory;
 use std::alloc::Global;
 use std::marker::Model;
 
-/// How many results link to a URL, the least of their URLs, and all of them if they are listed.
+/// The number of results that link to a URL, the least of their URLs, and all of their URLs if they are to be listed.
 #[derive(Drop)]
 pub struct Tally<'a> {
     count: u64,
@@ -17,7 +17,7 @@ pub struct Tally<'a> {
     last: u64,
 }
 
-// Contracts see pages as their texts. No more are counted than were looked through, so that a count never overflows.
+// Contracts see pages as their texts. The count is at most the number of results that were read, so it never overflows.
 impl<'a> Model for Tally<'a> {
     ghost use Rattle.std.specs.Prelude.{◌≤◌, option_map};
     ghost use Rattle.crawl_sources.specs.Tallies.{Count, pointed};
@@ -30,7 +30,7 @@ impl<'a> Model for Tally<'a> {
 }
 
 impl<'a> Tally<'a> {
-    /// The count of none.
+    /// Makes a count of 0.
     pub fn new(alloc: Global) -> Tally<'a>
         ensures { result ≡ none_counted }
     {
@@ -42,7 +42,7 @@ impl<'a> Tally<'a> {
         }
     }
 
-    /// Counts the result with this number, from 1, and this URL, unless it was counted; its URL is kept if all are.
+    /// Counts the result with this number, from 1, and this URL, unless it was counted last. Its URL is kept if `all` is set.
     pub fn add(&mut self, all: bool, number: u64, url: &'a str) -> Result<(), NoMemory>
         ensures { OnOk result (self.new ≡ counted all number url.now self.old) }
     {
@@ -58,21 +58,21 @@ impl<'a> Tally<'a> {
         Ok(())
     }
 
-    /// How many were counted.
+    /// Returns the number of results.
     pub fn count(&self) -> u64
         ensures { result ≡ self.now.count }
     {
         self.count
     }
 
-    /// The least of their URLs, if there is one.
+    /// Returns the least of their URLs, or `None` if there is no result.
     pub fn page(&self) -> Option<&'a str>
         ensures { option_map (λ p. p.now) result ≡ self.now.page }
     {
         self.page
     }
 
-    /// Their URLs, if all are kept.
+    /// Returns their URLs, if they were kept.
     pub fn all(&self) -> &[&'a str]
         ensures { pointed result.now ≡ self.now.all }
     {
@@ -80,7 +80,7 @@ impl<'a> Tally<'a> {
     }
 }
 
-/// The least so far, if any, and one text more.
+/// Returns the least of a text and of the least text so far, if there is one.
 fn least_with<'a>(least: Option<&'a str>, text: &'a str) -> Option<&'a str>
     ensures { option_map (λ p. p.now) result ≡ least_with (option_map (λ p. p.now) least.entry) text.now }
 {
