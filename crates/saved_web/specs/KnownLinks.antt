@@ -1,13 +1,13 @@
--- What is known of links by their texts.
+-- Texts of links and the URLs to which they lead.
 use Rattle.std.specs.Prelude.{◌≡◌, ℕ, true, List, All, Option}
 use Rattle.crawl_keys.specs.Folders.{is_of_folder}
 use Rattle.saved_pages.specs.SavedWeb.{link_url}
 
--- a link's text, and the URL that it leads to, or none
+-- a link's text, and the URL to which it leads, if any
 abbrev pub TextLink : Type 0
 TextLink = List ℕ × Option (List ℕ)
 
--- each text of the list has the URL, or none, that a link with that text has on the page at `base`
+-- each text of the list has the URL, if any, to which a link with that text leads on the page at `base`
 abbrev pub AreLinks : List ℕ → List TextLink → Type 0
 AreLinks base known = All (λ x. x.1 ≡ link_url base x.0) known
 

@@ -1,4 +1,4 @@
--- The pages that were read, and what a saved web has at a URL.
+-- The pages that were read, and the page that a saved web has at each URL.
 use Rattle.std.specs.Prelude.{ℕ, List, Option, option_map}
 use Rattle.std.specs.Str.Lines.{lines}
 use Rattle.saved_pages.specs.PageLists.{PageRead, urls, page_with}
@@ -18,10 +18,10 @@ known_behind pages url = option_map (λ page. lines page.behind) (page_with page
 abbrev pub known_page : KnownPages → List ℕ → Page
 known_page pages url = page_behind url (known_behind pages url)
 
--- the page that a web has at a URL
+-- the page that a saved web has at a URL
 abbrev pub page_at : SavedWeb → List ℕ → Page
 page_at web url = known_page web.pages url
 
--- the URLs of the pages that a web has
+-- the URLs of a saved web's pages
 abbrev pub urls_of : SavedWeb → List (List ℕ)
 urls_of web = urls web.pages

@@ -1,4 +1,4 @@
--- What is known of the lines of a saved web while they are read one by one, and once they are.
+-- What is known of the lines of a saved web while they are read one by one, and when all were read.
 use Rattle.std.specs.Prelude.{◌≡◌, ℕ, Bool, List, [], ◌∷◌, ◌++◌, length, codes, None, bytes_eq}
 use Rattle.std.specs.List.{list_any}
 use Rattle.std.specs.Option.{option_or}
@@ -12,7 +12,7 @@ use Rattle.saved_pages.specs.WebLines.{line_of, is_page, is_link, is_moved_line}
 use Rattle.saved_pages.specs.declared.add.Above.{Above}
 use Rattle.saved_pages.specs.declared.line.Line.TheVariants as says
 
--- of all these lines those before the rest are sound, and what the checks ask of them is known
+-- the lines before the rest pass all checks, and what the next checks need to know about them is known
 pub record ReadTo (all rest : List (List ℕ)) (number : ℕ) (above : Above) (pages : KnownPages) : Type 0 where
   pub earlier : List (List ℕ)
   pub cut : all ≡ earlier ++ rest
@@ -24,28 +24,28 @@ pub record ReadTo (all rest : List (List ℕ)) (number : ℕ) (above : Above) (p
   pub some_page : has_some pages ≡ list_any is_page earlier
   pub urls : urls pages ≡ page_urls earlier
 
--- each page of all these lines is known with the lines after it, or is among the rest
+-- each page of all these lines is known with the lines after it, or is in the rest
 abbrev pub AllFound : List (List ℕ) → List (List ℕ) → KnownPages → Type 0
 AllFound all rest pages =
     (url : List ℕ) → lines_behind all url ≡ option_or (known_behind pages url) (lines_behind rest url)
 
--- both: the lines before the rest are sound, and their pages are known
+-- both: the lines before the rest pass all checks, and their pages are known
 pub record FoundTo (all rest : List (List ℕ)) (number : ℕ) (above : Above) (pages : KnownPages) : Type 0 where
   pub read : ReadTo all rest number above pages
   pub found : AllFound all rest pages
 
--- all these lines are sound, and these are their pages
+-- all these lines pass their checks, and these are their pages
 pub record AreRead (all : List (List ℕ)) (pages : KnownPages) : Type 0 where
   pub sound : SoundAfter fault_after [] all
   pub urls : urls pages ≡ page_urls all
   pub found : (url : List ℕ) → known_page pages url ≡ page_of all url
 
--- the line is a header, of version 2 or else of version 1
+-- the line is a header, of version 2 if `second`, and otherwise of version 1
 pub record IsHeader (second : Bool) (line : List ℕ) : Type 0 where
   pub sound : fault_after [] line ≡ None
   pub version : bytes_eq line (codes "savedweb 2") ≡ second
   pub other : line_of line ≡ says.Other
 
--- after any header of this version these lines are sound, and these are their pages
+-- after any header of this version these lines pass their checks, and these are their pages
 abbrev pub AreReadBehind : Bool → List (List ℕ) → KnownPages → Type 0
 AreReadBehind second lines pages = (header : List ℕ) → IsHeader second header → AreRead (header ∷ lines) pages

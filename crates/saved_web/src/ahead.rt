@@ -1,4 +1,4 @@
-//! The links of a web's pages, which threads resolve ahead.
+//! The links of a saved web's pages, which threads resolve before the pages are fetched.
 ghost use Rattle.std.specs.Prelude.{◌≡◌, All, IfOk, IfSome};
 ghost use Rattle.saved_web.specs.Ahead.{IsChunk};
 ghost use Rattle.saved_web.specs.KnownPages.{known_page};
@@ -14,16 +14,16 @@ use std::marker::Model;
 use std::thread;
 use std::thread::Threads;
 
-/// Links of a web with fewer bytes than this are not resolved ahead.
+/// The links of a saved web with fewer bytes than this are not resolved ahead.
 const LEAST: usize = 1 << 19;
 
-/// How many threads resolve links, each those of a chunk.
+/// The number of threads that resolve links, each for one chunk.
 const CHUNKS: usize = 4;
 
-/// How many blocks the pages are cut into. The chunks get the blocks in turn, because pages that take long are near each other.
+/// The number of blocks of pages. Each chunk gets every fourth block, because pages that take long are often near each other.
 const BLOCKS: usize = 64;
 
-/// The pages of a web, and the links of most of them, or of none.
+/// The pages of a saved web, and the resolved links of most of them, or of none.
 #[derive(Drop)]
 pub struct Ahead<'w, 'a> {
     web: &'w WebPages<'a>,
@@ -49,8 +49,8 @@ impl<'w, 'a> Model for Ahead<'w, 'a> {
 }
 
 impl<'w, 'a> Ahead<'w, 'a> {
-    /// Resolves the links of all pages of a web of one host, in threads. Resolves none if the web has several hosts or is small, or
-    /// if `in_threads` is `false`. One worker has all pages of a host, so no other would resolve their links.
+    /// Resolves the links of all pages in threads, if they all have the same host, whose pages one worker fetches. Resolves none if
+    /// there are several hosts, if the saved web is small, or if `in_threads` is `false`.
     pub fn new<R: Threads + Sync>(
         rt: &R,
         alloc: Global,
@@ -75,7 +75,7 @@ impl<'w, 'a> Ahead<'w, 'a> {
         }
     }
 
-    /// Creates one in which no links were resolved.
+    /// Makes a value without resolved links.
     fn of_none(alloc: Global, web: &'w WebPages<'a>) -> Ahead<'w, 'a>
         ensures { result ≡ web.now }
     {
@@ -99,7 +99,7 @@ impl<'w, 'a> Ahead<'w, 'a> {
     }
 }
 
-/// Returns the index of the first page of each block, and the number of pages. All blocks have about the same number of bytes.
+/// Returns the index of the first page of each block, and then the number of pages. All blocks have about the same number of bytes.
 fn blocks_of(alloc: Global, web: &WebPages<'_>) -> Result<Vec<usize>, AllocError> {
     let bytes = web.bytes();
     let mut blocks = Vec::with_capacity(alloc, BLOCKS + 1)?;
@@ -109,7 +109,7 @@ fn blocks_of(alloc: Global, web: &WebPages<'_>) -> Result<Vec<usize>, AllocError
     Ok(blocks)
 }
 
-/// Returns the number of the chunk that has the page at the index, by the first pages of the blocks.
+/// Returns the number of the chunk with the page at the index. `blocks` are the first pages of the blocks.
 fn chunk_of(blocks: &[usize], index: usize) -> usize {
     let begun = blocks.partition_point(|first| *first <= index);
     begun.saturating_sub(1) % CHUNKS

@@ -1,4 +1,4 @@
-//! What is known of the links on the pages of a folder.
+//! The known links of the pages of a folder.
 ghost use Rattle.std.specs.Prelude.{◌≡◌, true, IfOk, IfErr, IfSome};
 ghost use Rattle.crawl_keys.specs.Folders as spec;
 ghost use Rattle.saved_pages.specs.SavedWeb.{link_url};
@@ -10,7 +10,7 @@ use saved_pages::LinkText;
 use std::alloc::Global;
 use std::marker::Model;
 
-/// A page, and the URLs that some link texts lead to from each page of its folder.
+/// A page, and the URLs to which some link texts lead from each page of its folder.
 #[derive(Drop)]
 pub struct Folder<'a> {
     page: Base,
@@ -32,7 +32,7 @@ impl<'a> Model for Folder<'a> {
 }
 
 impl<'a> Folder<'a> {
-    /// Returns the folder of this page, without known links. `again` says whether an earlier page was in the same folder.
+    /// Makes the folder of this page, without known links. `again` says whether an earlier page was in the same folder.
     pub fn new(alloc: Global, page: Base, again: bool) -> Folder<'a>
         ensures { result ≡ page }
     {
@@ -43,7 +43,7 @@ impl<'a> Folder<'a> {
         }
     }
 
-    /// Returns the folder of the next page. If that is the same folder, its links stay known.
+    /// Returns the folder of the next page. If both pages are in the same folder, the links stay known.
     #[tactic(auto, using(crate::proofs::KnownLinks::on_page_beside))]
     pub fn turn_to(self, alloc: Global, page: Base) -> Folder<'a>
         ensures { result ≡ page }
@@ -76,19 +76,19 @@ impl<'a> Folder<'a> {
         self.again
     }
 
-    /// Returns how many texts are known.
+    /// Returns the number of known texts.
     pub fn len(&self) -> usize {
         self.known.len()
     }
 
-    /// Returns the URL that a link with this text leads to, if it is known.
+    /// Returns the URL to which a link with this text leads, if it is known.
     pub fn find(&self, text: &LinkText<'a>) -> Option<&Option<CanonUrl>>
         ensures { IfSome result (λ link. link.now ≡ link_url self.now text.now) }
     {
         self.known.find(text)
     }
 
-    /// Returns the URL that a link with this text leads to, and remembers it.
+    /// Returns the URL to which a link with this text leads, and stores it.
     pub fn link(
         &mut self,
         alloc: Global,

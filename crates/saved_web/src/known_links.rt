@@ -1,4 +1,4 @@
-//! Link texts, and the URLs that they lead to.
+//! Link texts, and the URLs to which they lead.
 ghost use Rattle.std.specs.Prelude.{◌≡◌, ◌<◌, true, [], length, get_or, IfOk, IfErr, IfSome, Contains};
 ghost use Rattle.crawl_keys.specs.Folders.{is_of_folder};
 ghost use Rattle.saved_web.specs.KnownLinks.{AreLinks, AreOfFolder};
@@ -12,20 +12,20 @@ use saved_pages::LinkText;
 use std::alloc::{AllocError, Global};
 use std::marker::Model;
 
-/// The memory of at most this number of texts is reused.
+/// The memory of a list is reused if it has room for at most this number of texts.
 const FEW_TEXTS: usize = 64;
 
-/// The greatest number of texts that are remembered. Most texts of a page with more links occur only once.
+/// The greatest number of texts that are stored. Most texts of a page with more links occur only once.
 const MOST_TEXTS: usize = 4_096;
 
-/// A link text, and the URL that it leads to, if it leads to one.
+/// A link text, and the URL to which it leads, if any.
 #[derive(Drop)]
 pub struct KnownLink<'a> {
     text: &'a str,
     link: Option<CanonUrl>,
 }
 
-// Contracts see a pair.
+// Contracts see a pair of a text and a URL or none.
 impl<'a> Model for KnownLink<'a> {
     ghost use Rattle.std.specs.Prelude.{ℕ, List, Option};
 
@@ -72,7 +72,7 @@ impl<'a> Model for KnownLinks<'a> {
 }
 
 impl<'a> KnownLinks<'a> {
-    /// Returns an empty list.
+    /// Makes an empty list.
     pub fn new(alloc: Global) -> KnownLinks<'a>
         ensures { result ≡ [] }
     {
@@ -82,7 +82,7 @@ impl<'a> KnownLinks<'a> {
         }
     }
 
-    /// Forgets all texts. Memory for a few of them is kept.
+    /// Removes all texts. The memory is reused if it is small.
     pub fn clear(&mut self, alloc: Global)
         ensures { self.new ≡ [] }
     {
@@ -97,12 +97,12 @@ impl<'a> KnownLinks<'a> {
         self.index = HashIndex::new(alloc);
     }
 
-    /// Returns how many texts are known.
+    /// Returns the number of known texts.
     pub fn len(&self) -> usize {
         self.links.len()
     }
 
-    /// Returns the URL that a link with this text leads to, if it is known.
+    /// Returns the URL to which a link with this text leads, if it is known.
     #[tactic(auto, using(crate::proofs::KnownLinks::texts, crate::proofs::KnownLinks::within_at))]
     pub fn find(&self, text: &LinkText<'a>) -> Option<&Option<CanonUrl>>
         ensures { IfSome result (λ link. Contains self.now (text.now, link.now)) }
@@ -113,8 +113,8 @@ impl<'a> KnownLinks<'a> {
         }
     }
 
-    /// Returns the URL that a link with this text leads to, and remembers it, unless too many texts are known. Links with the same
-    /// text share the text of their URL. If memory runs out, the result is `NoMemory`, as for any other allocation.
+    /// Returns the URL to which a link with this text leads, and stores it, unless too many texts are known. Links with the same
+    /// text share the text of their URL. The only error is out of memory.
     pub fn link(
         &mut self,
         alloc: Global,
@@ -136,7 +136,7 @@ impl<'a> KnownLinks<'a> {
         }
     }
 
-    // Like `link`, if there is room for one more text.
+    // Likewise, if there is room for one more text.
     #[tactic(auto, using(crate::proofs::KnownLinks::texts, crate::proofs::KnownLinks::within_at))]
     fn learn(
         &mut self,

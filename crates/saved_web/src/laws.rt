@@ -1,4 +1,4 @@
-//! Laws of saved webs. None does anything when it is called.
+//! Laws of saved webs. A law is a function that does nothing; its clauses are the theorem.
 ghost use Rattle.std.specs.Prelude.{◌≡◌, ℕ, false, List, Some};
 ghost use Rattle.crawl_pages.specs.Pages.{is_moved};
 ghost use Rattle.saved_pages.specs.SavedWeb.{page_of, lines_behind, up_to_page, IsUnmixed};

@@ -1,4 +1,4 @@
-//! Saved webs: text files of pages and their links, and the pages that they have.
+//! Saved webs: text files that list pages and their links. This crate reads them, and returns the page at each URL.
 #![tactic(auto)]
 
 mod ahead;

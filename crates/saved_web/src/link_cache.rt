@@ -1,4 +1,4 @@
-//! What a worker remembers of the links of a saved web, folder by folder.
+//! The links of a saved web that a worker has resolved, stored by folder.
 ghost use Rattle.std.specs.Prelude.{◌≡◌, ◌≤◌, ◌<◌};
 
 use crate::folder::Folder;
@@ -12,46 +12,47 @@ use std::mem;
 /// The number of slots with which a cache begins.
 const FEWEST_SLOTS: usize = 16;
 
-/// The most slots that a cache has.
+/// The greatest number of slots of a cache.
 const MOST_SLOTS: usize = 1_024;
 
-/// The number of folders of which only the hash is kept, each at the index that its hash gives.
+/// The number of hashes of folders without known links, each stored at an index that it determines.
 const MET: usize = 1_024;
 
-/// The most slots that the caches of a crawl have together, but for those that each begins with.
+/// The greatest number of slots that the caches of a crawl have together, in addition to those with which each begins.
 const ALL_SLOTS: usize = 8_192;
 
-/// The most texts that a cache knows.
+/// The greatest number of texts that a cache stores.
 const MOST_TEXTS: usize = 131_072;
 
-/// The most texts that the caches of a crawl know together.
+/// The greatest number of texts that the caches of a crawl store together.
 const ALL_TEXTS: usize = 1_048_576;
 
-/// A folder of which more texts are known is forgotten.
+/// A folder with more known texts than this is removed.
 const FOLDER_LIMIT: usize = 512;
 
-/// Folders, each in the slot that its text gives. A folder itself keeps that what it knows is right, so a slot may have any.
-/// Of a folder that knows nothing only the hash is kept: many have one page, or pages whose links lead to other URLs each.
+/// Folders with their known links, each in the slot that its hash determines. The invariant of a folder says that its links are
+/// right, so any folder may be in any slot. If a folder has no known links, only its hash is stored: many folders have only one
+/// page, or pages whose links all differ.
 #[derive(Drop)]
 pub struct LinkCache<'a> {
-    /// Room for the links of a page, until they are all found.
+    /// A buffer for the links of a page, until all of them are resolved.
     pub links: Vec<CanonUrl>,
-    /// What is known of those links that are of no folder.
+    /// The known links of the current page that may lead elsewhere from other pages of its folder.
     pub known: KnownLinks<'a>,
     slots: Vec<Option<Folder<'a>>>,
-    // The hashes of folders that came and knew nothing.
+    // The hashes of folders that had pages but no known links.
     met: Vec<u64>,
     worth: Worth,
-    // A folder was removed since the cache has this number of slots.
+    // Whether a folder was removed since the cache has its number of slots.
     crowded: bool,
-    // How many texts the folders here know.
+    // The number of texts that the folders here know.
     texts: usize,
     most_slots: usize,
     most_texts: usize,
 }
 
 impl<'a> LinkCache<'a> {
-    /// A cache of no folder, one of `among` caches of a crawl.
+    /// Makes an empty cache, one of `among` caches of a crawl, which share the limits.
     pub fn new(alloc: Global, among: u32) -> LinkCache<'a> {
         let among = among.max(1) as usize;
         LinkCache {
@@ -67,7 +68,7 @@ impl<'a> LinkCache<'a> {
         }
     }
 
-    /// A cache that remembers nothing.
+    /// Makes a cache that stores nothing.
     pub fn without_slots(alloc: Global) -> LinkCache<'a> {
         LinkCache {
             links: Vec::new(alloc),
@@ -82,7 +83,7 @@ impl<'a> LinkCache<'a> {
         }
     }
 
-    /// The folder of this page, with what the folder in its slot knew, if that is the same and it is worth it.
+    /// Returns the folder of this page: the one in its slot if that is the same folder, and otherwise one without known links.
     pub fn take(&mut self, alloc: Global, hash: u64, page: Base) -> Folder<'a>
         ensures { result ≡ page }
     {
@@ -95,7 +96,7 @@ impl<'a> LinkCache<'a> {
         }
     }
 
-    // The folder in the slot of this hash, if the page is in it.
+    // Takes the folder out of the slot of this hash, if the page is in it.
     fn take_beside(&mut self, hash: u64, page: &Base) -> Option<Folder<'a>> {
         if self.slots.is_empty() {
             return None;
@@ -110,7 +111,7 @@ impl<'a> LinkCache<'a> {
         }
     }
 
-    // Whether the last folder that came to its place and knew nothing has this hash.
+    // Whether the last folder without known links at this index of the list has this hash.
     fn has_met(&self, hash: u64) -> bool {
         self.met.get(slot_of(hash, MET)) == Some(&hash)
     }
@@ -124,7 +125,7 @@ impl<'a> LinkCache<'a> {
         }
     }
 
-    /// Puts the folder back into its slot, unless it knows nothing, or too many texts.
+    /// Puts the folder back into its slot, unless it has no known links, or too many.
     pub fn put(&mut self, alloc: Global, hash: u64, folder: Folder<'a>) {
         let texts = folder.len();
         if texts == 0 {
@@ -145,7 +146,7 @@ impl<'a> LinkCache<'a> {
         self.insert(hash, folder);
     }
 
-    // Keeps the hash of a folder that knows nothing, if there is room.
+    // Stores the hash of a folder without known links, if there is room.
     fn meet(&mut self, alloc: Global, hash: u64) {
         if self.met.is_empty() && self.most_slots > 0 {
             self.met = vec![in alloc; 0u64; MET].unwrap_or(Vec::new(alloc));
@@ -168,7 +169,7 @@ impl<'a> LinkCache<'a> {
         }
     }
 
-    // Moves to `count` slots, if there is room for them.
+    // Moves the folders to `count` slots, if the limits allow that number and there is memory.
     fn grow(&mut self, alloc: Global, count: usize) {
         let Ok(slots) = free_slots(alloc, count) else {
             return;
@@ -184,7 +185,7 @@ impl<'a> LinkCache<'a> {
     }
 }
 
-/// The slot of a folder with this hash, of `slots` slots.
+/// Returns the slot of a folder with this hash, of `slots` slots.
 fn slot_of(hash: u64, slots: usize) -> usize
     requires { 1 ≤ slots }
     ensures { result < slots }
@@ -192,7 +193,7 @@ fn slot_of(hash: u64, slots: usize) -> usize
     (hash % slots as u64) as usize
 }
 
-/// `count` slots, all free.
+/// Makes `count` free slots.
 fn free_slots<'a>(alloc: Global, count: usize) -> Result<Vec<Option<Folder<'a>>>, AllocError> {
     let mut slots = Vec::with_capacity(alloc, count)?;
     for _ in 0..count {
@@ -201,7 +202,7 @@ fn free_slots<'a>(alloc: Global, count: usize) -> Result<Vec<Option<Folder<'a>>>
     Ok(slots)
 }
 
-/// The hash of the folder of a page.
+/// Returns the hash of the folder of a page.
 pub fn folder_hash(page: &Base) -> u64 {
     hash_of(page.folder())
 }

@@ -1,4 +1,4 @@
-//! The links or the target of a page of a saved web, read from the text after the page's line.
+//! The links of a page of a saved web, or the URL to which it moved, read from the lines after the page's own.
 ghost use Rattle.std.specs.Prelude.{◌≡◌, ◌<◌, ℕ, List, ◌∷◌, [], None, Some, length, OnOk, IfOk, IfErr, IfSome, MatchOption, count_by, is_none, filter_map, option_map};
 ghost use Rattle.std.specs.Str.Lines.{lines};
 ghost use Rattle.saved_web.specs.KnownLinks.{AreLinks};
@@ -15,13 +15,14 @@ use std::alloc::{AllocError, Global};
 use std::mem;
 use text_lines::first_text;
 
-/// How many links of a page are not stored if it is the first page of its folder. Many folders have one page with few links.
+/// The number of links of a page that are not stored if it is the first page of its folder: many folders have one page with few
+/// links.
 const FEW_TEXTS: u64 = 8;
 
-/// A list of at most this number of links has no room for more.
+/// A list of at most this number of links is copied, so that it has no unused memory.
 const FEW_LINKS: usize = 1_024;
 
-/// Returns the page with this base. The lines after its own line are `behind`.
+/// Returns the page with this base. `behind` are the lines after its own line.
 pub fn page_behind<'a>(
     alloc: Global,
     cache: &mut LinkCache<'a>,
@@ -46,7 +47,7 @@ fn moved_page(alloc: Global, base: &Base, text: &str) -> Result<Page, FetchError
     Ok(Page::Moved { to })
 }
 
-/// Returns the page with the links among these lines. Uses and updates what the cache has of its folder.
+/// Returns the page with the links among these lines. Uses and updates the known links of its folder in the cache.
 fn remembering<'a>(
     alloc: Global,
     cache: &mut LinkCache<'a>,
@@ -71,7 +72,7 @@ fn remembering<'a>(
     Ok(page)
 }
 
-/// Returns how many links the page has, including those that lead to no URL.
+/// Returns the number of links of the page, including those that lead to no URL.
 fn count_of(page: &Page) -> u64 {
     match page {
         Page::Found { links, skipped } => skipped.saturating_add(links.as_slice().len() as u64),
@@ -79,7 +80,7 @@ fn count_of(page: &Page) -> u64 {
     }
 }
 
-/// Returns the page with the links among these lines, up to the next page. The buffer has them until all are resolved.
+/// Returns the page with the links among these lines, up to the next page. They are collected in the buffer until all are resolved.
 fn found_page<'a>(
     alloc: Global,
     folder: &mut Folder<'a>,
@@ -98,7 +99,8 @@ fn found_page<'a>(
     })
 }
 
-/// Replaces the links by those among these lines, up to the next page. Returns how many lead to no URL.
+/// Replaces the links in the buffer by those among these lines, up to the next page. Returns the number of links that lead to no
+/// URL.
 #[tactic(auto, using(crate::proofs::KnownLinks::pushed_next))]
 pub fn find_links<'a>(
     alloc: Global,
@@ -126,8 +128,8 @@ pub fn find_links<'a>(
     Ok(skipped)
 }
 
-/// Returns all links of the buffer. If they are few, they are moved to a list without room for more; otherwise the list is the
-/// buffer itself.
+/// Takes all links out of the buffer. If there are few, they are moved to a list of exactly their number; otherwise the buffer
+/// itself is the list.
 fn take_links(alloc: Global, buffer: &mut Vec<CanonUrl>) -> Result<Vec<CanonUrl>, AllocError>
     ensures { IfOk result (λ links. links.items ≡ buffer.old.items) }
 {
@@ -139,9 +141,9 @@ fn take_links(alloc: Global, buffer: &mut Vec<CanonUrl>) -> Result<Vec<CanonUrl>
     Ok(links)
 }
 
-/// Returns the URL that a link with this text leads to. `before` is the number of links before it on the page. The text is stored for
-/// the folder, or for this page if it may lead elsewhere from another page. The first texts of a page are not stored if it is the
-/// first page of its folder.
+/// Returns the URL to which a link with this text leads. `before` is the number of links before it on the page. The text is stored
+/// for the folder, or only for this page if it may lead elsewhere from another page. The first texts of a page are not stored if it
+/// is the first page of its folder.
 fn link_on<'a>(
     alloc: Global,
     folder: &mut Folder<'a>,
@@ -158,7 +160,7 @@ fn link_on<'a>(
     if before < FEW_TEXTS && !folder.comes_again() {
         return Ok(folder.page().link(alloc, text)?);
     }
-    // Most texts are known as a whole, so nothing is searched for in them.
+    // Most texts are known with their fragment, so that is looked up first.
     let whole = LinkText::new(text);
     if let Some(link) = folder.find(&whole) {
         return Ok(copy_of(link)?);
@@ -171,7 +173,7 @@ fn link_on<'a>(
     }
 }
 
-/// Returns the text of the first link before the next page, and what follows that line.
+/// Returns the text of the first link before the next page, and the lines after that link.
 fn next_link(behind: &str) -> Option<(&str, &str)>
     ensures first { MatchOption result (link_texts (lines behind.now) ≡ []) (λ x. link_texts (lines behind.now) ≡ x.0.now ∷ link_texts (lines x.1.now)) }
     ensures shorter { IfSome result (λ x. length x.1.now < length behind.now) }

@@ -1,4 +1,4 @@
-//! A long page of a saved web, whose links are found by threads.
+//! A long page of a saved web, whose links are resolved in threads.
 ghost use Rattle.std.specs.Prelude.{◌≡◌, ◌+◌, ◌++◌, ◌<◌, [], true, false, Some, IfSome};
 ghost use Rattle.std.specs.List.{list_any};
 ghost use Rattle.std.specs.Str.Lines.{lines};
@@ -18,22 +18,22 @@ use std::alloc::Global;
 use std::thread::{Threads, join};
 use text_lines::{cut_line, first_line, first_text};
 
-/// Threads do not read a page of fewer bytes than this.
+/// Threads do not read a page with fewer bytes than this.
 pub const LEAST: usize = 1 << 18;
 
-/// The number of threads that each read a chunk of a page, this one among them.
+/// The number of threads, including this one, that each read a chunk of a page.
 const THREADS: u32 = 4;
 
 /// The links among some lines, up to the next page.
 #[derive(Drop)]
 struct LinksFound {
     links: Vec<CanonUrl>,
-    /// How many further links lead to no URL.
+    /// The number of other links, which lead to no URL.
     skipped: u64,
 }
 
 impl LinksFound {
-    /// Returns these links, and then the others. `None` if memory runs out.
+    /// Returns these links followed by the others. `None` if memory runs out.
     fn and(self, more: LinksFound) -> Option<LinksFound>
         ensures links { IfSome result (λ both. both.links.items ≡ self.links.items ++ more.links.items) }
         ensures skipped { IfSome result (λ both. both.skipped ≡ self.skipped + more.skipped) }
@@ -51,8 +51,8 @@ impl LinksFound {
     }
 }
 
-/// Returns the page at this URL, with the links that threads find among the lines after its own, up to the next page or to the end.
-/// `None` if one thread has to read the page.
+/// Returns the page at this URL, with the links among the lines after its own, up to the next page or to the end. Threads resolve
+/// them. `None` if the page must be read by one thread.
 pub fn long_page<R: Threads>(rt: &R, alloc: Global, url: &CanonUrl, behind: &str) -> Option<Page>
     ensures { IfSome result (λ page. page ≡ page_behind url.now (Some (lines behind.now))) }
 {
@@ -66,7 +66,7 @@ pub fn long_page<R: Threads>(rt: &R, alloc: Global, url: &CanonUrl, behind: &str
     }
 }
 
-/// Whether the first of the lines is a page, or there is no line.
+/// Whether the first of the lines is a page line, or there is no line.
 #[tactic(auto, using(crate::proofs::LongPages::page_begins))]
 fn begins_with_page(bytes: &[u8]) -> bool
     ensures { result ≡ true → link_texts (lines bytes.now) ≡ [] }
@@ -80,7 +80,7 @@ fn begins_with_page(bytes: &[u8]) -> bool
     }
 }
 
-/// Whether the line is a page.
+/// Whether the line is a page line.
 fn says_page(line: &str) -> bool
     ensures { result ≡ is_page line.now }
 {
@@ -90,7 +90,7 @@ fn says_page(line: &str) -> bool
     }
 }
 
-/// Returns the page at this URL with the links among these lines, which threads find.
+/// Returns the page at this URL with the links among these lines, which threads resolve.
 fn linked_page<R: Threads>(rt: &R, alloc: Global, url: &CanonUrl, bytes: &[u8]) -> Option<Page>
     ensures { IfSome result (λ page. page ≡ found_page url.now (link_texts (lines bytes.now))) }
 {
@@ -102,8 +102,8 @@ fn linked_page<R: Threads>(rt: &R, alloc: Global, url: &CanonUrl, bytes: &[u8]) 
     })
 }
 
-/// Returns the links of the page at this URL among these lines, found by `threads` threads. If a thread cannot be started, this one
-/// reads its chunk. `None` if a page is among the lines of a chunk that is not the last, or if memory runs out.
+/// Returns the links of the page at this URL among these lines, resolved by `threads` threads. If a thread cannot be started, this
+/// one reads its chunk. `None` if there is a page line in a chunk that is not the last, or if memory runs out.
 fn links_by_threads<R: Threads>(
     rt: &R,
     alloc: Global,
@@ -121,7 +121,7 @@ fn links_by_threads<R: Threads>(
     let of_front = move || -> Option<LinksFound>
         ensures { IfSome result (AreFound url.entry.now (lines front.entry.now)) }
     { links_among(alloc, url, front) };
-    // This one runs on the same thread, so that the handle need not be shared.
+    // This closure runs on the same thread, so that the handle need not be shared.
     let of_back = move || -> Option<LinksFound>
         ensures { IfSome result (AreFound url.entry.now (lines back.entry.now)) }
     { links_by_threads(rt, alloc, fewer, url, back) };
@@ -131,7 +131,8 @@ fn links_by_threads<R: Threads>(
     first.and(second)
 }
 
-/// Returns the lines of about the first of `chunks` chunks of the bytes, and the other lines. `None` if a page is among the first.
+/// Returns the lines of about the first of `chunks` chunks of the bytes, and the other lines. `None` if a page line is among the
+/// first.
 fn first_chunk(bytes: &[u8], chunks: usize) -> Option<(&str, &[u8])>
     requires { 0 < chunks }
     ensures lines { IfSome result (λ x. lines bytes.now ≡ lines x.0.now ++ lines x.1.now) }
@@ -144,7 +145,7 @@ fn first_chunk(bytes: &[u8], chunks: usize) -> Option<(&str, &[u8])>
     }
 }
 
-/// Whether a page is among these lines.
+/// Whether there is a page line among these lines.
 fn has_page(text: &str) -> bool
     ensures { result ≡ list_any is_page (lines text.now) }
 {
@@ -158,7 +159,7 @@ fn has_page(text: &str) -> bool
     false
 }
 
-/// Returns the links of the page at this URL among the lines of the last chunk. `None` if it is not UTF-8, or if memory runs out.
+/// Returns the links of the page at this URL among the lines of a chunk. `None` if it is not UTF-8, or if memory runs out.
 fn links_in(alloc: Global, url: &CanonUrl, bytes: &[u8]) -> Option<LinksFound>
     ensures { IfSome result (AreFound url.now (lines bytes.now)) }
 {

@@ -8,14 +8,14 @@ use saved_pages::{Above, Pages, WebError, add_line};
 use std::alloc::Global;
 use text_lines::first_text;
 
-/// How many bytes are looked at to estimate how many pages a text has.
+/// The number of bytes from which the number of pages of a text is estimated.
 const SAMPLE: usize = 1 << 14;
 
 /// The estimate is at most one page for this number of bytes, so that the index is never much larger than the text.
 const LEAST_PAGE: usize = 32;
 
 /// Returns the pages of the lines of this text. `before` is the number of lines before them, and `above` is what their checks need
-/// to know of those.
+/// to know about those lines.
 pub fn pages_behind(
     alloc: Global,
     text: &str,
@@ -23,7 +23,7 @@ pub fn pages_behind(
     above: Above,
 ) -> Result<Pages<'_>, WebError>
     requires { before ≤ 1 }
-    // Whatever the lines before are, if no page is among them.
+    // This is true of any lines before these, if no page is among them.
     ensures read { IfOk result (λ pages. (all : List (List ℕ)) → FoundTo all (lines text.now) before above [] → AreRead all pages) }
     ensures fault { IfErr result (λ told. (all : List (List ℕ)) → FoundTo all (lines text.now) before above [] → IsWebRefusal all told) }
 {
@@ -39,7 +39,7 @@ pub fn pages_behind(
     Ok(pages)
 }
 
-/// Estimates how many pages the text has, from its beginning. An index with slots for them does not have to grow.
+/// Estimates the number of pages of the text from its beginning. An index with slots for them does not have to grow.
 fn likely_pages(text: &str) -> usize {
     let bytes = text.as_bytes();
     let front = &bytes[..bytes.len().min(SAMPLE)];

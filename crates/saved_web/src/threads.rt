@@ -1,4 +1,4 @@
-//! A saved web that threads read: each reads a chunk of its lines, and the chunks are put together.
+//! Reading a saved web in threads: each reads a chunk of its lines, and then the chunks are joined.
 ghost use Rattle.std.specs.Prelude.{◌≡◌, ◌++◌, ◌<◌, ◌≤◌, length, IfSome};
 ghost use Rattle.std.specs.Str.Lines.{lines};
 ghost use Rattle.saved_web.specs.Reading.{AreRead, AreReadBehind, IsHeader};
@@ -11,22 +11,22 @@ use std::alloc::Global;
 use std::thread::{Threads, join};
 use text_lines::{cut_line, first_line, text_of};
 
-/// Threads do not read an input of fewer bytes than this.
+/// Threads do not read an input with fewer bytes than this.
 const LEAST: usize = 1 << 19;
 
-/// How often the lines are halved. The number of threads that read a chunk is two to this power.
+/// How often the lines are halved. The number of threads is two to this power.
 const HALVINGS: u32 = 2;
 
 /// Some of the lines after the header of a saved web.
 #[derive(Clone, Copy)]
 struct LineChunk<'a> {
-    /// The web has version 2.
+    /// Whether the saved web has version 2.
     second: bool,
     bytes: &'a [u8],
 }
 
 impl<'a> LineChunk<'a> {
-    /// Returns two chunks with about half of the lines each. The second begins with a page, if a page follows the middle.
+    /// Returns two chunks with about half of the lines each. If a page line follows the middle, the second chunk begins with it.
     fn halves(self) -> (LineChunk<'a>, LineChunk<'a>)
         ensures second { (result.0.second ≡ self.entry.second) × (result.1.second ≡ self.entry.second) }
         ensures lines { lines self.entry.bytes.now ≡ lines result.0.bytes.now ++ lines result.1.bytes.now }
@@ -45,7 +45,7 @@ impl<'a> LineChunk<'a> {
     }
 }
 
-/// Returns the pages of the saved web that the bytes are, read by four threads. `None` if one thread has to read them: if a line
+/// Returns the pages of the saved web in these bytes, read by four threads. `None` if they must be read by one thread: if a line
 /// fails a check, memory runs out, or there are too few bytes.
 pub fn pages_in_threads<'a, R: Threads + Sync>(
     rt: &R,
@@ -80,8 +80,8 @@ fn version(line: &[u8]) -> Option<bool>
     }
 }
 
-/// Returns the pages of the chunk. It is halved the given number of times, and a thread reads each half. If a thread cannot be
-/// started, the thread that needs it reads both halves.
+/// Returns the pages of the chunk. It is halved this number of times, and a thread reads each half. If a thread cannot be started,
+/// the thread that needs it reads both halves.
 fn pages_of_chunk<'a, R: Threads + Sync>(
     rt: &R,
     alloc: Global,
@@ -117,7 +117,7 @@ fn read_chunk(alloc: Global, chunk: LineChunk<'_>) -> Option<WebPages<'_>>
     }
 }
 
-/// Returns the pages of a chunk that is this text.
+/// Returns the pages of a chunk, which has this text. `None` if a line fails a check, or if memory runs out.
 fn read_text(alloc: Global, second: bool, text: &str) -> Option<WebPages<'_>>
     ensures { IfSome result (AreReadBehind second (lines text.now)) }
 {
@@ -135,7 +135,7 @@ fn read_text(alloc: Global, second: bool, text: &str) -> Option<WebPages<'_>>
     }
 }
 
-/// Returns the bytes, cut at the end of a line: of the first line that ends after `from` and is followed by a page.
+/// Cuts the bytes after the first line that ends after `from` and is followed by a page line.
 pub fn cut_before_page(bytes: &[u8], from: usize) -> (&[u8], &[u8])
     requires { from ≤ length bytes.now }
     ensures { lines bytes.now ≡ lines result.0.now ++ lines result.1.now }

@@ -20,7 +20,7 @@ use std::alloc::Global;
 use std::thread::Threads;
 use text_lines::first_line;
 
-/// The pages of a saved web, each with its links. It borrows the bytes that it was read from.
+/// The pages of a saved web, each with its links. It borrows the bytes from which it was read.
 #[derive(Drop)]
 pub struct SavedWeb<'a> {
     pub(crate) pages: WebPages<'a>,
@@ -30,8 +30,7 @@ impl<'a> SavedWeb<'a> {
     /// Reads a saved web from its bytes.
     ///
     /// # Errors
-    /// The error of the first line that fails a check: the first in the order of [`WebError`] that this line has. `NoMemory` if
-    /// memory ran out.
+    /// The first error, in the order of [`WebError`], of the first line that fails a check. `NoMemory` if memory ran out.
     #[tactic(auto, using(std::proofs::lemmas::Result::err_from_is_err_and, crate::proofs::LeastLine::only_memory, crate::proofs::LeastLine::no_fault))]
     pub fn read(alloc: Global, bytes: &'a [u8]) -> Result<SavedWeb<'a>, WebError>
         ensures sound { IfOk result (λ web. IsSound (lines bytes.now)) }
@@ -40,7 +39,7 @@ impl<'a> SavedWeb<'a> {
         ensures urls { IfOk result (λ web. urls_of web ≡ page_urls (lines bytes.now)) }
         // An error is that of the first line that has one, unless memory ran out.
         ensures fault { IfErr result (λ told. IsWebRefusal (lines bytes.now) told) }
-        // Conversely, sound lines are read, and lines with an error are refused because of it.
+        // Conversely, lines that pass all checks are read, and other lines are refused because of their error.
         ensures reads { IsSound (lines bytes.now) → Gives WebError.NoMemory page_at result (Ok (page_of (lines bytes.now))) }
         ensures tells { (fault : WebError) → IsWebFault (lines bytes.now) fault → Gives WebError.NoMemory page_at result (Err fault) }
     {
@@ -50,11 +49,11 @@ impl<'a> SavedWeb<'a> {
         })
     }
 
-    /// Like [`SavedWeb::read`], with four threads if there is enough to read. Bytes with an error are then read again by one
-    /// thread, which finds the error.
+    /// Reads a saved web as [`SavedWeb::read`] does, with four threads if there are enough bytes. If they have an error, one thread
+    /// reads them again to find it.
     ///
     /// # Errors
-    /// Those of [`SavedWeb::read`]. It is no error if a thread cannot be started: the thread that needs it reads its chunk.
+    /// Those of [`SavedWeb::read`]. If a thread cannot be started, that is not an error: the thread that needs it reads its chunk.
     #[tactic(auto, using(crate::proofs::LeastLine::no_fault))]
     pub fn read_in_threads<R: Threads + Sync>(
         rt: &R,
@@ -67,7 +66,7 @@ impl<'a> SavedWeb<'a> {
         ensures urls { IfOk result (λ web. urls_of web ≡ page_urls (lines bytes.now)) }
         // An error is that of the first line that has one, unless memory ran out.
         ensures fault { IfErr result (λ told. IsWebRefusal (lines bytes.now) told) }
-        // Conversely, sound lines are read, and lines with an error are refused because of it.
+        // Conversely, lines that pass all checks are read, and other lines are refused because of their error.
         ensures reads { IsSound (lines bytes.now) → Gives WebError.NoMemory page_at result (Ok (page_of (lines bytes.now))) }
         ensures tells { (fault : WebError) → IsWebFault (lines bytes.now) fault → Gives WebError.NoMemory page_at result (Err fault) }
     {
@@ -87,7 +86,7 @@ impl<'a> SavedWeb<'a> {
         self.pages.urls(alloc)
     }
 
-    /// Returns the page at the URL. Its links are looked up in the cache, and found by parsing otherwise.
+    /// Returns the page at the URL. Its links are looked up in the cache, and resolved if they are not there.
     pub(crate) fn page(
         &self,
         alloc: Global,

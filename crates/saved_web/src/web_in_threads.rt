@@ -11,8 +11,8 @@ use crawl_pages::{FetchError, Page, SessionFetch};
 use std::alloc::Global;
 use std::thread::Threads;
 
-/// A saved web as a source of the same pages, with a session that caches the URLs of links. If all pages have one host, threads
-/// resolve their links ahead. Otherwise threads resolve the links of a long page when it is fetched.
+/// A saved web as a source of pages, with a session that stores resolved links. If all pages have the same host, threads resolve
+/// their links ahead. Otherwise, threads resolve the links of a long page when it is fetched.
 #[derive(Drop)]
 pub struct WebInThreads<'w, 'a, R: Threads> {
     web: &'w SavedWeb<'a>,
@@ -24,7 +24,7 @@ pub struct WebInThreads<'w, 'a, R: Threads> {
 }
 
 impl<'w, 'a, R: Threads + Sync> WebInThreads<'w, 'a, R> {
-    /// Returns a source of the pages of this web. Threads resolve links only if `in_threads`.
+    /// Makes a source of the pages of this saved web. Threads resolve links only if `in_threads` is `true`.
     pub fn new(
         rt: &'w R,
         alloc: Global,

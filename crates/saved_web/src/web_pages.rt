@@ -9,16 +9,16 @@ use std::alloc::{AllocError, Global};
 use std::marker::Model;
 use std::thread::{Threads, join};
 
-/// About how many pages are looked at to find whether all have one host.
+/// The number of pages, about, that are tested to find out whether all have the same host.
 const SAMPLES: usize = 1_024;
 
-/// Threads do not look at a list of fewer pages than this.
+/// Threads do not search a list with fewer pages than this.
 const LEAST: usize = 4_096;
 
-/// How often a list is halved. The number of threads that look at a chunk is two to this power.
+/// How often a list is halved. The number of threads that search a chunk is two to this power.
 const HALVINGS: u32 = 2;
 
-/// The pages of a saved web: in one chunk, or in one chunk for each thread that read some. Each chunk has its own index.
+/// The pages of a saved web: one chunk, or one for each thread that read some. Each chunk has its own index.
 #[derive(Drop)]
 pub struct WebPages<'a> {
     chunks: Vec<Pages<'a>>,
@@ -119,7 +119,7 @@ impl<'a> WebPages<'a> {
         sum
     }
 
-    /// Returns about how many bytes of the input are theirs.
+    /// Returns about how many bytes of the input the pages have.
     pub fn bytes(&self) -> usize {
         let mut bytes: usize = 0;
         for chunk in &self.chunks {
@@ -128,7 +128,7 @@ impl<'a> WebPages<'a> {
         bytes
     }
 
-    /// Returns the index of the first page after the given number of these bytes.
+    /// Returns the index of the first page after the first `bytes` of these bytes.
     pub fn index_behind(&self, bytes: usize) -> usize {
         let mut bytes = bytes;
         let mut before: usize = 0;
@@ -143,7 +143,7 @@ impl<'a> WebPages<'a> {
         before
     }
 
-    /// Whether all pages that are looked at have one host.
+    /// Whether all pages that are tested have the same host.
     pub fn has_one_host(&self) -> bool {
         let Some(first) = self.page(0) else {
             return false;
@@ -160,7 +160,7 @@ impl<'a> WebPages<'a> {
         true
     }
 
-    /// Returns the page with the URL, if it has about the given number of bytes.
+    /// Returns the page with the URL, if it has at least about this number of bytes.
     pub fn long(&self, url: &CanonUrl, bytes: usize) -> Option<&KnownPage<'a>>
         ensures { IfSome result (λ page. page_with self.now url.now ≡ Some page.now) }
     {
@@ -172,7 +172,7 @@ impl<'a> WebPages<'a> {
         Some(page)
     }
 
-    /// Whether some page has about the given number of bytes.
+    /// Whether some page has at least about this number of bytes.
     pub fn has_long_page(&self, bytes: usize) -> bool {
         for chunk in &self.chunks {
             if chunk.has_long_page(bytes) {
@@ -182,7 +182,7 @@ impl<'a> WebPages<'a> {
         false
     }
 
-    /// Returns the pages of both, these first. `None` if a page of each has the same URL, or if memory runs out.
+    /// Returns the pages of both, these first. `None` if both have a page with the same URL, or if memory runs out.
     pub fn and<R: Threads + Sync>(self, rt: &R, more: WebPages<'a>) -> Option<WebPages<'a>>
         ensures both { IfSome result (λ web. web ≡ self.entry ++ more.entry) }
         ensures apart { IfSome result (λ _. (url : List ℕ) → has more.entry url ≡ true → has self.entry url ≡ false) }
@@ -225,7 +225,7 @@ fn is_known<R: Threads + Sync>(rt: &R, chunks: &[Pages<'_>], other: &Pages<'_>) 
     false
 }
 
-/// Whether a page of each has the same URL. If there are many others, threads look for some of them each.
+/// Whether a page of each has the same URL. If there are many others, they are searched in threads.
 fn share_url<R: Threads + Sync>(rt: &R, pages: &Pages<'_>, others: &Pages<'_>) -> bool
     ensures { result ≡ false → (url : List ℕ) → has others.now url ≡ true → has pages.now url ≡ false }
 {
@@ -233,8 +233,8 @@ fn share_url<R: Threads + Sync>(rt: &R, pages: &Pages<'_>, others: &Pages<'_>) -
     some_has_in_threads(rt, halvings, pages, others.as_slice())
 }
 
-/// Whether one of the pages in the list has the URL of a page. The list is halved the given number of times, and a thread looks at
-/// each half. If a thread cannot be started, the thread that needs it looks at both halves.
+/// Whether one of the pages in the list has the URL of a page of `pages`. The list is halved this number of times, and a thread
+/// searches each half. If a thread cannot be started, the thread that needs it searches both halves.
 fn some_has_in_threads<R: Threads + Sync>(
     rt: &R,
     halvings: u32,
@@ -265,7 +265,7 @@ fn halves<'l, 'a>(list: &'l [KnownPage<'a>]) -> (&'l [KnownPage<'a>], &'l [Known
     list.split_at(list.len() / 2)
 }
 
-/// Whether one of the pages in the list has the URL of a page.
+/// Whether one of the pages in the list has the URL of a page of `pages`.
 #[tactic(auto, using(crate::proofs::ChunkPages::none_with_more))]
 fn some_has(pages: &Pages<'_>, list: &[KnownPage<'_>]) -> bool
     ensures { result ≡ false → (url : List ℕ) → has list.now url ≡ true → has pages.now url ≡ false }

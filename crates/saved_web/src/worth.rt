@@ -1,26 +1,26 @@
-//! Whether texts of links come again on other pages of their folder.
+//! Whether it saves time to store the link texts of a folder: whether they occur again on its other pages.
 
-/// The number of links that are counted before the counts say anything.
+/// The number of links that must be counted before the counts are used.
 const FEWEST: u64 = 256;
 
-/// What was counted counts half once it is this much, so that later pages weigh more.
+/// The counts are halved when they reach this number, so that later pages count more.
 const MOST: u64 = 4_096;
 
-/// If it is not worth it, one page in this many is still looked at.
+/// If it does not save time, the texts of one page in this number are stored all the same.
 const PROBE: u32 = 32;
 
-/// How often a link's text was known already on pages whose folder had been met before.
+/// How often the text of a link was already known, on pages of folders that had a page before.
 #[derive(Clone, Copy)]
 pub struct Worth {
     links: u64,
-    /// How many of their texts were not known.
+    /// The number of links whose texts were not known.
     learned: u64,
-    /// How many pages were passed by because it was not worth it.
+    /// The number of pages whose texts were not stored.
     passed: u32,
 }
 
 impl Worth {
-    /// Nothing is counted yet.
+    /// Makes counts of 0.
     pub fn unknown() -> Worth {
         Worth {
             links: 0,
@@ -29,7 +29,7 @@ impl Worth {
         }
     }
 
-    /// Counts the links of a page, and how many of their texts were not known.
+    /// Counts the links of a page, and those of them whose texts were not known.
     pub fn count(&mut self, links: u64, learned: u64) {
         if self.links > MOST {
             self.links /= 2;
@@ -39,7 +39,7 @@ impl Worth {
         self.learned = self.learned.saturating_add(learned);
     }
 
-    /// Whether it is worth to learn the texts of the next page: a quarter of those before were known, or too few came.
+    /// Whether to store the texts of the next page: if a quarter of those before were known, or if there were too few.
     pub fn is_some(&mut self) -> bool {
         if self.links < FEWEST || self.learned <= self.links / 4 * 3 {
             return true;

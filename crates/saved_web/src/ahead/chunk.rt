@@ -1,4 +1,4 @@
-//! The links of some pages of a web, resolved ahead.
+//! The resolved links of some pages of a saved web.
 ghost use Rattle.std.specs.Prelude.{◌≡◌, ◌+◌, List, Some, length, slice_get, IfOk, IfSome};
 ghost use Rattle.saved_pages.specs.UrlIndices.{KeepIndices, LeadTo};
 ghost use Rattle.saved_web.specs.Ahead.{IsAhead, IsChunk, shown_page};
@@ -15,18 +15,18 @@ use crawl_pages::{FetchError, Links, Page};
 use saved_pages::{KnownPage, UrlList};
 use std::alloc::{AllocError, Global};
 
-/// Some pages of a web, and the links of most of them.
+/// Some pages of a saved web, and the resolved links of most of them.
 #[derive(Drop)]
 pub struct Chunk {
-    /// In the order of the web.
+    /// The pages, in the order of the saved web.
     pages: Vec<PageAhead>,
     urls: UrlList,
 }
 
-/// A page whose links were resolved.
+/// A page with its resolved links.
 #[derive(Drop)]
 struct PageAhead {
-    /// Its index among the pages of the web.
+    /// The page's index among the pages of the saved web.
     index: usize,
     links: LinksAhead,
 }
@@ -36,13 +36,13 @@ struct PageAhead {
 struct LinksAhead {
     /// The index of the URL of each link, in order.
     indices: Vec<u32>,
-    /// How many other links there are, which lead to no URL.
+    /// The number of other links, which lead to no URL.
     skipped: u64,
 }
 
 impl Chunk {
-    /// Resolves the links of the pages in this block and in each block that is a multiple of `CHUNKS` later, until memory runs out.
-    /// `blocks` has the index of the first page of each block, and the number of pages.
+    /// Resolves the links of the pages in block `first`, and in every `CHUNKS`th block after it, until memory runs out. `blocks`
+    /// has the index of the first page of each block, and then the number of pages.
     pub fn new(alloc: Global, web: &WebPages<'_>, blocks: &[usize], first: usize) -> Chunk
         ensures { IsChunk web.now result }
     {
@@ -85,7 +85,7 @@ impl Chunk {
         Ok(())
     }
 
-    /// Resolves the links of the page at the index, which is after the others.
+    /// Resolves the links of the page at the index, which must be greater than those of the pages so far.
     fn add_page<'a>(
         &mut self,
         alloc: Global,
@@ -103,7 +103,7 @@ impl Chunk {
         Ok(())
     }
 
-    /// Returns the page of the web at the index. `None` if its links are not here, or if memory runs out.
+    /// Returns the page at the index. `None` if its links are not here, or if memory runs out.
     pub fn page(&self, alloc: Global, index: usize) -> Option<Page>
         ensures { (web : List PageRead) → IsChunk web self.now → IfSome result (λ page. page ≡ shown_page (slice_get web index)) }
     {
@@ -128,7 +128,7 @@ impl LinksAhead {
     }
 }
 
-/// Returns the URLs with these indices, which share their texts. `None` if memory runs out.
+/// Returns copies of the URLs with these indices, which share their texts. `None` if memory runs out.
 fn copies(alloc: Global, urls: &UrlList, indices: &[u32]) -> Option<Vec<CanonUrl>>
     ensures { IfSome result (λ links. LeadTo urls.now indices.now links.items) }
 {
@@ -145,8 +145,8 @@ fn copies(alloc: Global, urls: &UrlList, indices: &[u32]) -> Option<Vec<CanonUrl
     Some(links)
 }
 
-/// Resolves the links of the page at the index. `None` if there is no page, or if its links are not resolved ahead: it has moved, or
-/// is so long that threads resolve its links when it is fetched.
+/// Resolves the links of the page at the index. `None` if there is no such page, if it has moved, or if it is so long that threads
+/// resolve its links when it is fetched.
 fn links_at<'a>(
     alloc: Global,
     web: &WebPages<'a>,
