@@ -17,7 +17,7 @@ has_id ids text = list_any (λ id. bytes_eq id text) ids
 
 -- ---- the fragment
 
--- a fragment directive begins
+-- the text begins with `:~:`, which starts a fragment directive
 abbrev pub begins_directive : List ℕ → Bool
 begins_directive text = starts_with nat_eq text (codes ":~:")
 
@@ -26,11 +26,11 @@ abbrev pub before_directive : List ℕ → List ℕ
 before_directive [] = []
 before_directive (b ∷ bs) = if begins_directive (b ∷ bs) then [] else b ∷ before_directive bs
 
--- as a URL has it
+-- the fragment of a text as a URL parser writes it
 abbrev pub fragment_of : List ℕ → List ℕ
 fragment_of text = percent_encode IN_FRAGMENT text
 
--- the bytes of its escapes, as UTF-8
+-- the text after percent-decoding, as UTF-8
 abbrev pub decoded_of : List ℕ → List ℕ
 decoded_of fragment = utf8_lossy (percent_decode fragment)
 
@@ -61,7 +61,7 @@ has_fragment ids fragment = if has_id ids fragment then true else decoded_has id
 abbrev pub has_anchor : List (List ℕ) → List ℕ → Bool
 has_anchor ids text = has_fragment ids (fragment_of text)
 
--- without a fragment the top is meant, which each document has
+-- whether the text before the directive names an anchor of the document; an empty text names its top, which each document has
 abbrev pub front_indicated : List (List ℕ) → List ℕ → Bool
 front_indicated ids front = if length front == 0 then true else has_anchor ids front
 

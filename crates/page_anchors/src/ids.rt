@@ -41,7 +41,7 @@ impl Ids {
         }
     }
 
-    /// No ids, with room for `count` ids of `length` bytes together.
+    /// Creates an empty list, with room for `count` ids of `length` bytes together.
     ///
     /// # Errors
     /// Out of memory.
@@ -53,7 +53,7 @@ impl Ids {
         Ok(Ids { bytes, ends })
     }
 
-    /// The number of ids.
+    /// Returns the number of ids.
     #[tactic(auto, using(crate::proofs::Block::count_of))]
     pub fn len(&self) -> usize
         ensures { result ≡ length self.now }
@@ -61,7 +61,7 @@ impl Ids {
         self.ends.as_slice().len()
     }
 
-    /// The number of bytes of all ids.
+    /// Returns the number of bytes of all ids together.
     #[tactic(auto, using(crate::proofs::Block::bytes_of))]
     pub fn byte_count(&self) -> usize
         ensures { result ≡ length (flat_map (λ id. id) self.now) }
@@ -69,7 +69,7 @@ impl Ids {
         self.bytes.as_slice().len()
     }
 
-    /// The id with this index.
+    /// Returns the id with this index.
     #[tactic(auto, using(crate::proofs::Block::count_of))]
     pub fn id(&self, index: usize) -> &[u8]
         requires { index < length self.now }
@@ -97,7 +97,7 @@ impl Ids {
         }
     }
 
-    /// The same ids in ascending byte order, in exactly the memory that they need.
+    /// Returns the same ids in ascending byte order, in exactly the memory that they need.
     ///
     /// # Errors
     /// Out of memory.
@@ -136,7 +136,7 @@ impl Ids {
     }
 }
 
-/// The id with this index, if the ids end at these positions of the bytes.
+/// Returns the id with this index; the ids end at these positions of the bytes.
 #[tactic(auto, using(crate::proofs::Block::id_within, crate::proofs::Block::id_is))]
 fn id_at<'b>(bytes: &'b [u8], ends: &[u32], index: usize) -> &'b [u8]
     requires within { index < length ends.now }
@@ -148,7 +148,7 @@ fn id_at<'b>(bytes: &'b [u8], ends: &[u32], index: usize) -> &'b [u8]
     &bytes[begin..end]
 }
 
-/// The start of the id with this index.
+/// Returns the position at which the id with this index begins.
 fn begin_of(ends: &[u32], index: usize) -> usize
     requires { index < length ends.now }
     ensures { result ≡ get_or (0 ∷ ends.now) index 0 }
@@ -170,7 +170,7 @@ fn push_id(id: &[u8], bytes: &mut Vec<u8>, ends: &mut Vec<u32>) -> Result<(), No
     Ok(())
 }
 
-/// The number of bytes, if that is less than 4 GiB.
+/// Returns the number of bytes. Fails if that is 4 GiB or more.
 fn end_of(bytes: &[u8]) -> Result<u32, NoMemory>
     ensures { IfOk result (λ end. end ≡ length bytes.now) }
 {

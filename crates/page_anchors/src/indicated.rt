@@ -14,10 +14,10 @@ pub const IN_FRAGMENT: AsciiSet = ascii_set!(
     CONTROLS.add(b' ').add(b'"').add(b'<').add(b'>').add(b'`')
 );
 
-/// Whether a document with these ids, in ascending order, has the anchor that the text after a `#` names. It does if the text is
-/// empty, if an id is the fragment as a URL parser writes it, or if the fragment after percent-decoding is an id, or `top` in any
-/// case. A decoded fragment that begins with `/` or `!` is a route, which names no anchor, so none is missing. Everything from
-/// `:~:` on is ignored.
+/// Whether a document with these ids, in ascending order, has the anchor that the text after a `#` names. An empty text names the
+/// top of the document. Otherwise an id must equal the fragment as a URL parser writes it, or the percent-decoded fragment, or that
+/// must be `top` in any case. A decoded fragment that begins with `/` or `!` is a route: it names no anchor, so none is missing.
+/// Everything from `:~:` on is ignored.
 ///
 /// # Errors
 /// Out of memory.
