@@ -1,8 +1,8 @@
--- The URLs of a `srcset`, as the HTML Standard parses a srcset attribute, also of a candidate whose descriptors it rejects.
+-- The URLs of a `srcset`, by the HTML Standard's rules for parsing a srcset attribute, but including candidates whose descriptors it rejects.
 use Rattle.std.specs.Prelude.{ℕ, ◌==◌, ◌||◌, nat_lt, not, Bool, true, false, if◌then◌else◌, List, [], ◌∷◌, ◌++◌, length}
 use Rattle.html_links.specs.Shown.{is_space}
 
--- Between candidates, in a URL with these bytes so far, or after it in descriptors, with or without an open parenthesis.
+-- The states: between candidates, in a URL with these bytes so far, or in the descriptors after it, inside or outside of parentheses.
 pub data State : Type 0 where
   Between : State
   Url : List ℕ → State
@@ -12,7 +12,7 @@ abbrev pub are_commas : List ℕ → Bool
 are_commas [] = true
 are_commas (c ∷ rest) = if c == 44 then are_commas rest else false
 
--- without the commas at the end
+-- a URL without the commas at its end
 abbrev pub without_commas : List ℕ → List ℕ
 without_commas [] = []
 without_commas (c ∷ rest) = if are_commas (c ∷ rest) then [] else c ∷ without_commas rest
@@ -23,11 +23,11 @@ is_between c = is_space c || c == 44
 abbrev pub behind_shorter : List ℕ → List ℕ → State
 behind_shorter url candidate = if nat_lt (length url) (length candidate) then Between else Descriptors false
 
--- a URL that ends with a comma has no descriptors
+-- the state after a URL, which has no descriptors if it ends with a comma
 abbrev pub behind_url : List ℕ → State
 behind_url url = behind_shorter (without_commas url) url
 
--- URLs, and the state after them
+-- the next URLs, and the state after them
 pub data Next : Type 0 where
   Go : List (List ℕ) → State → Next
 

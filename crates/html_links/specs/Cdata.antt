@@ -1,5 +1,5 @@
--- What begins with `<![` in foreign content, from the bytes after it: a CDATA section, as the tokenizer of the HTML
--- Standard reads it in its states from CDATA section to CDATA section end, or a bogus comment. `Name k` is after k bytes of `CDATA[`.
+-- The end of what begins with `<![` in foreign content, from the bytes after that: a CDATA section, as the HTML Standard's tokenizer reads it in its states
+-- from CDATA section to CDATA section end, or a bogus comment. `Name k` is the state after k bytes of `CDATA[`.
 use Rattle.std.specs.Prelude.{ℕ, ◌+◌, ◌==◌, nat_lt, if◌then◌else◌, List, [], ◌∷◌, Option, None, Some}
 use Rattle.html_links.specs.declared.cdata.State.{State}
 use Rattle.html_links.specs.declared.cdata.State.TheVariants.{Name, Section, Bracket, End, Bogus}
@@ -36,7 +36,7 @@ abbrev pub follow : Next → (State → Option (List ℕ)) → List ℕ → Opti
 follow (Go state) on rest = on state
 follow Ends on rest = Some rest
 
--- the bytes after it, if it ends
+-- the bytes after the section or comment, if it ends
 abbrev pub run : State → List ℕ → Option (List ℕ)
 run state [] = None
 run state (c ∷ rest) = follow (step state c) (λ state. run state rest) rest

@@ -1,9 +1,9 @@
--- Comments, from the bytes after `<!--`, as the tokenizer of the HTML Standard reads them, in its states from comment start to
--- comment end bang: each state is one constructor, each transition one equation of `step`.
+-- Comments, from the bytes after `<!--`, as the HTML Standard's tokenizer reads them in its states from comment start to comment end bang. Each state is a
+-- constructor, and each transition an equation of `step`.
 use Rattle.std.specs.Prelude.{ℕ, ◌==◌, if◌then◌else◌, List, [], ◌∷◌, Option, None, Some}
 use Rattle.std.specs.Borrow.{Bor}
 
--- `-`, `>`, `!`, `<`, and each other byte
+-- the classes of bytes: `-`, `>`, `!`, `<`, and all others
 pub data Mark : Type 0 where
   Dash : Mark
   Greater : Mark
@@ -31,7 +31,7 @@ pub data State : Type 0 where
   End : State
   EndBang : State
 
--- Go to a state, or emit the comment.
+-- go to a state, or emit the comment
 pub data Next : Type 0 where
   Go : State → Next
   Emit : Next

@@ -1,6 +1,6 @@
--- The context of a tag: whether it is in HTML content, in an element of SVG or MathML, or in a document in XML. In the Standard, the
--- namespace of the adjusted current node decides. Here are no nodes: a context has the number of integration points around it, and
--- of the `svg` and `math` elements that are open in the element of SVG or MathML. No number is above 255.
+-- The context of a tag: whether it is in HTML content, in an element of SVG or MathML, or in a document in XML. In the Standard, the namespace of the adjusted
+-- current node decides that. There are no nodes here: a context has the number of integration points around the tag, and the number of `svg` and `math`
+-- elements that are open in the element of SVG or MathML. Neither number is above 255.
 use Rattle.std.specs.Prelude.{ℕ, ◌+◌, ◌-◌, ◌==◌, ◌||◌, ◌&&◌, not, Bool, true, false, if◌then◌else◌, List, codes, Option, None, Some, bytes_eq}
 use Rattle.html_links.specs.declared.context.Context.{Context}
 use Rattle.html_links.specs.declared.context.Context.TheVariants as context
@@ -16,7 +16,7 @@ abbrev pub context_of : Syntax → Context
 context_of syntax.Html = context.Html 0
 context_of syntax.Xhtml = context.Xml
 
--- no element has raw text, a tag may close itself, and there are CDATA sections
+-- elements have no raw text, tags may close themselves, and there are CDATA sections
 abbrev pub is_foreign : Context → Bool
 is_foreign (context.Html points) = false
 is_foreign _ = true
@@ -24,7 +24,7 @@ is_foreign _ = true
 abbrev pub one_more : ℕ → ℕ
 one_more count = if count == 255 then 255 else count + 1
 
--- the Standard's start tags, but for `font`, that are not allowed in foreign content: they end it
+-- the start tags that the Standard does not allow in foreign content, except `font`: they end it
 abbrev pub is_block : List ℕ → Bool
 is_block name =
     bytes_eq name (codes "blockquote") || bytes_eq name (codes "body") || bytes_eq name (codes "center") || bytes_eq name (codes "div")
@@ -62,12 +62,12 @@ is_root name = bytes_eq name (codes "svg") || bytes_eq name (codes "math")
 abbrev pub is_svg_point : List ℕ → Bool
 is_svg_point name = bytes_eq name (codes "foreignobject") || bytes_eq name (codes "desc") || bytes_eq name (codes "title")
 
--- the MathML text integration points, whose content is HTML too, but for two elements that have no links
+-- the MathML text integration points, whose content is HTML too, except for two elements that have no links
 abbrev pub is_text_point : List ℕ → Bool
 is_text_point name =
     bytes_eq name (codes "mi") || bytes_eq name (codes "mo") || bytes_eq name (codes "mn") || bytes_eq name (codes "ms") || bytes_eq name (codes "mtext")
 
--- the encodings, as written, with which an `annotation-xml` is an HTML integration point
+-- the encodings, as written, that make an `annotation-xml` an HTML integration point
 abbrev pub is_html_encoding : Option (List ℕ) → Bool
 is_html_encoding None = false
 is_html_encoding (Some value) = same_name value (codes "text/html") || same_name value (codes "application/xhtml+xml")
@@ -81,7 +81,7 @@ abbrev pub is_html_font : Element → Values → Bool
 is_html_font element.Font v = not (is_absent v.first && is_absent v.second && is_absent v.third)
 is_html_font _ v = false
 
--- the context of a start tag with a name, in a context
+-- the context of a start tag with this name
 abbrev pub tag_context : Context → List ℕ → Context
 tag_context (context.Svg points nested) name = if is_breakout name then context.Html points else context.Svg points nested
 tag_context (context.Math points nested) name = if is_breakout name then context.Html points else context.Math points nested
@@ -94,7 +94,7 @@ foreign_element name =
     else if bytes_eq name (codes "annotation-xml") then element.Annotation
     else element.Anchor
 
--- an XML document has elements of each namespace
+-- an XML document has elements of all namespaces
 abbrev pub xml_element : Element → Element
 xml_element element.Other = element.Anchor
 xml_element known = known
@@ -130,11 +130,11 @@ content_context (context.Math points nested) name element v =
     if is_html_font element v then context.Html points else math_content points nested name (is_annotation element v)
 content_context context.Xml name element v = context.Xml
 
--- the context after a start tag whose own context is the given one
+-- the context after a start tag whose own context is this one
 abbrev pub inner_context : Context → List ℕ → Element → Values → Context
 inner_context at name element v = if v.self_closing then at else content_context at name element v
 
--- the element around the content of an integration point with a name
+-- the context after an end tag in HTML content: that of an integration point with this name ends the content
 abbrev pub around_point : ℕ → List ℕ → Context
 around_point points name =
     if points == 0 then context.Html points
@@ -142,8 +142,8 @@ around_point points name =
     else if is_text_point name || bytes_eq name (codes "annotation-xml") then context.Math (points - 1) 0
     else context.Html points
 
--- The context after an end tag. One with the name of a start tag that ends foreign content ends it too: in the Standard it does if
--- it is `br` or `p`, or if its element is nested around the foreign content.
+-- The context after an end tag. The end tag of an element whose start tag ends foreign content ends that too. In the Standard it does so if it is `br` or `p`,
+-- or if its element is around the foreign content.
 abbrev pub outer_context : Context → List ℕ → Context
 outer_context (context.Html points) name = around_point points name
 outer_context (context.Svg points nested) name =
@@ -154,17 +154,17 @@ outer_context (context.Math points nested) name =
     else tag_context (context.Math points nested) name
 outer_context context.Xml name = context.Xml
 
--- a `template` in this context has template contents: it is not an element of SVG or MathML
+-- a `template` in this context is an HTML element, and has template contents
 abbrev pub has_templates : Context → Bool
 has_templates (context.Svg points nested) = false
 has_templates (context.Math points nested) = false
 has_templates _ = true
 
--- in HTML a tag does not close itself
+-- a tag in HTML does not close itself
 abbrev pub closes_itself : Context → Bool → Bool
 closes_itself at self_closing = self_closing && is_foreign at
 
--- the end tag of a template with contents, and the start tag of one
+-- whether a tag is the end tag, or the start tag, of a template with contents
 abbrev pub ends_template : Context → List ℕ → Bool
 ends_template at name = is_template name && has_templates at
 

@@ -3,7 +3,7 @@ use Rattle.std.specs.Prelude.{◌≡◌, ◌≤◌, ℕ, List, length, Result, O
 use Rattle.std.specs.Borrow.{Bor}
 use Rattle.html_links.specs.Comments.{run, Comment, EndDash}
 
--- it ends here, or continues as a comment
+-- the comment ends here, or continues
 abbrev pub Dashed : Result (Bor (List ℕ)) (Bor (List ℕ)) → List ℕ → Type 0
 Dashed (Ok last) bytes = run EndDash bytes ≡ Some last.now
 Dashed (Err more) bytes = run EndDash bytes ≡ run Comment more.now

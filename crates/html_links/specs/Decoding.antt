@@ -13,7 +13,7 @@ is_mark c = c == 38 || c == 0
 abbrev pub is_plain : ℕ → Bool
 is_plain c = not (c == 38 || c == 0)
 
--- a digit to a base
+-- the byte is a digit in this base
 abbrev pub in_base : ℕ → ℕ → Bool
 in_base radix c = is_digit c radix
 
@@ -22,6 +22,6 @@ decoded_text (decoded.Itself bytes) = 38 ∷ bytes.now
 decoded_text (decoded.Character c) = encode_utf8 c
 decoded_text (decoded.Named text) = text.now
 
--- the text of the bytes in a state, after what was decoded
+-- the text of the bytes in a state, after what was decoded so far
 abbrev pub Decodes : State → List ℕ → Decoded → List ℕ → Type 0
 Decodes state bytes found rest = read state bytes ≡ decoded_text found ++ read Text rest

@@ -1,6 +1,5 @@
--- The tags of a document, as the tokenizer of the HTML Standard reads them, in its states from the data state to the DOCTYPE state.
--- The name of an element and its context decide what its content is.
--- A doctype ends at the first `>` in each of its states, as a bogus comment does.
+-- The tags of a document, as the HTML Standard's tokenizer reads them in its states from the data state to the DOCTYPE state. The name of an element and its
+-- context determine how its content is read. A doctype ends at the first `>` in each of its states, as a bogus comment does.
 use Rattle.std.specs.Prelude.{ℕ, ◌==◌, ◌||◌, ◌&&◌, Bool, true, false, if◌then◌else◌, List, [], ◌∷◌, ◌++◌, reverse, codes, bytes_eq}
 use Rattle.html_links.specs.declared.bytes.Class.{Class}
 use Rattle.html_links.specs.declared.bytes.Class.TheVariants.{Space, Slash, Greater}
@@ -35,13 +34,13 @@ pub record StartTag : Type 0 where
   pub attributes : List Attribute
   pub self_closing : Bool
 
--- What the tokenizer emits: start tags, with their context and the bytes after them, and the end tags of templates. No other end tag
--- decides whether a tag is part of the page.
+-- What the tokenizer emits: start tags with their context and the bytes after them, and the end tags of templates. Other end tags do not determine whether a
+-- tag is part of the page.
 pub data Token : Type 0 where
   Start : Context → StartTag → List ℕ → Token
   TemplateEnd : Token
 
--- what the content of an element is, by its name: text to its end tag, a script, text to the document's end, or markup
+-- how the content of an element is read, by its name: as text up to its end tag, as a script, as text to the end of the document, or as markup
 abbrev pub is_raw : List ℕ → Bool
 is_raw name =
     bytes_eq name (codes "title") || bytes_eq name (codes "textarea") || bytes_eq name (codes "style") || bytes_eq name (codes "xmp")
@@ -54,12 +53,12 @@ content_of name =
     else if bytes_eq name (codes "plaintext") then content.Plain
     else content.Markup
 
--- in a context: in foreign content each element has markup
+-- likewise in a context: in foreign content, the content of each element is markup
 abbrev pub content_at : Context → List ℕ → Content
 content_at (context.Html points) name = content_of name
 content_at _ name = content.Markup
 
--- what a byte after a `<` opens
+-- what begins with `<` and this byte
 abbrev pub opening_of : ℕ → Opening
 opening_of c =
     if c == 33 then opening.Bang
@@ -68,7 +67,7 @@ opening_of c =
     else if is_letter c then opening.Letter
     else opening.Plain
 
--- The state in a tag has whether it is an end tag, and its name so far.
+-- The state in a tag contains whether it is an end tag, and its name so far.
 pub data State : Type 0 where
   Data : State
   TagOpen : State
@@ -84,7 +83,7 @@ pub data State : Type 0 where
   InScript : code.State → State
   InPlain : State
 
--- Go to a state, or emit what has ended, by the bytes after it, and continue in a context and a state.
+-- Go to a state; or emit what has ended, with the bytes after it, and continue in a context and a state.
 pub data Next : Type 0 where
   Go : State → Next
   Emit : (List ℕ → List Token) → Context → State → Next
@@ -92,12 +91,12 @@ pub data Next : Type 0 where
 abbrev pub end_tag : Context → List ℕ → List Token
 end_tag at name = if ends_template at name then TemplateEnd ∷ [] else []
 
--- the attributes of an end tag do not count
+-- what is emitted at the end of a tag; the attributes of an end tag are ignored
 abbrev pub emitted : Context → Bool → List ℕ → List Attribute → Bool → List ℕ → List Token
 emitted at true name attributes closing rest = end_tag at name
 emitted at false name attributes closing rest = Start (tag_context at name) (record { name = name; attributes = attributes; self_closing = closing }) rest ∷ []
 
--- the context of the content of a start tag, by its own context
+-- the context of an element's content, by the context of its start tag
 abbrev pub entered : Context → List ℕ → List Attribute → Bool → Context
 entered at name attributes closing = inner_context at name (element_at at name) (values_of (wanted_of (element_at at name)) attributes closing)
 
@@ -157,14 +156,14 @@ abbrev pub cdata_step : section_nexts.Next → Next
 cdata_step (section_next.Go state) = Go (InCdata state)
 cdata_step section_next.Ends = Go Data
 
--- after a `<!`
+-- the step after a `<!`
 abbrev pub declaration_step : Context → ℕ → Next
 declaration_step at c =
     if c == 45 then Go MarkupDash
     else if is_foreign at && c == 91 then Go (InCdata (section.Name 0))
     else bogus_step c
 
--- after its name, the end tag continues in the state before an attribute's name; its name, which is left out, ends no other element
+-- a step in raw text; after the name of its end tag comes the state before an attribute's name. The name is left out, since the end tag ends no other element
 abbrev pub raw_step : Context → List ℕ → ℕ → raw.Next → Next
 raw_step at name c (raw.Go state) = Go (InRaw name state)
 raw_step at name c raw.Ends = tag_step at true [] (tags.step BeforeName (class_of c) c [])
@@ -192,7 +191,7 @@ abbrev pub follow : Context → Next → List ℕ → (Context → State → Lis
 follow at (Go here) rest on = on at here
 follow at (Emit found after here) rest on = found rest ++ on after here
 
--- the tags that end in these bytes, which begin in a context
+-- the tags that end in these bytes, which begin in this context and state
 abbrev pub read : Context → State → List ℕ → List Token
 read at here [] = []
 read at here (c ∷ rest) = follow at (step at here c) rest (λ at here. read at here rest)
@@ -202,6 +201,6 @@ start_tags [] = []
 start_tags (Start at t bytes ∷ rest) = t ∷ start_tags rest
 start_tags (TemplateEnd ∷ rest) = start_tags rest
 
--- the tags of a document in HTML
+-- the tags of an HTML document
 abbrev pub tags_of : List ℕ → List StartTag
 tags_of bytes = start_tags (read (context_of syntax.Html) Data bytes)

@@ -1,4 +1,4 @@
--- The elements whose attributes name documents, and which attributes these are.
+-- The elements with attributes that name documents, and these attributes.
 use Rattle.std.specs.Prelude.{ℕ, ◌||◌, not, Bool, true, false, if◌then◌else◌, List, [], codes, Option, None, Some, bytes_eq}
 use Rattle.html_links.specs.declared.element.Element.{Element}
 use Rattle.html_links.specs.declared.element.Element.TheVariants as element
@@ -25,7 +25,7 @@ is_embedded name =
 abbrev pub is_frame : List ℕ → Bool
 is_frame name = bytes_eq name (codes "frame") || bytes_eq name (codes "iframe")
 
--- by the name in lower case
+-- the element with this name, in lower case
 abbrev pub element_of : List ℕ → Element
 element_of name =
     if is_anchor name then element.Anchor
@@ -48,11 +48,11 @@ element_of name =
     else if bytes_eq name (codes "math") then element.Math
     else element.Other
 
--- the first letter and the length of the name are those of no element that names documents or has text
+-- the first letter and the length of the name show that the element names no documents and has no text
 abbrev pub is_usual : List ℕ → Bool
 is_usual name = not (may_be LENGTHS name)
 
--- names of attributes; an empty one is that of no attribute
+-- the names of the attributes that are read; an empty name is not that of any attribute
 pub record Wanted : Type 0 where
   pub first : List ℕ
   pub second : List ℕ
@@ -84,7 +84,7 @@ wanted_of element.Video = wants (codes "src") (codes "poster") []
 wanted_of element.Template = wants [] [] (codes "shadowrootmode")
 wanted_of element.Other = wants [] [] []
 
--- attributes of the element are read that are read of no other
+-- some attributes are read only of this element
 abbrev pub has_rare_names : Element → Bool
 has_rare_names element.Annotation = true
 has_rare_names element.Font = true
@@ -93,12 +93,12 @@ has_rare_names _ = false
 abbrev pub wanted_at : code.Wanted → Wanted
 wanted_at w = record { first = w.first.now; second = w.second.now; third = w.third.now }
 
--- the template becomes a shadow root, by the keyword in its attribute as written
+-- whether the value of its attribute, as written, makes a template a shadow root
 abbrev pub is_shadow : Option (List ℕ) → Bool
 is_shadow None = false
 is_shadow (Some mode) = same_name mode (codes "open") || same_name mode (codes "closed")
 
--- the contents of the element are not part of the page, by the third value that is read of it
+-- the contents of the element are not part of the page, by the third of its values
 abbrev pub is_inert : Element → Option (List ℕ) → Bool
 is_inert element.Template mode = not (is_shadow mode)
 is_inert _ mode = false

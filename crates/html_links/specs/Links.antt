@@ -1,4 +1,4 @@
--- The links of a document with or without those of its styles, its base, and its ids.
+-- The links of a document, with or without those of its styles, its base, and its ids.
 use Rattle.std.specs.Prelude.{ℕ, ◌||◌, not, Bool, true, false, if◌then◌else◌, List, [], ◌∷◌, ◌++◌, codes, Option, None, Some, bytes_eq}
 use Rattle.html_links.specs.declared.context.Syntax.{Syntax}
 use Rattle.html_links.specs.declared.element.Element.{Element}
@@ -18,7 +18,7 @@ abbrev pub target_links : Option (List ℕ) → List (List ℕ)
 target_links None = []
 target_links (Some target) = target ∷ []
 
--- the links of a text: itself, the URLs of a `srcset`, the target of a refresh, those of a style, or nothing
+-- the links of a text: the text itself, the URLs of a `srcset`, the target of a refresh, the URLs of a style, or none
 abbrev pub text_links : Form → List ℕ → List (List ℕ)
 text_links form.Link text = text ∷ []
 text_links form.List text = candidates_of text
@@ -30,18 +30,18 @@ abbrev pub value_links : Form → Option (List ℕ) → List (List ℕ)
 value_links form None = []
 value_links form (Some value) = text_links form (text_of value)
 
--- A keyword of a `rel` makes a link to a document or a resource: any but the two that name a host. The Standard ignores keywords
--- that are not registered. Here they count, since the register grows.
+-- A keyword of a `rel` makes a link to a document or a resource, unless it is one of the two that name a host. The Standard ignores keywords that are not
+-- registered. Here they count too, since the register grows.
 abbrev pub is_link_type : List ℕ → Bool
 is_link_type word = not (same_name word [] || same_name word (codes "preconnect") || same_name word (codes "dns-prefetch"))
 
--- some keyword between white space makes a link, after these bytes of a keyword
+-- one of the keywords, which are separated by white space, makes a link; the first keyword begins with these bytes
 abbrev pub types_behind : List ℕ → List ℕ → Bool
 types_behind word [] = is_link_type word
 types_behind word (c ∷ rest) =
     if is_space c then (if is_link_type word then true else types_behind [] rest) else types_behind (word ++ c ∷ []) rest
 
--- the `rel` of a `link` makes it a link to a document. A `link` without `rel` counts, since it may have an `itemprop`.
+-- the `rel` of a `link` makes it a link to a document. A `link` without `rel` is one, since it may have an `itemprop`.
 abbrev pub is_related : Option (List ℕ) → Bool
 is_related None = true
 is_related (Some rel) = types_behind [] (text_of rel)
@@ -51,15 +51,15 @@ abbrev pub is_keyword : List ℕ → Option (List ℕ) → Bool
 is_keyword word None = false
 is_keyword word (Some value) = same_name (text_of value) word
 
--- the `type` of an `input` is in the Standard's state Image Button or Submit Button: `formaction` applies to it
+-- the `type` of an `input` has the Standard's state Image Button or Submit Button, to which `formaction` applies
 abbrev pub submits : Option (List ℕ) → Bool
 submits kind = if is_keyword (codes "image") kind then true else is_keyword (codes "submit") kind
 
--- the `type` of a `button` is in the Standard's state Reset Button or Button: it submits no form, and its `formaction` has no effect
+-- the `type` of a `button` has the Standard's state Reset Button or Button: it does not submit a form, so its `formaction` has no effect
 abbrev pub submits_nothing : Option (List ℕ) → Bool
 submits_nothing kind = if is_keyword (codes "reset") kind then true else is_keyword (codes "button") kind
 
--- the names of properties that are URLs, in the Open Graph protocol and for cards of X
+-- the names of properties whose values are URLs, in the Open Graph protocol and on cards of X
 abbrev pub is_open_graph : List ℕ → Bool
 is_open_graph name =
     bytes_eq name (codes "og:url") || bytes_eq name (codes "og:image") || bytes_eq name (codes "og:image:url") || bytes_eq name (codes "og:image:secure_url")
@@ -74,7 +74,7 @@ abbrev pub names_url : Option (List ℕ) → Bool
 names_url None = false
 names_url (Some name) = is_open_graph (text_of name) || is_card (text_of name)
 
--- the names of a plugin's parameters that are the URL of its data
+-- the names of a plugin's parameters whose values are the URL of its data
 abbrev pub is_data : List ℕ → Bool
 is_data name = same_name name (codes "movie") || same_name name (codes "src") || same_name name (codes "data") || same_name name (codes "url")
 
@@ -88,7 +88,7 @@ form_if is some = if is then some else form.Nothing
 abbrev pub meta_form : Values → Form
 meta_form v = if is_keyword (codes "refresh") v.second then form.Refresh else if names_url v.third then form.Link else form_if (names_url v.name) form.Link
 
--- how the first value that is read of an element names documents
+-- how the first of an element's values names documents
 abbrev pub first_form : Element → Values → Form
 first_form element.Base v = form.Nothing
 first_form element.Font v = form.Nothing
@@ -99,7 +99,7 @@ first_form element.Button v = form_if (not (submits_nothing v.third)) form.Link
 first_form element.Param v = form_if (names_data v.name) form.Link
 first_form _ v = form.Link
 
--- and how the second does
+-- how the second one does
 abbrev pub second_form : Element → Values → Form
 second_form element.Base v = form.Nothing
 second_form element.Font v = form.Nothing
@@ -120,11 +120,11 @@ abbrev pub third_links : Element → Values → List (List ℕ)
 third_links element.Image v = value_links form.Link v.third
 third_links _ v = []
 
--- the links of the values that are read of an element
+-- the links of an element's values
 abbrev pub links_with : Element → Values → List (List ℕ)
 links_with element v = first_links element v ++ second_links element v ++ third_links element v
 
--- those of its `style`, and of the style sheet in it
+-- the links of its `style`, and of the style sheet in the element
 abbrev pub style_links_with : Values → List ℕ → List (List ℕ)
 style_links_with v sheet = value_links form.Style v.style ++ style_links_of sheet
 
@@ -135,7 +135,7 @@ abbrev pub links_in : Bool → List Seen → List (List ℕ)
 links_in styles [] = []
 links_in styles (seen ∷ rest) = links_at styles seen ++ links_in styles rest
 
--- the links of a document, with those of its styles or without
+-- the links of a document, with or without those of its styles
 abbrev pub links_of : Bool → Syntax → List ℕ → List (List ℕ)
 links_of styles syntax document = links_in styles (seen_in syntax document)
 
@@ -162,7 +162,7 @@ base_of syntax document = base_in (seen_in syntax document)
 abbrev pub anchors_with : List ℕ → Values → List (List ℕ)
 anchors_with name v = if bytes_eq name (codes "a") then value_links form.Link v.name else []
 
--- the `id` of a tag, and the `name` of an `a`
+-- the ids of a tag: its `id`, and the `name` of an `a`
 abbrev pub ids_with : List ℕ → Values → List (List ℕ)
 ids_with name v = value_links form.Link v.id ++ anchors_with name v
 

@@ -13,7 +13,7 @@ use Rattle.html_links.specs.Document.{StartTag, Token, Data, InTag, TagOpen, End
 abbrev pub in_tag_name : ℕ → Bool
 in_tag_name c = elim (class_of c) [ Space ↦ false | Slash ↦ false | Greater ↦ false | _ ↦ true ]
 
--- a first byte and those after it that pass
+-- the first byte, and the bytes after it that pass the test
 abbrev pub led_front : (ℕ → Bool) → List ℕ → List ℕ
 led_front test [] = []
 led_front test (c ∷ rest) = c ∷ front test rest
@@ -25,7 +25,7 @@ led_behind test (c ∷ rest) = behind test rest
 abbrev pub start_tag_at : StartTagAt → StartTag
 start_tag_at t = record { name = map lower t.name.now; attributes = map attribute_at t.attributes.items; self_closing = t.self_closing }
 
--- the tags after something, which may not end
+-- the tags in the rest of the bytes; none if there is no rest
 abbrev pub read_rest : Context → Option (Bor (List ℕ)) → List Token
 read_rest at None = []
 read_rest at (Some rest) = read at Data rest.now
@@ -34,7 +34,7 @@ abbrev pub rest_of : Option Tag → Option (List ℕ)
 rest_of None = None
 rest_of (Some t) = Some t.rest
 
--- from the bytes after a `<`
+-- the markup is what the tokenizer reads from the bytes after a `<`
 abbrev pub MarkupReads : Markup → Context → List ℕ → Type 0
 MarkupReads (markup.Start name more) at bytes = read at TagOpen bytes ≡ read at (InTag false (map lower name.now) BeforeName []) more.now
 MarkupReads (markup.End name more) at bytes = read at TagOpen bytes ≡ read at (InTag true (map lower name.now) BeforeName []) more.now
@@ -55,7 +55,7 @@ abbrev pub other_markup : Option (Bor (List ℕ)) → Markup
 other_markup None = markup.Unfinished
 other_markup (Some rest) = markup.Other rest
 
--- from the bytes after a `</`
+-- the markup is what the tokenizer reads from the bytes after a `</`
 abbrev pub MarkupEnds : Markup → List ℕ → Type 0
 MarkupEnds (markup.Start name more) bytes = ⊥
 MarkupEnds (markup.End name more) bytes = (at : Context) → read at EndTagOpen bytes ≡ read at (InTag true (map lower name.now) BeforeName []) more.now

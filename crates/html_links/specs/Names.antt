@@ -1,10 +1,10 @@
--- The named character references of the HTML Standard, by the table of their names and characters.
+-- The HTML Standard's named character references, by the table of their names and characters.
 use Rattle.std.specs.Prelude.{ℕ, ◌+◌, ◌*◌, ◌%◌, ◌==◌, ◌||◌, ◌&&◌, nat_lt, nat_le, if◌then◌else◌, Bool, List, [], ◌∷◌, length, take, drop, Option, None, Some, slice_get, slice_index, slice_range, bytes_eq, option_map}
 use Rattle.std.specs.List.{find, slice_split}
 use Rattle.std.specs.Borrow.{Bor}
 use Rattle.html_links.specs.declared.names.table.TheConstants.{STARTS, ROWS}
 
--- which list has the row of a name
+-- the number of the list with the row of a name
 abbrev pub list_of : List ℕ → ℕ
 list_of [] = 0
 list_of (first ∷ []) = 0
@@ -26,7 +26,7 @@ start_at index = number_in STARTS index
 unfoldable pub list_at : ℕ → List ℕ
 list_at index = part_of ROWS.now (start_at index) (start_at (index + 1))
 
--- `=` after a name, and `;` if the name has a `;`
+-- the byte after a name in its row: `=`, or `;` if the name only counts with a `;` after it
 abbrev pub is_mark : Bool → ℕ → Bool
 is_mark closed c = c == 61 || closed && c == 59
 
@@ -38,6 +38,6 @@ abbrev pub bytes_at : Option (Bor (List ℕ)) → Option (List ℕ)
 bytes_at None = None
 bytes_at (Some text) = Some text.now
 
--- the text of a name, with a `;` after it or not
+-- the text of a name, with or without a `;` after it
 abbrev pub named : Bool → List ℕ → Option (List ℕ)
 named closed name = option_map (λ row. drop (length name + 1) row) (find (counts closed name) (slice_split (λ c. c == 32) (list_at (list_of name))))

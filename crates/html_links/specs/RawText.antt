@@ -1,19 +1,19 @@
--- Raw text, as in `style` or `title`, to its end tag, as the tokenizer of the HTML Standard reads it
--- in its RCDATA and RAWTEXT states, which differ only in character references.
+-- Raw text, as in `style` or `title`, up to its end tag, as the HTML Standard's tokenizer reads it in its RCDATA and RAWTEXT states. They differ only in
+-- character references.
 use Rattle.std.specs.Prelude.{ℕ, ◌==◌, Bool, true, false, if◌then◌else◌, List, [], ◌∷◌, ◌++◌, map, Option, None, Some, bytes_eq}
 use Rattle.html_links.specs.declared.bytes.Class.{Class}
 use Rattle.html_links.specs.declared.bytes.Class.TheVariants.{Space, Slash, Greater}
 use Rattle.std.specs.Char.{to_ascii_lowercase}
 use Rattle.html_links.specs.Tags.{class_of, is_letter}
 
--- the state in an end tag's name has the name so far, the Standard's temporary buffer in lower case
+-- the state in the name of an end tag contains the name so far: the Standard's temporary buffer, in lower case
 pub data State : Type 0 where
   Text : State
   LessThan : State
   EndTagOpen : State
   EndTagName : List ℕ → State
 
--- go to a state, or continue after the end tag's name, at this byte
+-- go to a state, or continue at this byte after the name of the end tag
 pub data Next : Type 0 where
   Go : State → Next
   Ends : Next
@@ -21,7 +21,7 @@ pub data Next : Type 0 where
 abbrev pub text_step : ℕ → Next
 text_step c = if c == 60 then Go LessThan else Go Text
 
--- an appropriate end tag's name ends at white space, `/` or `>`
+-- the name of an appropriate end tag ends at white space, `/` or `>`
 abbrev pub ends_name : Class → Bool
 ends_name Space = true
 ends_name Slash = true
@@ -41,12 +41,12 @@ abbrev pub follow : Next → (State → Option (List ℕ)) → List ℕ → Opti
 follow (Go state) on here = on state
 follow Ends on here = Some here
 
--- the bytes after the name of the end tag of the element with this name, if there is one
+-- the bytes after the name of the end tag of this element, if there is one
 abbrev pub run : List ℕ → State → List ℕ → Option (List ℕ)
 run name state [] = None
 run name state (c ∷ rest) = follow (step name state c) (λ state. run name state rest) (c ∷ rest)
 
--- what the code tests of the letters after `</` and the bytes after them
+-- what the code tests about the bytes after the letters that follow a `</`
 abbrev pub ends_at : List ℕ → Bool
 ends_at [] = false
 ends_at (c ∷ rest) = ends_name (class_of c)

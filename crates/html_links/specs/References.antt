@@ -1,14 +1,14 @@
--- The text of an attribute's value, as the tokenizer of the HTML Standard reads it: its character references, by the states from
--- character reference to numeric character reference end, and U+FFFD for each NUL, by the attribute value states. What is no
--- reference stays as it is. In a value, a name without `;` counts only if neither a letter or digit nor `=` follows it,
--- so the longest name that counts is all letters and digits, with the `;` after them if there is one.
+-- The text of an attribute's value, as the HTML Standard's tokenizer reads it: its character references, in the states from character reference to numeric
+-- character reference end, and U+FFFD for each NUL, in the attribute value states. Bytes that are not a reference stay unchanged. In a value, a name without
+-- `;` counts only if neither a letter or digit nor `=` follows it, so the longest name that counts is all letters and digits, with a `;` after them if there is
+-- one.
 use Rattle.std.specs.Prelude.{ℕ, ◌+◌, ◌-◌, ◌*◌, ◌==◌, ◌||◌, nat_lt, Bool, true, false, if◌then◌else◌, List, [], ◌∷◌, ◌++◌, Option, None, Some, slice_index}
 use Rattle.std.specs.Char.{is_ascii_alphanumeric, is_digit, digit_value, encode_utf8}
 use Rattle.std.specs.Int.{is_in_range}
 use Rattle.html_links.specs.Names.{named}
 use Rattle.html_links.specs.declared.references.TheConstants.{WINDOWS}
 
--- After an `&` are the first bytes of a name, or `#`, or `#` and maybe an `x` before digits to a base, or some of these.
+-- The states: in text, or after an `&`: in a name, after `#` and maybe `x`, or in digits.
 pub data State : Type 0 where
   Text : State
   Reference : State
@@ -21,7 +21,7 @@ pub data State : Type 0 where
 pub data Next : Type 0 where
   Go : List ℕ → State → Next
 
--- the character of a number: for 128 to 159 that of Windows, and U+FFFD for 0, surrogates and numbers above all characters
+-- the character with a number: that of Windows for 128 to 159, and U+FFFD for 0, surrogates and numbers above all characters
 abbrev pub character_of : ℕ → ℕ
 character_of n =
     if n == 0 then 65533
@@ -31,14 +31,14 @@ character_of n =
     else if nat_lt n 1114112 then n
     else 65533
 
--- The number with one digit more. One above all characters stays, since it is U+FFFD with more digits too.
+-- The number with one more digit. A number above all characters stays as it is, since it means U+FFFD with more digits too.
 abbrev pub number_after : ℕ → ℕ → ℕ → ℕ
 number_after radix n digit = if nat_lt n 1114112 then n * radix + digit else n
 
 abbrev pub digit_in : ℕ → ℕ → Option ℕ
 digit_in radix c = if is_digit c radix then Some (digit_value c) else None
 
--- a byte of text, after some bytes of the text
+-- the step at a byte of text, after these bytes of the text
 abbrev pub text_step : List ℕ → ℕ → Next
 text_step before c =
     if c == 38 then Go before Reference
@@ -94,7 +94,7 @@ step Hash c = if is_x c then Go [] (Start 16 (35 ∷ c ∷ [])) else start_step 
 step (Start radix before) c = start_step radix before c
 step (Number radix n) c = number_at radix n c (digit_in radix c)
 
--- the text of a state at the end of the value
+-- the text that a state adds at the end of the value
 abbrev pub at_end : State → List ℕ
 at_end Text = []
 at_end Reference = 38 ∷ []

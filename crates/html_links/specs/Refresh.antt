@@ -1,5 +1,4 @@
--- The target of a refresh, as the HTML Standard's shared declarative refresh steps find it.
--- An empty target names the document itself, and counts as none.
+-- The target of a refresh, by the HTML Standard's shared declarative refresh steps. An empty target names the document itself, and counts as none.
 use Rattle.std.specs.Prelude.{ℕ, ◌==◌, ◌||◌, ◌&&◌, nat_le, not, Bool, if◌then◌else◌, List, [], ◌∷◌, Option, None, Some}
 use Rattle.std.specs.Char.{to_ascii_lowercase}
 use Rattle.html_links.specs.Shown.{front, behind, is_space}
@@ -8,7 +7,7 @@ use Rattle.html_links.specs.Shown.{front, behind, is_space}
 abbrev pub in_time : ℕ → Bool
 in_time c = (nat_le 48 c && nat_le c 57) || c == 46
 
--- the bytes after the letters of a word in any case, if the bytes begin with them
+-- the bytes after this letter in any case, if the bytes begin with it
 abbrev pub behind_letter : ℕ → List ℕ → Option (List ℕ)
 behind_letter letter [] = None
 behind_letter letter (c ∷ rest) = if to_ascii_lowercase c == letter then Some rest else None
@@ -20,12 +19,12 @@ and_then (Some rest) next = next rest
 abbrev pub is_separator : ℕ → Bool
 is_separator c = c == 59 || c == 44
 
--- after the time: white space, and `;` or `,` with white space after it
+-- the bytes after the white space at the start, or after one `;` or `,` with white space around it
 abbrev pub behind_mark : List ℕ → List ℕ
 behind_mark [] = []
 behind_mark (c ∷ rest) = if is_separator c then behind is_space rest else c ∷ rest
 
--- a time ends at `;`, `,` or white space
+-- the bytes after the end of a time: `;`, `,` or white space
 abbrev pub behind_end : List ℕ → Option (List ℕ)
 behind_end [] = None
 behind_end (c ∷ rest) = if is_separator c || is_space c then Some (behind_mark (behind is_space (c ∷ rest))) else None
@@ -41,7 +40,7 @@ abbrev pub or_text : List ℕ → Option (List ℕ) → List ℕ
 or_text text None = text
 or_text text (Some rest) = rest
 
--- the bytes after `url=`, if the text begins with it, with white space around the `=`
+-- the bytes after an `=` with white space around it, if the text begins with these
 abbrev pub behind_equals : List ℕ → Option (List ℕ)
 behind_equals [] = None
 behind_equals (c ∷ rest) = if c == 61 then Some (behind is_space rest) else None
@@ -53,7 +52,7 @@ behind_url text =
 abbrev pub is_quote : ℕ → Bool
 is_quote c = c == 34 || c == 39
 
--- to its closing quote, if it begins with a quote
+-- the text up to its closing quote, if it begins with a quote
 abbrev pub unquoted : List ℕ → List ℕ
 unquoted [] = []
 unquoted (c ∷ rest) = if is_quote c then front (λ x. not (x == c)) rest else c ∷ rest

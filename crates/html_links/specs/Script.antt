@@ -1,5 +1,5 @@
--- The text of a script to its end tag, as the tokenizer of the HTML Standard reads it in its script data states.
--- In place of the temporary buffer is the number of letters of `script` in it, or 7 if it has others.
+-- The text of a script up to its end tag, as the HTML Standard's tokenizer reads it in its script data states. The temporary buffer is represented by the
+-- number of letters of `script` in it, or 7 if it has others.
 use Rattle.std.specs.Prelude.{ℕ, ◌==◌, if◌then◌else◌, List, [], ◌∷◌, Option, None, Some}
 use Rattle.std.specs.Char.{to_ascii_lowercase}
 use Rattle.html_links.specs.declared.script.State.{State}
@@ -9,11 +9,11 @@ use Rattle.html_links.specs.declared.script.Next.TheVariants.{Go, Ends}
 use Rattle.html_links.specs.Tags.{class_of, is_letter}
 use Rattle.html_links.specs.RawText.{ends_name}
 
--- the number of letters if this is the next one, and otherwise 7
+-- this number if the byte is the letter, and otherwise 7
 abbrev pub letters_if : ℕ → ℕ → ℕ → ℕ
 letters_if letter count c = if to_ascii_lowercase c == letter then count else 7
 
--- a letter after this number of letters of `script`
+-- the number of letters of `script` after one more letter
 abbrev pub letter_after : ℕ → ℕ → ℕ
 letter_after count c =
     if count == 0 then letters_if 115 1 c
@@ -39,11 +39,11 @@ double_step c =
     else if c == 60 then Go DoubleEscapedLessThan
     else Go DoubleEscaped
 
--- at white space, `/` or `>` after a name: the end if it is `script`
+-- the end at white space, `/` or `>` if the name is `script`; otherwise another step
 abbrev pub end_step : ℕ → ℕ → Next → Next
 end_step count c other = if count == 6 then (if ends_name (class_of c) then Ends else other) else other
 
--- the same, if the text changes its state in place of its end
+-- likewise, if the name changes the state instead of ending the text
 abbrev pub change_step : ℕ → ℕ → Next → Next → Next → Next
 change_step count c changed same other = if ends_name (class_of c) then (if count == 6 then changed else same) else other
 

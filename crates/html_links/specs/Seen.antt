@@ -1,7 +1,5 @@
--- What a reader of links sees of a page: of each start tag its name and element, the values of the attributes that are read, and the
--- style sheet in the element.
--- The contents of a `template` element are in its template contents, a document fragment that is not part of the page, unless
--- it becomes a shadow root.
+-- What a reader of links sees of a page: for each start tag its name and element, the values of its attributes that are read, and the style sheet in the
+-- element. The contents of a `template` element are in a document fragment that is not part of the page, unless it becomes a shadow root.
 use Rattle.std.specs.Prelude.{◌<◌, ◌≤◌, ℕ, zero, suc, ◌-◌, ◌==◌, ◌&&◌, not, Bool, if◌then◌else◌, List, [], ◌∷◌, length, map, take, codes, Option, None, Some, bytes_eq}
 use Rattle.std.specs.Borrow.{Bor}
 use Rattle.html_links.specs.declared.context.Context.{Context}
@@ -26,11 +24,11 @@ abbrev pub sheet_before : Option (List ℕ) → List ℕ → List ℕ
 sheet_before None bytes = bytes
 sheet_before (Some rest) bytes = take (length bytes - length rest - 7) bytes
 
--- the raw text of a `style` element, from the bytes after its start tag: those before a `</style`, or all
+-- the raw text of a `style` element, from the bytes after its start tag: the bytes before a `</style`, or all of them
 abbrev pub raw_sheet : List ℕ → List ℕ
 raw_sheet bytes = sheet_before (raw.run (codes "style") raw.Text bytes) bytes
 
--- the text of one in foreign content, if its tag does not close it: the bytes before the first `<`
+-- the text of a `style` in foreign content, if its tag does not close it: the bytes before the first `<`
 abbrev pub foreign_sheet : Bool → List ℕ → List ℕ
 foreign_sheet self_closing bytes = if self_closing then [] else front (λ c. not (c == 60)) bytes
 
@@ -41,17 +39,16 @@ sheet_of at name self_closing bytes =
 abbrev pub seen_with : List ℕ → Element → Values → List ℕ → Seen
 seen_with name element values sheet = record { name = name; element = element; values = values; sheet = sheet }
 
--- a start tag with these bytes after it
+-- what is seen of a start tag with these bytes after it
 abbrev pub seen_of : Context → StartTag → List ℕ → Seen
 seen_of at t bytes =
     seen_with t.name (element_at at t.name) (values_of (wanted_of (element_at at t.name)) t.attributes t.self_closing) (sheet_of at t.name t.self_closing bytes)
 
--- the number of templates that are open after the tag, if none was before it
+-- the number of templates that are open after the tag, if none was open before it
 abbrev pub opened : Context → Seen → ℕ
 opened at seen = if is_inert seen.element seen.values.third && not (closes_itself at seen.values.self_closing) then 1 else 0
 
--- The tags of the page, if n templates are open. As in the Standard's insertion mode "in head", an end tag `template` is ignored
--- if no template is open.
+-- The tags of the page, if n templates are open. As in the Standard's insertion mode "in head", an end tag `template` is ignored if no template is open.
 abbrev pub seen_within : ℕ → List Token → List Seen
 seen_within zero [] = []
 seen_within (suc n) [] = []
@@ -60,14 +57,14 @@ seen_within (suc n) (Start at t bytes ∷ rest) = seen_within (if opens_template
 seen_within zero (TemplateEnd ∷ rest) = seen_within zero rest
 seen_within (suc n) (TemplateEnd ∷ rest) = seen_within n rest
 
--- the tags of the page in these bytes, which begin in a context
+-- the tags of the page in these bytes, which begin in this context
 abbrev pub seen_from : Context → List ℕ → List Seen
 seen_from at bytes = seen_within 0 (read at Data bytes)
 
 abbrev pub seen_in : Syntax → List ℕ → List Seen
 seen_in syntax document = seen_from (context_of syntax) document
 
--- What contracts state of the code: the tags after something, which may not end.
+-- what contracts state of the code: the tags in the rest of the bytes; none if there is no rest
 abbrev pub seen_rest : Option (Context × Bor (List ℕ)) → List Seen
 seen_rest None = []
 seen_rest (Some x) = seen_from x.0 x.1.now

@@ -1,4 +1,4 @@
--- What the code's values are in the words of `Tags`, and the runs of bytes that it cuts.
+-- What the code's values mean in the terms of `Tags`, and the runs of bytes that it cuts.
 use Rattle.std.specs.Prelude.{◌≡◌, ℕ, ◌<◌, Bool, true, false, if◌then◌else◌, List, [], ◌∷◌, length, map, reverse, Option, None, Some}
 use Rattle.html_links.specs.declared.bytes.Class.{Class}
 use Rattle.html_links.specs.declared.bytes.Class.TheVariants.{Space, Slash, Greater, Equals}
@@ -8,12 +8,12 @@ use Rattle.html_links.specs.declared.tag.Piece.{Piece}
 use Rattle.html_links.specs.declared.tag.Piece.TheVariants as piece
 use Rattle.html_links.specs.Tags.{Attribute, Tag, BeforeName, BeforeValue, lower, class_of, run}
 
--- the first bytes, as long as they pass a test
+-- the longest prefix whose bytes pass a test
 abbrev pub front : (ℕ → Bool) → List ℕ → List ℕ
 front test [] = []
 front test (c ∷ rest) = if test c then c ∷ front test rest else []
 
--- and those after them
+-- the bytes after that prefix
 abbrev pub behind : (ℕ → Bool) → List ℕ → List ℕ
 behind test [] = []
 behind test (c ∷ rest) = if test c then behind test rest else c ∷ rest
@@ -27,7 +27,7 @@ in_name c = elim (class_of c) [ Space ↦ false | Slash ↦ false | Greater ↦ 
 abbrev pub in_unquoted : ℕ → Bool
 in_unquoted c = elim (class_of c) [ Space ↦ false | Greater ↦ false | _ ↦ true ]
 
--- a byte of this class begins a name if an attribute may begin there
+-- an attribute may begin at a byte of this class
 abbrev pub begins : Class → Bool
 begins Space = false
 begins Slash = false
@@ -54,7 +54,7 @@ abbrev pub tag_at : Option TagAt → Option Tag
 tag_at None = None
 tag_at (Some t) = Some (record { attributes = map attribute_at t.attributes.items; self_closing = t.self_closing; rest = t.rest.now })
 
--- what the machine reads after a piece, and after these attributes
+-- what the tokenizer reads after a piece, and after these attributes
 abbrev pub outcome : Piece → List Attribute → Option Tag
 outcome (piece.Attribute a more) all = run BeforeName (attribute_at a ∷ all) more.now
 outcome (piece.Slash more) all = run BeforeName all more.now
@@ -64,11 +64,11 @@ outcome piece.Unfinished all = None
 abbrev pub Reads : Piece → List ℕ → Type 0
 Reads piece bytes = (all : List Attribute) → run BeforeName all bytes ≡ outcome piece all
 
--- The same from before the value of an attribute with this name.
+-- likewise from before the value of an attribute with this name
 abbrev pub ReadsValue : Piece → List ℕ → List ℕ → Type 0
 ReadsValue piece name bytes = (all : List Attribute) → run BeforeValue (record { name = map lower name; value = [] } ∷ all) bytes ≡ outcome piece all
 
--- fewer than n bytes are left
+-- fewer than n bytes come after the piece
 abbrev pub Leaves : Piece → ℕ → Type 0
 Leaves (piece.Attribute a more) n = length more.now < n
 Leaves (piece.Slash more) n = length more.now < n

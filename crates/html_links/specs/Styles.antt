@@ -1,10 +1,10 @@
--- The texts of `url()` and `@import` in a style sheet, by patterns: a word in any case with a text in quotes after it,
--- or, after `url(`, a text without quotes, parentheses and white space. Comments and other texts in quotes name nothing.
+-- The texts of `url()` and `@import` in a style sheet, found by patterns: `url(` or `@import`, in any case, and then a text in quotes; or `url(` and a text
+-- without quotes, parentheses and white space. Comments and other texts in quotes name nothing.
 use Rattle.std.specs.Prelude.{ℕ, zero, suc, ◌==◌, ◌||◌, ◌&&◌, nat_le, not, Bool, true, false, if◌then◌else◌, List, [], ◌∷◌, length, Option, None, Some}
 use Rattle.html_links.specs.Shown.{front, behind}
 use Rattle.html_links.specs.Refresh.{behind_letter, and_then, is_quote}
 
--- white space with the vertical tab
+-- white space, including the vertical tab
 abbrev pub is_wide_space : ℕ → Bool
 is_wide_space c = (nat_le 9 c && nat_le c 13) || c == 32
 
@@ -27,7 +27,7 @@ abbrev pub closed : List ℕ → List ℕ → Option Found
 closed url [] = None
 closed url (c ∷ rest) = Some (found_with url rest)
 
--- between quotes that are closed
+-- a text in quotes, if the second quote is there
 abbrev pub quoted : List ℕ → Option Found
 quoted [] = None
 quoted (c ∷ rest) = if is_quote c then closed (front (λ x. not (x == c)) rest) (behind (λ x. not (x == c)) rest) else None
@@ -42,22 +42,22 @@ plain bytes = some_url (front in_plain bytes) (behind in_plain bytes)
 abbrev pub in_brackets : List ℕ → Option Found
 in_brackets bytes = or_found (quoted (behind is_wide_space bytes)) (plain (behind is_wide_space bytes))
 
--- after `url(`
+-- the bytes after `url(`
 abbrev pub behind_url : List ℕ → Option (List ℕ)
 behind_url bytes =
     and_then (behind_letter 117 bytes) (λ bytes. and_then (behind_letter 114 bytes) (λ bytes. and_then (behind_letter 108 bytes) (behind_letter 40)))
 
--- after `@import`
+-- the bytes after `@import`
 abbrev pub behind_import : List ℕ → Option (List ℕ)
 behind_import bytes =
     and_then (behind_letter 64 bytes) (λ bytes. and_then (behind_letter 105 bytes) (λ bytes. and_then (behind_letter 109 bytes) (λ bytes. and_then (behind_letter 112 bytes)
     (λ bytes. and_then (behind_letter 111 bytes) (λ bytes. and_then (behind_letter 114 bytes) (behind_letter 116))))))
 
--- after the `/*` of a comment
+-- the bytes after a `/*`, which begins a comment
 abbrev pub opened : List ℕ → Option (List ℕ)
 opened bytes = and_then (behind_letter 47 bytes) (behind_letter 42)
 
--- after a comment, of which the last byte so far was a `*` or not
+-- the bytes after a comment, from bytes inside it; the flag says whether the byte before these is a `*`
 abbrev pub behind_comment : Bool → List ℕ → List ℕ
 behind_comment starred [] = []
 behind_comment starred (c ∷ rest) = if starred && c == 47 then rest else behind_comment (c == 42) rest
@@ -66,11 +66,11 @@ abbrev pub found_behind : Option (List ℕ) → Bool → List ℕ → Option Fou
 found_behind (Some inner) imports bytes = in_brackets inner
 found_behind None imports bytes = if imports then quoted bytes else None
 
--- the URL with which the bytes begin, if a text in quotes there is that of an `@import` or not
+-- the URL with which the bytes begin; the flag says whether a text in quotes there would be that of an `@import`
 abbrev pub found_at : Bool → List ℕ → Option Found
 found_at imports bytes = found_behind (behind_url bytes) imports bytes
 
--- after one byte: white space may be between an `@import` and its text
+-- the bytes after one byte, and the flag: between an `@import` and its text only white space may be
 abbrev pub pass_byte : Bool → List ℕ → List ℕ × Bool
 pass_byte imports [] = ([], false)
 pass_byte imports (c ∷ rest) = (rest, imports && is_wide_space c)
@@ -81,7 +81,7 @@ passed imports bytes None (Some text) word = (text.rest, false)
 passed imports bytes None None (Some rest) = (rest, true)
 passed imports bytes None None None = pass_byte imports bytes
 
--- the bytes after those at the front that name no URL, and whether a text in quotes there is that of an `@import`
+-- the bytes after those at the start that name no URL, and the flag
 abbrev pub pass : Bool → List ℕ → List ℕ × Bool
 pass imports bytes = passed imports bytes (opened bytes) (quoted bytes) (behind_import bytes)
 
@@ -89,7 +89,7 @@ abbrev pub urls_after : Option Found → List ℕ × Bool → (Bool → List ℕ
 urls_after None left on = on left.1 left.0
 urls_after (Some f) left on = f.url ∷ on false f.rest
 
--- the URLs one after another, of the given number of bytes
+-- the URLs in at most this number of bytes, one after another
 abbrev pub urls_within : ℕ → Bool → List ℕ → List (List ℕ)
 urls_within zero imports bytes = []
 urls_within (suc n) imports [] = []

@@ -1,7 +1,6 @@
--- Start tags, from the bytes after their name, as the tokenizer of the HTML Standard reads them, in its states from before
--- attribute name to self-closing start tag.
--- Each state is one constructor, each transition one equation of `step`. Carriage returns count as white space,
--- since the Standard makes line feeds of them first. NUL stays NUL, and character references stay as they are.
+-- Start tags, from the bytes after their name, as the HTML Standard's tokenizer reads them in its states from before attribute name to self-closing start tag.
+-- Each state is a constructor, and each transition an equation of `step`. Carriage returns count as white space, since the Standard first makes line feeds of
+-- them. NUL stays NUL, and character references stay as they are.
 use Rattle.std.specs.Prelude.{ℕ, ◌==◌, ◌||◌, ◌&&◌, nat_le, Bool, true, false, if◌then◌else◌, List, [], ◌∷◌, ◌++◌, reverse, Option, None, Some}
 use Rattle.std.specs.Char.{to_ascii_lowercase}
 use Rattle.html_links.specs.declared.bytes.Class.{Class}
@@ -18,7 +17,7 @@ class_of c =
     else if c == 39 then Apostrophe
     else Other
 
--- an ASCII upper alpha in lower case
+-- an ASCII upper-case letter in lower case
 abbrev pub lower : ℕ → ℕ
 lower c = to_ascii_lowercase c
 

@@ -1,4 +1,4 @@
--- The values of a tag's attributes that are read, and of those that each tag may have. Of attributes with one name, the first counts.
+-- The values of a tag's attributes that are read, including those that any tag may have. If several attributes have the same name, the first counts.
 use Rattle.std.specs.Prelude.{ℕ, Bool, true, false, if◌then◌else◌, List, [], ◌∷◌, map, codes, Option, None, Some, bytes_eq}
 use Rattle.std.specs.Option.{option_or}
 use Rattle.std.specs.Borrow.{Bor}
@@ -37,7 +37,7 @@ values_of w all self_closing = record {
   self_closing = self_closing;
 }
 
--- What contracts state of the code: values with the bytes after the tag, and one attribute more.
+-- what contracts state of the code: values with the number of bytes after them, and one more attribute
 pub record TagValues : Type 0 where
   pub values : Values
   pub rest : List ℕ

@@ -20,7 +20,7 @@ pub(crate) enum Class {
 /// The greatest byte that is white space.
 const LAST_SPACE: u8 = b' ';
 
-/// The greatest byte that is of a class but `Other`: the letters of most names are above it.
+/// The greatest byte whose class is not `Other`: the letters of most names are above it.
 pub(crate) const LAST_MARK: u8 = b'>';
 
 /// The class of a byte.

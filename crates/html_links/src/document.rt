@@ -96,8 +96,8 @@ fn split_tag_name(bytes: &[u8]) -> (&[u8], &[u8])
     bytes.split_at(1 + tag_name_len(&bytes[1..]))
 }
 
-/// The bytes after what is read as a comment. The functions that this one and the next call return their results in registers,
-/// so no tag pays for them.
+/// The bytes after a bogus comment, which ends at the first `>`. The functions that this one and the next call return their results
+/// in registers, so they do not slow down tags.
 #[inline(always)]
 #[tactic(auto, using(crate::proofs::Documents::to_greater, crate::proofs::Documents::cut_shorter))]
 fn after_bogus(bytes: &[u8]) -> Option<&[u8]>
@@ -110,7 +110,7 @@ fn after_bogus(bytes: &[u8]) -> Option<&[u8]>
     }
 }
 
-/// The bytes after what begins with `<!`.
+/// The bytes after a construct that begins with `<!`, from those after that.
 #[inline(always)]
 fn after_declaration(context: Context, bytes: &[u8]) -> Option<&[u8]>
     ensures reads { read context MarkupDeclaration bytes.now ≡ read_rest context result }
@@ -125,7 +125,7 @@ fn after_declaration(context: Context, bytes: &[u8]) -> Option<&[u8]>
     }
 }
 
-/// The bytes after what begins with `<!` and is no comment: a CDATA section in foreign content, or a bogus comment.
+/// The bytes after a construct that begins with `<!` and is not a comment: a CDATA section in foreign content, or a bogus comment.
 #[inline(always)]
 fn after_marked(context: Context, bytes: &[u8]) -> Option<&[u8]>
     requires { Stopped (λ c. c == 45) bytes.now }
@@ -141,7 +141,7 @@ fn after_marked(context: Context, bytes: &[u8]) -> Option<&[u8]>
     }
 }
 
-/// What follows a `</`: an end tag if the first byte is a letter, and otherwise what is read as a comment, to the first `>`.
+/// What follows a `</`: an end tag if the first byte is a letter, and otherwise a bogus comment, which ends at the first `>`.
 #[inline(always)]
 #[tactic(auto, using(crate::proofs::Documents::led_shorter))]
 fn after_end_open(bytes: &[u8]) -> Markup<'_>
@@ -171,7 +171,7 @@ fn other(rest: Option<&[u8]>) -> Markup<'_>
     }
 }
 
-/// What follows a `<`. It is inlined, so its result stays in registers.
+/// What follows a `<`. This function is inlined, so its result stays in registers.
 #[inline(always)]
 #[tactic(auto, using(crate::proofs::Documents::led_shorter))]
 pub(crate) fn next_markup(context: Context, bytes: &[u8]) -> Markup<'_>

@@ -165,7 +165,7 @@ pub(crate) fn wanted_of(element: Element) -> Wanted
     }
 }
 
-/// Whether attributes of the element are read that are read of no other.
+/// Whether some attributes are read only of this element.
 #[inline(always)]
 pub(crate) fn has_rare_names(element: Element) -> bool
     ensures { result ≡ has_rare_names element }

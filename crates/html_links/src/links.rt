@@ -1,14 +1,14 @@
-//! What is given the links of a document.
+//! Receivers of the links of a document.
 ghost use Rattle.std.specs.Prelude.{◌≡◌, ◌∷◌, ◌++◌, [], OnOk, ℕ, List};
 
 use std::alloc::AllocError;
 
-/// Is given the texts of links, one after another.
+/// A receiver of the texts of links, one after another.
 pub trait Links {
-    // The texts that were given so far.
+    // The texts so far.
     ghost texts: { Self → List (List ℕ) };
 
-    /// The text of the next link, its character references read.
+    /// Receives the text of the next link, with its character references decoded.
     ///
     /// # Errors
     /// If an allocation fails.
@@ -18,7 +18,7 @@ pub trait Links {
 
 /// A receiver of the texts of links, and of the positions in the document at which their values begin.
 pub trait PlacedLinks: Links {
-    /// The value of the links that come next begins at this index.
+    /// The value of the next links begins at this index of the document.
     fn begin_at(&mut self, index: usize)
         ensures { Self.texts self.new ≡ Self.texts self.old };
 }

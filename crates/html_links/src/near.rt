@@ -1,4 +1,4 @@
-//! The first of a byte that is likely to be near.
+//! Finding a byte that is likely to be near.
 ghost use Rattle.std.specs.Prelude.{◌≡◌, ◌≤◌, length, take};
 ghost use Rattle.std.specs.List.{position_or_len};
 ghost use Rattle.memchr.specs.Find.{IsFirstByte, is_byte};
@@ -7,7 +7,7 @@ ghost use Rattle.html_links.specs.Near.{first_set};
 use memchr::memchr_iter;
 use std::simd::prelude::*;
 
-/// How many bytes are looked at in place.
+/// The number of bytes that are searched without a call.
 const LANES: usize = 32;
 
 /// The lowest bit that is set, or this number if none is.
@@ -32,7 +32,7 @@ fn near_index(byte: u8, bytes: &[u8]) -> usize
     first_set(same.to_bitmask(), LANES)
 }
 
-/// The first index of a byte that is likely to be near: among the first bytes it is sought in place.
+/// The first index of a byte that is likely to be near: the first bytes are searched without a call.
 #[inline(always)]
 pub(crate) fn near_byte(byte: u8, bytes: &[u8]) -> Option<usize>
     ensures { IsFirstByte (is_byte byte) bytes.now result }
@@ -50,7 +50,7 @@ pub(crate) fn near_byte(byte: u8, bytes: &[u8]) -> Option<usize>
     }
 }
 
-/// The first index of a byte. The program has the search once, and its result is in registers.
+/// The first index of a byte. This function is not inlined, so the program has it only once, and its result is in registers.
 #[inline(never)]
 #[tactic(auto, using(crate::proofs::Cuts::first_byte))]
 pub(crate) fn find_byte(byte: u8, bytes: &[u8]) -> Option<usize>

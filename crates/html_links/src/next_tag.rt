@@ -21,8 +21,8 @@ use crate::raw_text::same_name;
 use crate::tag::behind_class;
 use crate::template::after_template;
 
-/// A start tag: its name, the bytes after the name, its element and context, the bytes after the tag, and the context and the bytes after its
-/// contents if these have no tags of the page.
+/// A start tag: its name, the bytes after the name, its element and context, and the bytes after the tag. If its contents have no
+/// tags of the page, also the context and the bytes after these contents.
 #[derive(Clone, Copy)]
 pub(crate) struct NextTag<'a> {
     pub(crate) name: &'a [u8],
@@ -34,8 +34,8 @@ pub(crate) struct NextTag<'a> {
     pub(crate) rest: &'a [u8],
 }
 
-/// What the next `<` begins: something that names nothing, with the bytes after it, a tag that may name something, or nothing
-/// that ends.
+/// What the next `<` begins: something that names nothing, with the bytes after it; a tag that may name something; or something
+/// that does not end.
 #[derive(Clone, Copy)]
 enum Step<'a> {
     Pass(&'a [u8]),

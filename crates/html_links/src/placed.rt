@@ -17,8 +17,8 @@ use crate::references::is_coded;
 use crate::style::{read_style, sheet_of};
 use std::alloc::{AllocError, Global};
 
-/// Passes on the links of a document as `read_links` does, and with `styles` those of its styles, and before those of each value the
-/// index at which the value begins. Returns the base.
+/// Passes on the links of a document as `read_links` does, and if `styles` is set those of its styles. Before the links of each
+/// value it passes on the index at which the value begins. Returns the base.
 ///
 /// # Errors
 /// If an allocation fails.
@@ -46,7 +46,7 @@ pub fn read_places<L: PlacedLinks>(
     Ok(base)
 }
 
-/// Passes on the links of a tag in a document of this length, and with `styles` those of its styles before them.
+/// Passes on the links of a tag in a document of this length, and if `styles` is set those of its styles before them.
 #[inline(always)]
 pub(crate) fn push_tag<L: PlacedLinks>(
     styles: bool,

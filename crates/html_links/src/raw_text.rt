@@ -46,7 +46,7 @@ fn ends_name(bytes: &[u8]) -> bool
     }
 }
 
-/// Whether the names are the same in any case. Most of them have the same case, which is tested first.
+/// Whether the names are equal in any case. Most are equal in the same case, which is tested first.
 pub(crate) fn same_name(found: &[u8], name: &[u8]) -> bool
     ensures { result ≡ same_name found.now name.now }
 {

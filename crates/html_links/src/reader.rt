@@ -124,7 +124,7 @@ fn push_anchor<I: Links>(
     }
 }
 
-/// Takes the base of a tag if there is none yet.
+/// Stores the base of a tag, if there is no base yet.
 #[inline(always)]
 pub(crate) fn take_base(
     alloc: Global,

@@ -13,7 +13,7 @@ use memchr::memchr2;
 use std::alloc::AllocError;
 use std::simd::prelude::*;
 
-/// How many bytes of a value are looked at together.
+/// The number of bytes of a value that are tested together.
 const LANES: usize = 16;
 
 /// What an `&` and the bytes after it mean: the `&` with some of them, a character, or the text of a name.
@@ -24,7 +24,7 @@ pub(crate) enum Decoded<'a> {
     Named(&'static [u8]),
 }
 
-/// Whether the value is not its own text: it has an `&` or a NUL. The last bytes are looked at with some before them.
+/// Whether the text of the value differs from it: it has an `&` or a NUL. The last bytes are tested together with some before them.
 #[tactic(auto, using(crate::proofs::Nearness::marks_more, std::proofs::lemmas::List::take_rest, crate::proofs::Nearness::itself))]
 pub(crate) fn is_coded(value: &[u8]) -> bool
     ensures { result ≡ false → text_of value.now ≡ value.now }
@@ -77,7 +77,7 @@ fn split_plain(bytes: &[u8]) -> (&[u8], &[u8])
     }
 }
 
-/// Appends the text of a value: its references read, each NUL as U+FFFD.
+/// Appends the text of a value: its references decoded, and each NUL as U+FFFD.
 #[tactic(auto, using(crate::proofs::Jumps::shorter))]
 pub(crate) fn decode(value: &[u8], out: &mut Vec<u8>) -> Result<(), AllocError>
     ensures { OnOk result (out.new.items ≡ out.old.items ++ text_of value.now) }
@@ -94,7 +94,7 @@ pub(crate) fn decode(value: &[u8], out: &mut Vec<u8>) -> Result<(), AllocError>
     }
 }
 
-/// Appends the text of what was decoded. The bytes that are no reference are appended as written, with their `&`.
+/// Appends the text of what was decoded. Bytes that are not a reference are appended as written, with their `&`.
 fn push_decoded(found: Decoded<'_>, out: &mut Vec<u8>) -> Result<(), AllocError>
     ensures { OnOk result (out.new.items ≡ out.old.items ++ decoded_text found.entry) }
 {

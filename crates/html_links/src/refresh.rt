@@ -1,4 +1,4 @@
-//! The target of a `meta` that sends on to another page.
+//! The target of a `meta` refresh.
 ghost use Rattle.std.specs.Prelude.{◌≡◌, length, take_while};
 ghost use Rattle.html_links.specs.Comments.{bytes_at};
 ghost use Rattle.html_links.specs.Shown.{behind};
