@@ -27,7 +27,7 @@ has_mark body = bytes_eq (take 3 body) mark
 abbrev pub without_mark : List ℕ → List ℕ
 without_mark body = if has_mark body then drop 3 body else body
 
--- the text is that of a document in this encoding. Only of UTF-8 it is said which
+-- the text is that of a document in this encoding. Nothing is stated about the text in an encoding other than UTF-8
 abbrev pub IsTextIn : Charset → List ℕ → List ℕ → Type 0
 IsTextIn Utf8 body text = text ≡ utf8_lossy (without_mark body)
 IsTextIn Utf16Le body text = Unit {0}
@@ -35,16 +35,16 @@ IsTextIn Utf16Be body text = Unit {0}
 IsTextIn Windows1252 body text = Unit {0}
 IsTextIn Other body text = Unit {0}
 
--- a new text, or the document without its mark
+-- the converted text, or the document without its byte order mark
 abbrev pub text_in : List ℕ → Option (Vec ℕ Global) → List ℕ
 text_in body None = without_mark body
 text_in body (Some text) = text.items
 
--- the links of a document with this text: with those of its styles if the options ask for them, and below the path of the top if they have one
+-- the links of a document with this text: with those of its styles if the options ask for them, and below the path of the top if the options have one
 abbrev pub read_links_of : ReadOptions → List ℕ → List (List ℕ)
 read_links_of options text = all_rooted options.root (links_of options.styles options.syntax text)
 
--- a document with this text has these link texts, if it has no base
+-- a document with this text has these link texts, if it has no `base`
 abbrev pub HasTexts : ReadOptions → Charset → List ℕ → List (List ℕ) → Type 0
 HasTexts options charset text links =
     is_unicode charset ≡ true → base_of options.syntax text ≡ None → list_all can_write (read_links_of options text) ≡ true → byte_count links ≤ options.byte_limit
@@ -56,15 +56,15 @@ pub record HasLinks (options : ReadOptions) (charset : Charset) (body : List ℕ
   pub decoded : IsTextIn charset body text
   pub texts : HasTexts options charset text links
 
--- a document has these link texts in some encoding, which is UTF-8 if it begins with the mark of that
+-- a document has these link texts in some encoding, which is UTF-8 if it begins with the byte order mark of UTF-8
 pub record HasLinkTexts (options : ReadOptions) (body : List ℕ) (links : List (List ℕ)) : Type 0 where
   pub charset : Charset
   pub marked : has_mark body ≡ true → charset ≡ Utf8
   pub has : HasLinks options charset body links
 
--- ---- files without `base`: style sheets, feeds and lists of URLs
+-- ---- files without a `base`: style sheets, feeds and lists of URLs
 
--- a style sheet names its encoding after these bytes, if it begins with them
+-- the bytes after which a style sheet names its encoding, if it begins with them
 abbrev pub charset_rule : List ℕ
 charset_rule = codes "@charset " ++ 34 ∷ []
 
@@ -72,14 +72,14 @@ charset_rule = codes "@charset " ++ 34 ∷ []
 abbrev pub is_wide : List ℕ → Bool
 is_wide file = bytes_eq (take 2 file) (255 ∷ 254 ∷ []) || bytes_eq (take 2 file) (254 ∷ 255 ∷ [])
 
--- a file of this kind has that mark or, if it is a style sheet, the name of its encoding. A document may name its encoding later
+-- a file of this kind has that mark or, if it is a style sheet, names its encoding. A document may name its encoding later
 abbrev pub names_encoding : TextKind → List ℕ → Bool
 names_encoding (Document syntax styles) file = true
 names_encoding StyleSheet file = is_wide file || bytes_eq (take 10 file) charset_rule
 names_encoding Feed file = is_wide file
 names_encoding UrlList file = is_wide file
 
--- files of this kind are in Unicode
+-- files of this kind are always in a Unicode encoding
 abbrev pub is_in_unicode : TextKind → Bool
 is_in_unicode (Document syntax styles) = false
 is_in_unicode StyleSheet = false

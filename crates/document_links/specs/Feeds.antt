@@ -1,4 +1,4 @@
--- The links of sitemaps and feeds: the texts and attributes of certain elements, by the name of the root element.
+-- The links of sitemaps and feeds: the texts or attributes of certain elements, depending on the name of the root element.
 use Rattle.std.specs.Prelude.{ℕ, zero, suc, ◌==◌, ◌||◌, List, [], ◌∷◌, ◌++◌, codes, length, take, drop, Option, None, Some, if◌then◌else◌}
 use Rattle.std.specs.Option.{unwrap_or}
 use Rattle.std.specs.Str.{bytes_eq}
@@ -27,8 +27,8 @@ part_of Rss name = if bytes_eq name (codes "link") then Content else if bytes_eq
 part_of Atom name = if bytes_eq name (codes "link") then Href else if bytes_eq name (codes "content") then Src else Nothing
 part_of Other name = Nothing
 
--- The text from here to the next tag, without comments, instructions and declarations. `skip` bytes are passed over, and `run` is
--- what came since the last markup.
+-- The text from here to the next tag, without comments, instructions and declarations. `skip` bytes are skipped first, and `run` is the text since the last
+-- markup.
 abbrev pub text_from : ℕ → List ℕ → List ℕ → List ℕ
 text_from skip run [] = unescaped run
 text_from (suc skip) run (b ∷ bytes) = text_from skip run bytes
@@ -40,7 +40,7 @@ text_from zero run (b ∷ bytes) =
 abbrev pub text_of : List ℕ → List ℕ
 text_of bytes = text_from 0 [] bytes
 
--- a text is a link, unless a URL parser drops all of it
+-- the text is a link, unless a URL parser drops all of it
 abbrev pub text_links : List ℕ → List (List ℕ)
 text_links text = if length (trim_c0_control_and_space text) == 0 then [] else text ∷ []
 
@@ -48,7 +48,7 @@ abbrev pub value_links : Option (List ℕ) → List (List ℕ)
 value_links None = []
 value_links (Some value) = text_links (unescaped value)
 
--- the link in a part of an element, from its start tag and the bytes after that
+-- the link in this part of an element, from its start tag and the bytes after that
 abbrev pub part_links : LinkPart → List ℕ → List ℕ → List (List ℕ)
 part_links Content tag bytes = if closes tag then [] else text_links (text_of bytes)
 part_links Url tag bytes = value_links (value_of (codes "url") tag)
@@ -56,7 +56,7 @@ part_links Href tag bytes = value_links (value_of (codes "href") tag)
 part_links Src tag bytes = value_links (value_of (codes "src") tag)
 part_links Nothing tag bytes = []
 
--- what the document is, if this markup comes next. The first start tag decides
+-- what the document is, if this markup comes next. The first start tag determines it
 abbrev pub kind_after : Markup → Option FeedKind → List ℕ → Option FeedKind
 kind_after StartTag kind tag = Some (unwrap_or kind (kind_of (local_name tag)))
 kind_after _ kind tag = kind
@@ -66,13 +66,13 @@ abbrev pub markup_links : Markup → Option FeedKind → List ℕ → List ℕ �
 markup_links StartTag (Some kind) tag bytes = part_links (part_of kind (local_name tag)) tag bytes
 markup_links _ _ tag bytes = []
 
--- the links from this markup on, if `more` are those after it
+-- the links from this markup on; `more` are those after it
 abbrev pub links_at : Option FeedKind → Markup → ℕ → List ℕ → (Option FeedKind → List (List ℕ)) → List (List ℕ)
 links_at kind markup len bytes more =
     let next = kind_after markup kind (take len bytes) in
     markup_links markup next (take len bytes) (drop len bytes) ++ more next
 
--- the links from here on, after `skip` bytes
+-- the links from here on, after skipping `skip` bytes
 abbrev pub links_from : Option FeedKind → ℕ → List ℕ → List (List ℕ)
 links_from kind skip [] = []
 links_from kind (suc skip) (b ∷ bytes) = links_from kind skip bytes

@@ -25,7 +25,7 @@ markup_of bytes =
 abbrev pub before : List ℕ → List ℕ → ℕ
 before word bytes = unwrap_or (first_of (matches bytes word 0)) (length bytes)
 
--- that number with the word
+-- the number of bytes up to and with that word, or of all bytes
 abbrev pub through : List ℕ → List ℕ → ℕ
 through word bytes = min (before word bytes + length word) (length bytes)
 
@@ -35,20 +35,20 @@ is_quote b = b == 34 || b == 39
 abbrev pub is_unquoted : ℕ → Bool
 is_unquoted b = not (is_quote b)
 
--- the quote that is open after a byte; 0 is none
+-- the quote that is open after a byte, or 0 if none is
 abbrev pub quote_after : ℕ → ℕ → ℕ
 quote_after quote b = if quote == 0 then (if is_quote b then b else 0) else (if b == quote then 0 else quote)
 
--- the byte ends a tag, or a declaration: that also ends where its inner declarations begin
+-- the byte ends a tag, or a declaration, which also ends where declarations inside it begin
 abbrev pub is_end : Bool → ℕ → Bool
 is_end declares b = b == 62 || (declares && b == 91)
 
--- the number of bytes of a tag or a declaration with its end, which is outside of quotes
+-- the number of bytes of a tag or a declaration, with its end, which is outside of quotes
 abbrev pub tag_len : Bool → ℕ → List ℕ → ℕ
 tag_len declares quote [] = 0
 tag_len declares quote (b ∷ bytes) = if quote == 0 && is_end declares b then 1 else 1 + tag_len declares (quote_after quote b) bytes
 
--- the number of bytes of markup with its end. Markup that does not end goes to the end of the text
+-- the number of bytes of markup with its end. Markup without an end takes all bytes
 abbrev pub len_of : Markup → List ℕ → ℕ
 len_of Comment bytes = through (codes "-->") bytes
 len_of Section bytes = through (codes "]]>") bytes
@@ -98,7 +98,7 @@ last_name bytes = drop (length bytes - suffix_len in_name bytes) bytes
 abbrev pub name_before : List ℕ → List ℕ
 name_before bytes = last_name (trim_end is_gap bytes)
 
--- the value of the first attribute with this name. The quote is open, or it is 0 and these are the bytes since the last value
+-- the value of the first attribute with this name. This quote is open; or it is 0, and these are the bytes since the last value
 abbrev pub value_from : List ℕ → ℕ → List ℕ → List ℕ → Option (List ℕ)
 value_from name quote since [] = None
 value_from name quote since (b ∷ bytes) =

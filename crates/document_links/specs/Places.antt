@@ -1,4 +1,4 @@
--- Points in a text: the line and the character in it, each from 1. The places of links in a file.
+-- Points in a text, each a line and a character of it, from 1; and the locations of links in a file.
 use Rattle.std.specs.Prelude.{◌≡◌, ◌≤◌, map, ℕ, ◌+◌, ◌==◌, Bool, true, false, not, if◌then◌else◌, List, [], ◌∷◌, take, count_by, bit_and, length, slice_index_or, string_bytes, IsAscii}
 use Rattle.std.specs.List.{list_any}
 use Rattle.std.specs.Str.Lossy.{utf8_lossy}
@@ -18,7 +18,7 @@ is_lf b = b == 10
 abbrev pub begins_character : ℕ → Bool
 begins_character b = not (bit_and b 192 == 128)
 
--- what follows the last line feed
+-- the bytes after the last line feed
 abbrev pub last_line : List ℕ → List ℕ
 last_line [] = []
 last_line (b ∷ bs) = if list_any is_lf (b ∷ bs) then last_line bs else b ∷ bs
@@ -37,7 +37,7 @@ pub record IsKnown (text : List ℕ) (known : KnownPoint) : Type 0 where
 
 -- ---- encodings
 
--- a text of ASCII is itself in the encoding
+-- the encoding has each ASCII character as the same byte
 abbrev pub keeps_ascii : Charset → Bool
 keeps_ascii Utf8 = true
 keeps_ascii Utf16Le = false
@@ -54,14 +54,14 @@ point_of_place place = record { line = place.line; column = place.column }
 abbrev pub written_in : TextKind → List ℕ → ℕ → List ℕ
 written_in kind text index = utf8_lossy (clean (slice_index_or (links_in kind text) index []))
 
--- These are the places of the links with these indices: each link has a position in the text, and in a known encoding the links as
--- written are those of the text.
+-- these are the locations of the links with these indices: each link has a position in the text, and in a known encoding the links as written are those of the
+-- text
 pub record ArePlacesIn (kind : TextKind) (charset : Charset) (text indices : List ℕ) (places : List TextPlace) : Type 0 where
   pub position : ℕ → ℕ
   pub placed : map point_of_place places ≡ map (λ index. point_at text (position index)) indices
   pub written : is_known charset ≡ true → map (λ place. string_bytes place.written) places ≡ map (written_in kind text) indices
 
--- these are those places in a file, by its text in some encoding. A text of ASCII is the file itself
+-- these are the locations in a file, by its text in some encoding. If all of it is ASCII, the text is the file itself
 pub record ArePlaces (kind : TextKind) (file indices : List ℕ) (places : List TextPlace) : Type 0 where
   pub charset : Charset
   pub marked : has_mark file ≡ true → charset ≡ Utf8

@@ -13,12 +13,12 @@ abbrev pub begins_path : List ℕ → Bool
 begins_path [] = false
 begins_path (b ∷ bytes) = is_slash b
 
--- what follows the slash of a text that begins with one slash. Two slashes begin a host
+-- the text after the slash of a text that begins with exactly one slash; after two slashes comes a host
 abbrev pub path_of : List ℕ → Option (List ℕ)
 path_of [] = None
 path_of (b ∷ bytes) = if is_slash b && not (begins_path bytes) then Some bytes else None
 
--- a query or a fragment begins
+-- the byte begins a query or a fragment
 abbrev pub ends_path : ℕ → Bool
 ends_path b = b == 63 || b == 35
 
@@ -37,7 +37,7 @@ depth_after depth segment = if dot_count segment == 2 then depth - 1 else (if do
 abbrev pub kept : ℕ → List ℕ → List ℕ → List ℕ
 kept depth segment end = if climbs depth segment then [] else segment ++ end
 
--- the rest of a text, if `depth` folders are open and a segment begins so: without the segments that lead above the top
+-- the text without the segments that lead above the top; `depth` folders are open, and the segment so far has these bytes
 abbrev pub below_after : ℕ → List ℕ → List ℕ → List ℕ
 below_after depth segment [] = kept depth segment []
 below_after depth segment (b ∷ bytes) =
@@ -45,11 +45,11 @@ below_after depth segment (b ∷ bytes) =
     else (if is_slash b then kept depth segment (b ∷ []) ++ below_after (depth_after depth segment) [] bytes
     else below_after depth (segment ++ b ∷ []) bytes)
 
--- the same from the top
+-- likewise from the top, without a segment so far
 abbrev pub path_below : List ℕ → List ℕ
 path_below path = below_after 0 [] path
 
--- a text that a URL parser drops nothing of, below the path of the top, if it begins with one slash
+-- a text in which a URL parser drops nothing, below the path of the top; none if it does not begin with one slash
 abbrev pub below_root : List ℕ → List ℕ → Option (List ℕ)
 below_root root text = option_map (λ path. root ++ path_below path) (path_of text)
 

@@ -4,7 +4,7 @@ use Rattle.std.specs.Str.{is_utf8}
 use Rattle.std.specs.List.{list_all}
 use Rattle.crawl_limits.specs.Limits.{line_limit}
 
--- the byte ends no line: it is neither LF nor CR
+-- the byte does not end a line: it is neither LF nor CR
 abbrev pub is_inner : ℕ → Bool
 is_inner b = not (b == 10 || b == 13)
 

@@ -1,4 +1,4 @@
--- The text of XML that is written with references.
+-- The text of XML in which references are decoded.
 use Rattle.std.specs.Prelude.{ℕ, ◌==◌, nat_lt, Bool, not, ◌||◌, List, [], ◌∷◌, ◌++◌, codes, drop, Option, None, Some, if◌then◌else◌}
 use Rattle.std.specs.Char.{encode_utf8}
 use Rattle.std.specs.Option.{option_and_then, option_map_or}
@@ -6,7 +6,7 @@ use Rattle.std.specs.Str.{bytes_eq}
 use Rattle.html_links.specs.References.{digit_in, number_after}
 use Rattle.document_links.specs.Markup.{begins}
 
--- the character with a number: neither 0 nor a surrogate
+-- the character with this number, which is neither 0 nor a surrogate
 abbrev pub character_of : ℕ → Option ℕ
 character_of n =
     if n == 0 then None
@@ -15,7 +15,7 @@ character_of n =
     else if nat_lt n 1114112 then Some n
     else None
 
--- a number with these digits after it, if they are digits
+-- a number with these digits after it; none if they are not digits
 abbrev pub number_from : ℕ → ℕ → List ℕ → Option ℕ
 number_from radix n [] = Some n
 number_from radix n (b ∷ bytes) = option_and_then (λ digit. number_from radix (number_after radix n digit) bytes) (digit_in radix b)
@@ -26,7 +26,7 @@ number_of name =
     else if begins (codes "#") name then number_from 10 0 (drop 1 name)
     else None
 
--- the character that a name between `&` and `;` means
+-- the character for a name between `&` and `;`
 abbrev pub character_named : List ℕ → Option ℕ
 character_named name =
     if bytes_eq name (codes "amp") then Some 38
@@ -36,7 +36,7 @@ character_named name =
     else if bytes_eq name (codes "apos") then Some 39
     else option_and_then character_of (number_of name)
 
--- a reference that means nothing stays as it is
+-- the text of a reference; one without a meaning stays unchanged
 abbrev pub meaning_of : List ℕ → List ℕ
 meaning_of name = option_map_or encode_utf8 (character_named name) (38 ∷ name ++ 59 ∷ [])
 
@@ -44,12 +44,12 @@ meaning_of name = option_map_or encode_utf8 (character_named name) (38 ∷ name 
 abbrev pub in_reference : ℕ → Bool
 in_reference b = not (b == 59 || b == 38)
 
--- outside of a reference, or after an `&` and these bytes
+-- the states: outside of a reference, or after an `&` and these bytes
 pub data Reading : Type 0 where
   Plain : Reading
   Reference : List ℕ → Reading
 
--- a reference goes to the next `;`, unless another `&` or the end comes first
+-- the decoded text; a reference ends at the next `;`, unless another `&` or the end of the text comes first
 abbrev pub unescaped_from : Reading → List ℕ → List ℕ
 unescaped_from Plain [] = []
 unescaped_from Plain (b ∷ bytes) = if b == 38 then unescaped_from (Reference []) bytes else b ∷ unescaped_from Plain bytes

@@ -1,4 +1,4 @@
--- The text of a link, as it is written in the line of a page.
+-- The text of a link as it is written in a line of a saved web.
 use Rattle.std.specs.Prelude.{◌≡◌, ◌≤◌, ℕ, Bool, true, false, ◌&&◌, ◌||◌, List, ◌++◌, length, map, if◌then◌else◌}
 use Rattle.std.specs.List.{before_first, flat_map, list_all}
 use Rattle.url.specs.Input.{strip_tabs_and_new_lines, trim_c0_control_and_space}
@@ -9,7 +9,7 @@ use Rattle.document_links.specs.declared.page_base.PageBase.{PageBase}
 use Rattle.document_links.specs.declared.page_base.PageBase.TheVariants as base
 use Rattle.document_links.specs.Texts.{fits}
 
--- what the URL Standard's parser reads of a text: no control bytes and spaces at its ends, and no tabs and line breaks
+-- the text that the URL Standard's parser reads: without control bytes and spaces at its ends, and without tabs and line breaks
 abbrev pub clean : List ℕ → List ℕ
 clean text = strip_tabs_and_new_lines (trim_c0_control_and_space text)
 
@@ -20,7 +20,7 @@ without_fragment text = before_first is_number_sign text
 abbrev pub has_room : List ℕ → Bool
 has_room text = fits 5 text || fits 5 (without_fragment text)
 
--- the text, without its fragment if it does not fit in a line otherwise
+-- the text; without its fragment if it does not fit in a line otherwise
 abbrev pub shortened : List ℕ → List ℕ
 shortened text = if fits 5 text then text else without_fragment text
 
@@ -50,10 +50,10 @@ has_no_base (base.Url url) = false
 has_no_base (base.Scheme front) = false
 has_no_base base.None = true
 
--- links are written as they are: the page has no base, and its encoding is a Unicode one
+-- links are written unchanged: the page has no base, and its encoding is a Unicode one
 abbrev pub keeps_links : PageBase → Charset → Bool
 keeps_links of_page charset = has_no_base of_page && is_unicode charset
 
--- after these texts come those of these links, if each link fits in a line, and the limit is not passed
+-- the old texts are followed by those of these links, if each link fits in a line and the limit is not exceeded
 pub record AreWritten (old links new : List (List ℕ)) (limit : ℕ) : Type 0 where
   pub one_each : list_all can_write links ≡ true → byte_count new ≤ limit → new ≡ old ++ map written links

@@ -24,7 +24,7 @@ struct KeptLink {
     index: u32,
 }
 
-/// Means an index that four bytes cannot hold.
+/// The value in place of an index that four bytes cannot hold.
 const FAR: u32 = u32::MAX;
 
 /// The anchors of a document, and its links to anchors.
@@ -39,8 +39,8 @@ pub struct Anchors {
     fragments: Vec<u8>,
 }
 
-/// The anchors of a document, and the targets of its links to anchors: the URLs of links with a `#`, in order. Links with the same text
-/// before the `#` have one target. Links to existing anchors of the document itself are dropped.
+/// The anchors of a document, and the targets of its links to anchors: the URLs of links with a `#`, in order. Links with the same
+/// text before the `#` share a target. Links to existing anchors of the document itself are left out.
 #[derive(Drop)]
 pub struct AnchorTargets {
     pub anchors: Anchors,
@@ -66,7 +66,7 @@ pub enum Target {
 }
 
 impl Anchors {
-    /// The number of the first link to the target with this index, and the number after the last.
+    /// The number of the first link to the target with this index, and the number after the last one.
     pub fn links_to(&self, target: usize) -> (usize, usize) {
         let begin = match target.checked_sub(1) {
             Some(before) => self.end_of(before),
@@ -97,7 +97,7 @@ impl Anchors {
         })
     }
 
-    /// No links, of a document with these ids.
+    /// Anchors with these ids, without links.
     fn with(ids: Ids, alloc: Global) -> Anchors {
         Anchors {
             ids,
@@ -146,7 +146,7 @@ impl Anchors {
         is_indicated(*self.fragments.allocator(), &self.ids, fragment)
     }
 
-    /// Frees unused memory, since there are many such values and they are kept long.
+    /// Frees unused memory, since there are many such values, which live long.
     fn shrink_to_fit(&mut self) {
         self.links.shrink_to_fit();
         self.ends.shrink_to_fit();
@@ -154,12 +154,12 @@ impl Anchors {
     }
 }
 
-/// Returns the index, or `None` for the value that means one that four bytes cannot hold.
+/// Returns the index, or `None` if it is the value for one that four bytes cannot hold.
 fn known_index(index: u32) -> Option<u32> {
     if index == FAR { None } else { Some(index) }
 }
 
-/// The number in four bytes; out of memory beyond 4 GiB.
+/// The number in four bytes. If it does not fit, the error is out of memory.
 fn in_four_bytes(number: usize) -> Result<u32, AllocError> {
     match u32::try_from(number) {
         Ok(number) => Ok(number),
@@ -230,7 +230,7 @@ fn fragment_of(raw: &RawLinks, link: Numbered) -> &[u8] {
     raw.text(link.link).get(link.begin..).unwrap_or(&[])
 }
 
-/// The first links with this number, and the others.
+/// The links with this number, which come first, and the others.
 fn split_number(number: usize, links: &[Numbered]) -> (&[Numbered], &[Numbered]) {
     let count = links
         .iter()
@@ -239,7 +239,7 @@ fn split_number(number: usize, links: &[Numbered]) -> (&[Numbered], &[Numbered])
     links.split_at(count.min(links.len()))
 }
 
-/// The links with a `#`, in the order of the numbers of their targets.
+/// The links with a `#`, ordered by the numbers of their targets.
 fn by_target<'t>(
     alloc: Global,
     raw: &'t RawLinks,

@@ -1,4 +1,4 @@
-//! Cuts of bytes.
+//! Cutting bytes.
 ghost use Rattle.std.specs.Prelude.{◌≡◌, ◌∷◌, ◌==◌, [], drop, not, MatchOption};
 ghost use Rattle.html_links.specs.Shown.{Stopped, behind, front};
 

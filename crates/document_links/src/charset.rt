@@ -11,7 +11,7 @@ use crate::words::is_among;
 use memchr::memchr;
 use std::alloc::{AllocError, Global};
 
-/// Names of UTF-8. In a `meta`, those of UTF-16 mean it, too.
+/// Names of UTF-8, and names of UTF-16, which mean UTF-8 in a `meta`.
 const UTF8_NAMES: &str =
     "utf-8 utf8 unicode-1-1-utf-8 unicode11utf8 unicode20utf8 x-unicode20utf8 utf_8 u8 utf-16 utf-16le utf-16be csunicode iso-10646-ucs-2 ucs-2 unicode unicodefeff unicodefffe";
 
@@ -26,7 +26,7 @@ pub(crate) enum Charset {
     Utf16Le,
     Utf16Be,
     Windows1252,
-    /// Another encoding. Only ASCII is read.
+    /// Any other encoding. Only ASCII is read.
     Other,
 }
 
@@ -39,7 +39,8 @@ impl Charset {
     }
 }
 
-/// Finds the encoding of a document, by its first bytes, its head, and whether it is UTF-8, or of another file, by its first bytes.
+/// Finds the encoding of a document, from its first bytes, its head, and whether it is valid UTF-8; or of another file, from its
+/// first bytes.
 pub(crate) fn charset_of(body: &[u8], kind: TextKind) -> Charset
     ensures ascii { IsAscii body.now → keeps_ascii result ≡ true }
     ensures marked { has_mark body.now ≡ true → result ≡ Charset.Utf8 }
@@ -102,7 +103,7 @@ fn document_unmarked(body: &[u8]) -> Charset
     }
 }
 
-/// Returns UTF-8 if the document is valid UTF-8, or else `otherwise`.
+/// Returns UTF-8 if the document is valid UTF-8, and otherwise `otherwise`.
 fn undeclared(body: &[u8], otherwise: Charset) -> Charset
     requires { keeps_ascii otherwise ≡ true }
     ensures { keeps_ascii result ≡ true }
@@ -142,7 +143,7 @@ pub(crate) fn declared(start: &[u8]) -> Option<&[u8]> {
     None
 }
 
-/// What comes after the first byte of this value.
+/// The text after the first byte of this value.
 fn behind_byte(byte: u8, text: &[u8]) -> Option<&[u8]>
     ensures { IfSome result (λ behind. length behind.now < length text.now) }
 {
@@ -150,7 +151,7 @@ fn behind_byte(byte: u8, text: &[u8]) -> Option<&[u8]>
     Some(&text[index + 1..])
 }
 
-/// What comes after a comment, a tag or other markup, which starts after its `<`. `None` if the markup does not end.
+/// The text after a comment, a tag or other markup, which starts after its `<`. `None` if the markup does not end.
 fn behind_markup(text: &[u8]) -> Option<&[u8]>
     ensures { IfSome result (λ behind. length behind.now ≤ length text.now) }
 {
@@ -164,7 +165,7 @@ fn behind_markup(text: &[u8]) -> Option<&[u8]>
     }
 }
 
-/// What comes after a tag, which starts at its name. `None` if the tag does not end.
+/// The text after a tag, which starts at its name. `None` if the tag does not end.
 fn behind_tag(text: &[u8]) -> Option<&[u8]>
     ensures { IfSome result (λ behind. length behind.now ≤ length text.now) }
 {
@@ -210,7 +211,7 @@ fn name_in_kind(kind: &[u8]) -> &[u8] {
     &[]
 }
 
-/// An attribute of a tag, and what follows it.
+/// An attribute of a tag, and the text after it.
 #[derive(Clone, Copy)]
 struct Attribute<'a> {
     name: &'a [u8],
@@ -256,8 +257,8 @@ fn next_attribute(text: &[u8]) -> Option<Attribute<'_>>
     }
 }
 
-/// A value and what comes after it. The value is in quotes, or ends before white space or one of these bytes. Both are empty if a quote
-/// does not end.
+/// A value and the text after it. The value is in quotes, or ends before white space or one of these bytes. Both are empty if a
+/// quote is not closed.
 fn split_value<'a>(text: &'a [u8], ends: &[u8]) -> (&'a [u8], &'a [u8])
     ensures { length result.1.now ≤ length text.now }
 {

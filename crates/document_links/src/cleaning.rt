@@ -1,4 +1,4 @@
-//! What a URL parser reads of the text of a link.
+//! The text that a URL parser reads of a link.
 ghost use Rattle.std.specs.Prelude.{◌≡◌, ◌++◌, IfOk, OnOk};
 ghost use Rattle.std.specs.List.{list_any};
 ghost use Rattle.url.specs.Input.{is_c0_control_or_space, is_tab_or_new_line, strip_tabs_and_new_lines, trim_c0_control_and_space, trim_end, trim_start};

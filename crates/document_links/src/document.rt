@@ -21,15 +21,15 @@ use crawl_keys::CanonUrl;
 use html_links::{Base, Syntax, read_links, read_page, read_places};
 use std::alloc::{AllocError, Global};
 
-/// What is read of a document.
+/// Which parts of a document are read, and how.
 #[derive(Clone, Copy)]
 pub struct ReadOptions<'a> {
-    /// How the document is written.
+    /// The syntax of the document.
     pub syntax: Syntax,
     /// Whether `url()` and `@import` in `style` elements and attributes are links.
     pub styles: bool,
-    /// The path of the site's top, which ends with a slash, if links and a `base` that begin with one slash lead below the top. That is so
-    /// in a folder whose URL is not known.
+    /// The path of the site's top, which ends with a slash, if links and a `base` that begin with one slash lead below the top.
+    /// This is so in a folder whose URL is not known.
     pub root: Option<&'a str>,
     /// Whether anchors and links to anchors are read.
     pub anchors: bool,
@@ -49,7 +49,7 @@ impl ReadOptions<'_> {
     }
 }
 
-/// What a document has.
+/// What was read of a document.
 #[derive(Drop)]
 pub struct Document {
     pub links: LinkTexts,
@@ -66,7 +66,7 @@ pub struct Document {
 }
 
 impl Document {
-    /// A document without links.
+    /// Returns a document without links.
     pub fn empty(alloc: Global) -> Document
         ensures { result.links ≡ [] }
     {
@@ -80,7 +80,7 @@ impl Document {
         }
     }
 
-    /// The document with the links that were written, without anchors.
+    /// Returns the document with the links of the writer, without anchors.
     pub(crate) fn written(writer: &mut LinkWriter) -> Document
         ensures { result.links ≡ writer.old.links }
     {
@@ -108,8 +108,8 @@ pub fn read_document(
     options: ReadOptions<'_>,
     room: &mut RawLinks,
 ) -> Result<Document, AllocError>
-    // In a Unicode encoding and without `base`: one text for each link, in order. If there is a root, paths that begin with one slash
-    // are below it.
+    // For a document in a Unicode encoding without a `base`: one text for each link, in order. If there is a root, paths that begin
+    // with one slash are below it.
     ensures { IfOk result (λ document. HasLinkTexts options.entry body.now document.links) }
 {
     let charset = charset_of(body, options.kind());
@@ -165,7 +165,7 @@ fn text_document(
     raw.clear()?;
     let base = read_known(alloc, text, charset, options, raw, &mut ids)?;
     let base = add_root(options.root, url, base, raw)?;
-    // The base also applies to the links before it, so all were found first.
+    // The base also applies to links before it, so all links are found first.
     let mut writer = written_links(alloc, charset, base, url, options, raw)?;
     let mut document = Document::written(&mut writer);
     if options.anchors {
@@ -174,7 +174,7 @@ fn text_document(
     Ok(document)
 }
 
-/// The anchors of a document, if all its ids are known. If one is not, no link to an anchor is known to be broken.
+/// The anchors of a document, if all its ids are known. Otherwise no link to an anchor is known to be broken.
 fn known_anchors(
     ids: &RawIds,
     raw: &RawLinks,
@@ -272,7 +272,7 @@ pub(crate) fn utf8_text(
     }
 }
 
-/// The bytes with U+FFFD in place of what is not UTF-8, or `None` if all is UTF-8.
+/// The bytes with U+FFFD in place of invalid UTF-8, or `None` if all bytes are valid.
 fn mended(alloc: Global, bytes: &[u8]) -> Result<Option<Vec<u8>>, AllocError>
     ensures ascii { IsAscii bytes.now → IfOk result (λ new. IfSome new (λ text. text.items ≡ bytes.now)) }
     ensures text { IfOk result (λ new. MatchOption new (bytes.now ≡ utf8_lossy bytes.now) (λ text. text.items ≡ utf8_lossy bytes.now)) }

@@ -4,7 +4,7 @@ ghost use Rattle.document_links.specs.Encoding.{without_mark};
 
 use memchr::{memchr, memmem};
 
-/// The number of bytes at the start of a file in which it is looked for whether it is a document, and in which encoding.
+/// The number of bytes at the start of a file that are searched for whether it is a document, and for its encoding.
 pub const START_LENGTH: usize = 1024;
 
 /// The first bytes of a file.
@@ -55,7 +55,7 @@ fn skip_spaces(bytes: &[u8]) -> &[u8]
     &[]
 }
 
-/// Whether the text starts with a comment, and a document starts after its end or after a later `-->`.
+/// Whether the text starts with a comment, and a document starts after the end of the comment or after a later `-->`.
 fn has_document_behind_comment(text: &[u8]) -> bool {
     let Some(rest) = behind_front(text, b"<!--") else {
         return false;
@@ -69,7 +69,7 @@ fn has_document_behind_comment(text: &[u8]) -> bool {
     false
 }
 
-/// What comes after the first `needle`.
+/// The text after the first `needle`.
 pub(crate) fn behind_first<'a>(text: &'a [u8], needle: &[u8]) -> Option<&'a [u8]>
     requires { 0 < length needle.now }
     ensures { IfSome result (λ behind. length behind.now < length text.now) }
@@ -99,7 +99,7 @@ fn begins_document(text: &[u8]) -> bool {
     }
 }
 
-/// What comes after this text, if the bytes begin with it in any case.
+/// The text after `text`, if the bytes begin with it, in any case.
 pub(crate) fn behind_front<'a>(bytes: &'a [u8], text: &[u8]) -> Option<&'a [u8]> {
     if bytes.len() < text.len() {
         return None;

@@ -62,7 +62,7 @@ struct Element<'a> {
     more: &'a [u8],
 }
 
-/// What the document is, if this markup comes next. The first start tag decides.
+/// What the document is, if this markup comes next. The first start tag determines it.
 fn kind_after(markup: Markup, kind: Option<FeedKind>, tag: &[u8]) -> Option<FeedKind>
     ensures { result ≡ kind_after markup kind tag.now }
 {
@@ -185,7 +185,8 @@ fn push_content(element: Element<'_>, length: usize, raw: &mut RawLinks) -> Resu
     push_text(begin, text.as_slice(), raw)
 }
 
-/// The number of bytes from the first byte of an element's text that is not white space, which may be in a CDATA section.
+/// The number of bytes from the first byte of an element's text that is not white space to the end. The text may be in a CDATA
+/// section.
 fn content_left(bytes: &[u8]) -> usize {
     let text = bytes.trim_ascii_start();
     match text.strip_prefix(b"<![CDATA[") {

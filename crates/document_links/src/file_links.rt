@@ -27,7 +27,7 @@ pub fn read_style_sheet(
     options: ReadOptions<'_>,
     room: &mut RawLinks,
 ) -> Result<Document, AllocError>
-    // In a known encoding: one text for each link, in order.
+    // For a sheet in a known encoding: one text for each link, in order.
     ensures { IfOk result (λ sheet. HasSheet options.entry body.now sheet.links) }
 {
     let charset = charset_of(body, TextKind::StyleSheet);
@@ -61,8 +61,8 @@ fn unknown_encoding(
     }
 }
 
-/// Reads the sitemap or feed at a URL: the links in certain of its elements, by the name of its root element. Other XML has none. It
-/// has no anchors, and its links to anchors are not kept. `room` is memory for its links, which is reused.
+/// Reads the sitemap or feed at a URL: the links in certain of its elements, depending on the name of the root element. Other XML
+/// has none. It has no anchors, and its links to anchors are not kept. `room` is memory for its links, which is reused.
 ///
 /// # Errors
 /// Out of memory.
@@ -157,13 +157,13 @@ fn links_in_text(
     raw.clear()?;
     find_links(alloc, text, reading, raw)?;
     let base = add_root(options.root, url, None, raw)?;
-    // Queries are in UTF-8, whatever the encoding is.
+    // Queries are in UTF-8, whatever the encoding of the file is.
     let mut writer = written_links(alloc, Charset::Utf8, base, url, options, raw)?;
     Ok(Document::written(&mut writer))
 }
 
-/// Finds the known links in a text in UTF-8, to which it was converted from its encoding, as the readers of such files and of documents
-/// find them.
+/// Finds the known links in a text in UTF-8, to which a file of this kind was converted from its encoding. `text_places` finds the
+/// same links.
 pub(crate) fn find_links(
     alloc: Global,
     text: &[u8],

@@ -1,4 +1,4 @@
-//! One HTML document, style sheet, feed or list of URLs, from its bytes: its encoding, its links and their places, and its anchors.
+//! Reads one HTML document, style sheet, feed or list of URLs: its encoding, its links and their locations, and its anchors.
 #![tactic(auto)]
 
 mod anchors;

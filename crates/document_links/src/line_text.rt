@@ -9,7 +9,7 @@ use crawl_limits::LINE_LIMIT;
 /// The number of bytes before the text in the line of a page or a link.
 pub const LINK_FRONT: usize = 5;
 
-/// The most bytes of the text of a link.
+/// The greatest length of a link's text, in bytes.
 pub(crate) const TEXT_LIMIT: usize = 4091;
 
 /// Whether the text fits in one line after `front` bytes: it is short enough, UTF-8, and has no line end.

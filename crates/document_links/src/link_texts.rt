@@ -34,7 +34,7 @@ impl LinkTexts {
         }
     }
 
-    /// No texts, with room for `count` texts of `length` bytes together.
+    /// Creates an empty list, with room for `count` texts of `length` bytes together.
     ///
     /// # Errors
     /// Out of memory.
@@ -79,7 +79,7 @@ impl LinkTexts {
     /// Appends the text of a link.
     ///
     /// # Errors
-    /// Out of memory, or the texts would have 4 GiB or more. Then all texts are removed.
+    /// Out of memory, also if the texts would have 4 GiB or more. Then all texts are removed.
     pub fn push(&mut self, text: &[u8]) -> Result<(), AllocError>
         requires { fits 5 text.now ≡ true }
         ensures pushed { OnOk result (self.new ≡ self.old ++ text.now ∷ []) }

@@ -33,7 +33,7 @@ pub(crate) struct LinkWriter {
 }
 
 impl LinkWriter {
-    /// No links, of a page with this base at a URL.
+    /// A writer without links yet, for the page with this base at a URL.
     pub(crate) fn new(
         alloc: Global,
         charset: Charset,
@@ -77,7 +77,7 @@ impl LinkWriter {
         Ok(())
     }
 
-    /// Appends these links, up to the one with which the texts have more than `limit` bytes.
+    /// Appends these links, up to and with the one that makes the texts longer than `limit` bytes.
     pub(crate) fn push_all(&mut self, raw: &RawLinks, limit: usize) -> Result<(), AllocError>
         ensures { keeps_links self.old.base self.old.charset ≡ true → OnOk result (AreWritten self.old.links raw.now.texts self.new.links limit) }
     {
@@ -93,7 +93,7 @@ impl LinkWriter {
         Ok(())
     }
 
-    /// Takes the indices of the links, and the invalid links. No more are kept after that.
+    /// Takes the indices of the links, and the invalid links. After that no more are stored.
     pub(crate) fn take_positions(&mut self) -> (Vec<u32>, Vec<InvalidLink>) {
         match self.positions.take() {
             Some(positions) => positions.into_lists(),
@@ -154,7 +154,7 @@ impl LinkWriter {
         self.push_meant(link.as_slice())
     }
 
-    /// Appends the meaning of a link with the page's base.
+    /// Appends a link as it is resolved by the page's base.
     fn push_meant(&mut self, text: &[u8]) -> Result<(), AllocError>
         ensures base { self.new.base ≡ self.old.base }
         ensures charset { self.new.charset ≡ self.old.charset }
@@ -167,7 +167,7 @@ impl LinkWriter {
         }
     }
 
-    /// Appends a link to which the page's `base` gives its scheme. It has no canonical URL, and is not invalid by itself.
+    /// Appends a link that gets its scheme from the page's `base`. It has no canonical URL, and is not itself invalid.
     fn push_unplaced(&mut self, text: &[u8]) -> Result<(), AllocError>
         ensures base { self.new.base ≡ self.old.base }
         ensures charset { self.new.charset ≡ self.old.charset }

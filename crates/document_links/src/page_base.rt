@@ -1,4 +1,4 @@
-//! What links mean on a page with a `base`.
+//! The base of a page, and what its links mean.
 ghost use Rattle.std.specs.Prelude.{◌≡◌, true, IfOk};
 ghost use Rattle.document_links.specs.Written.{has_no_base};
 
@@ -7,12 +7,12 @@ use crate::scheme::{is_web, scheme_of};
 use crawl_keys::{Base, CanonUrl, KeyError};
 use std::alloc::{AllocError, Global};
 
-/// The base of the links of a page, by its `base`.
+/// The base of the links of a page, which its `base` determines.
 #[derive(Drop)]
 pub(crate) enum PageBase {
     /// A URL.
     Url(Base),
-    /// Another scheme in small letters with its colon, which comes before links without a scheme.
+    /// Another scheme in lower case with its colon, which is put before links without a scheme.
     Scheme(Vec<u8>),
     /// No base.
     None,
@@ -26,7 +26,7 @@ pub(crate) enum LinkMeaning {
     Text(Vec<u8>),
 }
 
-/// The base by the `href` of a page's `base`.
+/// The base of a page, from the `href` of its `base`.
 pub(crate) fn page_base(
     alloc: Global,
     href: &[u8],
@@ -48,7 +48,7 @@ pub(crate) fn base_target(
     resolved(alloc, &base_of(alloc, url)?, text.as_slice())
 }
 
-/// The base by an `href` that begins with another scheme.
+/// The base for an `href` that begins with another scheme.
 fn scheme_base(alloc: Global, href: &[u8]) -> Result<PageBase, AllocError> {
     let text = without_breaks(alloc, trimmed(href))?;
     match scheme_of(text.as_slice()) {
@@ -62,7 +62,7 @@ fn scheme_base(alloc: Global, href: &[u8]) -> Result<PageBase, AllocError> {
     }
 }
 
-/// Whether a base with this scheme is ignored.
+/// Whether a `base` with this scheme is ignored.
 fn is_no_base(scheme: &[u8]) -> bool {
     scheme.eq_ignore_ascii_case(b"data") || scheme.eq_ignore_ascii_case(b"javascript")
 }

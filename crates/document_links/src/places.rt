@@ -1,4 +1,4 @@
-//! The places of links in a file, and the links as written there.
+//! The locations of links in a file, and the links as written there.
 ghost use Rattle.std.specs.Prelude.{◌≡◌, [], IfOk, map, slice_index_or, string_bytes};
 ghost use Rattle.std.specs.Str.Lossy.{utf8_lossy};
 ghost use Rattle.document_links.specs.Places.{ArePlaces, ArePlacesIn, point_at, point_of_place};
@@ -14,19 +14,19 @@ use crate::raw_links::RawLinks;
 use crate::text_kind::TextKind;
 use std::alloc::{AllocError, Global};
 
-/// The place of a link in a file, and the link as written there.
+/// The location of a link in a file, and the link as written there.
 #[derive(Drop)]
 pub struct TextPlace {
     /// The line in the file's text, from 1. Lines end at a line feed.
     pub line: u64,
     /// The column in characters, from 1.
     pub column: u64,
-    /// The link as written, with its references read, without white space around it and without tabs and line breaks. Empty if the file
-    /// has no such link.
+    /// The link as written, with its references decoded, without white space around it and without tabs and line breaks. Empty if
+    /// the file has no such link.
     pub written: String,
 }
 
-/// Finds the links with these indices among the links of a file. The places have the order of the indices.
+/// Finds the links with these indices among the links of a file. The locations are in the order of the indices.
 ///
 /// # Errors
 /// Out of memory.
@@ -60,7 +60,7 @@ fn places_in(
     places_of(alloc, text, &raw, indices)
 }
 
-/// The places of these links of a text.
+/// The locations of these links of a text.
 fn places_of(
     alloc: Global,
     text: &[u8],

@@ -109,7 +109,7 @@ fn behind(point: Point, bytes: &[u8]) -> Point
     }
 }
 
-/// Counts the LF bytes, one run of at most `RUN` bytes after another.
+/// Counts the LF bytes in groups of at most `RUN` bytes.
 fn line_feeds(bytes: &[u8]) -> usize
     ensures count { result ≡ count_by is_lf bytes.now }
     ensures small { result ≤ length bytes.now }
@@ -124,7 +124,7 @@ fn line_feeds(bytes: &[u8]) -> usize
     count
 }
 
-/// The number of line feeds in a few bytes. A byte can hold it, so the compiler counts sixteen at the same time.
+/// The number of line feeds in at most `RUN` bytes. It fits in a byte, so the compiler counts sixteen bytes at the same time.
 fn feeds_in_run(run: &[u8]) -> u8
     requires few { length run.now ≤ 240 }
     ensures { result ≡ count_by is_lf run.now }

@@ -7,8 +7,8 @@ use crate::scheme::{InvalidKind, invalid_kind, is_web, names_host, scheme_of};
 use crawl_keys::{Base, CanonUrl};
 use std::alloc::{AllocError, Global};
 
-/// The links with a canonical URL in the file at a URL, and its invalid links. A link is named by its index among all links of the
-/// file, and `text_places` finds its place.
+/// The links with a canonical URL in the file at a URL, and its invalid links. A link is identified by its index among all links of
+/// the file; `text_places` finds its location.
 #[derive(Drop)]
 pub struct LinkPlaces {
     pub url: CanonUrl,
@@ -44,7 +44,7 @@ pub(crate) struct Positions {
 }
 
 impl Positions {
-    /// No links, of the page at a URL, with room for the indices of `links` links.
+    /// Makes empty lists for the page at a URL, with room for the indices of `links` links.
     pub(crate) fn new(
         alloc: Global,
         url: &CanonUrl,
@@ -77,7 +77,7 @@ impl Positions {
         Ok(())
     }
 
-    /// Keeps the link with this text, which has no canonical URL, unless its scheme is another known one.
+    /// Stores the link with this text, which has no canonical URL, as invalid, unless its scheme is another known one.
     fn push_invalid(&mut self, text: &[u8]) -> Result<(), AllocError> {
         let Ok(text) = str::from_utf8(text) else {
             return Ok(());

@@ -26,7 +26,7 @@ impl RawLinks {
         }
     }
 
-    /// Removes the links. As much memory as they had is there for the next ones.
+    /// Removes the links. The memory is reused for the next ones.
     pub(crate) fn clear(&mut self) -> Result<(), AllocError>
         ensures { OnOk result (self.new.texts ≡ []) }
     {
@@ -42,7 +42,7 @@ impl RawLinks {
         self.texts.len()
     }
 
-    /// The allocator of their memory.
+    /// The allocator of the list's memory.
     pub(crate) fn allocator(&self) -> Global {
         *self.positions.allocator()
     }
@@ -94,7 +94,7 @@ impl PlacedLinks for RawLinks {
 #[derive(Drop)]
 pub(crate) struct RawIds {
     pub(crate) ids: Ids,
-    /// Whether an id is not known.
+    /// Whether one of the ids is not known.
     pub(crate) has_unknown: bool,
 }
 

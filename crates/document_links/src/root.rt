@@ -54,7 +54,7 @@ fn rooted_base(
     Ok(Some(base))
 }
 
-/// Whether a base on the page at a URL has the page's host, or is no URL of a page.
+/// Whether a base on the page at a URL has the page's host, or is not a URL of a page.
 fn is_on_host(alloc: Global, url: &CanonUrl, base: &[u8]) -> Result<bool, AllocError> {
     Ok(match base_target(alloc, url, base)? {
         Some(target) => origin_of(url.as_str()) == origin_of(target.as_str()),
@@ -119,7 +119,7 @@ fn push_rooted(
     }
 }
 
-/// The text of a link below the path of the top, or `None` if the link stays as it is.
+/// The text of a link below the path of the top, or `None` if the link stays unchanged.
 #[tactic(auto, using(crate::proofs::Trimming::unbroken_clean))]
 fn rooted_text(alloc: Global, root: &str, text: &[u8]) -> Result<Option<Vec<u8>>, AllocError>
     ensures { IfOk result (λ moved. unwrap_or (option_map (λ new. new.items) moved) text.now ≡ rooted root.now text.now) }
@@ -147,7 +147,7 @@ fn below_root(alloc: Global, root: &str, text: &[u8]) -> Result<Option<Vec<u8>>,
     Ok(Some(moved))
 }
 
-/// What follows the slash of a text that begins with one slash. Two slashes begin a host.
+/// The text after the slash of a text that begins with one slash. `None` for two slashes, which begin a host.
 fn path_of(text: &[u8]) -> Option<&[u8]>
     ensures { option_map (λ path. path.now) result ≡ path_of text.now }
 {
@@ -193,7 +193,7 @@ fn push_below(path: &[u8], out: &mut Vec<u8>) -> Result<(), AllocError>
     }
 }
 
-/// The first segment of a path, and what follows it.
+/// The first segment of a path, and the text after it.
 fn split_segment(path: &[u8]) -> (&[u8], &[u8])
     ensures segment { result.0.now ≡ take (prefix_len in_segment path.now) path.now }
     ensures behind { result.1.now ≡ drop (prefix_len in_segment path.now) path.now }
@@ -216,7 +216,7 @@ fn in_segment(byte: u8) -> bool
     !(is_slash(byte) || byte == b'?' || byte == b'#')
 }
 
-/// Appends a segment and what ends it, unless the segment leads above the top. `depth` is the number of open folders.
+/// Appends a segment and the slash that ends it, unless the segment leads above the top. `depth` is the number of open folders.
 fn push_kept(depth: usize, segment: &[u8], end: &[u8], out: &mut Vec<u8>) -> Result<(), AllocError>
     ensures { OnOk result (out.new.items ≡ out.old.items ++ kept depth segment.now end.now) }
 {

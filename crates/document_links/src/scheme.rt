@@ -1,12 +1,12 @@
-//! The schemes of links, and what is wrong with a link that has no URL of a page.
+//! The schemes of links, and why a link without a canonical URL is invalid.
 ghost use Rattle.std.specs.Prelude.{◌≡◌, ◌≤◌, length, option_map};
 ghost use Rattle.url.specs.Scheme as spec;
 ghost use Rattle.document_links.specs.Schemes.{invalid_kind, is_known, is_local, is_web, kind_by, scheme_of};
 
 use crate::words::is_among;
 
-/// The schemes other than `http`, `https` and `file` that links have on purpose: registered ones, and others in use. The most frequent
-/// ones come first, because the list is searched from its start.
+/// The known schemes of links other than `http`, `https` and `file`: registered ones, and others in use. The most frequent ones
+/// come first, because the list is searched from its start.
 const KNOWN_SCHEMES: &str = "\
     mailto javascript tel data ftp news irc aaa aaas about acap acct afp aim android-app apt bitcoin bitcoincash blob bzr callto \
     cap chrome chrome-extension cid coap coap+tcp coap+ws coaps coaps+tcp coaps+ws content crid cvs dav dict dns doi dtn ed2k \
@@ -21,10 +21,10 @@ const KNOWN_SCHEMES: &str = "\
     webcal webcals whatsapp ws wss wtai wyciwyg xcon xcon-userid xmlrpc.beep xmlrpc.beeps xmpp xri ymsgr z39.50r z39.50s zoommtg \
     zoomus";
 
-/// What is wrong with a link that has no URL of a page.
+/// Why a link without a canonical URL is invalid.
 #[derive(Clone, Copy, Debug, PartialEq, Eq)]
 pub enum InvalidKind {
-    /// It has the scheme `http` or `https` or none, and a URL parser refuses it.
+    /// It has the scheme `http` or `https` or none, and the URL parser fails.
     NotUrl,
     /// Its scheme is not a known one.
     UnknownScheme,
@@ -32,7 +32,7 @@ pub enum InvalidKind {
     LocalFile,
 }
 
-/// What is wrong with a link that has this text and no URL of a page. `None` if it has another known scheme.
+/// Why a link with this text and without a canonical URL is invalid. `None` if it has another known scheme.
 pub(crate) fn invalid_kind(text: &[u8]) -> Option<InvalidKind>
     ensures { result ≡ invalid_kind text.now }
 {
@@ -42,7 +42,7 @@ pub(crate) fn invalid_kind(text: &[u8]) -> Option<InvalidKind>
     }
 }
 
-/// What is wrong with a link that has this scheme and no URL of a page.
+/// Why a link with this scheme and without a canonical URL is invalid.
 fn kind_by(scheme: &[u8]) -> Option<InvalidKind>
     ensures { result ≡ kind_by scheme.now }
 {

@@ -30,7 +30,7 @@ fn name_len(tag: &[u8]) -> usize
     tag.iter().take_while(|byte| in_name(**byte)).count()
 }
 
-/// What follows the last colon of a name, or all of it.
+/// The text after the last colon of a name, or the whole name if it has no colon.
 fn behind_colon(name: &[u8]) -> &[u8]
     ensures { result.now ≡ (rsplit_once 58 name.now).1 }
 {
@@ -125,7 +125,7 @@ fn split_quote(bytes: &[u8]) -> (&[u8], &[u8])
     }
 }
 
-/// The bytes before the first such quote, and those after it. If there is none, no bytes are after it.
+/// The bytes before the first such quote, and those after it. If there is none, all bytes and none.
 #[tactic(auto, using(html_links::proofs::Sources::front_all))]
 fn before_quote(quote: u8, bytes: &[u8]) -> (&[u8], &[u8])
     ensures text { result.0.now ≡ front (λ b. not (b == quote)) bytes.now }

@@ -12,14 +12,14 @@ pub(crate) struct Targets<'t> {
     writer: LinkWriter,
     base: Base,
     numbers: BTreeMap<&'t [u8], usize>,
-    /// The last text and its number. Many links have the text of the link before.
+    /// The last text and its number. Many links have the same text as the link before.
     last: Option<(&'t [u8], usize)>,
     /// The URL for each number, if the links have a canonical URL.
     urls: Vec<Option<CanonUrl>>,
 }
 
 impl<'t> Targets<'t> {
-    /// No links, of the document at a URL.
+    /// An empty list of targets, for the document at a URL.
     pub(crate) fn new(
         alloc: Global,
         writer: LinkWriter,
@@ -35,7 +35,7 @@ impl<'t> Targets<'t> {
         })
     }
 
-    /// The number of links with this text up to their first `#`, which it ends with. The first number is 0.
+    /// The number of links with this text, which ends at their first `#`. The first number is 0.
     pub(crate) fn number_of(&mut self, text: &'t [u8]) -> Result<usize, AllocError> {
         if let Some((last, number)) = self.last
             && last == text

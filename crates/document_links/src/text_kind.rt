@@ -4,7 +4,7 @@ use html_links::Syntax;
 /// How a file with links is written.
 #[derive(Clone, Copy)]
 pub enum TextKind {
-    /// A document in this syntax. `styles` is whether the links of its styles are links of the document.
+    /// A document in this syntax. `styles` says whether the links of its styles are links of the document.
     Document { syntax: Syntax, styles: bool },
     /// A style sheet.
     StyleSheet,

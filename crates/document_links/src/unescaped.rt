@@ -1,4 +1,4 @@
-//! The text of XML that is written with references.
+//! The text of XML in which references are decoded.
 ghost use Rattle.std.specs.Prelude.{◌≡◌, ◌≤◌, ◌++◌, [], length, IfOk, OnOk};
 ghost use Rattle.std.specs.Option.{option_and_then};
 ghost use Rattle.std.specs.Char.{encode_utf8};
@@ -10,7 +10,7 @@ use crate::bytes::{behind_byte, behind_front, parts, split_byte};
 use memchr::memchr2;
 use std::alloc::AllocError;
 
-/// Appends a text, its references read. A reference that means nothing stays as it is.
+/// Appends a text with its references decoded. A reference without a meaning stays unchanged.
 #[tactic(auto, using(crate::proofs::Unescaping::all_plain))]
 pub(crate) fn push_unescaped(text: &[u8], out: &mut Vec<u8>) -> Result<(), AllocError>
     ensures { OnOk result (out.new.items ≡ out.old.items ++ unescaped text.now) }
@@ -25,7 +25,7 @@ pub(crate) fn push_unescaped(text: &[u8], out: &mut Vec<u8>) -> Result<(), Alloc
     }
 }
 
-/// Appends what a reference means, from after its `&`, and returns the bytes after it. Without its `;` it stays as it is.
+/// Appends the text of a reference, from after its `&`, and returns the bytes after it. Without its `;` it stays unchanged.
 #[tactic(auto, using(html_links::proofs::Jumps::shorter))]
 fn push_reference<'a>(bytes: &'a [u8], out: &mut Vec<u8>) -> Result<&'a [u8], AllocError>
     ensures reads { IfOk result (λ rest. out.new.items ++ unescaped rest.now ≡ out.old.items ++ unescaped_from (Reference []) bytes.now) }
@@ -58,7 +58,7 @@ fn split_name(bytes: &[u8]) -> (&[u8], &[u8])
     }
 }
 
-/// Appends what a name between `&` and `;` means.
+/// Appends the text for a name between `&` and `;`.
 fn push_meaning(name: &[u8], out: &mut Vec<u8>) -> Result<(), AllocError>
     ensures { OnOk result (out.new.items ≡ out.old.items ++ meaning_of name.now) }
 {
@@ -82,7 +82,7 @@ fn push_character(character: char, out: &mut Vec<u8>) -> Result<(), AllocError>
     out.extend_from_slice(text.as_bytes())
 }
 
-/// The character that a name between `&` and `;` means.
+/// The character for a name between `&` and `;`.
 fn character_named(name: &[u8]) -> Option<char>
     ensures { result ≡ character_named name.now }
 {
@@ -124,7 +124,7 @@ fn number_of(name: &[u8]) -> Option<u64>
     }
 }
 
-/// The number that digits to a base make. `None` if a byte is none of these digits.
+/// The number with these digits in a base. `None` if a byte is not such a digit.
 fn number_in(radix: u32, digits: &[u8]) -> Option<u64>
     requires low { 2 ≤ radix }
     requires high { radix ≤ 36 }
@@ -142,7 +142,7 @@ fn number_in(radix: u32, digits: &[u8]) -> Option<u64>
     Some(number)
 }
 
-/// The value of a byte as a digit to a base. `None` if it is no such digit.
+/// The value of a byte as a digit in a base. `None` if it is not such a digit.
 fn digit_in(radix: u32, byte: u8) -> Option<u32>
     requires low { 2 ≤ radix }
     requires high { radix ≤ 36 }

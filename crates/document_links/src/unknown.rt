@@ -9,7 +9,7 @@ use memchr::{memchr, memmem};
 use page_anchors::Ids;
 use std::alloc::{AllocError, Global};
 
-/// The character in place of a byte above ASCII. No byte of windows-1252 and no character reference is this character.
+/// The character in place of a byte above ASCII. No byte of windows-1252 and no character reference means this character.
 const UNKNOWN: char = '\u{80}';
 
 /// The text of a document, with one character in place of each byte above ASCII.
@@ -46,8 +46,8 @@ pub(crate) fn has_unknown(ids: &Ids) -> bool {
     false
 }
 
-/// Keeps the known parts of a document's links, and returns its base if that is known. Otherwise only links are known that mean the
-/// same with every base.
+/// Keeps the known parts of a document's links, and returns its base if that is known. If it is not, only links that mean the same
+/// with every base are known.
 pub(crate) fn keep_known(base: Base, raw: &mut RawLinks) -> Result<Base, AllocError> {
     let has_base = is_base_known(&base);
     let known = known_links(raw, has_base)?;

@@ -1,4 +1,4 @@
-//! Names in one text, separated by spaces.
+//! Names in a text, separated by spaces.
 ghost use Rattle.std.specs.Prelude.{◌≡◌};
 ghost use Rattle.document_links.specs.Schemes.{is_among};
 
